@@ -1,0 +1,5 @@
+pub mod Digits
+pub mod Fronts
+pub mod Headers
+pub mod Elements
+pub mod Writing

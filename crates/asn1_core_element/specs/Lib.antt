@@ -1,0 +1,6 @@
+pub mod Element
+pub mod ElementLaws
+pub mod Position
+pub mod Reading
+pub mod Words
+pub mod Writing

@@ -1,0 +1,137 @@
+//! A reader, which goes over the elements of an input.
+
+ghost use Rattle.std.specs.Prelude.{◌≡◌, ◌+◌, ◌≤◌, ◌<◌, [], ◌++◌, length, take, drop, false, true, slice_get};
+ghost use Rattle.asn1_core_element.specs.Reading.{HeaderGives, TookContents, Opened, EndGives};
+
+use crate::error::Error;
+use crate::front::front;
+use std::marker::Model;
+
+/// A reader over an input, inside of the contents that are open.
+#[derive(Drop)]
+pub struct Reader<'a> {
+    /// All bytes from here on.
+    rest: &'a [u8],
+    /// How many of them are in the open contents.
+    room: usize,
+    /// Where the open contents end in the input.
+    end: usize,
+    headers: usize,
+    refused: bool,
+}
+
+impl<'a> Model for Reader<'a> {
+    ghost use Rattle.std.specs.Prelude.{◌+◌, ◌*◌, ◌≤◌, length, take, drop, if◌then◌else◌};
+    ghost use Rattle.asn1_core_element.specs.Position.{Position};
+
+    ghost Value = { Position };
+
+    ghost view = { λ r. record { left = take r.room r.rest.now; beyond = drop r.room r.rest.now; end = r.end; headers = r.headers; refused = r.refused } };
+
+    ghost invariant = { λ r. (r.room ≤ length r.rest.now) × (2 * r.headers + r.room ≤ r.end + (if r.refused then 2 else 0)) };
+}
+
+impl<'a> Reader<'a> {
+    pub fn new(input: &'a [u8]) -> Self
+        ensures { result ≡ record { left = input.now; beyond = []; end = length input.now; headers = 0; refused = false } }
+    {
+        Reader {
+            rest: input,
+            room: input.len(),
+            end: input.len(),
+            headers: 0,
+            refused: false,
+        }
+    }
+
+    /// The next tag byte.
+    pub fn peek(&self) -> Option<u8>
+        requires { self.now.refused ≡ false }
+        ensures { result ≡ slice_get self.now.left 0 }
+    {
+        if self.room == 0 {
+            None
+        } else {
+            Some(self.rest[0])
+        }
+    }
+
+    /// Reads the tag and the length of an element, whose contents are then left.
+    pub fn header(&mut self) -> Result<(u8, usize), Error>
+        requires { self.old.refused ≡ false }
+        ensures { HeaderGives self.old self.new result }
+    {
+        let rest = self.rest;
+        let room = self.room;
+        self.headers += 1;
+        match front(&rest[..room]) {
+            Some((tag, n, size)) => {
+                self.rest = &rest[size..];
+                self.room = room - size;
+                Ok((tag, n))
+            }
+            None => {
+                self.refused = true;
+                if room == 0 {
+                    Err(Error::Missing)
+                } else {
+                    Err(Error::Malformed)
+                }
+            }
+        }
+    }
+
+    /// Takes the next bytes.
+    pub fn contents(&mut self, len: usize) -> &'a [u8]
+        requires sound { self.old.refused ≡ false }
+        requires fits { len ≤ length self.old.left }
+        ensures { TookContents self.old self.new len result.now }
+    {
+        let (contents, rest) = self.rest.split_at(len);
+        self.rest = rest;
+        self.room -= len;
+        contents
+    }
+
+    /// Goes into the next bytes, and answers where the contents end that were open before.
+    pub fn open(&mut self, len: usize) -> usize
+        requires sound { self.old.refused ≡ false }
+        requires fits { len ≤ length self.old.left }
+        ensures { Opened self.old self.new len result }
+    {
+        let outer = self.end;
+        self.end = outer - self.room + len;
+        self.room = len;
+        outer
+    }
+
+    /// Goes out of the open contents, which have to be read to their end.
+    pub fn end(&mut self, outer: usize) -> Result<(), Error>
+        requires sound { self.old.refused ≡ false }
+        requires low { self.old.end ≤ outer }
+        requires high { outer ≤ self.old.end + length self.old.beyond }
+        ensures { EndGives self.old self.new outer result }
+    {
+        if self.room != 0 {
+            self.refused = true;
+            return Err(Error::Malformed);
+        }
+        self.room = outer - self.end;
+        self.end = outer;
+        Ok(())
+    }
+
+    /// How many bytes are left in the open contents.
+    pub fn left(&self) -> usize
+        requires { self.now.refused ≡ false }
+        ensures { result ≡ length self.now.left }
+    {
+        self.room
+    }
+
+    pub fn headers_read(&self) -> usize
+        ensures { result ≡ self.now.headers }
+    {
+        self.headers
+    }
+}
