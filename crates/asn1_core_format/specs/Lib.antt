@@ -1,0 +1,17 @@
+pub mod Format
+pub mod Laws
+pub mod Leaf
+pub mod LeafLaws
+pub mod Rows
+pub mod RowLaws
+pub mod Lists
+pub mod ListLaws
+pub mod Tagged
+pub mod TaggedLaws
+pub mod Loosened
+pub mod Omitted
+pub mod Choices
+pub mod Eithers
+pub mod Whole
+pub mod Views
+pub mod Numbers

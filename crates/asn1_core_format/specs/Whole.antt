@@ -1,0 +1,50 @@
+-- Whole inputs and texts.
+use Rattle.std.specs.Prelude.{◌≡◌, ◌≢◌, ◌↔◌, ℕ, ◌+◌, ◌*◌, ◌≤◌, List, length, Result, MatchResult}
+use Rattle.asn1_core_element.specs.Writing.{IsWriteError}
+use Rattle.asn1_core_element.specs.declared.error.Error.{Error}
+use Rattle.asn1_core_element.specs.declared.error.Error.TheVariants.{TooLong, Memory}
+use Rattle.asn1_core_format.specs.Format.{Format, IsLawful}
+
+-- v is the value of the whole input, and the only one
+pub record IsValueOf {V : Type 0} (F : Format V) (k : ℕ) (b : List ℕ) (v : V) : Type 0 where
+  pub reads : F.Reads k b v
+  pub only : (w : V) → F.Reads k b w → w ≡ v
+  pub well_formed : F.IsWellFormed k v
+
+-- why an input gives no value: it has none, or memory was refused
+pub record HasNoValue {V : Type 0} (F : Format V) (k : ℕ) (b : List ℕ) (e : Error) : Type 0 where
+  pub kind : e ≢ TooLong
+  pub none : e ≢ Memory → (v : V) → F.Reads k b v → ⊥
+
+abbrev pub AnswersInput : {T V : Type 0} → (T → V) → Format V → ℕ → List ℕ → Result T Error → Type 0
+AnswersInput value F k b r = MatchResult r (λ x. IsValueOf F k b (value x)) (λ e. HasNoValue F k b e)
+
+-- how many headers were read: at most one more than half the bytes
+abbrev pub HeadersOfInput : {T V : Type 0} → (T → V) → Format V → List ℕ → Result T Error → ℕ → Type 0
+HeadersOfInput value F b r n = MatchResult r (λ x. (2 * n ≤ length b) × (F.least (value x) ≤ n)) (λ e. 2 * n ≤ length b + 2)
+
+-- the vector is the text
+abbrev pub Written : {A : Type 0} → (A → List ℕ) → List ℕ → Result A Error → Type 0
+Written items text r = MatchResult r (λ a. items a ≡ text) (λ e. IsWriteError text e)
+
+-- what the text t of v is to inputs, at k levels
+pub record IsRewriting {V : Type 0} (F : Format V) (k : ℕ) (v : V) (t : List ℕ) : Type 0 where
+  -- an input of v comes back exactly where it is normal
+  pub back : (b : List ℕ) → F.Reads k b v → (t ≡ b) ↔ F.IsNormal k b
+  -- the text of a well-formed value is normal, and reads as its normal value
+  pub normal : F.IsWellFormed k v → F.IsNormal k t
+  pub reads : F.IsWellFormed k v → F.Reads k t (F.normal v)
+
+pub rewriting : {V : Type 0} (F : Format V) (k : ℕ) (v : V) → IsLawful F → IsRewriting F k v (F.text v)
+rewriting F k v f = record {
+  back = λ b r. f.row.fixed k b v r;
+  normal = λ h. f.row.text_normal k v h;
+  reads = λ h. f.row.text_reads k v h;
+}
+
+pub value_of : {V : Type 0} (F : Format V) (k : ℕ) (b : List ℕ) (v : V) → IsLawful F → F.Reads k b v → IsValueOf F k b v
+value_of F k b v f r = record {
+  reads = r;
+  only = λ w s. f.row.one_value k b w v s r;
+  well_formed = f.row.well_formed k b v r;
+}

@@ -1,0 +1,22 @@
+//! What holds of every type that reads and writes.
+
+ghost use Rattle.std.specs.Prelude.{◌≡◌, ◌↔◌, ◌+◌, ℕ, List, [], ◌++◌};
+
+use crate::traits::DerDeserialize;
+
+/// No accepted input is a proper beginning of another, and each has one value.
+pub fn no_accepted_input_begins_another<T: DerDeserialize>()
+    ensures { (k : ℕ) (a b x : List ℕ) (u v : T.Value) → T.format.Reads k a u → T.format.Reads k b v
+        → a ++ x ≡ b → (a ≡ b) × (x ≡ []) × (u ≡ v) }
+{}
+
+/// After one rewriting a second changes nothing.
+pub fn rewriting_reaches_an_end<T: DerDeserialize>()
+    ensures { (k : ℕ) (v : T.Value) → T.format.IsWellFormed k v
+        → (T.format.text (T.format.normal v) ≡ T.format.text v) × (T.format.normal (T.format.normal v) ≡ T.format.normal v) }
+{}
+
+/// What is normal with nesting of at most so many levels is so with one more.
+pub fn normal_texts_stay_normal<T: DerDeserialize>()
+    ensures { (k : ℕ) (b : List ℕ) → T.format.IsNormal k b → T.format.IsNormal (k + 1) b }
+{}

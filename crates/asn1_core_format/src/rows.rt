@@ -1,0 +1,357 @@
+//! What stands in contents: parts in order, of which some may be absent.
+
+ghost use Rattle.std.specs.Prelude.{◌≡◌, ◌↔◌, ℕ, List, Option, Bool, map, IsTrue, false};
+ghost use Rattle.std.proofs.Common.{⊎_elim};
+ghost use Rattle.asn1_core_element.specs.Element.{IsTagByte};
+ghost use Rattle.asn1_core_element.specs.Writing.{Wrote};
+ghost use Rattle.asn1_core_format.specs.Format.{Format, IsLawfulRow, Gives};
+ghost use Rattle.asn1_core_format.specs.Laws.{NextIs};
+ghost use Rattle.asn1_core_format.specs.Lists.{each};
+ghost use Rattle.asn1_core_format.specs.ListLaws.{lawful_each};
+ghost use Rattle.std.specs.Str.{bytes_eq};
+ghost use Rattle.asn1_core_format.specs.Omitted.{omitted, lawful_omitted, is_text, default_text, StandsFor};
+ghost use Rattle.asn1_core_format.specs.Rows.{nothing, part, optional, within, option_value, GivesRow};
+ghost use Rattle.asn1_core_format.specs.RowLaws.{lawful_nothing, lawful_part, lawful_optional};
+
+use crate::traits::{DerDeserialize, DerSerialize};
+use asn1_core_element::element::{open_element, write_element};
+use asn1_core_element::{Error, Reader};
+use std::alloc::Global;
+
+/// Parts that are written one after another.
+pub trait WriteRow {
+    ghost Value: { Type 0 };
+
+    ghost value: { Self → Value };
+
+    ghost format: { Format Value };
+
+    fn write_row(&self, alloc: Global, out: &mut Vec<u8>) -> Result<(), Error>
+        ensures { Wrote (format.text (value self.now)) out.old.items out.new.items result };
+
+    fn row_well_formed_at(&self, limit: u8) -> bool
+        ensures { IsTrue result ↔ format.IsWellFormed limit (value self.now) };
+}
+
+/// Parts that are read to the end of the open contents.
+pub trait ReadRow: WriteRow + Drop {
+    fn read_row(alloc: Global, r: &mut Reader<'_>, nest: u8) -> Result<Self, Error>
+        requires { r.old.refused ≡ false }
+        ensures { GivesRow Self.value Self.format nest r.old r.new result };
+
+    ghost lawful: { IsLawfulRow Self.WriteRow.format };
+}
+
+/// A type that may stand as an optional part, since its first tags are known.
+pub trait FirstTags: DerDeserialize {
+    fn begins(tag: u8) -> bool
+        ensures { IsTrue result ↔ Self.format.IsTag tag };
+}
+
+/// The first tags of a type are none of another's.
+pub trait ApartFrom<A: DerSerialize>: DerSerialize {
+    ghost no_common_tag: { (t : ℕ) → Self.DerSerialize.format.IsTag t → A.format.IsTag t → ⊥ };
+}
+
+/// The first tags of a type are none of those that some parts begin with. It follows from `ApartFrom` each of the parts
+/// that may come first.
+pub trait TagsApart<R: WriteRow>: DerSerialize {
+    ghost apart: { (t : ℕ) → Self.DerSerialize.format.IsTag t → R.WriteRow.format.IsTag t → ⊥ };
+}
+
+impl<T: DerSerialize> TagsApart<End> for T {
+    ghost apart = { λ t h e. e };
+}
+
+/// Nothing more.
+#[derive(Drop)]
+pub struct End;
+
+impl WriteRow for End {
+    ghost Value = { Unit {0} };
+
+    ghost value = { λ _. tt };
+
+    ghost format = { nothing };
+
+    fn write_row(&self, _alloc: Global, _out: &mut Vec<u8>) -> Result<(), Error> {
+        Ok(())
+    }
+
+    fn row_well_formed_at(&self, _limit: u8) -> bool {
+        true
+    }
+}
+
+impl ReadRow for End {
+    fn read_row(_alloc: Global, r: &mut Reader<'_>, _nest: u8) -> Result<Self, Error> {
+        if r.left() > 0 {
+            return Err(Error::Malformed);
+        }
+        Ok(End)
+    }
+
+    ghost lawful = { lawful_nothing };
+}
+
+/// A part, and what stands behind it.
+#[derive(Drop)]
+pub struct Part<A, R>(pub A, pub R);
+
+impl<A: DerSerialize, R: WriteRow> WriteRow for Part<A, R> {
+    ghost Value = { A.Value × R.Value };
+
+    ghost value = { λ p. (A.value p.0, R.value p.1) };
+
+    ghost format = { part A.format R.format };
+
+    fn write_row(&self, alloc: Global, out: &mut Vec<u8>) -> Result<(), Error> {
+        self.0.write(alloc, out)?;
+        self.1.write_row(alloc, out)
+    }
+
+    fn row_well_formed_at(&self, limit: u8) -> bool {
+        self.0.well_formed_at(limit) && self.1.row_well_formed_at(limit)
+    }
+}
+
+impl<A: DerDeserialize, R: ReadRow> ReadRow for Part<A, R> {
+    fn read_row(alloc: Global, r: &mut Reader<'_>, nest: u8) -> Result<Self, Error> {
+        let first = A::read(alloc, r, nest)?;
+        let rest = R::read_row(alloc, r, nest)?;
+        Ok(Part(first, rest))
+    }
+
+    ghost lawful = { lawful_part A.DerSerialize.format R.WriteRow.format A.lawful R.lawful };
+}
+
+impl<T: ApartFrom<A>, A: DerSerialize, R: WriteRow> TagsApart<Part<A, R>> for T {
+    ghost apart = { T.no_common_tag };
+}
+
+/// A part that may be absent, and what stands behind it.
+#[derive(Drop)]
+pub struct Maybe<A, R>(pub Option<A>, pub R);
+
+impl<A: DerSerialize, R: WriteRow> WriteRow for Maybe<A, R> {
+    ghost Value = { Option A.Value × R.Value };
+
+    ghost value = { λ p. (option_value A.value p.0, R.value p.1) };
+
+    ghost format = { optional A.format R.format };
+
+    fn write_row(&self, alloc: Global, out: &mut Vec<u8>) -> Result<(), Error> {
+        if let Some(first) = &self.0 {
+            first.write(alloc, out)?;
+        }
+        self.1.write_row(alloc, out)
+    }
+
+    fn row_well_formed_at(&self, limit: u8) -> bool {
+        if let Some(first) = &self.0 {
+            if !first.well_formed_at(limit) {
+                return false;
+            }
+        }
+        self.1.row_well_formed_at(limit)
+    }
+}
+
+impl<A: FirstTags + TagsApart<R>, R: ReadRow> ReadRow for Maybe<A, R> {
+    fn read_row(alloc: Global, r: &mut Reader<'_>, nest: u8) -> Result<Self, Error> {
+        if next_is::<A>(r) {
+            let first = A::read(alloc, r, nest)?;
+            let rest = R::read_row(alloc, r, nest)?;
+            return Ok(Maybe(Some(first), rest));
+        }
+        let rest = R::read_row(alloc, r, nest)?;
+        Ok(Maybe(None, rest))
+    }
+
+    ghost lawful = { lawful_optional A.DerSerialize.format R.WriteRow.format A.lawful R.lawful A.apart };
+}
+
+impl<T: ApartFrom<A> + TagsApart<R>, A: DerSerialize, R: WriteRow> TagsApart<Maybe<A, R>> for T {
+    ghost apart = { λ t h e. ⊎_elim (T.no_common_tag t h) (T.apart t h) e };
+}
+
+/// A type of which one text may be left out (X.680, 25.5: DEFAULT).
+pub trait HasDefault: DerDeserialize {
+    /// The text that absence stands for, and that is never written.
+    ghost DEFAULT: { List ℕ };
+
+    fn is_default(&self) -> bool
+        ensures { result ≡ bytes_eq (Self.format.text (Self.value self.now)) DEFAULT };
+
+    /// The value that absence stands for.
+    fn absent(alloc: Global) -> Result<Self, Error>
+        ensures { StandsFor Self.value Self.format DEFAULT result };
+
+    ghost normal_default: { (k : ℕ) → Self.DerSerialize.format.IsNormal k DEFAULT };
+}
+
+/// A part that may be left out, and what stands behind it.
+#[derive(Drop)]
+pub struct Omitted<A, R>(pub A, pub R);
+
+impl<A: HasDefault, R: WriteRow> WriteRow for Omitted<A, R> {
+    ghost Value = { A.Value × R.Value };
+
+    ghost value = { λ p. (A.value p.0, R.value p.1) };
+
+    ghost format = { omitted (is_text A.format A.DEFAULT) A.DEFAULT A.format R.format };
+
+    fn write_row(&self, alloc: Global, out: &mut Vec<u8>) -> Result<(), Error> {
+        if !self.0.is_default() {
+            self.0.write(alloc, out)?;
+        }
+        self.1.write_row(alloc, out)
+    }
+
+    fn row_well_formed_at(&self, limit: u8) -> bool {
+        self.0.well_formed_at(limit) && self.1.row_well_formed_at(limit)
+    }
+}
+
+impl<A: HasDefault + FirstTags + TagsApart<R>, R: ReadRow> ReadRow for Omitted<A, R> {
+    fn read_row(alloc: Global, r: &mut Reader<'_>, nest: u8) -> Result<Self, Error> {
+        if next_is::<A>(r) {
+            let first = A::read(alloc, r, nest)?;
+            let rest = R::read_row(alloc, r, nest)?;
+            return Ok(Omitted(first, rest));
+        }
+        let absent = A::absent(alloc)?;
+        let others = R::read_row(alloc, r, nest)?;
+        Ok(Omitted(absent, others))
+    }
+
+    ghost lawful = { lawful_omitted (is_text A.DerSerialize.format A.DEFAULT) A.DEFAULT A.DerSerialize.format R.WriteRow.format A.lawful R.lawful (default_text A.DEFAULT A.DerSerialize.format A.normal_default) A.apart };
+}
+
+/// One text, which fills the contents.
+#[derive(Drop)]
+pub struct Alone<T>(pub T);
+
+impl<T: DerSerialize> WriteRow for Alone<T> {
+    ghost Value = { T.Value };
+
+    ghost value = { λ x. T.value x.0 };
+
+    ghost format = { T.format };
+
+    fn write_row(&self, alloc: Global, out: &mut Vec<u8>) -> Result<(), Error> {
+        self.0.write(alloc, out)
+    }
+
+    fn row_well_formed_at(&self, limit: u8) -> bool {
+        self.0.well_formed_at(limit)
+    }
+}
+
+impl<T: DerDeserialize> ReadRow for Alone<T> {
+    fn read_row(alloc: Global, r: &mut Reader<'_>, nest: u8) -> Result<Self, Error> {
+        let value = T::read(alloc, r, nest)?;
+        if r.left() > 0 {
+            return Err(Error::Malformed);
+        }
+        Ok(Alone(value))
+    }
+
+    ghost lawful = { T.lawful.row };
+}
+
+/// Items, one after another.
+impl<T: DerSerialize> WriteRow for Vec<T> {
+    ghost Value = { List T.Value };
+
+    ghost value = { λ items. map T.value items.items };
+
+    ghost format = { each T.format };
+
+    fn write_row(&self, alloc: Global, out: &mut Vec<u8>) -> Result<(), Error> {
+        for item in self {
+            item.write(alloc, out)?;
+        }
+        Ok(())
+    }
+
+    fn row_well_formed_at(&self, limit: u8) -> bool {
+        for item in self {
+            if !item.well_formed_at(limit) {
+                return false;
+            }
+        }
+        true
+    }
+}
+
+impl<T: DerDeserialize> ReadRow for Vec<T> {
+    fn read_row(alloc: Global, r: &mut Reader<'_>, nest: u8) -> Result<Self, Error> {
+        let mut items = Vec::new(alloc);
+        'items: while r.left() > 0 {
+            let item = T::read(alloc, r, nest)?;
+            items.push(item)?;
+        }
+        Ok(items)
+    }
+
+    ghost lawful = { lawful_each T.DerSerialize.format T.lawful };
+}
+
+impl<R: WriteRow> WriteRow for &R {
+    ghost Value = { R.Value };
+
+    ghost value = { λ x. R.value x.now };
+
+    ghost format = { R.format };
+
+    fn write_row(&self, alloc: Global, out: &mut Vec<u8>) -> Result<(), Error> {
+        (**self).write_row(alloc, out)
+    }
+
+    fn row_well_formed_at(&self, limit: u8) -> bool {
+        (**self).row_well_formed_at(limit)
+    }
+}
+
+/// Whether the next tag is one of `A`.
+pub fn next_is<A: FirstTags>(r: &Reader<'_>) -> bool
+    requires { r.now.refused ≡ false }
+    ensures { IsTrue result ↔ NextIs A.format.IsTag r.now.left }
+{
+    match r.peek() {
+        Some(tag) => A::begins(tag),
+        None => false,
+    }
+}
+
+/// Reads an element with that tag, whose contents are the parts.
+pub fn read_within<R: ReadRow>(
+    alloc: Global,
+    r: &mut Reader<'_>,
+    nest: u8,
+    tag: u8,
+) -> Result<R, Error>
+    requires sound { r.old.refused ≡ false }
+    requires tag { IsTagByte tag }
+    ensures { Gives R.value (within tag R.format) nest r.old r.new result }
+{
+    let outer = open_element(r, tag)?;
+    let row = R::read_row(alloc, r, nest)?;
+    r.end(outer)?;
+    Ok(row)
+}
+
+/// Writes an element with that tag, whose contents are the parts.
+pub fn write_within<R: WriteRow>(
+    alloc: Global,
+    row: &R,
+    tag: u8,
+    out: &mut Vec<u8>,
+) -> Result<(), Error>
+    ensures { Wrote ((within tag R.format).text (R.value row.now)) out.old.items out.new.items result }
+{
+    let mut inner = Vec::new(alloc);
+    row.write_row(alloc, &mut inner)?;
+    write_element(tag, inner.as_slice(), out)
+}

@@ -1,0 +1,96 @@
+//! Values as `==` and clones see them.
+
+ghost use Rattle.std.specs.Prelude.{◌≡◌, ◌↔◌, ℕ, List, Option, map, IsTrue};
+ghost use Rattle.std.proofs.Common.{rules};
+ghost use Rattle.asn1_core_format.specs.Rows.{option_value};
+ghost use Rattle.asn1_core_format.specs.Views.{SeesEqual, Clones, list_equal, option_equal};
+
+use asn1_core_element::Error;
+use std::alloc::Global;
+
+/// A type whose `==` is equality of what it contains.
+pub trait Viewed: PartialEq {
+    /// What a value contains, and not where it lies in memory.
+    ghost View: { Type 0 };
+
+    ghost view: { Self → View };
+
+    ghost equal: { SeesEqual Self.PartialEq.eq view };
+}
+
+/// A clone that takes memory.
+pub trait TryClone: Viewed + Drop {
+    /// A value that equals `self`. Refuses by `Memory` alone.
+    fn try_clone(&self, alloc: Global) -> Result<Self, Error>
+        ensures { Clones Self.view self.now result };
+}
+
+impl Viewed for u8 {
+    ghost View = { ℕ };
+
+    ghost view = { λ x. x };
+
+    ghost equal = { Prim.search rules };
+}
+
+impl TryClone for u8 {
+    fn try_clone(&self, _alloc: Global) -> Result<Self, Error> {
+        Ok(*self)
+    }
+}
+
+impl Viewed for u32 {
+    ghost View = { ℕ };
+
+    ghost view = { λ x. x };
+
+    ghost equal = { Prim.search rules };
+}
+
+impl TryClone for u32 {
+    fn try_clone(&self, _alloc: Global) -> Result<Self, Error> {
+        Ok(*self)
+    }
+}
+
+impl<T: Viewed> Viewed for Vec<T> {
+    ghost View = { List T.View };
+
+    ghost view = { λ v. map T.view v.items };
+
+    ghost equal = { λ x y. list_equal T.eq T.view T.equal x.items y.items };
+}
+
+impl<T: TryClone> TryClone for Vec<T> {
+    fn try_clone(&self, alloc: Global) -> Result<Self, Error> {
+        let mut items = Vec::new(alloc);
+        for item in self {
+            items.push(item.try_clone(alloc)?)?;
+        }
+        Ok(items)
+    }
+}
+
+impl<T: Viewed> Viewed for Option<T> {
+    ghost View = { Option T.View };
+
+    ghost view = { option_value T.view };
+
+    ghost equal = { option_equal T.eq T.view T.equal };
+}
+
+impl<T: TryClone> TryClone for Option<T> {
+    fn try_clone(&self, alloc: Global) -> Result<Self, Error> {
+        match self {
+            Some(value) => Ok(Some(value.try_clone(alloc)?)),
+            None => Ok(None),
+        }
+    }
+}
+
+/// Whether two values contain the same: `==` tells.
+pub fn is_same<T: Viewed>(a: &T, b: &T) -> bool
+    ensures { IsTrue result ↔ (T.view a.now ≡ T.view b.now) }
+{
+    a == b
+}
