@@ -1,0 +1,4 @@
+pub mod Arcs
+pub mod Groups
+pub mod Numerals
+pub mod Scan
