@@ -1,0 +1,5 @@
+pub mod Octets
+pub mod Raw
+pub mod Objects
+pub mod Equal
+pub mod Sample

@@ -1,0 +1,16 @@
+-- OBJECT IDENTIFIER: the contents are kept.
+use Rattle.std.specs.Prelude.{ℕ, List}
+use Rattle.std.proofs.Common.{arith}
+use Rattle.asn1_core_oid.specs.Oid.{IsOid}
+use Rattle.asn1_core_format.specs.Format.{Format, IsLawful}
+use Rattle.asn1_core_format.specs.Leaf.{Spelling, leaf, kept}
+use Rattle.asn1_core_format.specs.LeafLaws.{lawful_leaf, lawful_kept}
+
+abbrev pub oid_octets : Spelling (List ℕ)
+oid_octets = kept IsOid
+
+abbrev pub object_identifier : Format (List ℕ)
+object_identifier = leaf 6 oid_octets
+
+pub lawful_object_identifier : IsLawful object_identifier
+lawful_object_identifier = lawful_leaf 6 (omega arith) oid_octets (lawful_kept IsOid)

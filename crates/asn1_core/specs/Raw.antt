@@ -1,0 +1,32 @@
+-- Any one element, kept as it is.
+use Rattle.std.specs.Prelude.{◌≡◌, ℕ, List}
+use Rattle.std.proofs.Common.{refl, sym, ◌∙◌, subst}
+use Rattle.asn1_core_element.specs.Element.{IsElement, IsTagByte}
+use Rattle.asn1_core_format.specs.Format.{Format, IsLawful}
+use Rattle.asn1_core_format.specs.Laws.{begins_alone}
+
+abbrev pub raw : Format (List ℕ)
+raw = record {
+  text = λ v. v;
+  IsWellFormed = λ _ v. IsElement IsTagByte v;
+  Reads = λ _ b v. (b ≡ v) × IsElement IsTagByte b;
+  IsNormal = λ _ b. IsElement IsTagByte b;
+  normal = λ v. v;
+  IsTag = IsTagByte;
+  least = λ _. 1;
+}
+
+pub lawful_raw : IsLawful raw
+lawful_raw = record {
+  row = record {
+    begins = λ k b v r. begins_alone IsTagByte b r.1;
+    one_value = λ k b v w r s. sym r.0 ∙ s.0;
+    text_reads = λ k v h. (refl, h);
+    text_normal = λ k v h. h;
+    normal_reads = λ k b n. (b, (refl, n));
+    fixed = λ k b v r. (λ e. r.1, λ n. sym r.0);
+    well_formed = λ k b v r. subst (IsElement IsTagByte) r.0 r.1;
+    deeper = λ k b v r. r;
+  };
+  element = λ k b v r. r.1;
+}

@@ -1,0 +1,79 @@
+//! A text in an OCTET STRING, and a part that may be absent.
+
+ghost use Rattle.std.proofs.Common.{arith};
+ghost use Rattle.asn1_core_format.specs.Rows.{within};
+ghost use Rattle.asn1_core_format.specs.RowLaws.{lawful_within};
+
+use asn1_core_element::{Error, Reader};
+use asn1_core_format::{
+    Alone, DerDeserialize, DerSerialize, FirstTags, TryClone, Viewed, read_within, write_within,
+};
+use std::alloc::Global;
+
+/// An OCTET STRING whose octets are one text of `T`.
+#[derive(Debug, Drop, PartialEq, Eq)]
+pub struct OctetStringAsn1Container<T>(pub T);
+
+impl<T: DerSerialize> DerSerialize for OctetStringAsn1Container<T> {
+    ghost Value = { T.Value };
+
+    ghost value = { λ x. T.value x.0 };
+
+    ghost format = { within 4 T.format };
+
+    fn write(&self, alloc: Global, out: &mut Vec<u8>) -> Result<(), Error> {
+        write_within(alloc, &Alone(&self.0), 4, out)
+    }
+
+    fn well_formed_at(&self, limit: u8) -> bool {
+        self.0.well_formed_at(limit)
+    }
+}
+
+impl<T: DerDeserialize> DerDeserialize for OctetStringAsn1Container<T> {
+    fn read(alloc: Global, r: &mut Reader<'_>, nest: u8) -> Result<Self, Error> {
+        let Alone(value) = read_within::<Alone<T>>(alloc, r, nest, 4)?;
+        Ok(OctetStringAsn1Container(value))
+    }
+
+    ghost lawful = { lawful_within T.DerSerialize.format T.lawful.row 4 (Prim.omega arith) };
+}
+
+impl<T: DerDeserialize> FirstTags for OctetStringAsn1Container<T> {
+    fn begins(tag: u8) -> bool {
+        tag == 4
+    }
+}
+
+impl<T: Viewed> Viewed for OctetStringAsn1Container<T> {
+    ghost View = { T.View };
+
+    ghost view = { λ x. T.view x.0 };
+
+    ghost equal = { λ x y. T.equal x.0 y.0 };
+}
+
+impl<T: TryClone> TryClone for OctetStringAsn1Container<T> {
+    fn try_clone(&self, alloc: Global) -> Result<Self, Error> {
+        Ok(OctetStringAsn1Container(self.0.try_clone(alloc)?))
+    }
+}
+
+/// A part of a SEQUENCE that its grammar may leave out. It has no text of its own: the SEQUENCE says what stands
+/// for it.
+#[derive(Debug, Drop, PartialEq, Eq)]
+pub struct Optional<T>(pub T);
+
+impl<T: Viewed> Viewed for Optional<T> {
+    ghost View = { T.View };
+
+    ghost view = { λ x. T.view x.0 };
+
+    ghost equal = { λ x y. T.equal x.0 y.0 };
+}
+
+impl<T: TryClone> TryClone for Optional<T> {
+    fn try_clone(&self, alloc: Global) -> Result<Self, Error> {
+        Ok(Optional(self.0.try_clone(alloc)?))
+    }
+}

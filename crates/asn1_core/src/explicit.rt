@@ -1,0 +1,164 @@
+//! Explicit tags (X.690, 8.14): an element with a context tag round the whole element under it.
+
+ghost use Rattle.std.proofs.Common.{arith};
+ghost use Rattle.asn1_core_format.specs.Rows.{within};
+ghost use Rattle.asn1_core_format.specs.RowLaws.{lawful_within};
+
+use asn1_core_element::{Error, Reader};
+use asn1_core_format::{
+    Alone, ApartFrom, DerDeserialize, DerSerialize, FirstTags, TryClone, Viewed, read_within,
+    write_within,
+};
+use std::alloc::Global;
+
+/// `[0] EXPLICIT T`
+#[derive(Debug, Drop, PartialEq, Eq)]
+pub struct ExplicitContextTag0<T>(pub T);
+
+impl<T: DerSerialize> DerSerialize for ExplicitContextTag0<T> {
+    ghost Value = { T.Value };
+
+    ghost value = { λ x. T.value x.0 };
+
+    ghost format = { within 160 T.format };
+
+    fn write(&self, alloc: Global, out: &mut Vec<u8>) -> Result<(), Error> {
+        write_within(alloc, &Alone(&self.0), 0xA0, out)
+    }
+
+    fn well_formed_at(&self, limit: u8) -> bool {
+        self.0.well_formed_at(limit)
+    }
+}
+
+impl<T: DerDeserialize> DerDeserialize for ExplicitContextTag0<T> {
+    fn read(alloc: Global, r: &mut Reader<'_>, nest: u8) -> Result<Self, Error> {
+        let Alone(value) = read_within::<Alone<T>>(alloc, r, nest, 0xA0)?;
+        Ok(ExplicitContextTag0(value))
+    }
+
+    ghost lawful = { lawful_within T.DerSerialize.format T.lawful.row 160 (Prim.omega arith) };
+}
+
+impl<T: DerDeserialize> FirstTags for ExplicitContextTag0<T> {
+    fn begins(tag: u8) -> bool {
+        tag == 0xA0
+    }
+}
+
+impl<T: Viewed> Viewed for ExplicitContextTag0<T> {
+    ghost View = { T.View };
+
+    ghost view = { λ x. T.view x.0 };
+
+    ghost equal = { λ x y. T.equal x.0 y.0 };
+}
+
+impl<T: TryClone> TryClone for ExplicitContextTag0<T> {
+    fn try_clone(&self, alloc: Global) -> Result<Self, Error> {
+        Ok(ExplicitContextTag0(self.0.try_clone(alloc)?))
+    }
+}
+
+/// `[1] EXPLICIT T`
+#[derive(Debug, Drop, PartialEq, Eq)]
+pub struct ExplicitContextTag1<T>(pub T);
+
+impl<T: DerSerialize> DerSerialize for ExplicitContextTag1<T> {
+    ghost Value = { T.Value };
+
+    ghost value = { λ x. T.value x.0 };
+
+    ghost format = { within 161 T.format };
+
+    fn write(&self, alloc: Global, out: &mut Vec<u8>) -> Result<(), Error> {
+        write_within(alloc, &Alone(&self.0), 0xA1, out)
+    }
+
+    fn well_formed_at(&self, limit: u8) -> bool {
+        self.0.well_formed_at(limit)
+    }
+}
+
+impl<T: DerDeserialize> DerDeserialize for ExplicitContextTag1<T> {
+    fn read(alloc: Global, r: &mut Reader<'_>, nest: u8) -> Result<Self, Error> {
+        let Alone(value) = read_within::<Alone<T>>(alloc, r, nest, 0xA1)?;
+        Ok(ExplicitContextTag1(value))
+    }
+
+    ghost lawful = { lawful_within T.DerSerialize.format T.lawful.row 161 (Prim.omega arith) };
+}
+
+impl<T: DerDeserialize> FirstTags for ExplicitContextTag1<T> {
+    fn begins(tag: u8) -> bool {
+        tag == 0xA1
+    }
+}
+
+impl<T: Viewed> Viewed for ExplicitContextTag1<T> {
+    ghost View = { T.View };
+
+    ghost view = { λ x. T.view x.0 };
+
+    ghost equal = { λ x y. T.equal x.0 y.0 };
+}
+
+impl<T: TryClone> TryClone for ExplicitContextTag1<T> {
+    fn try_clone(&self, alloc: Global) -> Result<Self, Error> {
+        Ok(ExplicitContextTag1(self.0.try_clone(alloc)?))
+    }
+}
+
+/// `[2] EXPLICIT T`
+#[derive(Debug, Drop, PartialEq, Eq)]
+pub struct ExplicitContextTag2<T>(pub T);
+
+impl<T: DerSerialize> DerSerialize for ExplicitContextTag2<T> {
+    ghost Value = { T.Value };
+
+    ghost value = { λ x. T.value x.0 };
+
+    ghost format = { within 162 T.format };
+
+    fn write(&self, alloc: Global, out: &mut Vec<u8>) -> Result<(), Error> {
+        write_within(alloc, &Alone(&self.0), 0xA2, out)
+    }
+
+    fn well_formed_at(&self, limit: u8) -> bool {
+        self.0.well_formed_at(limit)
+    }
+}
+
+impl<T: DerDeserialize> DerDeserialize for ExplicitContextTag2<T> {
+    fn read(alloc: Global, r: &mut Reader<'_>, nest: u8) -> Result<Self, Error> {
+        let Alone(value) = read_within::<Alone<T>>(alloc, r, nest, 0xA2)?;
+        Ok(ExplicitContextTag2(value))
+    }
+
+    ghost lawful = { lawful_within T.DerSerialize.format T.lawful.row 162 (Prim.omega arith) };
+}
+
+impl<T: DerDeserialize> FirstTags for ExplicitContextTag2<T> {
+    fn begins(tag: u8) -> bool {
+        tag == 0xA2
+    }
+}
+
+impl<T: Viewed> Viewed for ExplicitContextTag2<T> {
+    ghost View = { T.View };
+
+    ghost view = { λ x. T.view x.0 };
+
+    ghost equal = { λ x y. T.equal x.0 y.0 };
+}
+
+impl<T: TryClone> TryClone for ExplicitContextTag2<T> {
+    fn try_clone(&self, alloc: Global) -> Result<Self, Error> {
+        Ok(ExplicitContextTag2(self.0.try_clone(alloc)?))
+    }
+}
+
+impl<T: DerSerialize, U: DerSerialize> ApartFrom<ExplicitContextTag1<U>>
+    for ExplicitContextTag0<T> {
+    ghost no_common_tag = { λ t h e. Prim.omega arith };
+}

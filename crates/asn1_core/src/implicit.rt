@@ -1,0 +1,113 @@
+//! Implicit tags (X.690, 8.14): a context tag in place of the tag of the type under it, whose constructed bit stays.
+
+ghost use Rattle.std.proofs.Common.{arith};
+ghost use Rattle.asn1_core_format.specs.Tagged.{implicit, context_tag};
+ghost use Rattle.asn1_core_format.specs.TaggedLaws.{lawful_implicit, context_tag_is};
+
+use asn1_core_element::{Error, Reader};
+use asn1_core_format::tagged::context_tag_of;
+use asn1_core_format::{
+    ApartFrom, DerDeserialize, DerSerialize, DerTagged, FirstTags, TryClone, Viewed, read_retagged,
+    write_retagged,
+};
+use std::alloc::Global;
+
+/// `[0] IMPLICIT T`
+#[derive(Debug, Drop, PartialEq, Eq)]
+pub struct ImplicitContextTag0<T>(pub T);
+
+impl<T: DerTagged> DerSerialize for ImplicitContextTag0<T> {
+    ghost Value = { T.Value };
+
+    ghost value = { λ x. T.value x.0 };
+
+    ghost format = { implicit (context_tag 0 T.TAG) T.TAG T.format };
+
+    fn write(&self, alloc: Global, out: &mut Vec<u8>) -> Result<(), Error> {
+        write_retagged(alloc, &self.0, context_tag_of::<T>(0), out)
+    }
+
+    fn well_formed_at(&self, limit: u8) -> bool {
+        self.0.well_formed_at(limit)
+    }
+}
+
+impl<T: DerTagged> DerDeserialize for ImplicitContextTag0<T> {
+    fn read(alloc: Global, r: &mut Reader<'_>, nest: u8) -> Result<Self, Error> {
+        Ok(ImplicitContextTag0(read_retagged(alloc, r, nest, context_tag_of::<T>(0))?))
+    }
+
+    ghost lawful = { lawful_implicit (context_tag 0 T.TAG) T.TAG T.DerSerialize.format T.lawful T.tagged (context_tag_is 0 T.TAG (Prim.omega arith)) };
+}
+
+impl<T: DerTagged> FirstTags for ImplicitContextTag0<T> {
+    fn begins(tag: u8) -> bool {
+        tag == context_tag_of::<T>(0)
+    }
+}
+
+impl<T: Viewed> Viewed for ImplicitContextTag0<T> {
+    ghost View = { T.View };
+
+    ghost view = { λ x. T.view x.0 };
+
+    ghost equal = { λ x y. T.equal x.0 y.0 };
+}
+
+impl<T: TryClone> TryClone for ImplicitContextTag0<T> {
+    fn try_clone(&self, alloc: Global) -> Result<Self, Error> {
+        Ok(ImplicitContextTag0(self.0.try_clone(alloc)?))
+    }
+}
+
+/// `[1] IMPLICIT T`
+#[derive(Debug, Drop, PartialEq, Eq)]
+pub struct ImplicitContextTag1<T>(pub T);
+
+impl<T: DerTagged> DerSerialize for ImplicitContextTag1<T> {
+    ghost Value = { T.Value };
+
+    ghost value = { λ x. T.value x.0 };
+
+    ghost format = { implicit (context_tag 1 T.TAG) T.TAG T.format };
+
+    fn write(&self, alloc: Global, out: &mut Vec<u8>) -> Result<(), Error> {
+        write_retagged(alloc, &self.0, context_tag_of::<T>(1), out)
+    }
+
+    fn well_formed_at(&self, limit: u8) -> bool {
+        self.0.well_formed_at(limit)
+    }
+}
+
+impl<T: DerTagged> DerDeserialize for ImplicitContextTag1<T> {
+    fn read(alloc: Global, r: &mut Reader<'_>, nest: u8) -> Result<Self, Error> {
+        Ok(ImplicitContextTag1(read_retagged(alloc, r, nest, context_tag_of::<T>(1))?))
+    }
+
+    ghost lawful = { lawful_implicit (context_tag 1 T.TAG) T.TAG T.DerSerialize.format T.lawful T.tagged (context_tag_is 1 T.TAG (Prim.omega arith)) };
+}
+
+impl<T: DerTagged> FirstTags for ImplicitContextTag1<T> {
+    fn begins(tag: u8) -> bool {
+        tag == context_tag_of::<T>(1)
+    }
+}
+
+impl<T: Viewed> Viewed for ImplicitContextTag1<T> {
+    ghost View = { T.View };
+
+    ghost view = { λ x. T.view x.0 };
+
+    ghost equal = { λ x y. T.equal x.0 y.0 };
+}
+
+impl<T: TryClone> TryClone for ImplicitContextTag1<T> {
+    fn try_clone(&self, alloc: Global) -> Result<Self, Error> {
+        Ok(ImplicitContextTag1(self.0.try_clone(alloc)?))
+    }
+}
+
+impl<T: DerTagged, U: DerTagged> ApartFrom<ImplicitContextTag1<U>> for ImplicitContextTag0<T> {
+    ghost no_common_tag = { λ t h e. Prim.omega arith };
+}

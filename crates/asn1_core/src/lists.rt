@@ -1,0 +1,141 @@
+//! SEQUENCE OF and SET OF. Lists keep their order, both ways.
+
+ghost use Rattle.std.specs.Prelude.{List, map};
+ghost use Rattle.std.proofs.Common.{arith};
+ghost use Rattle.asn1_core_format.specs.Lists.{each};
+ghost use Rattle.asn1_core_format.specs.ListLaws.{lawful_each};
+ghost use Rattle.asn1_core_format.specs.Rows.{within};
+ghost use Rattle.asn1_core_format.specs.RowLaws.{lawful_within};
+ghost use Rattle.asn1_core_format.specs.TaggedLaws.{within_tagged};
+ghost use Rattle.asn1_core_format.specs.Views.{list_equal};
+
+use asn1_core_element::{Error, Reader};
+use asn1_core_format::{
+    DerDeserialize, DerSerialize, DerTagged, FirstTags, TryClone, Viewed, WriteRow,
+    read_row_contents, read_within, write_within,
+};
+use std::alloc::Global;
+
+/// `SEQUENCE OF T`, whose items stand in the order in which they were read.
+#[derive(Debug, Drop, PartialEq, Eq)]
+pub struct Asn1SequenceOf<T>(pub Vec<T>);
+
+impl<T: DerSerialize> DerSerialize for Asn1SequenceOf<T> {
+    ghost Value = { List T.Value };
+
+    ghost value = { λ s. map T.value s.0.items };
+
+    ghost format = { within 48 (each T.format) };
+
+    fn write(&self, alloc: Global, out: &mut Vec<u8>) -> Result<(), Error> {
+        write_within(alloc, &self.0, 0x30, out)
+    }
+
+    fn well_formed_at(&self, limit: u8) -> bool {
+        self.0.row_well_formed_at(limit)
+    }
+}
+
+impl<T: DerDeserialize> DerDeserialize for Asn1SequenceOf<T> {
+    fn read(alloc: Global, r: &mut Reader<'_>, nest: u8) -> Result<Self, Error> {
+        let items = read_within::<Vec<T>>(alloc, r, nest, 0x30)?;
+        Ok(Asn1SequenceOf(items))
+    }
+
+    ghost lawful = { lawful_within (each T.DerSerialize.format) (lawful_each T.DerSerialize.format T.lawful) 48 (Prim.omega arith) };
+}
+
+impl<T: DerDeserialize> DerTagged for Asn1SequenceOf<T> {
+    ghost TAG = { 48 };
+
+    const TAG: u8 = 0x30;
+
+    fn read_contents(alloc: Global, r: &mut Reader<'_>, nest: u8) -> Result<Self, Error> {
+        let items = read_row_contents::<Vec<T>>(alloc, r, nest, 0x30)?;
+        Ok(Asn1SequenceOf(items))
+    }
+
+    ghost tagged = { within_tagged 48 (Prim.omega arith) (each T.DerSerialize.format) };
+}
+
+impl<T: DerDeserialize> FirstTags for Asn1SequenceOf<T> {
+    fn begins(tag: u8) -> bool {
+        tag == 0x30
+    }
+}
+
+impl<T: Viewed> Viewed for Asn1SequenceOf<T> {
+    ghost View = { List T.View };
+
+    ghost view = { λ s. map T.view s.0.items };
+
+    ghost equal = { λ x y. list_equal T.eq T.view T.equal x.0.items y.0.items };
+}
+
+impl<T: TryClone> TryClone for Asn1SequenceOf<T> {
+    fn try_clone(&self, alloc: Global) -> Result<Self, Error> {
+        Ok(Asn1SequenceOf(self.0.try_clone(alloc)?))
+    }
+}
+
+/// `SET OF T`, whose items stand in the order in which they were read.
+#[derive(Debug, Drop, PartialEq, Eq)]
+pub struct Asn1SetOf<T>(pub Vec<T>);
+
+impl<T: DerSerialize> DerSerialize for Asn1SetOf<T> {
+    ghost Value = { List T.Value };
+
+    ghost value = { λ s. map T.value s.0.items };
+
+    ghost format = { within 49 (each T.format) };
+
+    fn write(&self, alloc: Global, out: &mut Vec<u8>) -> Result<(), Error> {
+        write_within(alloc, &self.0, 0x31, out)
+    }
+
+    fn well_formed_at(&self, limit: u8) -> bool {
+        self.0.row_well_formed_at(limit)
+    }
+}
+
+impl<T: DerDeserialize> DerDeserialize for Asn1SetOf<T> {
+    fn read(alloc: Global, r: &mut Reader<'_>, nest: u8) -> Result<Self, Error> {
+        let items = read_within::<Vec<T>>(alloc, r, nest, 0x31)?;
+        Ok(Asn1SetOf(items))
+    }
+
+    ghost lawful = { lawful_within (each T.DerSerialize.format) (lawful_each T.DerSerialize.format T.lawful) 49 (Prim.omega arith) };
+}
+
+impl<T: DerDeserialize> DerTagged for Asn1SetOf<T> {
+    ghost TAG = { 49 };
+
+    const TAG: u8 = 0x31;
+
+    fn read_contents(alloc: Global, r: &mut Reader<'_>, nest: u8) -> Result<Self, Error> {
+        let items = read_row_contents::<Vec<T>>(alloc, r, nest, 0x31)?;
+        Ok(Asn1SetOf(items))
+    }
+
+    ghost tagged = { within_tagged 49 (Prim.omega arith) (each T.DerSerialize.format) };
+}
+
+impl<T: DerDeserialize> FirstTags for Asn1SetOf<T> {
+    fn begins(tag: u8) -> bool {
+        tag == 0x31
+    }
+}
+
+impl<T: Viewed> Viewed for Asn1SetOf<T> {
+    ghost View = { List T.View };
+
+    ghost view = { λ s. map T.view s.0.items };
+
+    ghost equal = { λ x y. list_equal T.eq T.view T.equal x.0.items y.0.items };
+}
+
+impl<T: TryClone> TryClone for Asn1SetOf<T> {
+    fn try_clone(&self, alloc: Global) -> Result<Self, Error> {
+        Ok(Asn1SetOf(self.0.try_clone(alloc)?))
+    }
+}

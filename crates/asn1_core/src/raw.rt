@@ -1,0 +1,69 @@
+//! One element, whatever it is.
+
+ghost use Rattle.std.specs.Prelude.{ℕ, List};
+ghost use Rattle.asn1_core.specs.Equal.{raw_equal};
+ghost use Rattle.asn1_core.specs.Raw.{raw, lawful_raw};
+
+use asn1_core_element::element::write_element;
+use asn1_core_element::front::front;
+use asn1_core_element::{Error, Reader};
+use asn1_core_format::{DerDeserialize, DerSerialize, FirstTags, TryClone, Viewed};
+use std::alloc::Global;
+
+/// Any one element, kept as it is. Its contents aren't looked into.
+#[derive(Debug, Drop, PartialEq, Eq)]
+pub struct Asn1RawDer(pub Vec<u8>);
+
+impl DerSerialize for Asn1RawDer {
+    ghost Value = { List ℕ };
+
+    ghost value = { λ x. x.0.items };
+
+    ghost format = { raw };
+
+    fn write(&self, _alloc: Global, out: &mut Vec<u8>) -> Result<(), Error> {
+        out.extend_from_slice(self.0.as_slice())?;
+        Ok(())
+    }
+
+    fn well_formed_at(&self, _limit: u8) -> bool {
+        match front(self.0.as_slice()) {
+            Some((_tag, len, size)) => size + len == self.0.as_slice().len(),
+            None => false,
+        }
+    }
+}
+
+impl DerDeserialize for Asn1RawDer {
+    fn read(alloc: Global, r: &mut Reader<'_>, _nest: u8) -> Result<Self, Error> {
+        // what is left fits `usize`, and so does the text
+        let _room = r.left();
+        let (tag, len) = r.header()?;
+        let contents = r.contents(len);
+        let mut text = Vec::new(alloc);
+        write_element(tag, contents, &mut text)?;
+        Ok(Asn1RawDer(text))
+    }
+
+    ghost lawful = { lawful_raw };
+}
+
+impl FirstTags for Asn1RawDer {
+    fn begins(tag: u8) -> bool {
+        tag % 32 < 31
+    }
+}
+
+impl Viewed for Asn1RawDer {
+    ghost View = { List ℕ };
+
+    ghost view = { λ x. x.0.items };
+
+    ghost equal = { raw_equal };
+}
+
+impl TryClone for Asn1RawDer {
+    fn try_clone(&self, alloc: Global) -> Result<Self, Error> {
+        Ok(Asn1RawDer(Vec::from_slice(alloc, self.0.as_slice())?))
+    }
+}
