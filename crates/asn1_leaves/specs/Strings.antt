@@ -1,0 +1,34 @@
+-- BIT STRING and the restricted character strings, whose contents octets are kept.
+use Rattle.std.specs.Prelude.{ℕ, List}
+use Rattle.std.specs.Str.{IsUtf8}
+use Rattle.std.proofs.Common.{arith}
+use Rattle.asn1_core_format.specs.Format.{Format, IsLawful}
+use Rattle.asn1_core_format.specs.Leaf.{leaf, kept}
+use Rattle.asn1_core_format.specs.LeafLaws.{lawful_leaf, lawful_kept}
+use Rattle.asn1_leaves_strings.specs.Bits.{IsBits}
+use Rattle.asn1_leaves_strings.specs.Bmp.{IsBmp}
+use Rattle.asn1_leaves_strings.specs.Ia5.{IsIa5}
+
+abbrev pub bit_string : Format (List ℕ)
+bit_string = leaf 3 (kept IsBits)
+
+abbrev pub bmp_string : Format (List ℕ)
+bmp_string = leaf 0x1E (kept IsBmp)
+
+abbrev pub ia5_string : Format (List ℕ)
+ia5_string = leaf 0x16 (kept IsIa5)
+
+abbrev pub utf8_string : Format (List ℕ)
+utf8_string = leaf 0x0C (kept IsUtf8)
+
+pub lawful_bit_string : IsLawful bit_string
+lawful_bit_string = lawful_leaf 3 (omega arith) (kept IsBits) (lawful_kept IsBits)
+
+pub lawful_bmp_string : IsLawful bmp_string
+lawful_bmp_string = lawful_leaf 0x1E (omega arith) (kept IsBmp) (lawful_kept IsBmp)
+
+pub lawful_ia5_string : IsLawful ia5_string
+lawful_ia5_string = lawful_leaf 0x16 (omega arith) (kept IsIa5) (lawful_kept IsIa5)
+
+pub lawful_utf8_string : IsLawful utf8_string
+lawful_utf8_string = lawful_leaf 0x0C (omega arith) (kept IsUtf8) (lawful_kept IsUtf8)

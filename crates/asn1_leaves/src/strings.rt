@@ -1,0 +1,252 @@
+//! BMPString, IA5String and UTF8String (X.690, 8.23). Contents outside the character set are refused by `Invalid`.
+
+ghost use Rattle.std.specs.Prelude.{ℕ, List};
+ghost use Rattle.std.specs.Str.{IsUtf8};
+ghost use Rattle.std.proofs.Common.{rules, arith};
+ghost use Rattle.asn1_core_format.specs.Leaf.{kept};
+ghost use Rattle.asn1_core_format.specs.TaggedLaws.{leaf_tagged};
+ghost use Rattle.asn1_leaves.specs.Strings.{bmp_string, lawful_bmp_string, ia5_string, lawful_ia5_string};
+ghost use Rattle.asn1_leaves.specs.Strings.{utf8_string, lawful_utf8_string};
+ghost use Rattle.asn1_leaves_strings.specs.Bmp.{IsBmp};
+ghost use Rattle.asn1_leaves_strings.specs.Ia5.{IsIa5};
+ghost use Rattle.asn1_leaves_strings.specs.Octets.{octets_of_bmp, octets_of_ia5, octets_of_utf8};
+
+use asn1_core_element::element::write_element;
+use asn1_core_element::{Error, Reader};
+use asn1_core_format::{
+    DerDeserialize, DerSerialize, DerTagged, FirstTags, Leaf, TryClone, Viewed, read_leaf,
+    read_leaf_contents,
+};
+use asn1_leaves_strings::{BmpString, IA5String, Utf8String, is_bmp, is_ia5, is_utf8};
+use std::alloc::Global;
+
+/// A BMPString as one element, with tag `1E`.
+#[derive(Debug, Drop, PartialEq, Eq)]
+pub struct BmpStringAsn1(pub BmpString);
+
+/// The name as the ASN.1 type is written.
+pub type BMPStringAsn1 = BmpStringAsn1;
+
+impl Leaf for BmpStringAsn1 {
+    ghost Value = { List ℕ };
+
+    ghost value = { λ s. octets_of_bmp s.0 };
+
+    ghost spelling = { kept IsBmp };
+
+    fn from_contents(alloc: Global, contents: &[u8]) -> Result<Self, Error> {
+        if !is_bmp(contents) {
+            return Err(Error::Invalid);
+        }
+        let octets = Vec::from_slice(alloc, contents)?;
+        Ok(BmpStringAsn1(BmpString::new(octets).unwrap()))
+    }
+}
+
+impl DerSerialize for BmpStringAsn1 {
+    ghost Value = { List ℕ };
+
+    ghost value = { λ s. octets_of_bmp s.0 };
+
+    ghost format = { bmp_string };
+
+    fn write(&self, _alloc: Global, out: &mut Vec<u8>) -> Result<(), Error> {
+        write_element(0x1E, self.0.as_bytes(), out)
+    }
+
+    fn well_formed_at(&self, _limit: u8) -> bool {
+        true
+    }
+}
+
+impl DerDeserialize for BmpStringAsn1 {
+    fn read(alloc: Global, r: &mut Reader<'_>, nest: u8) -> Result<Self, Error> {
+        read_leaf(alloc, r, nest, 0x1E)
+    }
+
+    ghost lawful = { lawful_bmp_string };
+}
+
+impl DerTagged for BmpStringAsn1 {
+    ghost TAG = { 0x1E };
+
+    const TAG: u8 = 0x1E;
+
+    fn read_contents(alloc: Global, r: &mut Reader<'_>, nest: u8) -> Result<Self, Error> {
+        read_leaf_contents(alloc, r, nest, 0x1E)
+    }
+
+    ghost tagged = { leaf_tagged 0x1E (Prim.omega arith) (kept IsBmp) };
+}
+
+impl FirstTags for BmpStringAsn1 {
+    fn begins(tag: u8) -> bool {
+        tag == 0x1E
+    }
+}
+
+impl Viewed for BmpStringAsn1 {
+    ghost View = { List ℕ };
+
+    ghost view = { λ s. octets_of_bmp s.0 };
+
+    ghost equal = { Prim.search rules };
+}
+
+impl TryClone for BmpStringAsn1 {
+    fn try_clone(&self, alloc: Global) -> Result<Self, Error> {
+        Ok(BmpStringAsn1(self.0.try_clone(alloc)?))
+    }
+}
+
+/// An IA5String as one element, with tag `16`.
+#[derive(Debug, Drop, PartialEq, Eq)]
+pub struct IA5StringAsn1(pub IA5String);
+
+impl Leaf for IA5StringAsn1 {
+    ghost Value = { List ℕ };
+
+    ghost value = { λ s. octets_of_ia5 s.0 };
+
+    ghost spelling = { kept IsIa5 };
+
+    fn from_contents(alloc: Global, contents: &[u8]) -> Result<Self, Error> {
+        if !is_ia5(contents) {
+            return Err(Error::Invalid);
+        }
+        let octets = Vec::from_slice(alloc, contents)?;
+        Ok(IA5StringAsn1(IA5String::new(octets).unwrap()))
+    }
+}
+
+impl DerSerialize for IA5StringAsn1 {
+    ghost Value = { List ℕ };
+
+    ghost value = { λ s. octets_of_ia5 s.0 };
+
+    ghost format = { ia5_string };
+
+    fn write(&self, _alloc: Global, out: &mut Vec<u8>) -> Result<(), Error> {
+        write_element(0x16, self.0.as_bytes(), out)
+    }
+
+    fn well_formed_at(&self, _limit: u8) -> bool {
+        true
+    }
+}
+
+impl DerDeserialize for IA5StringAsn1 {
+    fn read(alloc: Global, r: &mut Reader<'_>, nest: u8) -> Result<Self, Error> {
+        read_leaf(alloc, r, nest, 0x16)
+    }
+
+    ghost lawful = { lawful_ia5_string };
+}
+
+impl DerTagged for IA5StringAsn1 {
+    ghost TAG = { 0x16 };
+
+    const TAG: u8 = 0x16;
+
+    fn read_contents(alloc: Global, r: &mut Reader<'_>, nest: u8) -> Result<Self, Error> {
+        read_leaf_contents(alloc, r, nest, 0x16)
+    }
+
+    ghost tagged = { leaf_tagged 0x16 (Prim.omega arith) (kept IsIa5) };
+}
+
+impl FirstTags for IA5StringAsn1 {
+    fn begins(tag: u8) -> bool {
+        tag == 0x16
+    }
+}
+
+impl Viewed for IA5StringAsn1 {
+    ghost View = { List ℕ };
+
+    ghost view = { λ s. octets_of_ia5 s.0 };
+
+    ghost equal = { Prim.search rules };
+}
+
+impl TryClone for IA5StringAsn1 {
+    fn try_clone(&self, alloc: Global) -> Result<Self, Error> {
+        Ok(IA5StringAsn1(self.0.try_clone(alloc)?))
+    }
+}
+
+/// A UTF8String as one element, with tag `0C`.
+#[derive(Debug, Drop, PartialEq, Eq)]
+pub struct Utf8StringAsn1(pub Utf8String);
+
+impl Leaf for Utf8StringAsn1 {
+    ghost Value = { List ℕ };
+
+    ghost value = { λ s. octets_of_utf8 s.0 };
+
+    ghost spelling = { kept IsUtf8 };
+
+    fn from_contents(alloc: Global, contents: &[u8]) -> Result<Self, Error> {
+        if !is_utf8(contents) {
+            return Err(Error::Invalid);
+        }
+        let octets = Vec::from_slice(alloc, contents)?;
+        Ok(Utf8StringAsn1(Utf8String::new(octets).unwrap()))
+    }
+}
+
+impl DerSerialize for Utf8StringAsn1 {
+    ghost Value = { List ℕ };
+
+    ghost value = { λ s. octets_of_utf8 s.0 };
+
+    ghost format = { utf8_string };
+
+    fn write(&self, _alloc: Global, out: &mut Vec<u8>) -> Result<(), Error> {
+        write_element(0x0C, self.0.as_bytes(), out)
+    }
+
+    fn well_formed_at(&self, _limit: u8) -> bool {
+        true
+    }
+}
+
+impl DerDeserialize for Utf8StringAsn1 {
+    fn read(alloc: Global, r: &mut Reader<'_>, nest: u8) -> Result<Self, Error> {
+        read_leaf(alloc, r, nest, 0x0C)
+    }
+
+    ghost lawful = { lawful_utf8_string };
+}
+
+impl DerTagged for Utf8StringAsn1 {
+    ghost TAG = { 0x0C };
+
+    const TAG: u8 = 0x0C;
+
+    fn read_contents(alloc: Global, r: &mut Reader<'_>, nest: u8) -> Result<Self, Error> {
+        read_leaf_contents(alloc, r, nest, 0x0C)
+    }
+
+    ghost tagged = { leaf_tagged 0x0C (Prim.omega arith) (kept IsUtf8) };
+}
+
+impl FirstTags for Utf8StringAsn1 {
+    fn begins(tag: u8) -> bool {
+        tag == 0x0C
+    }
+}
+
+impl Viewed for Utf8StringAsn1 {
+    ghost View = { List ℕ };
+
+    ghost view = { λ s. octets_of_utf8 s.0 };
+
+    ghost equal = { Prim.search rules };
+}
+
+impl TryClone for Utf8StringAsn1 {
+    fn try_clone(&self, alloc: Global) -> Result<Self, Error> {
+        Ok(Utf8StringAsn1(self.0.try_clone(alloc)?))
+    }
+}

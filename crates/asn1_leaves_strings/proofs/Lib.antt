@@ -1,0 +1,3 @@
+pub mod BitWrites
+pub mod BmpReads
+pub mod Equal

@@ -1,0 +1,8 @@
+pub mod Bits
+pub mod BitsLaws
+pub mod Bmp
+pub mod BmpLaws
+pub mod CharSet
+pub mod Ia5
+pub mod Octets
+pub mod StringLaws

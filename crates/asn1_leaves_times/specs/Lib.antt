@@ -1,0 +1,9 @@
+pub mod Calendar
+pub mod CalendarLaws
+pub mod Contents
+pub mod ContentsLaws
+pub mod Grammar
+pub mod GrammarLaws
+pub mod Reading
+pub mod Times
+pub mod TimesLaws
