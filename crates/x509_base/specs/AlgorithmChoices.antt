@@ -1,0 +1,40 @@
+-- An algorithm identifier whose object identifier picks an arm. The parameters of a known arm are read, whatever they
+-- are, and dropped, and written as NULL; those of an unknown one are as in any other.
+use Rattle.std.specs.Prelude.{◌≡◌, ◌≢◌, ◌⊎◌, ℕ, List, [], ◌++◌, Option, Some, None, IsSome}
+use Rattle.std.proofs.Common.{inl, inr}
+use Rattle.asn1_core_element.specs.Element.{element}
+use Rattle.asn1_core_format.specs.Format.{Format}
+use Rattle.asn1_core_format.specs.Eithers.{OneOf, from_one}
+use Rattle.asn1_core_format.specs.Loosened.{Loosening, loosened}
+use Rattle.x509_base.specs.Algorithms.{AlgorithmValue, algorithm_identifier, null, null_written}
+
+-- the object identifiers of known arms
+pub record Table (A : Type 0) : Type 0 where
+  pub oid_of : A → List ℕ
+  pub arm_of : List ℕ → Option A
+
+-- each arm has its own object identifier
+pub record IsTable {A : Type 0} (T : Table A) : Type 0 where
+  pub there : (a : A) → T.arm_of (T.oid_of a) ≡ Some a
+  pub back : (o : List ℕ) (a : A) → T.arm_of o ≡ Some a → T.oid_of a ≡ o
+
+-- a known arm, or an algorithm identifier whose object identifier no arm has
+abbrev pub arm_read : {A : Type 0} → Option A → AlgorithmValue → A ⊎ AlgorithmValue
+arm_read (Some a) v = inl a
+arm_read None v = inr v
+
+-- parameters are there, and NULL behind a known object identifier
+abbrev pub HasArmParameters : {A : Type 0} → Table A → List ℕ → Type 0
+HasArmParameters T b = (o : List ℕ) × (p : List ℕ) × (b ≡ element 48 (element 6 o ++ p)) × (p ≢ []) × (IsSome (T.arm_of o) → p ≡ null)
+
+abbrev pub arm_written : {A : Type 0} → Table A → Loosening AlgorithmValue (A ⊎ AlgorithmValue)
+arm_written T = record {
+  read = λ v. arm_read (T.arm_of v.0) v;
+  written = from_one (λ a. (T.oid_of a, (Some null, tt))) null_written.written;
+  IsProper = OneOf (λ _. Unit {0}) (λ v. T.arm_of v.0 ≡ None);
+  IsWritten = HasArmParameters T;
+  least = from_one (λ _. 2) algorithm_identifier.least;
+}
+
+abbrev pub algorithm_choice : {A : Type 0} → Table A → Format (A ⊎ AlgorithmValue)
+algorithm_choice T = loosened algorithm_identifier (arm_written T)

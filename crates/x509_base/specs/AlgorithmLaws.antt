@@ -1,0 +1,74 @@
+-- The laws of algorithm identifiers.
+use Rattle.std.specs.Prelude.{◌≡◌, ◌≢◌, ◌↔◌, ℕ, List, [], ◌++◌, Option, Some, None}
+use Rattle.std.proofs.Common.{refl, sym, ap, ◌∙◌, arith, append-nil, length}
+use Rattle.asn1_core_element.specs.Element.{element, head, IsElement, IsTagByte}
+use Rattle.asn1_core_element.specs.ElementLaws.{element_cut, element_same, element_long}
+use Rattle.asn1_core_format.specs.Format.{IsLawful}
+use Rattle.asn1_core_format.specs.Rows.{nothing, optional}
+use Rattle.asn1_core_format.specs.RowLaws.{lawful_nothing, lawful_part, lawful_optional, lawful_within}
+use Rattle.asn1_core_format.specs.Loosened.{IsLoosening, lawful_loosened}
+use Rattle.asn1_core.specs.Objects.{object_identifier, lawful_object_identifier}
+use Rattle.asn1_core.specs.Raw.{raw, lawful_raw}
+use Rattle.x509_base.specs.Algorithms.{AlgorithmValue, algorithm_identifier, null, or_null, HasParameters, null_written, raw_algorithm_identifier}
+
+pub lawful_algorithm_identifier : IsLawful algorithm_identifier
+lawful_algorithm_identifier =
+    lawful_within _ (lawful_part object_identifier _ lawful_object_identifier (lawful_optional raw nothing lawful_raw lawful_nothing (λ t h e. e))) 48 (omega arith)
+
+pub null_is_element : IsElement IsTagByte null
+null_is_element = record { tag = 5; contents = []; is_tag = omega arith; is = refl; allowed = omega arith }
+
+pub null_some : null ≢ []
+unfolding head
+null_some e = cc
+
+-- which bytes an algorithm identifier is, whatever its parameters are
+pub parts_of : (k : ℕ) (b : List ℕ) (a : AlgorithmValue) → algorithm_identifier.Reads k b a → (p : List ℕ) × (b ≡ element 48 (element 6 a.0 ++ p)) × (optional raw nothing).Reads k p a.1
+parts_of k b a s = (s.2.1, s.1 ∙ ap (element 48) (s.2.2 ∙ ap (λ x. x ++ s.2.1) s.2.3.0), s.2.4)
+
+-- the object identifier and the parameters are where they are
+pub same_parts : (o q p r : List ℕ) → element 48 (element 6 o ++ p) ≡ element 48 (element 6 q ++ r) → (o ≡ q) × (p ≡ r)
+same_parts o q p r e = let c = element_cut 6 6 o q p r (element_same 48 48 (element 6 o ++ p) (element 6 q ++ r) e).1 in (c.1, c.2)
+
+-- parameters that are there fill what is left
+pub some_parameters : (k : ℕ) (p x : List ℕ) → (optional raw nothing).Reads k p (Some x, tt) → (p ≡ x) × IsElement IsTagByte x
+some_parameters k p x s =
+    let e : p ≡ x = s.2 ∙ ap (λ c. s.0 ++ c) s.4 ∙ append-nil s.0 ∙ s.3.0 in
+    let t = s.3.1 in
+    (e, record { tag = t.tag; contents = t.contents; is_tag = t.is_tag; is = sym s.3.0 ∙ t.is; allowed = t.allowed })
+
+pub element_is_some : (x : List ℕ) → IsElement IsTagByte x → x ≢ []
+element_is_some x e n = omega (arith, ap length e.is, ap length n, element_long e.tag e.contents)
+
+pub or_null_formed : (k : ℕ) (o : Option (List ℕ)) → (optional raw nothing).IsWellFormed k (o, tt) ↔ (optional raw nothing).IsWellFormed k (or_null o, tt)
+or_null_formed k None = (λ h. (null_is_element, tt), λ h. (tt, tt))
+or_null_formed k (Some x) = (λ h. h, λ h. h)
+
+null_chosen : (k : ℕ) (b : List ℕ) (a : AlgorithmValue) → algorithm_identifier.Reads k b a → (HasParameters b ↔ (null_written.written a ≡ a))
+null_chosen k b (o, (None, u)) s =
+    let q = parts_of k b (o, (None, u)) s in (
+      λ w. absurd (w.3 (sym (same_parts o w.0 q.0 w.1 (sym q.1 ∙ w.2)).1 ∙ q.2)),
+      λ e. (let i : Some null ≡ None = ap (λ x. x.1.0) e in cc),
+    )
+null_chosen k b (o, (Some x, u)) s =
+    let q = parts_of k b (o, (Some x, u)) s in
+    let p = some_parameters k q.0 x q.2 in (
+      λ w. refl,
+      λ e. (o, q.0, q.1, λ n. element_is_some x p.1 (sym p.0 ∙ n)),
+    )
+
+null_settled : (o : List ℕ) (p : Option (List ℕ)) → null_written.written (algorithm_identifier.normal (null_written.written (o, (p, tt)))) ≡ algorithm_identifier.normal (null_written.written (o, (p, tt)))
+null_settled o None = refl
+null_settled o (Some x) = refl
+
+pub null_loosening : IsLoosening algorithm_identifier null_written
+null_loosening = record {
+  proper = λ a. tt;
+  kept = λ k a h. (h.0, (or_null_formed k a.1.0).0 h.1);
+  chosen = null_chosen;
+  settled = λ k v h i. null_settled v.0 v.1.0;
+  fewer = λ a. omega arith;
+}
+
+pub lawful_raw_algorithm_identifier : IsLawful raw_algorithm_identifier
+lawful_raw_algorithm_identifier = lawful_loosened algorithm_identifier lawful_algorithm_identifier null_written null_loosening

@@ -1,0 +1,30 @@
+-- What an algorithm identifier holds.
+use Rattle.std.specs.Prelude.{ℕ, List, Option}
+use Rattle.asn1_core.specs.declared.raw.Asn1RawDer.{Asn1RawDer}
+use Rattle.asn1_core_format.specs.Rows.{option_value}
+use Rattle.asn1_core_oid.specs.OidValue.{octets_of}
+use Rattle.asn1_core_oid.specs.declared.oid.ObjectIdentifier.{ObjectIdentifier}
+use Rattle.x509_base.specs.Algorithms.{AlgorithmValue}
+use Rattle.x509_base.specs.declared.algorithms.AlgorithmIdentifier.{AlgorithmIdentifier}
+use Rattle.x509_base.specs.declared.algorithms.RawAlgorithmIdentifier.{RawAlgorithmIdentifier}
+
+abbrev pub algorithm_of : AlgorithmIdentifier → ObjectIdentifier
+algorithm_of a = a.algorithm
+
+abbrev pub parameters_of : AlgorithmIdentifier → Option Asn1RawDer
+parameters_of a = a.parameters
+
+-- one that is written with parameters, as one that is written as it stands
+abbrev pub parts_of : RawAlgorithmIdentifier → AlgorithmIdentifier
+parts_of a = a.parts
+
+-- the octets of its object identifier, and of its parameters
+abbrev pub algorithm_value : AlgorithmIdentifier → AlgorithmValue
+algorithm_value a = (octets_of a.algorithm, (option_value (λ p. p.0.items) a.parameters, tt))
+
+-- what `==` sees
+abbrev pub AlgorithmView : Type 0
+AlgorithmView = List ℕ × Option (List ℕ)
+
+abbrev pub algorithm_view : AlgorithmIdentifier → AlgorithmView
+algorithm_view a = (octets_of a.algorithm, option_value (λ p. p.0.items) a.parameters)

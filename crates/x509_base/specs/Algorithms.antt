@@ -1,0 +1,54 @@
+-- AlgorithmIdentifier ::= SEQUENCE { algorithm OBJECT IDENTIFIER, parameters ANY DEFINED BY algorithm OPTIONAL } (RFC 5280, 4.1.1.2)
+use Rattle.std.specs.Prelude.{◌≡◌, ◌≢◌, ℕ, List, [], ◌++◌, Option, Some, None}
+use Rattle.asn1_core_element.specs.Element.{element}
+use Rattle.asn1_core_format.specs.Format.{Format}
+use Rattle.asn1_core_format.specs.Rows.{nothing, part, optional, within}
+use Rattle.asn1_core_format.specs.Loosened.{Loosening, loosened}
+use Rattle.asn1_core.specs.Objects.{object_identifier}
+use Rattle.asn1_core.specs.Raw.{raw}
+
+-- the object identifier, and the parameters
+abbrev pub AlgorithmValue : Type 0
+AlgorithmValue = List ℕ × (Option (List ℕ) × Unit {0})
+
+-- as it stands
+abbrev pub algorithm_identifier : Format AlgorithmValue
+algorithm_identifier = within 48 (part object_identifier (optional raw nothing))
+
+-- NULL
+abbrev pub null : List ℕ
+null = element 5 []
+
+-- NULL, as a type that only writes
+abbrev pub written_null : Format (Unit {0})
+written_null = record {
+  text = λ _. null;
+  IsWellFormed = λ _ _. Unit {0};
+  Reads = λ _ _ _. ⊥;
+  IsNormal = λ _ _. ⊥;
+  normal = λ v. v;
+  IsTag = λ _. ⊥;
+  least = λ _. 1;
+}
+
+-- NULL for absent parameters
+abbrev pub or_null : Option (List ℕ) → Option (List ℕ)
+or_null None = Some null
+or_null (Some p) = Some p
+
+-- an algorithm identifier with parameters
+abbrev pub HasParameters : List ℕ → Type 0
+HasParameters b = (o : List ℕ) × (p : List ℕ) × (b ≡ element 48 (element 6 o ++ p)) × (p ≢ [])
+
+-- absent parameters are read as absent, and written as NULL: old producers leave them out
+abbrev pub null_written : Loosening AlgorithmValue AlgorithmValue
+null_written = record {
+  read = λ a. a;
+  written = λ v. (v.0, (or_null v.1.0, tt));
+  IsProper = λ _. Unit {0};
+  IsWritten = HasParameters;
+  least = algorithm_identifier.least;
+}
+
+abbrev pub raw_algorithm_identifier : Format AlgorithmValue
+raw_algorithm_identifier = loosened algorithm_identifier null_written

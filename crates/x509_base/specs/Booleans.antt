@@ -1,0 +1,55 @@
+-- BOOLEAN, and an explicit FALSE as what absence stands for.
+use Rattle.std.specs.Prelude.{◌≡◌, ◌⊎◌, ℕ, Bool, true, false, not, List, [], ◌∷◌}
+use Rattle.std.specs.Str.{bytes_eq}
+use Rattle.std.proofs.Common.{refl, sym, inl, inr, arith}
+use Rattle.std.proofs.lemmas.Slice.Eq.{bytes_eq-Decides}
+use Rattle.std.proofs.lemmas.Bool.{false_from_ne_true}
+use Rattle.asn1_core_element.specs.Element.{element}
+use Rattle.asn1_core_element.specs.ElementLaws.{element_same}
+use Rattle.asn1_core_format.specs.Format.{Format, IsLawful}
+use Rattle.asn1_core_format.specs.Leaf.{Spelling, leaf}
+use Rattle.asn1_core_format.specs.LeafLaws.{lawful_leaf}
+
+abbrev pub boolean_octets : Bool → List ℕ
+boolean_octets true = 0xFF ∷ []
+boolean_octets false = 0x00 ∷ []
+
+abbrev pub booleans : Spelling Bool
+booleans = record { spell = boolean_octets; IsValid = λ _. Unit {0}; IsContents = λ c. (c ≡ 0x00 ∷ []) ⊎ (c ≡ 0xFF ∷ []) }
+
+abbrev pub boolean : Format Bool
+boolean = leaf 1 booleans
+
+one_boolean : (v w : Bool) → boolean_octets v ≡ boolean_octets w → v ≡ w
+one_boolean true true e = refl
+one_boolean true false e = cc
+one_boolean false true e = cc
+one_boolean false false e = refl
+
+spelled : (v : Bool) → booleans.IsContents (boolean_octets v)
+spelled true = inr refl
+spelled false = inl refl
+
+has_boolean : (c : List ℕ) → booleans.IsContents c → (v : Bool) × (c ≡ boolean_octets v) × Unit {0}
+has_boolean c (inl e) = (false, e, tt)
+has_boolean c (inr e) = (true, e, tt)
+
+pub lawful_boolean : IsLawful boolean
+lawful_boolean = lawful_leaf 1 (omega arith) booleans (record {
+  one_value = λ v w h i e. one_boolean v w e;
+  spelled = λ v h. spelled v;
+  has_value = has_boolean;
+})
+
+abbrev pub explicit_false : List ℕ
+explicit_false = element 1 (0x00 ∷ [])
+
+pub is_false : (v : Bool) → not v ≡ bytes_eq (boolean.text v) explicit_false
+is_false false = sym ((bytes_eq-Decides explicit_false explicit_false).1 refl)
+is_false true = sym (false_from_ne_true (bytes_eq (element 1 (0xFF ∷ [])) explicit_false) (λ h. (let e = (element_same 1 1 (0xFF ∷ []) (0x00 ∷ []) ((bytes_eq-Decides (element 1 (0xFF ∷ [])) explicit_false).0 h)).1 in cc)))
+
+pub false_is_normal : (k : ℕ) → boolean.IsNormal k explicit_false
+false_is_normal k = (0x00 ∷ [], refl, inl refl)
+
+pub false_reads : (k : ℕ) → boolean.Reads k explicit_false false
+false_reads k = (refl, tt)

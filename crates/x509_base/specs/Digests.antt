@@ -1,0 +1,19 @@
+-- DigestInfo ::= SEQUENCE { digestAlgorithm AlgorithmIdentifier, digest OCTET STRING }
+use Rattle.std.specs.Prelude.{ℕ, List}
+use Rattle.std.proofs.Common.{arith}
+use Rattle.asn1_core_format.specs.Format.{Format, IsLawful}
+use Rattle.asn1_core_format.specs.Rows.{nothing, part, within}
+use Rattle.asn1_core_format.specs.RowLaws.{lawful_nothing, lawful_part, lawful_within}
+use Rattle.asn1_core.specs.Octets.{octet_string, lawful_octet_string}
+use Rattle.x509_base.specs.Algorithms.{AlgorithmValue, algorithm_identifier}
+use Rattle.x509_base.specs.AlgorithmLaws.{lawful_algorithm_identifier}
+
+abbrev pub DigestInfoValue : Type 0
+DigestInfoValue = AlgorithmValue × (List ℕ × Unit {0})
+
+abbrev pub digest_info : Format DigestInfoValue
+digest_info = within 48 (part algorithm_identifier (part octet_string nothing))
+
+pub lawful_digest_info : IsLawful digest_info
+lawful_digest_info =
+    lawful_within _ (lawful_part algorithm_identifier _ lawful_algorithm_identifier (lawful_part octet_string nothing lawful_octet_string lawful_nothing)) 48 (omega arith)

@@ -1,0 +1,36 @@
+-- Extension ::= SEQUENCE { extnID OBJECT IDENTIFIER, critical BOOLEAN DEFAULT FALSE, extnValue OCTET STRING }
+-- Extensions ::= SEQUENCE OF Extension
+-- An explicit FALSE is read, since old producers write it, and never written.
+use Rattle.std.specs.Prelude.{ℕ, Bool, List}
+use Rattle.std.proofs.Common.{arith}
+use Rattle.asn1_core_format.specs.Format.{Format, IsLawful, IsLawfulRow}
+use Rattle.asn1_core_format.specs.Rows.{nothing, part, within}
+use Rattle.asn1_core_format.specs.RowLaws.{lawful_nothing, lawful_part, lawful_within}
+use Rattle.asn1_core_format.specs.Lists.{each}
+use Rattle.asn1_core_format.specs.ListLaws.{lawful_each}
+use Rattle.asn1_core_format.specs.Omitted.{omitted, is_text, default_text, lawful_omitted}
+use Rattle.asn1_core.specs.Objects.{object_identifier, lawful_object_identifier}
+use Rattle.asn1_core.specs.Octets.{octet_string, lawful_octet_string}
+use Rattle.x509_base.specs.Booleans.{boolean, lawful_boolean, explicit_false, false_is_normal}
+
+abbrev pub ExtensionValue : Type 0
+ExtensionValue = List ℕ × (Bool × (List ℕ × Unit {0}))
+
+abbrev pub extension : Format ExtensionValue
+extension = within 48 (part object_identifier (omitted (is_text boolean explicit_false) explicit_false boolean (part octet_string nothing)))
+
+value_row : IsLawfulRow (part octet_string nothing)
+value_row = lawful_part octet_string nothing lawful_octet_string lawful_nothing
+
+pub lawful_extension : IsLawful extension
+lawful_extension =
+    lawful_within _
+    (lawful_part object_identifier _ lawful_object_identifier
+    (lawful_omitted (is_text boolean explicit_false) explicit_false boolean (part octet_string nothing) lawful_boolean value_row (default_text explicit_false boolean false_is_normal) (λ t h e. omega arith)))
+    48 (omega arith)
+
+abbrev pub extensions : Format (List ExtensionValue)
+extensions = within 48 (each extension)
+
+pub lawful_extensions : IsLawful extensions
+lawful_extensions = lawful_within (each extension) (lawful_each extension lawful_extension) 48 (omega arith)

@@ -1,0 +1,12 @@
+pub mod Algorithms
+pub mod AlgorithmParts
+pub mod AlgorithmLaws
+pub mod AlgorithmChoices
+pub mod AlgorithmChoiceLaws
+pub mod Booleans
+pub mod Digests
+pub mod Extensions
+pub mod Names
+pub mod Versions
+pub mod Equal
+pub mod Times

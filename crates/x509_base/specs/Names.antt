@@ -1,0 +1,40 @@
+-- Name ::= SEQUENCE OF SET OF AttributeTypeAndValue
+-- AttributeTypeAndValue ::= SEQUENCE { type OBJECT IDENTIFIER, value ANY }
+-- Attribute ::= SEQUENCE { type OBJECT IDENTIFIER, values SET OF ANY }
+use Rattle.std.specs.Prelude.{ℕ, List}
+use Rattle.std.proofs.Common.{arith}
+use Rattle.asn1_core_format.specs.Format.{Format, IsLawful}
+use Rattle.asn1_core_format.specs.Rows.{nothing, part, within}
+use Rattle.asn1_core_format.specs.RowLaws.{lawful_nothing, lawful_part, lawful_within}
+use Rattle.asn1_core_format.specs.Lists.{each}
+use Rattle.asn1_core_format.specs.ListLaws.{lawful_each}
+use Rattle.asn1_core.specs.Objects.{object_identifier, lawful_object_identifier}
+use Rattle.asn1_core.specs.Raw.{raw, lawful_raw}
+
+abbrev pub NameValueValue : Type 0
+NameValueValue = List ℕ × (List ℕ × Unit {0})
+
+abbrev pub name_value : Format NameValueValue
+name_value = within 48 (part object_identifier (part raw nothing))
+
+pub lawful_name_value : IsLawful name_value
+lawful_name_value = lawful_within _ (lawful_part object_identifier _ lawful_object_identifier (lawful_part raw nothing lawful_raw lawful_nothing)) 48 (omega arith)
+
+abbrev pub name : Format (List (List NameValueValue))
+name = within 48 (each (within 49 (each name_value)))
+
+pub lawful_name : IsLawful name
+lawful_name = lawful_within _ (lawful_each _ (lawful_within _ (lawful_each name_value lawful_name_value) 49 (omega arith))) 48 (omega arith)
+
+abbrev pub AttributeValue : Type 0
+AttributeValue = List ℕ × (List (List ℕ) × Unit {0})
+
+abbrev pub attribute : Format AttributeValue
+attribute = within 48 (part object_identifier (part (within 49 (each raw)) nothing))
+
+pub lawful_attribute : IsLawful attribute
+lawful_attribute =
+    lawful_within _
+    (lawful_part object_identifier _ lawful_object_identifier
+    (lawful_part (within 49 (each raw)) nothing (lawful_within _ (lawful_each raw lawful_raw) 49 (omega arith)) lawful_nothing))
+    48 (omega arith)

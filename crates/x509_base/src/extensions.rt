@@ -1,0 +1,207 @@
+//! Extensions (RFC 5280, 4.2).
+
+ghost use Rattle.std.specs.Prelude.{◌≡◌, ◌↔◌, ℕ, List, Bool, [], ◌∷◌, map, IsTrue};
+ghost use Rattle.std.proofs.Common.{rules, arith};
+ghost use Rattle.asn1_core_format.specs.Leaf.{leaf};
+ghost use Rattle.asn1_core_oid.specs.OidValue.{octets_of};
+ghost use Rattle.x509_base.specs.Booleans.{booleans, boolean, lawful_boolean, explicit_false, is_false, false_is_normal, false_reads};
+ghost use Rattle.asn1_core_format.specs.Views.{list_equal};
+ghost use Rattle.x509_base.specs.Equal.{extension_equal};
+ghost use Rattle.x509_base.specs.Extensions.{ExtensionValue, extension, extensions, lawful_extension, lawful_extensions};
+
+use asn1_core::{
+    DerDeserialize, DerSerialize, Error, ObjectIdentifierAsn1, OctetStringAsn1, Reader, TryClone,
+    Viewed,
+};
+use asn1_core_element::element::write_element;
+use asn1_core_format::{
+    ApartFrom, End, FirstTags, HasDefault, Leaf, Omitted, Part, WriteRow, read_leaf, read_within,
+    write_within,
+};
+use std::alloc::Global;
+
+/// BOOLEAN (X.690, 8.2 and 11.1), with FALSE as what absence stands for.
+#[derive(Clone, Copy)]
+struct Critical(bool);
+
+impl Leaf for Critical {
+    ghost Value = { Bool };
+
+    ghost value = { λ x. x.0 };
+
+    ghost spelling = { booleans };
+
+    fn from_contents(_alloc: Global, contents: &[u8]) -> Result<Self, Error> {
+        match contents {
+            [0x00] => Ok(Critical(false)),
+            [0xFF] => Ok(Critical(true)),
+            _ => Err(Error::Invalid),
+        }
+    }
+}
+
+impl DerSerialize for Critical {
+    ghost Value = { Bool };
+
+    ghost value = { λ x. x.0 };
+
+    ghost format = { boolean };
+
+    fn write(&self, _alloc: Global, out: &mut Vec<u8>) -> Result<(), Error> {
+        if self.0 {
+            write_element(1, &[0xFF], out)
+        } else {
+            write_element(1, &[0x00], out)
+        }
+    }
+
+    fn well_formed_at(&self, _limit: u8) -> bool {
+        true
+    }
+}
+
+impl DerDeserialize for Critical {
+    fn read(alloc: Global, r: &mut Reader<'_>, nest: u8) -> Result<Self, Error> {
+        read_leaf(alloc, r, nest, 1)
+    }
+
+    ghost lawful = { lawful_boolean };
+}
+
+impl FirstTags for Critical {
+    fn begins(tag: u8) -> bool {
+        tag == 1
+    }
+}
+
+impl HasDefault for Critical {
+    ghost DEFAULT = { explicit_false };
+
+    #[tactic(auto, using(crate::specs::Booleans::is_false))]
+    fn is_default(&self) -> bool {
+        !self.0
+    }
+
+    #[tactic(auto, using(crate::specs::Booleans::false_reads))]
+    fn absent(_alloc: Global) -> Result<Self, Error> {
+        Ok(Critical(false))
+    }
+
+    ghost normal_default = { false_is_normal };
+}
+
+impl ApartFrom<OctetStringAsn1> for Critical {
+    ghost no_common_tag = { λ t h e. Prim.omega arith };
+}
+
+/// `Extension ::= SEQUENCE { extnID OBJECT IDENTIFIER, critical BOOLEAN DEFAULT FALSE, extnValue OCTET STRING }`
+#[derive(Debug, Drop, PartialEq, Eq)]
+pub struct Extension {
+    pub extn_id: ObjectIdentifierAsn1,
+    pub critical: bool,
+    pub extn_value: OctetStringAsn1,
+}
+
+type ExtensionRow = Part<ObjectIdentifierAsn1, Omitted<Critical, Part<OctetStringAsn1, End>>>;
+
+impl DerSerialize for Extension {
+    ghost Value = { ExtensionValue };
+
+    ghost value = { λ x. (octets_of x.extn_id.0, (x.critical, (x.extn_value.0.items, tt))) };
+
+    ghost format = { extension };
+
+    fn write(&self, alloc: Global, out: &mut Vec<u8>) -> Result<(), Error> {
+        let value = Part(&self.extn_value, End);
+        let critical = Omitted(Critical(self.critical), value);
+        write_within(alloc, &Part(&self.extn_id, critical), 0x30, out)
+    }
+
+    fn well_formed_at(&self, limit: u8) -> bool {
+        let value = Part(&self.extn_value, End);
+        let critical = Omitted(Critical(self.critical), value);
+        Part(&self.extn_id, critical).row_well_formed_at(limit)
+    }
+}
+
+impl DerDeserialize for Extension {
+    fn read(alloc: Global, r: &mut Reader<'_>, nest: u8) -> Result<Self, Error> {
+        let row: ExtensionRow = read_within(alloc, r, nest, 0x30)?;
+        let Part(extn_id, Omitted(Critical(critical), Part(extn_value, End))) = row;
+        Ok(Extension {
+            extn_id,
+            critical,
+            extn_value,
+        })
+    }
+
+    ghost lawful = { lawful_extension };
+}
+
+impl Viewed for Extension {
+    ghost View = { (List ℕ × Bool) × List ℕ };
+
+    ghost view = { λ x. ((octets_of x.extn_id.0, x.critical), x.extn_value.0.items) };
+
+    ghost equal = { extension_equal };
+}
+
+impl TryClone for Extension {
+    fn try_clone(&self, alloc: Global) -> Result<Self, Error> {
+        let extn_id = self.extn_id.try_clone(alloc)?;
+        let extn_value = self.extn_value.try_clone(alloc)?;
+        Ok(Extension {
+            extn_id,
+            critical: self.critical,
+            extn_value,
+        })
+    }
+}
+
+/// `Extensions ::= SEQUENCE OF Extension`
+#[derive(Debug, Drop, PartialEq, Eq)]
+pub struct Extensions(pub Vec<Extension>);
+
+impl DerSerialize for Extensions {
+    ghost Value = { List ExtensionValue };
+
+    ghost value = { λ x. map ⟦<Extension as DerSerialize>⟧.value x.0.items };
+
+    ghost format = { extensions };
+
+    fn write(&self, alloc: Global, out: &mut Vec<u8>) -> Result<(), Error> {
+        write_within(alloc, &self.0, 0x30, out)
+    }
+
+    fn well_formed_at(&self, limit: u8) -> bool {
+        self.0.row_well_formed_at(limit)
+    }
+}
+
+impl DerDeserialize for Extensions {
+    fn read(alloc: Global, r: &mut Reader<'_>, nest: u8) -> Result<Self, Error> {
+        Ok(Extensions(read_within(alloc, r, nest, 0x30)?))
+    }
+
+    ghost lawful = { lawful_extensions };
+}
+
+impl FirstTags for Extensions {
+    fn begins(tag: u8) -> bool {
+        tag == 0x30
+    }
+}
+
+impl Viewed for Extensions {
+    ghost View = { List ((List ℕ × Bool) × List ℕ) };
+
+    ghost view = { λ x. map ⟦<Extension as Viewed>⟧.view x.0.items };
+
+    ghost equal = { λ x y. list_equal _ _ extension_equal x.0.items y.0.items };
+}
+
+impl TryClone for Extensions {
+    fn try_clone(&self, alloc: Global) -> Result<Self, Error> {
+        Ok(Extensions(self.0.try_clone(alloc)?))
+    }
+}

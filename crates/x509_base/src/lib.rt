@@ -1,0 +1,20 @@
+//! The layer below PKCS #7 and PKCS #12: algorithm identifiers, digests, names, times and extensions. The types of
+//! Authenticode are its module `spc`, a crate of its own.
+#![tactic(auto)]
+
+pub mod algorithms;
+pub mod digests;
+pub mod extensions;
+pub mod names;
+#[cfg(test)]
+mod tests;
+pub mod times;
+pub mod versions;
+
+pub use algorithms::{AlgorithmIdentifier, RawAlgorithmIdentifier};
+pub use digests::{DigestInfo, SubjectKeyIdentifier};
+pub use extensions::{Extension, Extensions};
+pub use names::{Attribute, Name, NameValue};
+pub use times::Time;
+pub use versions::Version;
+pub use x509_base_spc as spc;

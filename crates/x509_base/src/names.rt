@@ -1,0 +1,165 @@
+//! Names and attributes (RFC 5280, 4.1.2.4; RFC 5652, 5.3).
+
+ghost use Rattle.std.specs.Prelude.{ℕ, List, map};
+ghost use Rattle.std.proofs.Common.{rules};
+ghost use Rattle.asn1_core_oid.specs.OidValue.{octets_of};
+ghost use Rattle.asn1_core_format.specs.Views.{two_equal, list_equal};
+ghost use Rattle.asn1_core_oid.specs.OidValueLaws.{equal_octets};
+ghost use Rattle.asn1_core.specs.Equal.{raw_equal};
+ghost use Rattle.x509_base.specs.Equal.{name_value_equal};
+ghost use Rattle.x509_base.specs.Names.{NameValueValue, name_value, name, AttributeValue, attribute, lawful_name_value, lawful_name, lawful_attribute};
+
+use asn1_core::{
+    Asn1RawDer, Asn1SequenceOf, Asn1SetOf, DerDeserialize, DerSerialize, Error,
+    ObjectIdentifierAsn1, Reader, TryClone, Viewed,
+};
+use asn1_core_format::{End, FirstTags, Part, WriteRow, read_within, write_within};
+use std::alloc::Global;
+
+/// `AttributeTypeAndValue ::= SEQUENCE { type OBJECT IDENTIFIER, value ANY }`
+#[derive(Debug, Drop, PartialEq, Eq)]
+pub struct NameValue {
+    pub ty: ObjectIdentifierAsn1,
+    pub value: Asn1RawDer,
+}
+
+type NameValueRow = Part<ObjectIdentifierAsn1, Part<Asn1RawDer, End>>;
+
+impl DerSerialize for NameValue {
+    ghost Value = { NameValueValue };
+
+    ghost value = { λ x. (octets_of x.ty.0, (x.value.0.items, tt)) };
+
+    ghost format = { name_value };
+
+    fn write(&self, alloc: Global, out: &mut Vec<u8>) -> Result<(), Error> {
+        write_within(alloc, &Part(&self.ty, Part(&self.value, End)), 0x30, out)
+    }
+
+    fn well_formed_at(&self, limit: u8) -> bool {
+        Part(&self.ty, Part(&self.value, End)).row_well_formed_at(limit)
+    }
+}
+
+impl DerDeserialize for NameValue {
+    fn read(alloc: Global, r: &mut Reader<'_>, nest: u8) -> Result<Self, Error> {
+        let Part(ty, Part(value, End)) = read_within::<NameValueRow>(alloc, r, nest, 0x30)?;
+        Ok(NameValue { ty, value })
+    }
+
+    ghost lawful = { lawful_name_value };
+}
+
+impl Viewed for NameValue {
+    ghost View = { List ℕ × List ℕ };
+
+    ghost view = { λ x. (octets_of x.ty.0, x.value.0.items) };
+
+    ghost equal = { name_value_equal };
+}
+
+impl TryClone for NameValue {
+    fn try_clone(&self, alloc: Global) -> Result<Self, Error> {
+        let ty = self.ty.try_clone(alloc)?;
+        let value = self.value.try_clone(alloc)?;
+        Ok(NameValue { ty, value })
+    }
+}
+
+/// `Name ::= SEQUENCE OF SET OF AttributeTypeAndValue`
+#[derive(Debug, Drop, PartialEq, Eq)]
+pub struct Name(pub Asn1SequenceOf<Asn1SetOf<NameValue>>);
+
+impl DerSerialize for Name {
+    ghost Value = { List (List NameValueValue) };
+
+    ghost value = { λ x. ⟦<Asn1SequenceOf<Asn1SetOf<NameValue>> as DerSerialize>⟧.value x.0 };
+
+    ghost format = { name };
+
+    fn write(&self, alloc: Global, out: &mut Vec<u8>) -> Result<(), Error> {
+        self.0.write(alloc, out)
+    }
+
+    fn well_formed_at(&self, limit: u8) -> bool {
+        self.0.well_formed_at(limit)
+    }
+}
+
+impl DerDeserialize for Name {
+    fn read(alloc: Global, r: &mut Reader<'_>, nest: u8) -> Result<Self, Error> {
+        Ok(Name(Asn1SequenceOf::read(alloc, r, nest)?))
+    }
+
+    ghost lawful = { lawful_name };
+}
+
+impl FirstTags for Name {
+    fn begins(tag: u8) -> bool {
+        tag == 0x30
+    }
+}
+
+impl Viewed for Name {
+    ghost View = { List (List (List ℕ × List ℕ)) };
+
+    ghost view = { λ x. ⟦<Asn1SequenceOf<Asn1SetOf<NameValue>> as Viewed>⟧.view x.0 };
+
+    ghost equal = { λ x y. list_equal _ _ (λ a b. list_equal _ _ name_value_equal a.0.items b.0.items) x.0.0.items y.0.0.items };
+}
+
+impl TryClone for Name {
+    fn try_clone(&self, alloc: Global) -> Result<Self, Error> {
+        Ok(Name(self.0.try_clone(alloc)?))
+    }
+}
+
+/// `Attribute ::= SEQUENCE { type OBJECT IDENTIFIER, values SET OF ANY }`
+#[derive(Debug, Drop, PartialEq, Eq)]
+pub struct Attribute {
+    pub ty: ObjectIdentifierAsn1,
+    pub value: Asn1SetOf<Asn1RawDer>,
+}
+
+type AttributeRow = Part<ObjectIdentifierAsn1, Part<Asn1SetOf<Asn1RawDer>, End>>;
+
+impl DerSerialize for Attribute {
+    ghost Value = { AttributeValue };
+
+    ghost value = { λ x. (octets_of x.ty.0, (map (λ v. v.0.items) x.value.0.items, tt)) };
+
+    ghost format = { attribute };
+
+    fn write(&self, alloc: Global, out: &mut Vec<u8>) -> Result<(), Error> {
+        write_within(alloc, &Part(&self.ty, Part(&self.value, End)), 0x30, out)
+    }
+
+    fn well_formed_at(&self, limit: u8) -> bool {
+        Part(&self.ty, Part(&self.value, End)).row_well_formed_at(limit)
+    }
+}
+
+impl DerDeserialize for Attribute {
+    fn read(alloc: Global, r: &mut Reader<'_>, nest: u8) -> Result<Self, Error> {
+        let Part(ty, Part(value, End)) = read_within::<AttributeRow>(alloc, r, nest, 0x30)?;
+        Ok(Attribute { ty, value })
+    }
+
+    ghost lawful = { lawful_attribute };
+}
+
+impl Viewed for Attribute {
+    ghost View = { List ℕ × List (List ℕ) };
+
+    ghost view = { λ x. (octets_of x.ty.0, map (λ v. v.0.items) x.value.0.items) };
+
+    ghost equal = { λ x y. two_equal (equal_octets x.ty.0 y.ty.0) (list_equal _ _ raw_equal x.value.0.items y.value.0.items) };
+}
+
+impl TryClone for Attribute {
+    fn try_clone(&self, alloc: Global) -> Result<Self, Error> {
+        let ty = self.ty.try_clone(alloc)?;
+        let value = self.value.try_clone(alloc)?;
+        Ok(Attribute { ty, value })
+    }
+}

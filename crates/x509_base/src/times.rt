@@ -1,0 +1,83 @@
+//! Times (RFC 5280, 4.1.2.5).
+
+ghost use Rattle.asn1_core_element.specs.declared.error.Error.TheVariants.{Memory};
+ghost use Rattle.asn1_core_format.specs.Format.{Gives};
+ghost use Rattle.std.specs.Prelude.{◌≡◌, ◌≢◌, false, IfErr};
+ghost use Rattle.x509_base.specs.Equal.{time_equal};
+ghost use Rattle.x509_base.specs.Times.{TimeValue, time, time_of, lawful_time};
+
+use asn1_core::{DerDeserialize, DerSerialize, Error, Reader, TryClone, Viewed};
+use asn1_core_format::FirstTags;
+use asn1_core_format::rows::next_is;
+use asn1_leaves::{GeneralizedTimeAsn1, UTCTimeAsn1};
+use std::alloc::Global;
+
+/// `Time ::= CHOICE { utcTime UTCTime, generalTime GeneralizedTime }`
+#[derive(Debug, Drop, PartialEq, Eq)]
+pub enum Time {
+    Utc(UTCTimeAsn1),
+    Generalized(GeneralizedTimeAsn1),
+}
+
+impl DerSerialize for Time {
+    ghost Value = { TimeValue };
+
+    ghost value = { time_of };
+
+    ghost format = { time };
+
+    fn write(&self, alloc: Global, out: &mut Vec<u8>) -> Result<(), Error> {
+        match self {
+            Time::Utc(time) => time.write(alloc, out),
+            Time::Generalized(time) => time.write(alloc, out),
+        }
+    }
+
+    fn well_formed_at(&self, limit: u8) -> bool {
+        match self {
+            Time::Utc(time) => time.well_formed_at(limit),
+            Time::Generalized(time) => time.well_formed_at(limit),
+        }
+    }
+}
+
+impl DerDeserialize for Time {
+    /// Takes no memory.
+    fn read(alloc: Global, r: &mut Reader<'_>, nest: u8) -> Result<Self, Error>
+        requires { r.old.refused ≡ false }
+        ensures gives { Gives time_of time nest r.old r.new result }
+        ensures memory { IfErr result (λ e. e ≢ Memory) }
+    {
+        if next_is::<UTCTimeAsn1>(r) {
+            let time = UTCTimeAsn1::read(alloc, r, nest)?;
+            return Ok(Time::Utc(time));
+        }
+        let time = GeneralizedTimeAsn1::read(alloc, r, nest)?;
+        Ok(Time::Generalized(time))
+    }
+
+    ghost lawful = { lawful_time };
+}
+
+impl FirstTags for Time {
+    fn begins(tag: u8) -> bool {
+        tag == 0x17 || tag == 0x18
+    }
+}
+
+impl Viewed for Time {
+    ghost View = { TimeValue };
+
+    ghost view = { time_of };
+
+    ghost equal = { time_equal };
+}
+
+impl TryClone for Time {
+    fn try_clone(&self, alloc: Global) -> Result<Self, Error> {
+        match self {
+            Time::Utc(time) => Ok(Time::Utc(time.try_clone(alloc)?)),
+            Time::Generalized(time) => Ok(Time::Generalized(time.try_clone(alloc)?)),
+        }
+    }
+}

@@ -1,0 +1,94 @@
+//! The version of certificates and of lists of them (RFC 5280, 4.1.2.1).
+
+ghost use Rattle.std.specs.Prelude.{◌≡◌, ◌≢◌, ℕ, false, IfErr};
+ghost use Rattle.asn1_core_element.specs.declared.error.Error.TheVariants.{Memory};
+ghost use Rattle.asn1_core_format.specs.Format.{Gives};
+ghost use Rattle.std.proofs.Common.{rules};
+ghost use Rattle.asn1_core_format.specs.Numbers.{numbers_below, number_below, lawful_number};
+ghost use Rattle.x509_base.specs.Versions.{number_of};
+
+use asn1_core::{DerDeserialize, DerSerialize, Error, Reader, TryClone, Viewed};
+use asn1_core_format::{FirstTags, Leaf, read_leaf};
+use asn1_core_numbers::{unsigned, write_unsigned};
+use std::alloc::Global;
+
+/// `Version ::= INTEGER { v1(0), v2(1), v3(2) }`
+#[derive(Clone, Copy, Debug, PartialEq, Eq)]
+pub enum Version {
+    V1,
+    V2,
+    V3,
+}
+
+impl Leaf for Version {
+    ghost Value = { ℕ };
+
+    ghost value = { number_of };
+
+    ghost spelling = { numbers_below 3 };
+
+    ghost MayLackMemory = { ⊥ };
+
+    fn from_contents(_alloc: Global, contents: &[u8]) -> Result<Self, Error> {
+        match unsigned(contents, 2) {
+            Some(0) => Ok(Version::V1),
+            Some(1) => Ok(Version::V2),
+            Some(2) => Ok(Version::V3),
+            _ => Err(Error::Invalid),
+        }
+    }
+}
+
+impl DerSerialize for Version {
+    ghost Value = { ℕ };
+
+    ghost value = { number_of };
+
+    ghost format = { number_below 3 };
+
+    fn write(&self, _alloc: Global, out: &mut Vec<u8>) -> Result<(), Error> {
+        let number = match self {
+            Version::V1 => 0,
+            Version::V2 => 1,
+            Version::V3 => 2,
+        };
+        write_unsigned(2, number, out)
+    }
+
+    fn well_formed_at(&self, _limit: u8) -> bool {
+        true
+    }
+}
+
+impl DerDeserialize for Version {
+    /// Takes no memory.
+    fn read(alloc: Global, r: &mut Reader<'_>, nest: u8) -> Result<Self, Error>
+        requires { r.old.refused ≡ false }
+        ensures gives { Gives number_of (number_below 3) nest r.old r.new result }
+        ensures memory { IfErr result (λ e. e ≢ Memory) }
+    {
+        read_leaf(alloc, r, nest, 2)
+    }
+
+    ghost lawful = { lawful_number 3 };
+}
+
+impl FirstTags for Version {
+    fn begins(tag: u8) -> bool {
+        tag == 2
+    }
+}
+
+impl Viewed for Version {
+    ghost View = { ℕ };
+
+    ghost view = { number_of };
+
+    ghost equal = { Prim.search rules };
+}
+
+impl TryClone for Version {
+    fn try_clone(&self, _alloc: Global) -> Result<Self, Error> {
+        Ok(*self)
+    }
+}

@@ -1,0 +1,4 @@
+pub mod Objects
+pub mod Links
+pub mod Values
+pub mod Texts

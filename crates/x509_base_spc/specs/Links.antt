@@ -1,0 +1,82 @@
+-- SpcString ::= CHOICE { unicode [0] IMPLICIT BMPString, ascii [1] IMPLICIT IA5String }
+-- SpcLink ::= CHOICE { url [0] IMPLICIT IA5String, moniker [1] IMPLICIT SpcSerializedObject, file [2] EXPLICIT SpcString }
+-- SpcSpOpusInfo ::= SEQUENCE { programName [0] EXPLICIT SpcString OPTIONAL, moreInfo [1] EXPLICIT SpcLink OPTIONAL }
+use Rattle.std.specs.Prelude.{◌≡◌, ◌⊎◌, ℕ, List, Option}
+use Rattle.std.proofs.Common.{arith, ⊎_elim}
+use Rattle.asn1_core_format.specs.Format.{Format, IsLawful}
+use Rattle.asn1_core_format.specs.Rows.{nothing, optional, within}
+use Rattle.asn1_core_format.specs.RowLaws.{lawful_nothing, lawful_optional, lawful_within}
+use Rattle.asn1_core_format.specs.Eithers.{either, lawful_either}
+use Rattle.asn1_core_format.specs.Tagged.{implicit}
+use Rattle.asn1_core_format.specs.TaggedLaws.{lawful_implicit, leaf_tagged, within_tagged}
+use Rattle.asn1_core_format.specs.Leaf.{kept}
+use Rattle.asn1_leaves.specs.Strings.{bmp_string, lawful_bmp_string, ia5_string, lawful_ia5_string}
+use Rattle.asn1_leaves_strings.specs.Bmp.{IsBmp}
+use Rattle.asn1_leaves_strings.specs.Ia5.{IsIa5}
+use Rattle.x509_base_spc.specs.Objects.{SerializedObjectValue, serialized_object_row, serialized_object, lawful_serialized_object}
+
+-- octets of a BMPString, or of an IA5String
+abbrev pub StringValue : Type 0
+StringValue = List ℕ ⊎ List ℕ
+
+abbrev pub unicode : Format (List ℕ)
+unicode = implicit 0x80 0x1E bmp_string
+
+abbrev pub ascii : Format (List ℕ)
+ascii = implicit 0x81 0x16 ia5_string
+
+abbrev pub spc_string : Format StringValue
+spc_string = either unicode ascii
+
+-- octets of an IA5String, an object, or a string
+abbrev pub LinkValue : Type 0
+LinkValue = List ℕ ⊎ (SerializedObjectValue ⊎ StringValue)
+
+abbrev pub url : Format (List ℕ)
+url = implicit 0x80 0x16 ia5_string
+
+abbrev pub moniker : Format SerializedObjectValue
+moniker = implicit 0xA1 48 serialized_object
+
+abbrev pub file : Format StringValue
+file = within 0xA2 spc_string
+
+abbrev pub spc_link : Format LinkValue
+spc_link = either url (either moniker file)
+
+abbrev pub OpusInfoValue : Type 0
+OpusInfoValue = Option StringValue × (Option LinkValue × Unit {0})
+
+abbrev pub opus_info : Format OpusInfoValue
+opus_info = within 48 (optional (within 0xA0 spc_string) (optional (within 0xA1 spc_link) nothing))
+
+lawful_unicode : IsLawful unicode
+lawful_unicode = lawful_implicit 0x80 0x1E bmp_string lawful_bmp_string (leaf_tagged 0x1E (omega arith) (kept IsBmp)) (omega arith)
+
+lawful_ascii : IsLawful ascii
+lawful_ascii = lawful_implicit 0x81 0x16 ia5_string lawful_ia5_string (leaf_tagged 0x16 (omega arith) (kept IsIa5)) (omega arith)
+
+pub lawful_spc_string : IsLawful spc_string
+lawful_spc_string = lawful_either unicode ascii lawful_unicode lawful_ascii (λ t h e. omega arith)
+
+pub lawful_url : IsLawful url
+lawful_url = lawful_implicit 0x80 0x16 ia5_string lawful_ia5_string (leaf_tagged 0x16 (omega arith) (kept IsIa5)) (omega arith)
+
+pub lawful_moniker : IsLawful moniker
+lawful_moniker = lawful_implicit 0xA1 48 serialized_object lawful_serialized_object (within_tagged 48 (omega arith) serialized_object_row) (omega arith)
+
+pub lawful_file : IsLawful file
+lawful_file = lawful_within spc_string lawful_spc_string.row 0xA2 (omega arith)
+
+pub lawful_spc_link : IsLawful spc_link
+lawful_spc_link =
+    lawful_either url (either moniker file) lawful_url (lawful_either moniker file lawful_moniker lawful_file (λ t h e. omega arith))
+    (λ t h e. ⊎_elim (λ (m : t ≡ 0xA1). omega arith) (λ (f : t ≡ 0xA2). omega arith) e)
+
+pub lawful_opus_info : IsLawful opus_info
+lawful_opus_info =
+    lawful_within _
+    (lawful_optional (within 0xA0 spc_string) _ (lawful_within spc_string lawful_spc_string.row 0xA0 (omega arith))
+    (lawful_optional (within 0xA1 spc_link) nothing (lawful_within spc_link lawful_spc_link.row 0xA1 (omega arith)) lawful_nothing (λ t h e. e))
+    (λ t h e. ⊎_elim (λ (l : t ≡ 0xA1). omega arith) (λ (n : ⊥). n) e))
+    48 (omega arith)

@@ -1,0 +1,25 @@
+-- SpcUuid ::= OCTET STRING
+-- SpcSerializedObject ::= SEQUENCE { classId SpcUuid, serializedData OCTET STRING }
+use Rattle.std.specs.Prelude.{ℕ, List, [], ◌∷◌}
+use Rattle.std.proofs.Common.{arith}
+use Rattle.asn1_core_format.specs.Format.{Format, IsLawful}
+use Rattle.asn1_core_format.specs.Rows.{nothing, part, within}
+use Rattle.asn1_core_format.specs.RowLaws.{lawful_nothing, lawful_part, lawful_within}
+use Rattle.asn1_core.specs.Octets.{octet_string, lawful_octet_string}
+
+abbrev pub SerializedObjectValue : Type 0
+SerializedObjectValue = List ℕ × (List ℕ × Unit {0})
+
+abbrev pub serialized_object_row : Format SerializedObjectValue
+serialized_object_row = part octet_string (part octet_string nothing)
+
+abbrev pub serialized_object : Format SerializedObjectValue
+serialized_object = within 48 serialized_object_row
+
+pub lawful_serialized_object : IsLawful serialized_object
+lawful_serialized_object =
+    lawful_within serialized_object_row (lawful_part octet_string _ lawful_octet_string (lawful_part octet_string nothing lawful_octet_string lawful_nothing)) 48 (omega arith)
+
+-- the class of page hashes, as its octets stand in a serialized object
+abbrev pub page_hash_class : List ℕ
+page_hash_class = 0xA6 ∷ 0xB5 ∷ 0x86 ∷ 0xD5 ∷ 0xB4 ∷ 0xA1 ∷ 0x24 ∷ 0x66 ∷ 0xAE ∷ 0x05 ∷ 0xA2 ∷ 0x17 ∷ 0xDA ∷ 0x8E ∷ 0x60 ∷ 0xD6 ∷ []

@@ -1,0 +1,300 @@
+//! Strings and links.
+
+ghost use Rattle.std.specs.Prelude.{◌≡◌, ℕ, List};
+ghost use Rattle.std.proofs.Common.{rules, arith, ⊎_elim};
+ghost use Rattle.asn1_leaves_strings.specs.Octets.{octets_of_ia5};
+ghost use Rattle.x509_base_spc.specs.Links.{StringValue, LinkValue, spc_string, url, moniker, file, spc_link, lawful_spc_string, lawful_url, lawful_moniker, lawful_file, lawful_spc_link};
+ghost use Rattle.x509_base_spc.specs.Objects.{SerializedObjectValue};
+ghost use Rattle.x509_base_spc.specs.Values.{string_of, link_of};
+
+use crate::objects::SpcSerializedObject;
+use asn1_core::{
+    DerDeserialize, DerSerialize, Error, ExplicitContextTag2, ImplicitContextTag0,
+    ImplicitContextTag1, Optional, Reader, TryClone, Viewed,
+};
+use asn1_core_format::{ApartFrom, Either, FirstTags};
+use asn1_leaves::{BMPStringAsn1, IA5StringAsn1};
+use std::alloc::Global;
+
+/// `SpcString ::= CHOICE { unicode [0] IMPLICIT BMPString, ascii [1] IMPLICIT IA5String }`
+#[derive(Debug, Drop, PartialEq, Eq)]
+pub enum SpcString {
+    Unicode(Optional<ImplicitContextTag0<BMPStringAsn1>>),
+    Ancii(Optional<ImplicitContextTag1<IA5StringAsn1>>),
+}
+
+impl DerSerialize for SpcString {
+    ghost Value = { StringValue };
+
+    ghost value = { string_of };
+
+    ghost format = { spc_string };
+
+    fn write(&self, alloc: Global, out: &mut Vec<u8>) -> Result<(), Error> {
+        match self {
+            SpcString::Unicode(text) => text.0.write(alloc, out),
+            SpcString::Ancii(text) => text.0.write(alloc, out),
+        }
+    }
+
+    fn well_formed_at(&self, limit: u8) -> bool {
+        match self {
+            SpcString::Unicode(text) => text.0.well_formed_at(limit),
+            SpcString::Ancii(text) => text.0.well_formed_at(limit),
+        }
+    }
+}
+
+impl DerDeserialize for SpcString {
+    fn read(alloc: Global, r: &mut Reader<'_>, nest: u8) -> Result<Self, Error> {
+        match Either::read(alloc, r, nest)? {
+            Either::First(text) => Ok(SpcString::Unicode(Optional(text))),
+            Either::Second(text) => Ok(SpcString::Ancii(Optional(text))),
+        }
+    }
+
+    ghost lawful = { lawful_spc_string };
+}
+
+impl FirstTags for SpcString {
+    fn begins(tag: u8) -> bool {
+        tag == 0x80 || tag == 0x81
+    }
+}
+
+impl Viewed for SpcString {
+    ghost View = { StringValue };
+
+    ghost view = { string_of };
+
+    ghost equal = { Prim.search rules };
+}
+
+impl TryClone for SpcString {
+    fn try_clone(&self, alloc: Global) -> Result<Self, Error> {
+        match self {
+            SpcString::Unicode(text) => Ok(SpcString::Unicode(text.try_clone(alloc)?)),
+            SpcString::Ancii(text) => Ok(SpcString::Ancii(text.try_clone(alloc)?)),
+        }
+    }
+}
+
+/// `url [0] IMPLICIT IA5String`
+#[derive(Debug, Drop, PartialEq, Eq)]
+pub struct Url(pub Optional<ImplicitContextTag0<IA5StringAsn1>>);
+
+impl DerSerialize for Url {
+    ghost Value = { List ℕ };
+
+    ghost value = { λ x. octets_of_ia5 x.0.0.0.0 };
+
+    ghost format = { url };
+
+    fn write(&self, alloc: Global, out: &mut Vec<u8>) -> Result<(), Error> {
+        self.0.0.write(alloc, out)
+    }
+
+    fn well_formed_at(&self, limit: u8) -> bool {
+        self.0.0.well_formed_at(limit)
+    }
+}
+
+impl DerDeserialize for Url {
+    fn read(alloc: Global, r: &mut Reader<'_>, nest: u8) -> Result<Self, Error> {
+        Ok(Url(Optional(ImplicitContextTag0::read(alloc, r, nest)?)))
+    }
+
+    ghost lawful = { lawful_url };
+}
+
+impl FirstTags for Url {
+    fn begins(tag: u8) -> bool {
+        tag == 0x80
+    }
+}
+
+impl ApartFrom<Either<Moniker, File>> for Url {
+    ghost no_common_tag = { λ t h e. ⊎_elim (λ (m : t ≡ 0xA1). Prim.omega arith) (λ (f : t ≡ 0xA2). Prim.omega arith) e };
+}
+
+impl Viewed for Url {
+    ghost View = { List ℕ };
+
+    ghost view = { λ x. octets_of_ia5 x.0.0.0.0 };
+
+    ghost equal = { Prim.search rules };
+}
+
+impl TryClone for Url {
+    fn try_clone(&self, alloc: Global) -> Result<Self, Error> {
+        Ok(Url(self.0.try_clone(alloc)?))
+    }
+}
+
+/// `moniker [1] IMPLICIT SpcSerializedObject`
+#[derive(Debug, Drop, PartialEq, Eq)]
+pub struct Moniker(pub Optional<ImplicitContextTag1<SpcSerializedObject>>);
+
+impl DerSerialize for Moniker {
+    ghost Value = { SerializedObjectValue };
+
+    ghost value = { λ x. ⟦<SpcSerializedObject as DerSerialize>⟧.value x.0.0.0 };
+
+    ghost format = { moniker };
+
+    fn write(&self, alloc: Global, out: &mut Vec<u8>) -> Result<(), Error> {
+        self.0.0.write(alloc, out)
+    }
+
+    fn well_formed_at(&self, limit: u8) -> bool {
+        self.0.0.well_formed_at(limit)
+    }
+}
+
+impl DerDeserialize for Moniker {
+    fn read(alloc: Global, r: &mut Reader<'_>, nest: u8) -> Result<Self, Error> {
+        Ok(Moniker(Optional(ImplicitContextTag1::read(alloc, r, nest)?)))
+    }
+
+    ghost lawful = { lawful_moniker };
+}
+
+impl FirstTags for Moniker {
+    fn begins(tag: u8) -> bool {
+        tag == 0xA1
+    }
+}
+
+impl ApartFrom<File> for Moniker {
+    ghost no_common_tag = { λ t h e. Prim.omega arith };
+}
+
+impl Viewed for Moniker {
+    ghost View = { List ℕ × List ℕ };
+
+    ghost view = { λ x. ⟦<SpcSerializedObject as Viewed>⟧.view x.0.0.0 };
+
+    ghost equal = { Prim.search rules };
+}
+
+impl TryClone for Moniker {
+    fn try_clone(&self, alloc: Global) -> Result<Self, Error> {
+        Ok(Moniker(self.0.try_clone(alloc)?))
+    }
+}
+
+/// `file [2] EXPLICIT SpcString`
+#[derive(Debug, Drop, PartialEq, Eq)]
+pub struct File(pub ExplicitContextTag2<SpcString>);
+
+impl DerSerialize for File {
+    ghost Value = { StringValue };
+
+    ghost value = { λ x. string_of x.0.0 };
+
+    ghost format = { file };
+
+    fn write(&self, alloc: Global, out: &mut Vec<u8>) -> Result<(), Error> {
+        self.0.write(alloc, out)
+    }
+
+    fn well_formed_at(&self, limit: u8) -> bool {
+        self.0.well_formed_at(limit)
+    }
+}
+
+impl DerDeserialize for File {
+    fn read(alloc: Global, r: &mut Reader<'_>, nest: u8) -> Result<Self, Error> {
+        Ok(File(ExplicitContextTag2::read(alloc, r, nest)?))
+    }
+
+    ghost lawful = { lawful_file };
+}
+
+impl FirstTags for File {
+    fn begins(tag: u8) -> bool {
+        tag == 0xA2
+    }
+}
+
+impl Viewed for File {
+    ghost View = { StringValue };
+
+    ghost view = { λ x. string_of x.0.0 };
+
+    ghost equal = { Prim.search rules };
+}
+
+impl TryClone for File {
+    fn try_clone(&self, alloc: Global) -> Result<Self, Error> {
+        Ok(File(self.0.try_clone(alloc)?))
+    }
+}
+
+/// `SpcLink ::= CHOICE { url [0] IMPLICIT IA5String, moniker [1] IMPLICIT SpcSerializedObject, file [2] EXPLICIT SpcString }`
+#[derive(Debug, Drop, PartialEq, Eq)]
+pub enum SpcLink {
+    Url(Url),
+    Moniker(Moniker),
+    File(File),
+}
+
+impl DerSerialize for SpcLink {
+    ghost Value = { LinkValue };
+
+    ghost value = { link_of };
+
+    ghost format = { spc_link };
+
+    fn write(&self, alloc: Global, out: &mut Vec<u8>) -> Result<(), Error> {
+        match self {
+            SpcLink::Url(url) => url.write(alloc, out),
+            SpcLink::Moniker(moniker) => moniker.write(alloc, out),
+            SpcLink::File(file) => file.write(alloc, out),
+        }
+    }
+
+    fn well_formed_at(&self, limit: u8) -> bool {
+        match self {
+            SpcLink::Url(url) => url.well_formed_at(limit),
+            SpcLink::Moniker(moniker) => moniker.well_formed_at(limit),
+            SpcLink::File(file) => file.well_formed_at(limit),
+        }
+    }
+}
+
+impl DerDeserialize for SpcLink {
+    fn read(alloc: Global, r: &mut Reader<'_>, nest: u8) -> Result<Self, Error> {
+        match Either::read(alloc, r, nest)? {
+            Either::First(url) => Ok(SpcLink::Url(url)),
+            Either::Second(Either::First(moniker)) => Ok(SpcLink::Moniker(moniker)),
+            Either::Second(Either::Second(file)) => Ok(SpcLink::File(file)),
+        }
+    }
+
+    ghost lawful = { lawful_spc_link };
+}
+
+impl FirstTags for SpcLink {
+    fn begins(tag: u8) -> bool {
+        tag == 0x80 || tag == 0xA1 || tag == 0xA2
+    }
+}
+
+impl Viewed for SpcLink {
+    ghost View = { LinkValue };
+
+    ghost view = { link_of };
+
+    ghost equal = { Prim.search rules };
+}
+
+impl TryClone for SpcLink {
+    fn try_clone(&self, alloc: Global) -> Result<Self, Error> {
+        match self {
+            SpcLink::Url(url) => Ok(SpcLink::Url(url.try_clone(alloc)?)),
+            SpcLink::Moniker(moniker) => Ok(SpcLink::Moniker(moniker.try_clone(alloc)?)),
+            SpcLink::File(file) => Ok(SpcLink::File(file.try_clone(alloc)?)),
+        }
+    }
+}

@@ -1,0 +1,168 @@
+//! Serialized objects, and the identifiers of their classes.
+
+ghost use Rattle.std.specs.Prelude.{◌≡◌, ℕ, List, [], MatchResult};
+ghost use Rattle.std.proofs.Common.{rules, arith};
+ghost use Rattle.asn1_core_element.specs.declared.error.Error.TheVariants.{Memory};
+ghost use Rattle.asn1_core.specs.Octets.{any_octets, octet_string, lawful_octet_string};
+ghost use Rattle.asn1_core_format.specs.TaggedLaws.{leaf_tagged, within_tagged};
+ghost use Rattle.x509_base_spc.specs.Objects.{SerializedObjectValue, serialized_object_row, serialized_object, lawful_serialized_object, page_hash_class};
+
+use asn1_core::{
+    DerDeserialize, DerSerialize, DerTagged, Error, OctetStringAsn1, Reader, TryClone, Viewed,
+};
+use asn1_core_format::{
+    End, FirstTags, Part, WriteRow, read_row_contents, read_within, write_within,
+};
+use std::alloc::Global;
+
+/// The class of page hashes.
+const PAGE_HASH_CLASS: [u8; 16] = [
+    0xA6, 0xB5, 0x86, 0xD5, 0xB4, 0xA1, 0x24, 0x66, 0xAE, 0x05, 0xA2, 0x17, 0xDA, 0x8E, 0x60, 0xD6,
+];
+
+/// `SpcUuid ::= OCTET STRING`
+#[derive(Debug, Drop, PartialEq, Eq)]
+pub struct SpcUuid(pub OctetStringAsn1);
+
+impl SpcUuid {
+    /// The class of page hashes.
+    pub fn default_in(alloc: Global) -> Result<Self, Error>
+        ensures { MatchResult result (λ x. x.0.0.items ≡ page_hash_class) (λ e. e ≡ Memory) }
+    {
+        Ok(SpcUuid(OctetStringAsn1(Vec::from_slice(alloc, &PAGE_HASH_CLASS)?)))
+    }
+}
+
+impl DerSerialize for SpcUuid {
+    ghost Value = { List ℕ };
+
+    ghost value = { λ x. x.0.0.items };
+
+    ghost format = { octet_string };
+
+    fn write(&self, alloc: Global, out: &mut Vec<u8>) -> Result<(), Error> {
+        self.0.write(alloc, out)
+    }
+
+    fn well_formed_at(&self, limit: u8) -> bool {
+        self.0.well_formed_at(limit)
+    }
+}
+
+impl DerDeserialize for SpcUuid {
+    fn read(alloc: Global, r: &mut Reader<'_>, nest: u8) -> Result<Self, Error> {
+        Ok(SpcUuid(OctetStringAsn1::read(alloc, r, nest)?))
+    }
+
+    ghost lawful = { lawful_octet_string };
+}
+
+impl Viewed for SpcUuid {
+    ghost View = { List ℕ };
+
+    ghost view = { λ x. x.0.0.items };
+
+    ghost equal = { Prim.search rules };
+}
+
+impl TryClone for SpcUuid {
+    fn try_clone(&self, alloc: Global) -> Result<Self, Error> {
+        Ok(SpcUuid(self.0.try_clone(alloc)?))
+    }
+}
+
+/// `SpcSerializedObject ::= SEQUENCE { classId SpcUuid, serializedData OCTET STRING }`
+#[derive(Debug, Drop, PartialEq, Eq)]
+pub struct SpcSerializedObject {
+    pub class_id: SpcUuid,
+    pub serialized_data: OctetStringAsn1,
+}
+
+type SerializedObjectRow = Part<SpcUuid, Part<OctetStringAsn1, End>>;
+
+impl SpcSerializedObject {
+    /// The class of page hashes, with no data.
+    pub fn default_in(alloc: Global) -> Result<Self, Error>
+        ensures { MatchResult result
+            (λ x. (x.class_id.0.0.items ≡ page_hash_class) × (x.serialized_data.0.items ≡ []))
+            (λ e. e ≡ Memory) }
+    {
+        let class_id = SpcUuid::default_in(alloc)?;
+        Ok(SpcSerializedObject {
+            class_id,
+            serialized_data: OctetStringAsn1(Vec::new(alloc)),
+        })
+    }
+}
+
+impl DerSerialize for SpcSerializedObject {
+    ghost Value = { SerializedObjectValue };
+
+    ghost value = { λ x. (x.class_id.0.0.items, (x.serialized_data.0.items, tt)) };
+
+    ghost format = { serialized_object };
+
+    fn write(&self, alloc: Global, out: &mut Vec<u8>) -> Result<(), Error> {
+        write_within(
+            alloc,
+            &Part(&self.class_id, Part(&self.serialized_data, End)),
+            0x30,
+            out,
+        )
+    }
+
+    fn well_formed_at(&self, limit: u8) -> bool {
+        Part(&self.class_id, Part(&self.serialized_data, End)).row_well_formed_at(limit)
+    }
+}
+
+impl DerDeserialize for SpcSerializedObject {
+    fn read(alloc: Global, r: &mut Reader<'_>, nest: u8) -> Result<Self, Error> {
+        let Part(class_id, Part(serialized_data, End)) = read_within::<SerializedObjectRow>(
+            alloc, r, nest, 0x30,
+        )?;
+        Ok(SpcSerializedObject {
+            class_id,
+            serialized_data,
+        })
+    }
+
+    ghost lawful = { lawful_serialized_object };
+}
+
+impl DerTagged for SpcSerializedObject {
+    ghost TAG = { 48 };
+
+    const TAG: u8 = 0x30;
+
+    fn read_contents(alloc: Global, r: &mut Reader<'_>, nest: u8) -> Result<Self, Error> {
+        let Part(class_id, Part(serialized_data, End)) = read_row_contents::<SerializedObjectRow>(
+            alloc, r, nest, 0x30,
+        )?;
+        Ok(SpcSerializedObject {
+            class_id,
+            serialized_data,
+        })
+    }
+
+    ghost tagged = { within_tagged 48 (Prim.omega arith) serialized_object_row };
+}
+
+impl Viewed for SpcSerializedObject {
+    ghost View = { List ℕ × List ℕ };
+
+    ghost view = { λ x. (x.class_id.0.0.items, x.serialized_data.0.items) };
+
+    ghost equal = { Prim.search rules };
+}
+
+impl TryClone for SpcSerializedObject {
+    fn try_clone(&self, alloc: Global) -> Result<Self, Error> {
+        let class_id = self.class_id.try_clone(alloc)?;
+        let serialized_data = self.serialized_data.try_clone(alloc)?;
+        Ok(SpcSerializedObject {
+            class_id,
+            serialized_data,
+        })
+    }
+}

@@ -1,0 +1,83 @@
+//! What a signature says of the program that it signs.
+
+ghost use Rattle.std.specs.Prelude.{◌≡◌, Option};
+ghost use Rattle.std.proofs.Common.{rules};
+ghost use Rattle.asn1_core_format.specs.Rows.{option_value};
+ghost use Rattle.x509_base_spc.specs.Links.{StringValue, LinkValue, OpusInfoValue, opus_info, lawful_opus_info};
+ghost use Rattle.x509_base_spc.specs.Values.{string_of, link_of};
+
+use crate::links::{SpcLink, SpcString};
+use asn1_core::{
+    DerDeserialize, DerSerialize, Error, ExplicitContextTag0, ExplicitContextTag1, Reader,
+    TryClone, Viewed,
+};
+use asn1_core_format::{End, FirstTags, Maybe, WriteRow, read_within, write_within};
+use std::alloc::Global;
+
+/// `SpcSpOpusInfo ::= SEQUENCE { programName [0] EXPLICIT SpcString OPTIONAL, moreInfo [1] EXPLICIT SpcLink OPTIONAL }`
+#[derive(Debug, Drop, PartialEq, Eq)]
+pub struct SpcSpOpusInfo {
+    pub program_name: Option<ExplicitContextTag0<SpcString>>,
+    pub more_info: Option<ExplicitContextTag1<SpcLink>>,
+}
+
+type OpusInfoRow = Maybe<ExplicitContextTag0<SpcString>, Maybe<ExplicitContextTag1<SpcLink>, End>>;
+
+impl DerSerialize for SpcSpOpusInfo {
+    ghost Value = { OpusInfoValue };
+
+    ghost value = { λ x. (option_value (λ n. string_of n.0) x.program_name, (option_value (λ l. link_of l.0) x.more_info, tt)) };
+
+    ghost format = { opus_info };
+
+    fn write(&self, alloc: Global, out: &mut Vec<u8>) -> Result<(), Error> {
+        let name = self.program_name.as_ref();
+        let link = self.more_info.as_ref();
+        write_within(alloc, &Maybe(name, Maybe(link, End)), 0x30, out)
+    }
+
+    fn well_formed_at(&self, limit: u8) -> bool {
+        let name = self.program_name.as_ref();
+        let link = self.more_info.as_ref();
+        Maybe(name, Maybe(link, End)).row_well_formed_at(limit)
+    }
+}
+
+impl DerDeserialize for SpcSpOpusInfo {
+    fn read(alloc: Global, r: &mut Reader<'_>, nest: u8) -> Result<Self, Error> {
+        let Maybe(program_name, Maybe(more_info, End)) = read_within::<OpusInfoRow>(
+            alloc, r, nest, 0x30,
+        )?;
+        Ok(SpcSpOpusInfo {
+            program_name,
+            more_info,
+        })
+    }
+
+    ghost lawful = { lawful_opus_info };
+}
+
+impl FirstTags for SpcSpOpusInfo {
+    fn begins(tag: u8) -> bool {
+        tag == 0x30
+    }
+}
+
+impl Viewed for SpcSpOpusInfo {
+    ghost View = { Option StringValue × Option LinkValue };
+
+    ghost view = { λ x. (option_value (λ n. string_of n.0) x.program_name, option_value (λ l. link_of l.0) x.more_info) };
+
+    ghost equal = { Prim.search rules };
+}
+
+impl TryClone for SpcSpOpusInfo {
+    fn try_clone(&self, alloc: Global) -> Result<Self, Error> {
+        let program_name = self.program_name.try_clone(alloc)?;
+        let more_info = self.more_info.try_clone(alloc)?;
+        Ok(SpcSpOpusInfo {
+            program_name,
+            more_info,
+        })
+    }
+}
