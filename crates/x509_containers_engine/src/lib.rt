@@ -1,0 +1,13 @@
+//! What the program `derbox` makes of an input: the text of the value that it holds, or one line about it. Generic
+//! over where the bytes come from, where they go, and the type that is read.
+#![tactic(auto)]
+
+pub mod lines;
+pub mod outcome;
+pub mod run;
+#[cfg(test)]
+mod tests;
+
+pub use lines::refusal;
+pub use outcome::{Mode, Outcome};
+pub use run::run_at;

@@ -1,0 +1,29 @@
+//! What is asked of an input, and what came of it.
+
+use asn1_core_element::Error;
+
+/// What is asked of an input.
+#[derive(Clone, Copy, Debug, PartialEq, Eq)]
+pub enum Mode {
+    /// One line on whether it is normal.
+    Check,
+    /// The text of its value.
+    Rewrite,
+}
+
+/// What came of an input.
+#[derive(Clone, Copy, Debug, PartialEq, Eq)]
+pub enum Outcome {
+    /// In checking: the text of its value is the input.
+    Normal,
+    /// In checking: the text of its value is another.
+    Loose,
+    /// In rewriting: the text of its value was written.
+    Written,
+    /// In both: no text was made of it, for this reason.
+    Refused(Error),
+    /// A read failed, and nothing was written.
+    ReadFailed,
+    /// A write failed, or took none of some bytes. What was written may be cut short.
+    WriteFailed,
+}
