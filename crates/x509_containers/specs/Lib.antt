@@ -1,0 +1,14 @@
+pub mod Oids
+pub mod OidsLaws
+pub mod Tables
+pub mod TableLaws
+pub mod DigestAlgorithms
+pub mod DigestAlgorithmLaws
+pub mod DigestInfos
+pub mod Macs
+pub mod Versions
+pub mod AuthSafes
+pub mod AuthSafeLaws
+pub mod Pfxs
+pub mod PfxEqual
+pub mod Kinds

@@ -1,0 +1,93 @@
+//! The raw PFX.
+
+ghost use Rattle.x509_containers.specs.Pfxs.{RawPfxValue, raw_pfx_value, raw_pfx, lawful_raw_pfx, RawPfxView, raw_pfx_view};
+ghost use Rattle.x509_containers.specs.PfxEqual.{raw_pfx_equal};
+
+use crate::auth_safes::RawAuthenticatedSafeContentInfo;
+use crate::macs::MacData;
+use crate::versions::FixedVersion;
+use asn1_core::{DerDeserialize, DerSerialize, Error, Reader, TryClone, Viewed};
+use asn1_core_format::{End, FirstTags, Maybe, Part, WriteRow, read_within, write_within};
+use std::alloc::Global;
+
+/// `PFX ::= SEQUENCE { version INTEGER {v3(3)}(v3,...), authSafe ContentInfo, macData MacData OPTIONAL }` (RFC 7292, 4),
+/// with the element in the data of `authSafe` not looked into. Only version 3 is read, and well-formed.
+#[derive(Debug, Drop, PartialEq, Eq)]
+pub struct RawPfx {
+    pub version: u8,
+    pub auth_safe: RawAuthenticatedSafeContentInfo,
+    pub mac_data: Option<MacData>,
+}
+
+type PfxRow = Part<FixedVersion<3>, Part<RawAuthenticatedSafeContentInfo, Maybe<MacData, End>>>;
+
+impl DerSerialize for RawPfx {
+    ghost Value = { RawPfxValue };
+
+    ghost value = { raw_pfx_value };
+
+    ghost format = { raw_pfx };
+
+    fn write(&self, alloc: Global, out: &mut Vec<u8>) -> Result<(), Error> {
+        let version = FixedVersion::<3>(self.version);
+        write_within(
+            alloc,
+            &Part(
+                version,
+                Part(&self.auth_safe, Maybe(self.mac_data.as_ref(), End)),
+            ),
+            0x30,
+            out,
+        )
+    }
+
+    fn well_formed_at(&self, limit: u8) -> bool {
+        let version = FixedVersion::<3>(self.version);
+        Part(
+            version,
+            Part(&self.auth_safe, Maybe(self.mac_data.as_ref(), End)),
+        )
+        .row_well_formed_at(limit)
+    }
+}
+
+impl DerDeserialize for RawPfx {
+    fn read(alloc: Global, r: &mut Reader<'_>, nest: u8) -> Result<Self, Error> {
+        let Part(version, Part(auth_safe, Maybe(mac_data, End))) = read_within::<PfxRow>(
+            alloc, r, nest, 0x30,
+        )?;
+        Ok(RawPfx {
+            version: version.0,
+            auth_safe,
+            mac_data,
+        })
+    }
+
+    ghost lawful = { lawful_raw_pfx };
+}
+
+impl FirstTags for RawPfx {
+    fn begins(tag: u8) -> bool {
+        tag == 0x30
+    }
+}
+
+impl Viewed for RawPfx {
+    ghost View = { RawPfxView };
+
+    ghost view = { raw_pfx_view };
+
+    ghost equal = { raw_pfx_equal };
+}
+
+impl TryClone for RawPfx {
+    fn try_clone(&self, alloc: Global) -> Result<Self, Error> {
+        let auth_safe = self.auth_safe.try_clone(alloc)?;
+        let mac_data = self.mac_data.try_clone(alloc)?;
+        Ok(RawPfx {
+            version: self.version,
+            auth_safe,
+            mac_data,
+        })
+    }
+}
