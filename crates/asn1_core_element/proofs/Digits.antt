@@ -46,8 +46,3 @@ digits_of_number (d ∷ ds) h p =
     let f : digits_of 256 d ≡ d ∷ [] =
     digits_of_step 256 d (omega arith) p ∙ ap (λ q. digits_of 256 q ++ (d % 256 ∷ [])) z ∙ ap (λ r. r ∷ []) m in
     ap (λ n. digits_of 256 (number_from_digits_after 256 n ds)) e ∙ digits_after d ds p h.1 ∙ ap (λ x. x ++ ds) f
-
-pub count_more : (n : ℕ) → (n ≡ 0 → ⊥) → n < 2 ^ 64 → (length (digits_of 256 (n / 256)) + 1 ≡ length (digits_of 256 n)) × (length (digits_of 256 n) ≤ 8)
-count_more n h k =
-    let u : 2 ^ 64 ≡ 256 ^ 8 = refl in
-    (sym (length-digits_of_step 256 n (omega arith) (omega (arith, h))), length-digits_of-le 256 8 n (omega arith) (omega (arith, k, u)))

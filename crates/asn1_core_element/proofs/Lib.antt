@@ -2,4 +2,3 @@ pub mod Digits
 pub mod Fronts
 pub mod Headers
 pub mod Elements
-pub mod Writing

@@ -17,6 +17,11 @@ IsTagByte tag = tag % 32 < 31
 abbrev pub element : ℕ → List ℕ → List ℕ
 element tag contents = head tag (length contents) ++ contents
 
+-- that tag in place of the first byte
+abbrev pub retag : ℕ → List ℕ → List ℕ
+retag tag [] = []
+retag tag (t ∷ b) = tag ∷ b
+
 -- b is one element, and its tag is one of these
 pub record IsElement (IsTag : ℕ → Type 0) (b : List ℕ) : Type 0 where
   pub tag : ℕ

@@ -3,7 +3,7 @@ use Rattle.std.proofs.Common.{◌≡◌, ℕ, ◌+◌, ◌<◌, ◌≤◌, List,
 use Rattle.std.proofs.lemmas.Bool.{cases_lt, lt-ltb, le-ltb}
 use Rattle.std.specs.Int.Digits.{digits_of}
 use Rattle.std.proofs.lemmas.Int.Digits.{same_from_digits_of}
-use Rattle.asn1_core_element.specs.Element.{length_octets, head, element, IsElement}
+use Rattle.asn1_core_element.specs.Element.{length_octets, head, element, retag, IsElement}
 
 -- two equal lists whose first parts are as long have the same parts
 pub same_parts : (a b x y : List ℕ) → length a ≡ length b → a ++ x ≡ b ++ y → (a ≡ b) × (x ≡ y)
@@ -90,3 +90,16 @@ head_long t n = omega (arith, length_octets_pos n)
 
 pub element_long : (t : ℕ) (c : List ℕ) → 2 + length c ≤ length (element t c)
 element_long t c = omega (arith, length-append (head t (length c)) c, head_long t (length c))
+
+-- an element under another tag
+pub retag_element : (t u : ℕ) (c : List ℕ) → retag t (element u c) ≡ element t c
+unfolding head
+retag_element t u c = refl
+
+pub retag_twice : (t u : ℕ) (b : List ℕ) → retag t (retag u b) ≡ retag t b
+retag_twice t u [] = refl
+retag_twice t u (x ∷ b) = refl
+
+pub length_retag : (t : ℕ) (b : List ℕ) → length (retag t b) ≡ length b
+length_retag t [] = refl
+length_retag t (x ∷ b) = refl

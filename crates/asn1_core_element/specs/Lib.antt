@@ -3,4 +3,3 @@ pub mod ElementLaws
 pub mod Position
 pub mod Reading
 pub mod Words
-pub mod Writing

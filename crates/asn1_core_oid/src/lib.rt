@@ -3,8 +3,6 @@
 
 mod contents;
 mod oid;
-#[cfg(test)]
-mod tests;
 mod text;
 mod views;
 

@@ -4,8 +4,6 @@
 
 pub mod sink;
 pub mod source;
-#[cfg(test)]
-mod tests;
 
 pub use sink::{Sink, StdSink, WriteFailed, send};
 pub use source::{ReadError, Source, StdSource, read_all};

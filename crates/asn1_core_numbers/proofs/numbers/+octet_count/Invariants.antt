@@ -1,4 +1,0 @@
-use Rattle.asn1_core_numbers.proofs.numbers.+octet_count.Given as goal
-
-abbrev pub decreases-octet_count : goal.decreases-octet_count
-decreases-octet_count l = l.n

@@ -1,0 +1,4 @@
+pub mod Digits
+pub mod Ends
+pub mod Filled
+pub mod IntegerOctets

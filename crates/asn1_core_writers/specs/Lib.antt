@@ -1,0 +1,4 @@
+pub mod Writers
+pub mod Comparing
+pub mod Sinks
+pub mod Texts

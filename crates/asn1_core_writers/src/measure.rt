@@ -1,0 +1,65 @@
+//! Lengths of texts, without memory.
+
+ghost use Rattle.std.specs.Prelude.{◌≡◌, ℕ, true};
+ghost use Rattle.std.proofs.Common.{rules};
+ghost use Rattle.asn1_core_writers.specs.Writers.{MeasureTakes, measure_backward};
+
+use crate::writer::{WriteError, Writer};
+
+/// Counts what it takes.
+#[derive(Drop)]
+pub struct Measure {
+    total: usize,
+}
+
+impl Measure {
+    /// Nothing was taken.
+    pub fn new() -> Measure
+        ensures { result.total ≡ 0 }
+    {
+        Measure { total: 0 }
+    }
+
+    /// How many bytes were taken.
+    pub fn total(&self) -> usize
+        ensures { result ≡ self.now.total }
+    {
+        self.total
+    }
+}
+
+impl Writer for Measure {
+    ghost Takes = { λ text w x r. MeasureTakes text w.total x.total r };
+
+    ghost MayTake = { λ _. Unit {0} };
+
+    ghost count = { λ w. w.total };
+
+    ghost BACKWARD = { true };
+
+    fn is_backward() -> bool {
+        true
+    }
+
+    fn bytes(&mut self, bytes: &[u8]) -> Result<(), WriteError> {
+        match self.total.checked_add(bytes.len()) {
+            Some(total) => {
+                self.total = total;
+                Ok(())
+            }
+            None => Err(WriteError::TooLong),
+        }
+    }
+
+    fn count(&self) -> usize {
+        self.total
+    }
+
+    ghost nothing = { Prim.search rules };
+
+    ghost goes_on = { λ _ _ _ _ _ _. tt };
+
+    ghost forward = { Prim.search rules };
+
+    ghost backward = { λ _. measure_backward (λ w. w.total) };
+}
