@@ -20,6 +20,7 @@ pub record TookArm {V : Type 0} (C : Choice V) (k : ℕ) (key : List ℕ) (old n
 pub record GaveUpArm {V : Type 0} (C : Choice V) (k : ℕ) (key : List ℕ) (old new : Position) (e : Error) : Type 0 where
   pub kind : e ≢ TooLong
   pub none : e ≢ Memory → (v : V) → C.row.Reads k old.left v → C.oid_of v ≡ key → ⊥
+  pub counts : old.headers ≤ new.headers
   pub at_most : 2 * new.headers ≤ 2 * old.headers + length old.left + 2
 
 module _ (IsOid : List ℕ → Type 0) where
@@ -54,6 +55,7 @@ module _ (IsOid : List ℕ → Type 0) where
     here_refused {k} {old} {mid} {new} {key} {e} t h g = record {
       kind = g.kind;
       none = none_here {e = e} t h g.none;
+      counts = omega (arith, g.counts, t.at_least);
       at_most = omega (arith, g.at_most, t.at_most, ap length t.split, length-append t.taken mid.left);
     }
 
@@ -77,6 +79,7 @@ module _ (IsOid : List ℕ → Type 0) where
     other_refused {k} {old} {mid} {new} {key} t g = record {
       kind = g.kind;
       none = λ m v s i. g.none m v.1 (subst (λ c. R.Reads k c v.1) (sym (behind v.0 s.1 t (s.2 ∙ ap (λ a. a ++ s.1) s.3.0))) s.4);
+      counts = omega (arith, g.counts, t.at_least);
       at_most = omega (arith, g.at_most, t.at_most, ap length t.split, length-append t.taken mid.left);
     }
 
@@ -101,7 +104,7 @@ module _ {V W : Type 0} (o : List ℕ) (R : Format V) (C : Choice W) where
   none_there left n g m (inr w) s i = g m w s.0 i
 
   pub there_refused : {k : ℕ} {old new : Position} {key : List ℕ} {e : Error} → (key ≡ o → ⊥) → GaveUpArm C k key old new e → GaveUpArm (known o R C) k key old new e
-  there_refused {k} {old} {new} {key} {e} n g = record { kind = g.kind; none = none_there {e = e} old.left n g.none; at_most = g.at_most }
+  there_refused {k} {old} {new} {key} {e} n g = record { kind = g.kind; none = none_there {e = e} old.left n g.none; counts = g.counts; at_most = g.at_most }
 
 -- values are under object identifiers
 pub record HasOids {V : Type 0} (IsOid : List ℕ → Type 0) (C : Choice V) : Type 0 where
@@ -125,6 +128,7 @@ module _ {V : Type 0} (IsOid : List ℕ → Type 0) (C : Choice V) (c : IsLawful
     none = λ m v s.
         let h = c.heads k old.left v s in
         g.none m (element 6 (C.oid_of v)) h.0 (C.oid_of v) h.1 (refl, i.valid k old.left v s);
+    counts = g.counts;
     at_most = g.at_most;
   }
 
@@ -132,5 +136,6 @@ module _ {V : Type 0} (IsOid : List ℕ → Type 0) (C : Choice V) (c : IsLawful
   arm_refused {k} {old} {mid} {new} {key} t g = record {
     kind = g.kind;
     none = λ m v s. g.none m v s (same_head (C.oid_of v) key old.left (c.heads k old.left v s) (mid.left, key_left IsOid t));
+    counts = g.counts;
     at_most = g.at_most;
   }

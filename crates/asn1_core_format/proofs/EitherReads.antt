@@ -25,7 +25,7 @@ module _ {V W : Type 0} (F : Format V) (G : Format W) (f : IsLawful F) (g : IsLa
   no_first n none m taken rest (inr w) s r = none m taken rest w s r
 
   pub first_refused : {old new : Position} {e : Error} → NextIs F.IsTag old.left → GaveUp F k old new e → GaveUp (either F G) k old new e
-  first_refused {old} {new} {e} n u = record { kind = u.kind; none = no_second {e = e} n u.none; at_most = u.at_most }
+  first_refused {old} {new} {e} n u = record { kind = u.kind; none = no_second {e = e} n u.none; counts = u.counts; at_most = u.at_most }
 
   pub second_refused : {old new : Position} {e : Error} → (NextIs F.IsTag old.left → ⊥) → GaveUp G k old new e → GaveUp (either F G) k old new e
-  second_refused {old} {new} {e} n u = record { kind = u.kind; none = no_first {e = e} n u.none; at_most = u.at_most }
+  second_refused {old} {new} {e} n u = record { kind = u.kind; none = no_first {e = e} n u.none; counts = u.counts; at_most = u.at_most }

@@ -1,11 +1,8 @@
--- Reading and writing items one after another.
-use Rattle.std.proofs.Common.{◌≡◌, ◌≢◌, ℕ, zero, suc, ◌+◌, ◌<◌, false, List, [], ◌∷◌, ◌++◌, length, take, drop, get_or, map, refl, sym, ap, ◌∙◌, subst, arith, append_assoc, append-nil, length-append}
-use Rattle.std.specs.List.{flat_map}
+-- Reading items one after another.
+use Rattle.std.proofs.Common.{◌≡◌, ◌≢◌, ℕ, ◌+◌, ◌<◌, false, List, [], ◌∷◌, ◌++◌, length, refl, sym, ap, ◌∙◌, subst, arith, append_assoc, append-nil, length-append}
 use Rattle.asn1_core_element.specs.Position.{Position}
-use Rattle.asn1_core_element.specs.Writing.{NotWritten}
 use Rattle.asn1_core_element.specs.declared.error.Error.{Error}
 use Rattle.asn1_core_element.specs.declared.error.Error.TheVariants.{Memory}
-use Rattle.asn1_core_element.proofs.Writing.{not_written_first, not_written_second}
 use Rattle.asn1_core_format.specs.Format.{Format, IsLawful, Took, GaveUp}
 use Rattle.asn1_core_format.specs.Laws.{text_some, texts_cut}
 use Rattle.asn1_core_format.specs.Lists.{ReadsAll, least_all, each, TookItems}
@@ -57,6 +54,7 @@ module _ {V : Type 0} (F : Format V) (f : IsLawful F) where
     none = λ m us r.
         let x = reads_rest k i.taken mid.left vs us i.reads (subst (λ c. ReadsAll (F.Reads k) c us) i.split r) in
         none_left k some g.none m x.0 x.1;
+    counts = omega (arith, i.at_least, g.counts);
     at_most = omega (arith, i.at_most, g.at_most, ap length i.split, length-append i.taken mid.left);
   }
 
@@ -64,6 +62,7 @@ module _ {V : Type 0} (F : Format V) (f : IsLawful F) where
   no_memory_items k {old} {new} {vs} i = record {
     kind = λ p. cc;
     none = λ m us r. m refl;
+    counts = omega (arith, i.at_least);
     at_most = omega (arith, i.at_most, ap length i.split, length-append i.taken new.left);
   }
 
@@ -79,18 +78,3 @@ module _ {V : Type 0} (F : Format V) (f : IsLawful F) where
         at_least = i.at_least;
         at_most = omega (arith, i.at_most, ap length e);
       }
-
--- what is written of a list, at the place that is reached
-texts_at : {X V : Type 0} (text : V → List ℕ) (value : X → V) (xs : List X) (i : ℕ) (d : X) → i < length xs → flat_map text (map value (take i xs)) ++ (text (value (get_or xs i d)) ++ flat_map text (map value (drop (suc i) xs))) ≡ flat_map text (map value xs)
-texts_at text value [] i d h = absurd (omega arith)
-texts_at text value (x ∷ xs) zero d h = refl
-texts_at text value (x ∷ xs) (suc i) d h =
-    append_assoc (text (value x)) (flat_map text (map value (take i xs))) (text (value (get_or xs i d)) ++ flat_map text (map value (drop (suc i) xs))) ∙ ap (λ t. text (value x) ++ t) (texts_at text value xs i d (omega arith))
-
-pub items_refused : {X V : Type 0} (text : V → List ℕ) (value : X → V) (xs : List X) {ys : List X} (i : ℕ) (x : X) {old mid new : List ℕ} {e : Error} → xs ≡ ys → i < length xs → x ≡ get_or xs i x → mid ≡ old ++ flat_map text (map value (take i xs)) → NotWritten (text (value x)) mid new e → NotWritten (flat_map text (map value ys)) old new e
-items_refused text value xs i x {old} {mid} {new} {e} same h is m w =
-    let rest = flat_map text (map value (drop (suc i) xs)) in
-    let t = ap (λ y. text (value y) ++ rest) is in
-    let whole = ap (λ z. flat_map text (map value (take i xs)) ++ z) t ∙ texts_at text value xs i x h in
-    subst (λ z. NotWritten z old new e) (whole ∙ ap (λ zs. flat_map text (map value zs)) same)
-    (not_written_second (flat_map text (map value (take i xs))) (text (value x) ++ rest) m (not_written_first (text (value x)) rest w))

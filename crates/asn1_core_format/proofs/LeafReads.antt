@@ -28,6 +28,7 @@ module _ {T V : Type 0} (value : T → V) (S : Spelling V) (k tag : ℕ) {old ne
     none = λ m taken rest v p r.
         let q = element_cut tag tag c (S.spell v) new.left rest (sym t.split ∙ p ∙ ap (λ x. x ++ rest) r.0) in
         s.none m v r.1 q.1;
+    counts = omega (arith, t.headers);
     at_most = omega (arith, t.headers);
   }
 
@@ -48,5 +49,6 @@ module _ {T V : Type 0} (value : T → V) (S : Spelling V) (k tag : ℕ) {old ne
   leaf_contents_given g (Err e) s = record {
     kind = s.kind;
     none = λ m v r. s.none m v r.1 (all ∙ (element_same tag tag old.left (S.spell v) r.0).1);
+    counts = omega (arith, t.headers);
     at_most = omega (arith, t.headers);
   }

@@ -1,8 +1,10 @@
 pub mod RowReads
 pub mod Items
+pub mod ItemWrites
 pub mod Tags
 pub mod Wholes
 pub mod LeafReads
 pub mod LooseReads
 pub mod EitherReads
 pub mod ChoiceReads
+pub mod LevelReads

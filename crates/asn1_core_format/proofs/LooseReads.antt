@@ -19,4 +19,4 @@ module _ {A V : Type 0} (P : Format A) (L : Loosening A V) (k : ℕ) where
   }
 
   pub loosened_refused : {old new : Position} {e : Error} → GaveUp P k old new e → GaveUp (loosened P L) k old new e
-  loosened_refused g = record { kind = g.kind; none = λ m taken rest v s r. g.none m taken rest r.0 s r.1; at_most = g.at_most }
+  loosened_refused g = record { kind = g.kind; none = λ m taken rest v s r. g.none m taken rest r.0 s r.1; counts = g.counts; at_most = g.at_most }

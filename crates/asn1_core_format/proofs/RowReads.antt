@@ -20,11 +20,12 @@ module _ {V W : Type 0} (F : Format V) (R : Format W) (f : IsLawful F) (k : ℕ)
     none = λ m p s.
         let e = texts_cut F f k t.taken s.0 mid.left s.1 v p.0 t.reads s.3 (sym t.split ∙ s.2) in
         g.none m p.1 (subst (λ c. R.Reads k c p.1) (sym e.1) s.4);
+    counts = omega (arith, g.counts, t.at_least);
     at_most = omega (arith, g.at_most, t.at_most, ap length t.split, length-append t.taken mid.left);
   }
 
   pub first_refused : {old new : Position} {e : Error} → GaveUp F k old new e → GaveUpRow (part F R) k old new e
-  first_refused {old} g = record { kind = g.kind; none = λ m p s. g.none m s.0 s.1 p.0 s.2 s.3; at_most = g.at_most }
+  first_refused {old} g = record { kind = g.kind; none = λ m p s. g.none m s.0 s.1 p.0 s.2 s.3; counts = g.counts; at_most = g.at_most }
 
   pub part_took : {old mid new : Position} {v : V} {w : W} → Took F k old mid v → TookRow R k mid new w → TookRow (part F R) k old new (v, w)
   part_took {old} {mid} t g = record {
@@ -55,10 +56,10 @@ module _ {V W : Type 0} (F : Format V) (R : Format W) (f : IsLawful F) (r : IsLa
   absent n g m (Some v, w) s = no_part n (v, w) s
 
   pub part_refused : {old new : Position} {e : Error} → NextIs F.IsTag old.left → GaveUpRow (part F R) k old new e → GaveUpRow (optional F R) k old new e
-  part_refused {old} {new} {e} n g = record { kind = g.kind; none = there {e = e} n g.none; at_most = g.at_most }
+  part_refused {old} {new} {e} n g = record { kind = g.kind; none = there {e = e} n g.none; counts = g.counts; at_most = g.at_most }
 
   pub absent_refused : {old new : Position} {e : Error} → (NextIs F.IsTag old.left → ⊥) → GaveUpRow R k old new e → GaveUpRow (optional F R) k old new e
-  absent_refused {old} {new} {e} n g = record { kind = g.kind; none = absent {e = e} n g.none; at_most = g.at_most }
+  absent_refused {old} {new} {e} n g = record { kind = g.kind; none = absent {e = e} n g.none; counts = g.counts; at_most = g.at_most }
 
   pub optional_some : {old new : Position} {v : V} {w : W} → TookRow (part F R) k old new (v, w) → TookRow (optional F R) k old new (Some v, w)
   optional_some t = record { reads = t.reads; done = t.done; beyond = t.beyond; end = t.end; refused = t.refused; at_least = t.at_least; at_most = t.at_most }
@@ -80,13 +81,13 @@ module _ {V W : Type 0} (o : V → Bool) (d : List ℕ) (F : Format V) (R : Form
   stands x g m p (inr s) = no_part F R f r apart k x p s
 
   pub there_refused : {old new : Position} {e : Error} → NextIs F.IsTag old.left → GaveUpRow (part F R) k old new e → GaveUpRow (omitted o d F R) k old new e
-  there_refused {old} {new} {e} x g = record { kind = g.kind; none = left_out {e = e} x g.none; at_most = g.at_most }
+  there_refused {old} {new} {e} x g = record { kind = g.kind; none = left_out {e = e} x g.none; counts = g.counts; at_most = g.at_most }
 
   pub omitted_refused : {old new : Position} {e : Error} → (NextIs F.IsTag old.left → ⊥) → GaveUpRow R k old new e → GaveUpRow (omitted o d F R) k old new e
-  omitted_refused {old} {new} {e} x g = record { kind = g.kind; none = stands {e = e} x g.none; at_most = g.at_most }
+  omitted_refused {old} {new} {e} x g = record { kind = g.kind; none = stands {e = e} x g.none; counts = g.counts; at_most = g.at_most }
 
   pub no_default : (p : Position) {e : Error} → e ≡ Memory → GaveUpRow (omitted o d F R) k p p e
-  no_default p {e} m = record { kind = λ x. (let h = sym m ∙ x in cc); none = λ x v s. x m; at_most = omega arith }
+  no_default p {e} m = record { kind = λ x. (let h = sym m ∙ x in cc); none = λ x v s. x m; counts = omega arith; at_most = omega arith }
 
   pub took_there : {old new : Position} {v : V} {w : W} → TookRow (part F R) k old new (v, w) → TookRow (omitted o d F R) k old new (v, w)
   took_there {old} {new} {v} {w} t = record { reads = inr t.reads; done = t.done; beyond = t.beyond; end = t.end; refused = t.refused; at_least = omega (arith, t.at_least, unless_le (o v) (F.least v)); at_most = t.at_most }
@@ -109,6 +110,7 @@ module _ {V : Type 0} (R : Format V) (k tag : ℕ) where
     none = λ m taken rest v s r.
         let e = element_cut tag tag mid.left r.0 o.rest rest (sym o.split ∙ s ∙ ap (λ t. t ++ rest) r.1) in
         g.none m v (subst (λ c. R.Reads k c v) (sym e.1) r.2);
+    counts = omega (arith, g.counts, o.headers);
     at_most = omega (arith, g.at_most, o.headers, ap length o.split, length-append (element tag mid.left) o.rest, element_long tag mid.left);
   }
 
@@ -134,6 +136,7 @@ module _ {V : Type 0} (F : Format V) (k : ℕ) where
   alone_refused {old} g = record {
     kind = g.kind;
     none = λ m v s. g.none m old.left [] v (sym (append-nil old.left)) s;
+    counts = g.counts;
     at_most = g.at_most;
   }
 
@@ -143,5 +146,6 @@ module _ {V : Type 0} (F : Format V) (k : ℕ) where
     none = λ m u s.
         let e = texts_cut F f k t.taken old.left new.left [] v u t.reads s (sym t.split ∙ sym (append-nil old.left)) in
         omega (arith, more, ap length e.1);
+    counts = omega (arith, t.at_least);
     at_most = omega (arith, t.at_most, ap length t.split, length-append t.taken new.left);
   }

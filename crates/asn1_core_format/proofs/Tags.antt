@@ -1,31 +1,19 @@
--- Another tag in place of the first byte, written and read.
-use Rattle.std.proofs.Common.{◌≡◌, ℕ, ◌<◌, List, ◌++◌, length, Result, Ok, Err, slice_set, sym, ap, ◌∙◌, subst, refl, arith, length-append}
-use Rattle.std.proofs.Math.Seq.{set-append_seam}
-use Rattle.asn1_core_element.specs.Element.{element, head, length_octets}
-use Rattle.asn1_core_element.specs.ElementLaws.{element_same, element_long}
+-- Another tag in place of a type's own, read.
+use Rattle.std.proofs.Common.{ℕ, Result, Ok, Err, sym, subst, refl, arith}
+use Rattle.asn1_core_element.specs.ElementLaws.{element_same}
 use Rattle.asn1_core_element.specs.Position.{Position}
 use Rattle.asn1_core_element.specs.Reading.{OpenedElement, Closed}
 use Rattle.asn1_core_element.specs.declared.error.Error.{Error}
 use Rattle.asn1_core_format.specs.Format.{Format, Took, GaveUp}
 use Rattle.asn1_core_format.specs.Rows.{TookRow, GaveUpRow, GivesRow, within}
-use Rattle.asn1_core_format.specs.Tagged.{retag, inside, implicit}
+use Rattle.asn1_core_format.specs.Tagged.{inside, implicit}
 use Rattle.asn1_core_format.proofs.RowReads.{within_refused, within_took}
-
-pub starts_in : (inner : ℕ) (text c old : List ℕ) {start : ℕ} {new : List ℕ} → text ≡ element inner c → new ≡ old ++ text → start ≡ length old → start < length new
-starts_in inner text c old {start} {new} e n s =
-    omega (arith, s, ap length n, length-append old text, ap length e, element_long inner c)
-
-pub retagged : (tag inner : ℕ) (c old : List ℕ) {start : ℕ} {text new : List ℕ} → text ≡ element inner c → new ≡ old ++ text → start ≡ length old → slice_set new start tag ≡ old ++ retag tag text
-unfolding head
-retagged tag inner c old {start} {text} {new} e n s =
-    ap (λ x. slice_set x start tag) (n ∙ ap (λ x. old ++ x) e) ∙ ap (λ i. slice_set (old ++ element inner c) i tag) s
-    ∙ set-append_seam old inner (length_octets (length c) ++ c) tag ∙ ap (λ x. old ++ retag tag x) (sym e)
 
 module _ {V : Type 0} (F : Format V) (k tag inner : ℕ) where
   pub implicit_refused : {old mid new : Position} {outer : ℕ} {e : Error} → OpenedElement tag old mid outer → GaveUpRow (inside inner F) k mid new e → GaveUp (implicit tag inner F) k old new e
   implicit_refused {old} {mid} {new} {outer} {e} o g =
       let h = within_refused (inside inner F) k tag o g in
-      record { kind = h.kind; none = h.none; at_most = h.at_most }
+      record { kind = h.kind; none = h.none; counts = h.counts; at_most = h.at_most }
 
   pub implicit_took : {old mid late new : Position} {outer : ℕ} {v : V} → OpenedElement tag old mid outer → TookRow (inside inner F) k mid late v → Closed late new outer → Took (implicit tag inner F) k old new v
   implicit_took {old} {mid} {late} {new} {outer} {v} o a c =
@@ -38,5 +26,6 @@ module _ {T V : Type 0} (value : T → V) (R : Format V) (k tag : ℕ) where
   row_contents old new (Err e) g = record {
     kind = g.kind;
     none = λ m v s. g.none m v (subst (λ c. R.Reads k c v) (sym (element_same tag tag old.left s.0 s.1).1) s.2);
+    counts = g.counts;
     at_most = g.at_most;
   }

@@ -63,6 +63,7 @@ pub record Took {V : Type 0} (F : Format V) (k : ℕ) (old new : Position) (v : 
 pub record GaveUp {V : Type 0} (F : Format V) (k : ℕ) (old new : Position) (e : Error) : Type 0 where
   pub kind : e ≢ TooLong
   pub none : e ≢ Memory → (taken rest : List ℕ) (v : V) → old.left ≡ taken ++ rest → F.Reads k taken v → ⊥
+  pub counts : old.headers ≤ new.headers
   pub at_most : 2 * new.headers ≤ 2 * old.headers + length old.left + 2
 
 -- what reading answers

@@ -1,5 +1,5 @@
 -- What follows from the laws, for every lawful type.
-use Rattle.std.proofs.Common.{◌≡◌, ◌⊎◌, ℕ, ◌+◌, ◌≤◌, List, [], ◌∷◌, ◌++◌, length, sym, ap, ◌∙◌, subst, inl, inr, arith, ⊎_elim, append-nil}
+use Rattle.std.proofs.Common.{◌≡◌, ◌⊎◌, ◌↔◌, ℕ, zero, suc, ◌+◌, ◌-◌, ◌≤◌, List, [], ◌∷◌, ◌++◌, length, sym, ap, ◌∙◌, subst, inl, inr, arith, ⊎_elim, append-nil}
 use Rattle.asn1_core_element.specs.Element.{head, length_octets, IsElement}
 use Rattle.asn1_core_element.specs.ElementLaws.{elements_cut, element_long}
 use Rattle.asn1_core_format.specs.Format.{Format, BeginsBy, IsLawfulRow, IsLawful}
@@ -81,3 +81,28 @@ module _ {V : Type 0} (F : Format V) (f : IsLawfulRow F) where
   -- well-formed values with one text have one normal value
   pub same_texts : (k : ℕ) (u v : V) → F.IsWellFormed k u → F.IsWellFormed k v → F.text u ≡ F.text v → F.normal u ≡ F.normal v
   same_texts k u v p q e = f.one_value k (F.text u) (F.normal u) (F.normal v) (f.text_reads k u p) (subst (λ b. F.Reads k b (F.normal v)) (sym e) (f.text_reads k v q))
+
+-- at more levels the bytes have the same value, and are normal exactly where they were
+pub record IsSameAt {V : Type 0} (F : Format V) (k j : ℕ) (b : List ℕ) (v : V) : Type 0 where
+  pub reads : F.Reads j b v
+  pub only : (w : V) → F.Reads j b w → w ≡ v
+  pub normal : F.IsNormal j b ↔ F.IsNormal k b
+
+module _ {V : Type 0} (F : Format V) (f : IsLawfulRow F) where
+  pub reads_deeper : (n k : ℕ) (b : List ℕ) (v : V) → F.Reads k b v → F.Reads (k + n) b v
+  reads_deeper zero k b v r =
+      let e : k ≡ k + 0 = omega arith in
+      subst (λ j. F.Reads j b v) e r
+  reads_deeper (suc n) k b v r =
+      let e : k + n + 1 ≡ k + suc n = omega arith in
+      subst (λ j. F.Reads j b v) e (f.deeper (k + n) b v (reads_deeper n k b v r))
+
+  pub same_at : (k j : ℕ) (b : List ℕ) (v : V) → k ≤ j → F.Reads k b v → IsSameAt F k j b v
+  same_at k j b v l r =
+      let e : k + (j - k) ≡ j = omega (arith, l) in
+      let s = subst (λ n. F.Reads n b v) e (reads_deeper (j - k) k b v r) in
+      record {
+        reads = s;
+        only = λ w t. f.one_value j b w v t s;
+        normal = (λ n. (f.fixed k b v r).0 ((f.fixed j b v s).1 n), λ n. (f.fixed j b v s).0 ((f.fixed k b v r).1 n));
+      }

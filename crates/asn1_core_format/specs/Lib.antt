@@ -13,5 +13,11 @@ pub mod Omitted
 pub mod Choices
 pub mod Eithers
 pub mod Whole
+pub mod Sequences
+pub mod Levels
+pub mod LevelLaws
+pub mod Rolled
+pub mod Same
+pub mod Boxes
 pub mod Views
 pub mod Numbers

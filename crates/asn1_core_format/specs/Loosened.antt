@@ -18,7 +18,9 @@ pub record IsLoosening {A V : Type 0} (P : Format A) (L : Loosening A V) : Type 
   pub kept : (k : ℕ) (a : A) → P.IsWellFormed k a → P.IsWellFormed k (L.written (L.read a))
   pub chosen : (k : ℕ) (b : List ℕ) (a : A) → P.Reads k b a → (L.IsWritten b ↔ (L.written (L.read a) ≡ a))
   pub settled : (k : ℕ) (v : V) → P.IsWellFormed k (L.written v) → L.IsProper v → L.written (L.read (P.normal (L.written v))) ≡ P.normal (L.written v)
+  -- no spelling of a value has fewer elements than its least, and one has so many
   pub fewer : (a : A) → L.least (L.read a) ≤ P.least a
+  pub reached : (k : ℕ) (v : V) → P.IsWellFormed k (L.written v) → L.IsProper v → (a : A) × P.IsWellFormed k a × (L.read a ≡ v) × (P.least a ≡ L.least v)
 
 abbrev pub loosened : {A V : Type 0} → Format A → Loosening A V → Format V
 loosened {A} {V} P L = record {

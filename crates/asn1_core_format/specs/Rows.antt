@@ -89,6 +89,7 @@ pub record TookRow {V : Type 0} (R : Format V) (k : ℕ) (old new : Position) (v
 pub record GaveUpRow {V : Type 0} (R : Format V) (k : ℕ) (old new : Position) (e : Error) : Type 0 where
   pub kind : e ≢ TooLong
   pub none : e ≢ Memory → (v : V) → R.Reads k old.left v → ⊥
+  pub counts : old.headers ≤ new.headers
   pub at_most : 2 * new.headers ≤ 2 * old.headers + length old.left + 2
 
 abbrev pub GivesRow : {T V : Type 0} → (T → V) → Format V → ℕ → Position → Position → Result T Error → Type 0

@@ -1,6 +1,6 @@
 -- Types with one tag, and their texts under another tag (X.690, 8.14: IMPLICIT).
-use Rattle.std.specs.Prelude.{◌≡◌, ◌↔◌, ℕ, ◌+◌, ◌-◌, ◌*◌, ◌/◌, ◌%◌, List, [], ◌∷◌}
-use Rattle.asn1_core_element.specs.Element.{element, IsTagByte}
+use Rattle.std.specs.Prelude.{◌≡◌, ◌↔◌, ℕ, ◌+◌, ◌-◌, ◌*◌, ◌/◌, ◌%◌, List}
+use Rattle.asn1_core_element.specs.Element.{element, retag, IsTagByte}
 use Rattle.asn1_core_format.specs.Format.{Format}
 
 -- every text, also of an ill-formed value, is an element with that tag
@@ -8,11 +8,6 @@ pub record IsTagged {V : Type 0} (tag : ℕ) (F : Format V) : Type 0 where
   pub is_tag : IsTagByte tag
   pub tags : (t : ℕ) → F.IsTag t ↔ (t ≡ tag)
   pub written : (v : V) → (c : List ℕ) × (F.text v ≡ element tag c)
-
--- that tag in place of the first byte
-abbrev pub retag : ℕ → List ℕ → List ℕ
-retag tag [] = []
-retag tag (t ∷ b) = tag ∷ b
 
 -- the contents of an element of F, whose tag is that one
 abbrev pub inside : {V : Type 0} → ℕ → Format V → Format V

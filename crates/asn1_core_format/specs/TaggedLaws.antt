@@ -1,17 +1,13 @@
 -- The laws of types under another tag.
 use Rattle.std.specs.Prelude.{◌≡◌, ◌↔◌, ℕ, ◌<◌, List}
 use Rattle.std.proofs.Common.{refl, sym, ap, ◌∙◌, subst, arith}
-use Rattle.asn1_core_element.specs.Element.{element, head, IsElement, IsTagByte}
-use Rattle.asn1_core_element.specs.ElementLaws.{element_same}
+use Rattle.asn1_core_element.specs.Element.{element, retag, IsElement, IsTagByte}
+use Rattle.asn1_core_element.specs.ElementLaws.{element_same, retag_element}
 use Rattle.asn1_core_format.specs.Format.{Format, IsLawful}
 use Rattle.asn1_core_format.specs.Laws.{begins_alone}
 use Rattle.asn1_core_format.specs.Rows.{within}
 use Rattle.asn1_core_format.specs.Leaf.{Spelling, leaf}
-use Rattle.asn1_core_format.specs.Tagged.{IsTagged, retag, implicit, context_tag}
-
-pub retag_element : (t u : ℕ) (c : List ℕ) → retag t (element u c) ≡ element t c
-unfolding head
-retag_element t u c = refl
+use Rattle.asn1_core_format.specs.Tagged.{IsTagged, implicit, context_tag}
 
 pub context_tag_is : (n inner : ℕ) → n < 31 → IsTagByte (context_tag n inner)
 context_tag_is n inner h = omega (arith, h)

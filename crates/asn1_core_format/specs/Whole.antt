@@ -1,8 +1,9 @@
 -- Whole inputs and texts.
 use Rattle.std.specs.Prelude.{◌≡◌, ◌≢◌, ◌↔◌, ℕ, ◌+◌, ◌*◌, ◌≤◌, List, length, Result, MatchResult}
-use Rattle.asn1_core_element.specs.Writing.{IsWriteError}
+use Rattle.asn1_core_element.specs.Element.{IsElement}
 use Rattle.asn1_core_element.specs.declared.error.Error.{Error}
 use Rattle.asn1_core_element.specs.declared.error.Error.TheVariants.{TooLong, Memory}
+use Rattle.asn1_core_writers.specs.Texts.{IsWriteError}
 use Rattle.asn1_core_format.specs.Format.{Format, IsLawful}
 
 -- v is the value of the whole input, and the only one
@@ -10,6 +11,8 @@ pub record IsValueOf {V : Type 0} (F : Format V) (k : ℕ) (b : List ℕ) (v : V
   pub reads : F.Reads k b v
   pub only : (w : V) → F.Reads k b w → w ≡ v
   pub well_formed : F.IsWellFormed k v
+  -- the input is one element, with one of the type's tags
+  pub element : IsElement F.IsTag b
 
 -- why an input gives no value: it has none, or memory was refused
 pub record HasNoValue {V : Type 0} (F : Format V) (k : ℕ) (b : List ℕ) (e : Error) : Type 0 where
@@ -47,4 +50,5 @@ value_of F k b v f r = record {
   reads = r;
   only = λ w s. f.row.one_value k b w v s r;
   well_formed = f.row.well_formed k b v r;
+  element = f.element k b v r;
 }

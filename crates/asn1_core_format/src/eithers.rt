@@ -8,6 +8,7 @@ ghost use Rattle.asn1_core_format.specs.declared.eithers.Either.TheVariants.{Fir
 use crate::rows::{ApartFrom, FirstTags, next_is};
 use crate::traits::{DerDeserialize, DerSerialize};
 use asn1_core_element::{Error, Reader};
+use asn1_core_writers::{WriteError, Writer};
 use std::alloc::Global;
 
 /// `CHOICE { A, B }`, whose arms are told apart by their first tags (X.680, 29).
@@ -24,10 +25,10 @@ impl<A: DerSerialize, B: DerSerialize> DerSerialize for Either<A, B> {
 
     ghost format = { either A.format B.format };
 
-    fn write(&self, alloc: Global, out: &mut Vec<u8>) -> Result<(), Error> {
+    fn put<W: Writer>(&self, w: &mut W) -> Result<(), WriteError> {
         match self {
-            Either::First(a) => a.write(alloc, out),
-            Either::Second(b) => b.write(alloc, out),
+            Either::First(a) => a.put(w),
+            Either::Second(b) => b.put(w),
         }
     }
 

@@ -1,6 +1,9 @@
 //! What holds of every type that reads and writes.
 
-ghost use Rattle.std.specs.Prelude.{◌≡◌, ◌↔◌, ◌+◌, ℕ, List, [], ◌++◌};
+ghost use Rattle.std.specs.Prelude.{◌≡◌, ◌+◌, ◌≤◌, ℕ, List, [], ◌++◌};
+ghost use Rattle.asn1_core_format.specs.Boxes.{box, lawful_box};
+ghost use Rattle.asn1_core_format.specs.Format.{IsLawful};
+ghost use Rattle.asn1_core_format.specs.Laws.{IsSameAt};
 
 use crate::traits::DerDeserialize;
 
@@ -19,4 +22,15 @@ pub fn rewriting_reaches_an_end<T: DerDeserialize>()
 /// What is normal with nesting of at most so many levels is so with one more.
 pub fn normal_texts_stay_normal<T: DerDeserialize>()
     ensures { (k : ℕ) (b : List ℕ) → T.format.IsNormal k b → T.format.IsNormal (k + 1) b }
+{}
+
+/// What is read at one limit of nesting is read at every larger one, as the same value alone, and is normal there
+/// exactly where it is normal at that limit.
+pub fn limits_agree<T: DerDeserialize>()
+    ensures { (k j : ℕ) (b : List ℕ) (v : T.Value) → k ≤ j → T.format.Reads k b v → IsSameAt T.format k j b v }
+{}
+
+/// The least type that holds itself keeps the laws. Each of its nestings takes a level.
+pub fn nested_lists_are_lawful()
+    ensures { IsLawful box }
 {}

@@ -5,22 +5,25 @@
 pub mod eithers;
 pub mod laws;
 pub mod leaves;
+pub mod less;
+pub mod lists;
 pub mod numbers;
 pub mod rows;
 pub mod tagged;
-#[cfg(test)]
-mod tests;
 pub mod traits;
 pub mod views;
 pub mod whole;
+pub mod within;
 
 pub use eithers::Either;
 pub use leaves::{Leaf, read_leaf, read_leaf_contents};
+pub use less::Less;
 pub use rows::{
     Alone, ApartFrom, End, FirstTags, HasDefault, Maybe, Omitted, Part, ReadRow, TagsApart,
-    WriteRow, read_within, write_within,
+    WriteRow, put_both,
 };
-pub use tagged::{DerTagged, read_retagged, read_row_contents, write_retagged};
+pub use tagged::{DerTagged, read_retagged};
 pub use traits::{DerDeserialize, DerSerialize, MAX_NESTING};
 pub use views::{TryClone, Viewed};
-pub use whole::{from_bytes, from_bytes_counted, to_vec};
+pub use whole::{from_bytes, from_bytes_counted, from_bytes_limited, to_vec, write_to};
+pub use within::{put_within, read_row_contents, read_within};

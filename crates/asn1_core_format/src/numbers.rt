@@ -8,11 +8,11 @@ ghost use Rattle.asn1_core_format.specs.Numbers.{numbers_below, number_below, la
 ghost use Rattle.asn1_core_format.specs.TaggedLaws.{leaf_tagged};
 
 use crate::leaves::{Leaf, read_leaf, read_leaf_contents};
-use crate::rows::FirstTags;
 use crate::tagged::DerTagged;
 use crate::traits::{DerDeserialize, DerSerialize};
 use asn1_core_element::{Error, Reader};
-use asn1_core_numbers::{unsigned, write_unsigned};
+use asn1_core_numbers::unsigned;
+use asn1_core_writers::{WriteError, Writer, put_unsigned};
 use std::alloc::Global;
 
 impl Leaf for u8 {
@@ -39,8 +39,8 @@ impl DerSerialize for u8 {
 
     ghost format = { number_below (2 ^ 8) };
 
-    fn write(&self, _alloc: Global, out: &mut Vec<u8>) -> Result<(), Error> {
-        write_unsigned(2, u32::from(*self), out)
+    fn put<W: Writer>(&self, w: &mut W) -> Result<(), WriteError> {
+        put_unsigned(0x02, u32::from(*self), w)
     }
 
     fn well_formed_at(&self, _limit: u8) -> bool {
@@ -56,28 +56,26 @@ impl DerDeserialize for u8 {
         ensures gives { Gives (λ n. n) (number_below (2 ^ 8)) nest r.old r.new result }
         ensures memory { IfErr result (λ e. e ≢ Memory) }
     {
-        read_leaf(alloc, r, nest, 2)
+        read_leaf(alloc, r, nest, 0x02)
     }
 
     ghost lawful = { lawful_number (2 ^ 8) };
 }
 
 impl DerTagged for u8 {
-    ghost TAG = { 2 };
+    ghost TAG = { 0x02 };
 
-    const TAG: u8 = 2;
+    const TAG: u8 = 0x02;
+
+    fn put_as<W: Writer>(&self, tag: u8, w: &mut W) -> Result<(), WriteError> {
+        put_unsigned(tag, u32::from(*self), w)
+    }
 
     fn read_contents(alloc: Global, r: &mut Reader<'_>, nest: u8) -> Result<Self, Error> {
-        read_leaf_contents(alloc, r, nest, 2)
+        read_leaf_contents(alloc, r, nest, 0x02)
     }
 
-    ghost tagged = { leaf_tagged 2 (Prim.omega arith) (numbers_below (2 ^ 8)) };
-}
-
-impl FirstTags for u8 {
-    fn begins(tag: u8) -> bool {
-        tag == 2
-    }
+    ghost tagged = { leaf_tagged 0x02 (Prim.omega arith) (numbers_below (2 ^ 8)) };
 }
 
 impl Leaf for u32 {
@@ -104,8 +102,8 @@ impl DerSerialize for u32 {
 
     ghost format = { number_below (2 ^ 32) };
 
-    fn write(&self, _alloc: Global, out: &mut Vec<u8>) -> Result<(), Error> {
-        write_unsigned(2, *self, out)
+    fn put<W: Writer>(&self, w: &mut W) -> Result<(), WriteError> {
+        put_unsigned(0x02, *self, w)
     }
 
     fn well_formed_at(&self, _limit: u8) -> bool {
@@ -121,26 +119,24 @@ impl DerDeserialize for u32 {
         ensures gives { Gives (λ n. n) (number_below (2 ^ 32)) nest r.old r.new result }
         ensures memory { IfErr result (λ e. e ≢ Memory) }
     {
-        read_leaf(alloc, r, nest, 2)
+        read_leaf(alloc, r, nest, 0x02)
     }
 
     ghost lawful = { lawful_number (2 ^ 32) };
 }
 
 impl DerTagged for u32 {
-    ghost TAG = { 2 };
+    ghost TAG = { 0x02 };
 
-    const TAG: u8 = 2;
+    const TAG: u8 = 0x02;
+
+    fn put_as<W: Writer>(&self, tag: u8, w: &mut W) -> Result<(), WriteError> {
+        put_unsigned(tag, *self, w)
+    }
 
     fn read_contents(alloc: Global, r: &mut Reader<'_>, nest: u8) -> Result<Self, Error> {
-        read_leaf_contents(alloc, r, nest, 2)
+        read_leaf_contents(alloc, r, nest, 0x02)
     }
 
-    ghost tagged = { leaf_tagged 2 (Prim.omega arith) (numbers_below (2 ^ 32)) };
-}
-
-impl FirstTags for u32 {
-    fn begins(tag: u8) -> bool {
-        tag == 2
-    }
+    ghost tagged = { leaf_tagged 0x02 (Prim.omega arith) (numbers_below (2 ^ 32)) };
 }

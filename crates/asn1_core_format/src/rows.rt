@@ -1,21 +1,18 @@
 //! What stands in contents: parts in order, of which some may be absent.
 
-ghost use Rattle.std.specs.Prelude.{◌≡◌, ◌↔◌, ℕ, List, Option, Bool, map, IsTrue, false};
+ghost use Rattle.std.specs.Prelude.{◌≡◌, ◌↔◌, ◌++◌, ℕ, List, Option, Bool, IsTrue, true, false};
 ghost use Rattle.std.proofs.Common.{⊎_elim};
-ghost use Rattle.asn1_core_element.specs.Element.{IsTagByte};
-ghost use Rattle.asn1_core_element.specs.Writing.{Wrote};
-ghost use Rattle.asn1_core_format.specs.Format.{Format, IsLawfulRow, Gives};
+ghost use Rattle.asn1_core_format.specs.Format.{Format, IsLawfulRow};
 ghost use Rattle.asn1_core_format.specs.Laws.{NextIs};
-ghost use Rattle.asn1_core_format.specs.Lists.{each};
-ghost use Rattle.asn1_core_format.specs.ListLaws.{lawful_each};
 ghost use Rattle.std.specs.Str.{bytes_eq};
 ghost use Rattle.asn1_core_format.specs.Omitted.{omitted, lawful_omitted, is_text, default_text, StandsFor};
-ghost use Rattle.asn1_core_format.specs.Rows.{nothing, part, optional, within, option_value, GivesRow};
+ghost use Rattle.asn1_core_format.specs.Rows.{nothing, part, optional, option_value, GivesRow};
 ghost use Rattle.asn1_core_format.specs.RowLaws.{lawful_nothing, lawful_part, lawful_optional};
 
+use crate::tagged::DerTagged;
 use crate::traits::{DerDeserialize, DerSerialize};
-use asn1_core_element::element::{open_element, write_element};
 use asn1_core_element::{Error, Reader};
+use asn1_core_writers::{WriteError, Writer};
 use std::alloc::Global;
 
 /// Parts that are written one after another.
@@ -26,9 +23,12 @@ pub trait WriteRow {
 
     ghost format: { Format Value };
 
-    fn write_row(&self, alloc: Global, out: &mut Vec<u8>) -> Result<(), Error>
-        ensures { Wrote (format.text (value self.now)) out.old.items out.new.items result };
+    /// Writes the parts, of ill-formed values too.
+    fn put_row<W: Writer>(&self, w: &mut W) -> Result<(), WriteError>
+        requires { W.MayTake w.old }
+        ensures { W.Takes (format.text (value self.now)) w.old w.new result };
 
+    /// Whether each part is well-formed with nesting of at most `limit` levels.
     fn row_well_formed_at(&self, limit: u8) -> bool
         ensures { IsTrue result ↔ format.IsWellFormed limit (value self.now) };
 }
@@ -46,6 +46,12 @@ pub trait ReadRow: WriteRow + Drop {
 pub trait FirstTags: DerDeserialize {
     fn begins(tag: u8) -> bool
         ensures { IsTrue result ↔ Self.format.IsTag tag };
+}
+
+impl<T: DerTagged> FirstTags for T {
+    fn begins(tag: u8) -> bool {
+        tag == T::TAG
+    }
 }
 
 /// The first tags of a type are none of another's.
@@ -74,7 +80,7 @@ impl WriteRow for End {
 
     ghost format = { nothing };
 
-    fn write_row(&self, _alloc: Global, _out: &mut Vec<u8>) -> Result<(), Error> {
+    fn put_row<W: Writer>(&self, _w: &mut W) -> Result<(), WriteError> {
         Ok(())
     }
 
@@ -105,9 +111,8 @@ impl<A: DerSerialize, R: WriteRow> WriteRow for Part<A, R> {
 
     ghost format = { part A.format R.format };
 
-    fn write_row(&self, alloc: Global, out: &mut Vec<u8>) -> Result<(), Error> {
-        self.0.write(alloc, out)?;
-        self.1.write_row(alloc, out)
+    fn put_row<W: Writer>(&self, w: &mut W) -> Result<(), WriteError> {
+        put_both(&Alone(&self.0), &self.1, w)
     }
 
     fn row_well_formed_at(&self, limit: u8) -> bool {
@@ -140,11 +145,11 @@ impl<A: DerSerialize, R: WriteRow> WriteRow for Maybe<A, R> {
 
     ghost format = { optional A.format R.format };
 
-    fn write_row(&self, alloc: Global, out: &mut Vec<u8>) -> Result<(), Error> {
-        if let Some(first) = &self.0 {
-            first.write(alloc, out)?;
+    fn put_row<W: Writer>(&self, w: &mut W) -> Result<(), WriteError> {
+        match &self.0 {
+            None => self.1.put_row(w),
+            Some(first) => put_both(&Alone(first), &self.1, w),
         }
-        self.1.write_row(alloc, out)
     }
 
     fn row_well_formed_at(&self, limit: u8) -> bool {
@@ -201,11 +206,12 @@ impl<A: HasDefault, R: WriteRow> WriteRow for Omitted<A, R> {
 
     ghost format = { omitted (is_text A.format A.DEFAULT) A.DEFAULT A.format R.format };
 
-    fn write_row(&self, alloc: Global, out: &mut Vec<u8>) -> Result<(), Error> {
-        if !self.0.is_default() {
-            self.0.write(alloc, out)?;
+    fn put_row<W: Writer>(&self, w: &mut W) -> Result<(), WriteError> {
+        if self.0.is_default() {
+            self.1.put_row(w)
+        } else {
+            put_both(&Alone(&self.0), &self.1, w)
         }
-        self.1.write_row(alloc, out)
     }
 
     fn row_well_formed_at(&self, limit: u8) -> bool {
@@ -239,8 +245,8 @@ impl<T: DerSerialize> WriteRow for Alone<T> {
 
     ghost format = { T.format };
 
-    fn write_row(&self, alloc: Global, out: &mut Vec<u8>) -> Result<(), Error> {
-        self.0.write(alloc, out)
+    fn put_row<W: Writer>(&self, w: &mut W) -> Result<(), WriteError> {
+        self.0.put(w)
     }
 
     fn row_well_formed_at(&self, limit: u8) -> bool {
@@ -260,44 +266,6 @@ impl<T: DerDeserialize> ReadRow for Alone<T> {
     ghost lawful = { T.lawful.row };
 }
 
-/// Items, one after another.
-impl<T: DerSerialize> WriteRow for Vec<T> {
-    ghost Value = { List T.Value };
-
-    ghost value = { λ items. map T.value items.items };
-
-    ghost format = { each T.format };
-
-    fn write_row(&self, alloc: Global, out: &mut Vec<u8>) -> Result<(), Error> {
-        for item in self {
-            item.write(alloc, out)?;
-        }
-        Ok(())
-    }
-
-    fn row_well_formed_at(&self, limit: u8) -> bool {
-        for item in self {
-            if !item.well_formed_at(limit) {
-                return false;
-            }
-        }
-        true
-    }
-}
-
-impl<T: DerDeserialize> ReadRow for Vec<T> {
-    fn read_row(alloc: Global, r: &mut Reader<'_>, nest: u8) -> Result<Self, Error> {
-        let mut items = Vec::new(alloc);
-        'items: while r.left() > 0 {
-            let item = T::read(alloc, r, nest)?;
-            items.push(item)?;
-        }
-        Ok(items)
-    }
-
-    ghost lawful = { lawful_each T.DerSerialize.format T.lawful };
-}
-
 impl<R: WriteRow> WriteRow for &R {
     ghost Value = { R.Value };
 
@@ -305,12 +273,30 @@ impl<R: WriteRow> WriteRow for &R {
 
     ghost format = { R.format };
 
-    fn write_row(&self, alloc: Global, out: &mut Vec<u8>) -> Result<(), Error> {
-        (**self).write_row(alloc, out)
+    fn put_row<W: Writer>(&self, w: &mut W) -> Result<(), WriteError> {
+        (**self).put_row(w)
     }
 
     fn row_well_formed_at(&self, limit: u8) -> bool {
         (**self).row_well_formed_at(limit)
+    }
+}
+
+/// Writes one row and then another.
+pub fn put_both<A: WriteRow, B: WriteRow, W: Writer>(
+    a: &A,
+    b: &B,
+    w: &mut W,
+) -> Result<(), WriteError>
+    requires { W.MayTake w.old }
+    ensures { W.Takes (A.format.text (A.value a.now) ++ B.format.text (B.value b.now)) w.old w.new result }
+{
+    if W::is_backward() {
+        b.put_row(w)?;
+        a.put_row(w)
+    } else {
+        a.put_row(w)?;
+        b.put_row(w)
     }
 }
 
@@ -323,35 +309,4 @@ pub fn next_is<A: FirstTags>(r: &Reader<'_>) -> bool
         Some(tag) => A::begins(tag),
         None => false,
     }
-}
-
-/// Reads an element with that tag, whose contents are the parts.
-pub fn read_within<R: ReadRow>(
-    alloc: Global,
-    r: &mut Reader<'_>,
-    nest: u8,
-    tag: u8,
-) -> Result<R, Error>
-    requires sound { r.old.refused ≡ false }
-    requires tag { IsTagByte tag }
-    ensures { Gives R.value (within tag R.format) nest r.old r.new result }
-{
-    let outer = open_element(r, tag)?;
-    let row = R::read_row(alloc, r, nest)?;
-    r.end(outer)?;
-    Ok(row)
-}
-
-/// Writes an element with that tag, whose contents are the parts.
-pub fn write_within<R: WriteRow>(
-    alloc: Global,
-    row: &R,
-    tag: u8,
-    out: &mut Vec<u8>,
-) -> Result<(), Error>
-    ensures { Wrote ((within tag R.format).text (R.value row.now)) out.old.items out.new.items result }
-{
-    let mut inner = Vec::new(alloc);
-    row.write_row(alloc, &mut inner)?;
-    write_element(tag, inner.as_slice(), out)
 }

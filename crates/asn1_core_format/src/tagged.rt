@@ -1,16 +1,17 @@
 //! Types with one tag, and their texts under another.
 
-ghost use Rattle.std.specs.Prelude.{◌≡◌, ◌<◌, ◌↔◌, ℕ, IsTrue, false};
-ghost use Rattle.asn1_core_element.specs.Element.{IsTagByte};
-ghost use Rattle.asn1_core_element.specs.Writing.{Wrote};
+ghost use Rattle.std.specs.Prelude.{◌≡◌, ◌<◌, ℕ, false};
+ghost use Rattle.asn1_core_element.specs.Element.{IsTagByte, retag};
 ghost use Rattle.asn1_core_format.specs.Format.{Gives};
-ghost use Rattle.asn1_core_format.specs.Rows.{GivesRow, within};
-ghost use Rattle.asn1_core_format.specs.Tagged.{IsTagged, inside, retag, implicit, context_tag};
+ghost use Rattle.asn1_core_format.specs.Rows.{GivesRow};
+ghost use Rattle.asn1_core_format.specs.Tagged.{IsTagged, inside, implicit, context_tag};
+ghost use Rattle.asn1_core_writers.specs.Sinks.{Emits};
 
-use crate::rows::ReadRow;
 use crate::traits::DerDeserialize;
 use asn1_core_element::element::open_element;
 use asn1_core_element::{Error, Reader};
+use asn1_core_streams::Sink;
+use asn1_core_writers::{WriteError, Writer};
 use std::alloc::Global;
 
 /// A type whose texts are elements with one tag, so that an IMPLICIT tag may stand in its place.
@@ -19,27 +20,29 @@ pub trait DerTagged: DerDeserialize {
 
     const TAG: u8;
 
+    /// Writes the text, whose first byte becomes that tag.
+    fn put_as<W: Writer>(&self, tag: u8, w: &mut W) -> Result<(), WriteError>
+        requires { W.MayTake w.old }
+        ensures { W.Takes (retag tag (Self.format.text (Self.value self.now))) w.old w.new result };
+
+    /// Sends the text, whose first byte becomes that tag. Takes no memory.
+    #[tactic(auto, using(asn1_core_element::specs::ElementLaws::length_retag))]
+    final fn emit_as<S: Sink>(&self, tag: u8, sink: &mut S) -> Result<(), WriteError>
+        requires { S.failed sink.old < u64.MAX }
+        ensures { Emits (retag tag (Self.format.text (Self.value self.now))) sink.old sink.new (S.held sink.old) (S.held sink.new) (S.failed sink.old) (S.failed sink.new) result }
+    {
+        if self.encoded_len().is_err() {
+            return Err(WriteError::TooLong);
+        }
+        self.put_as(tag, sink)
+    }
+
     /// Reads what stands in an element with that tag, to the end of the open contents.
     fn read_contents(alloc: Global, r: &mut Reader<'_>, nest: u8) -> Result<Self, Error>
         requires { r.old.refused ≡ false }
         ensures { GivesRow Self.value (inside TAG Self.format) nest r.old r.new result };
 
     ghost tagged: { IsTagged TAG Self.DerSerialize.format };
-}
-
-/// Appends the text of a value, whose first byte becomes that tag.
-pub fn write_retagged<T: DerTagged>(
-    alloc: Global,
-    value: &T,
-    tag: u8,
-    out: &mut Vec<u8>,
-) -> Result<(), Error>
-    ensures { Wrote (retag tag (T.format.text (T.value value.now))) out.old.items out.new.items result }
-{
-    let start = out.len();
-    value.write(alloc, out)?;
-    out[start] = tag;
-    Ok(())
 }
 
 /// Reads an element with that tag, whose contents are those of an element of `T`.
@@ -57,19 +60,6 @@ pub fn read_retagged<T: DerTagged>(
     let value = T::read_contents(alloc, r, nest)?;
     r.end(outer)?;
     Ok(value)
-}
-
-/// Reads the parts in an element with that tag, whose contents are open.
-pub fn read_row_contents<R: ReadRow>(
-    alloc: Global,
-    r: &mut Reader<'_>,
-    nest: u8,
-    _tag: u8,
-) -> Result<R, Error>
-    requires { r.old.refused ≡ false }
-    ensures { GivesRow R.value (inside _tag (within _tag R.format)) nest r.old r.new result }
-{
-    R::read_row(alloc, r, nest)
 }
 
 /// The tag `[n]` in place of a type's own, which keeps the constructed bit.

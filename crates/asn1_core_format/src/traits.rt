@@ -1,11 +1,15 @@
 //! What a type that writes, and one that reads too, gives and promises.
 
-ghost use Rattle.std.specs.Prelude.{◌≡◌, ◌↔◌, ℕ, IsTrue, false};
-ghost use Rattle.asn1_core_element.specs.Writing.{Wrote};
+ghost use Rattle.std.specs.Prelude.{◌≡◌, ◌↔◌, ◌-◌, ◌<◌, ◌≤◌, ◌++◌, ℕ, IsTrue, false, length, take, vec_capacity};
 ghost use Rattle.asn1_core_format.specs.Format.{Format, IsLawful, Gives};
+ghost use Rattle.asn1_core_writers.specs.Sinks.{Emits};
+ghost use Rattle.asn1_core_writers.specs.Texts.{Measures, Writes};
 
 use asn1_core_element::{Error, Reader};
+use asn1_core_streams::Sink;
+use asn1_core_writers::{Backward, Measure, WriteError, Writer};
 use std::alloc::Global;
+use std::mem;
 
 /// The levels of nesting that `from_bytes` and `well_formed` allow.
 pub const MAX_NESTING: u8 = 64;
@@ -20,9 +24,10 @@ pub trait DerSerialize {
     /// What the values are written as; of a type that only writes, with no grammar.
     ghost format: { Format Value };
 
-    /// Appends the text, of ill-formed values too.
-    fn write(&self, alloc: Global, out: &mut Vec<u8>) -> Result<(), Error>
-        ensures { Wrote (format.text (value self.now)) out.old.items out.new.items result };
+    /// Writes the text, of ill-formed values too. All other writing is by this.
+    fn put<W: Writer>(&self, w: &mut W) -> Result<(), WriteError>
+        requires { W.MayTake w.old }
+        ensures { W.Takes (format.text (value self.now)) w.old w.new result };
 
     /// Whether the value is well-formed with nesting of at most `limit` levels.
     fn well_formed_at(&self, limit: u8) -> bool
@@ -34,6 +39,56 @@ pub trait DerSerialize {
     {
         self.well_formed_at(MAX_NESTING)
     }
+
+    /// The length of the text. Refuses by `TooLong` alone, and takes no memory.
+    final fn encoded_len(&self) -> Result<usize, Error>
+        ensures { Measures (format.text (value self.now)) result }
+    {
+        let mut w = Measure::new();
+        match self.put(&mut w) {
+            Ok(()) => Ok(w.total()),
+            Err(_) => Err(Error::TooLong),
+        }
+    }
+
+    /// Appends the text. Asks for memory once at most, and not where there is room. A refusal leaves the buffer's
+    /// contents as they were.
+    final fn write(&self, alloc: Global, out: &mut Vec<u8>) -> Result<(), Error>
+        ensures text { Writes (format.text (value self.now)) out.old.items (vec_capacity out.old) out.new.items result }
+        ensures capacity { vec_capacity out.old ≤ vec_capacity out.new }
+    {
+        let size = self.encoded_len()?;
+        let len = out.len();
+        out.reserve(size)?;
+        out.resize(len + size, 0)?;
+        fill(self, alloc, out);
+        Ok(())
+    }
+
+    /// Sends the text. Takes no memory. A text that is too long is not begun.
+    final fn emit<S: Sink>(&self, sink: &mut S) -> Result<(), WriteError>
+        requires { S.failed sink.old < u64.MAX }
+        ensures { Emits (format.text (value self.now)) sink.old sink.new (S.held sink.old) (S.held sink.new) (S.failed sink.old) (S.failed sink.new) result }
+    {
+        if self.encoded_len().is_err() {
+            return Err(WriteError::TooLong);
+        }
+        self.put(sink)
+    }
+}
+
+/// Writes the text over the end of the buffer.
+fn fill<T: DerSerialize>(value: &T, alloc: Global, out: &mut Vec<u8>)
+    requires { length (T.format.text (T.value value.now)) ≤ length out.old.items }
+    ensures text { out.new.items ≡ take (length out.old.items - length (T.format.text (T.value value.now))) out.old.items ++ T.format.text (T.value value.now) }
+    ensures capacity { vec_capacity out.new ≡ vec_capacity out.old }
+{
+    let mut w = Backward::new(mem::replace(out, Vec::new(alloc)));
+    match value.put(&mut w) {
+        Ok(()) => {}
+        Err(_) => unreachable!(),
+    }
+    *out = w.into_inner();
 }
 
 /// A type that is read from DER, and written as what it was read from where that is normal.
@@ -54,8 +109,8 @@ impl<T: DerSerialize> DerSerialize for &T {
 
     ghost format = { T.format };
 
-    fn write(&self, alloc: Global, out: &mut Vec<u8>) -> Result<(), Error> {
-        (**self).write(alloc, out)
+    fn put<W: Writer>(&self, w: &mut W) -> Result<(), WriteError> {
+        (**self).put(w)
     }
 
     fn well_formed_at(&self, limit: u8) -> bool {

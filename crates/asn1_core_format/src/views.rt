@@ -5,12 +5,14 @@ ghost use Rattle.std.proofs.Common.{rules};
 ghost use Rattle.asn1_core_format.specs.Rows.{option_value};
 ghost use Rattle.asn1_core_format.specs.Views.{SeesEqual, Clones, list_equal, option_equal};
 
+use crate::traits::DerSerialize;
 use asn1_core_element::Error;
 use std::alloc::Global;
 
 /// A type whose `==` is equality of what it contains.
 pub trait Viewed: PartialEq {
-    /// What a value contains, and not where it lies in memory.
+    /// What a value contains, and not where it lies in memory. Of a type with a text that is its `Value`, so that what
+    /// `==` and clones keep is what texts are of.
     ghost View: { Type 0 };
 
     ghost view: { Self → View };
@@ -26,9 +28,9 @@ pub trait TryClone: Viewed + Drop {
 }
 
 impl Viewed for u8 {
-    ghost View = { ℕ };
+    ghost View = { ⟦<u8 as DerSerialize>⟧.Value };
 
-    ghost view = { λ x. x };
+    ghost view = { ⟦<u8 as DerSerialize>⟧.value };
 
     ghost equal = { Prim.search rules };
 }
@@ -40,9 +42,9 @@ impl TryClone for u8 {
 }
 
 impl Viewed for u32 {
-    ghost View = { ℕ };
+    ghost View = { ⟦<u32 as DerSerialize>⟧.Value };
 
-    ghost view = { λ x. x };
+    ghost view = { ⟦<u32 as DerSerialize>⟧.value };
 
     ghost equal = { Prim.search rules };
 }
@@ -63,7 +65,7 @@ impl<T: Viewed> Viewed for Vec<T> {
 
 impl<T: TryClone> TryClone for Vec<T> {
     fn try_clone(&self, alloc: Global) -> Result<Self, Error> {
-        let mut items = Vec::new(alloc);
+        let mut items = Vec::with_capacity(alloc, self.len())?;
         for item in self {
             items.push(item.try_clone(alloc)?)?;
         }

@@ -1,19 +1,34 @@
 //! Whole inputs and whole texts.
 
-ghost use Rattle.std.specs.Prelude.{◌≡◌, ℕ, false, IfOk};
+ghost use Rattle.std.specs.Prelude.{◌≡◌, ◌<◌, ◌≤◌, ℕ, false, IfOk};
 ghost use Rattle.asn1_core_format.specs.Format.{IsLawful};
 ghost use Rattle.asn1_core_format.specs.Whole.{AnswersInput, HeadersOfInput, Written, IsRewriting};
+ghost use Rattle.asn1_core_writers.specs.Sinks.{Emits};
 
 use crate::traits::{DerDeserialize, DerSerialize, MAX_NESTING};
 use asn1_core_element::{Error, Reader};
+use asn1_core_streams::Sink;
+use asn1_core_writers::WriteError;
 use std::alloc::Global;
 
-/// The value of the whole input.
+/// The value of the whole input, with at most `MAX_NESTING` levels of nesting.
 pub fn from_bytes<T: DerDeserialize>(alloc: Global, bytes: &[u8]) -> Result<T, Error>
     ensures { AnswersInput T.value T.format 64 bytes.now result }
 {
-    let (outcome, _headers) = from_bytes_counted(alloc, bytes);
-    outcome
+    from_bytes_limited(alloc, MAX_NESTING, bytes)
+}
+
+/// The value of the whole input, with at most `limit` levels of nesting. Whatever is read at one limit is read as the
+/// same value at every larger one.
+pub fn from_bytes_limited<T: DerDeserialize>(
+    alloc: Global,
+    limit: u8,
+    bytes: &[u8],
+) -> Result<T, Error>
+    requires { limit ≤ 64 }
+    ensures { AnswersInput T.value T.format limit bytes.now result }
+{
+    whole(alloc, limit, &mut Reader::new(bytes))
 }
 
 /// The value of the whole input, and how many headers were read, on both outcomes.
@@ -25,17 +40,17 @@ pub fn from_bytes_counted<T: DerDeserialize>(
     ensures headers { HeadersOfInput T.value T.format bytes.now result.0 result.1 }
 {
     let mut r = Reader::new(bytes);
-    let outcome = whole(alloc, &mut r);
+    let outcome = whole(alloc, MAX_NESTING, &mut r);
     (outcome, r.headers_read())
 }
 
-fn whole<T: DerDeserialize>(alloc: Global, r: &mut Reader<'_>) -> Result<T, Error>
+fn whole<T: DerDeserialize>(alloc: Global, limit: u8, r: &mut Reader<'_>) -> Result<T, Error>
     requires sound { r.old.refused ≡ false }
     requires start { r.old.headers ≡ 0 }
-    ensures answer { AnswersInput T.value T.format 64 r.old.left result }
+    ensures answer { AnswersInput T.value T.format limit r.old.left result }
     ensures headers { HeadersOfInput T.value T.format r.old.left result r.new.headers }
 {
-    let value = T::read(alloc, r, MAX_NESTING)?;
+    let value = T::read(alloc, r, limit)?;
     if r.left() > 0 {
         return Err(Error::Malformed);
     }
@@ -45,9 +60,17 @@ fn whole<T: DerDeserialize>(alloc: Global, r: &mut Reader<'_>) -> Result<T, Erro
 /// The text of a value, of an ill-formed one too. Refuses by `TooLong` or `Memory` alone.
 pub fn to_vec<T: DerSerialize>(alloc: Global, value: &T) -> Result<Vec<u8>, Error>
     ensures text { Written (λ v. v.items) (T.format.text (T.value value.now)) result }
-    ensures rewriting { IsLawful T.format → IfOk result (λ v. IsRewriting T.format 64 (T.value value.now) v.items) }
+    ensures rewriting { IsLawful T.format → (k : ℕ) → IfOk result (λ v. IsRewriting T.format k (T.value value.now) v.items) }
 {
     let mut out = Vec::new(alloc);
     value.write(alloc, &mut out)?;
     Ok(out)
+}
+
+/// Sends the text of a value to a sink, of an ill-formed one too. Takes no memory. A text that is too long is not begun.
+pub fn write_to<T: DerSerialize, W: Sink>(value: &T, w: &mut W) -> Result<(), WriteError>
+    requires { W.failed w.old < u64.MAX }
+    ensures { Emits (T.format.text (T.value value.now)) w.old w.new (W.held w.old) (W.held w.new) (W.failed w.old) (W.failed w.new) result }
+{
+    value.emit(w)
 }

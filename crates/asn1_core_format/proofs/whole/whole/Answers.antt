@@ -5,13 +5,13 @@ use Rattle.asn1_core_format.proofs.whole.whole.Goals as goal
 
 pub returns-in_err-value-clause-answer : goal.returns-in_err-value-clause-answer
 returns-in_err-value-clause-answer g c =
-    let r = refused_input g.T.DerSerialize.format 64 c.in_err-value.ensures in
+    let r = refused_input g.T.DerSerialize.format c.args.limit c.in_err-value.ensures in
     search rules
 
 pub returns-then-left-gt0-clause-answer : goal.returns-then-left-gt0-clause-answer
 returns-then-left-gt0-clause-answer g c =
-    left_over g.T.DerSerialize.format 64 g.met.T.DerDeserialize.lawful c.in_ok-value.ensures (omega (arith, c.if-left-gt0.true, c.left.ensures))
+    left_over g.T.DerSerialize.format c.args.limit g.met.T.DerDeserialize.lawful c.in_ok-value.ensures (omega (arith, c.if-left-gt0.true, c.left.ensures))
 
 pub returns-clause-answer : goal.returns-clause-answer
 returns-clause-answer g c =
-    whole_input g.T.DerSerialize.format 64 g.met.T.DerDeserialize.lawful c.in_ok-value.ensures (nil_from_length _ (omega (arith, c.if-left-gt0.false, c.left.ensures)))
+    whole_input g.T.DerSerialize.format c.args.limit g.met.T.DerDeserialize.lawful c.in_ok-value.ensures (nil_from_length _ (omega (arith, c.if-left-gt0.false, c.left.ensures)))

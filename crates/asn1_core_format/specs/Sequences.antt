@@ -1,0 +1,20 @@
+-- A SEQUENCE (X.690, 8.9) and its laws, part by part, in the order of the parts.
+use Rattle.std.specs.Prelude.{ℕ}
+use Rattle.std.proofs.Common.{arith}
+use Rattle.asn1_core_format.specs.Format.{Format, IsLawfulRow, IsLawful}
+use Rattle.asn1_core_format.specs.Rows.{part, optional, within}
+use Rattle.asn1_core_format.specs.RowLaws.{lawful_part, lawful_optional, lawful_within}
+
+abbrev pub sequence : {V : Type 0} → Format V → Format V
+sequence R = within 0x30 R
+
+module _ {V W : Type 0} {F : Format V} {R : Format W} where
+  pub followed_by : IsLawful F → IsLawfulRow R → IsLawfulRow (part F R)
+  followed_by f r = lawful_part F R f r
+
+  -- the second argument tells the part's first tags from those of what follows
+  pub perhaps : IsLawful F → ((t : ℕ) → F.IsTag t → R.IsTag t → ⊥) → IsLawfulRow R → IsLawfulRow (optional F R)
+  perhaps f apart r = lawful_optional F R f r apart
+
+pub lawful_sequence : {V : Type 0} {R : Format V} → IsLawfulRow R → IsLawful (sequence R)
+lawful_sequence {V} {R} r = lawful_within R r 0x30 (omega arith)

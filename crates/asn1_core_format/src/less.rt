@@ -1,0 +1,44 @@
+//! What stands inside a type that takes a level of nesting.
+
+ghost use Rattle.asn1_core_format.specs.Levels.{less};
+ghost use Rattle.asn1_core_format.specs.LevelLaws.{lawful_less};
+
+use crate::traits::{DerDeserialize, DerSerialize};
+use asn1_core_element::{Error, Reader};
+use asn1_core_writers::{WriteError, Writer};
+use std::alloc::Global;
+
+/// A value that takes a level of nesting, so that there is none where no level is left.
+#[derive(Debug, Drop, PartialEq, Eq)]
+pub struct Less<T>(pub T);
+
+impl<T: DerSerialize> DerSerialize for Less<T> {
+    ghost Value = { T.Value };
+
+    ghost value = { λ x. T.value x.0 };
+
+    ghost format = { less T.format };
+
+    fn put<W: Writer>(&self, w: &mut W) -> Result<(), WriteError> {
+        self.0.put(w)
+    }
+
+    fn well_formed_at(&self, limit: u8) -> bool {
+        if limit == 0 {
+            return false;
+        }
+        self.0.well_formed_at(limit - 1)
+    }
+}
+
+impl<T: DerDeserialize> DerDeserialize for Less<T> {
+    fn read(alloc: Global, r: &mut Reader<'_>, nest: u8) -> Result<Self, Error> {
+        if nest == 0 {
+            return Err(Error::TooDeep);
+        }
+        let value = T::read(alloc, r, nest - 1)?;
+        Ok(Less(value))
+    }
+
+    ghost lawful = { lawful_less T.DerSerialize.format T.lawful };
+}

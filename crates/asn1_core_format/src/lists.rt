@@ -1,0 +1,81 @@
+//! Items, one after another to the end of the contents.
+
+ghost use Rattle.std.specs.Prelude.{◌≡◌, List, map, true, false};
+ghost use Rattle.std.specs.List.{flat_map};
+ghost use Rattle.asn1_core_format.specs.Lists.{each};
+ghost use Rattle.asn1_core_format.specs.ListLaws.{lawful_each};
+
+use crate::rows::{ReadRow, WriteRow};
+use crate::traits::{DerDeserialize, DerSerialize};
+use asn1_core_element::{Error, Reader};
+use asn1_core_writers::{WriteError, Writer};
+use std::alloc::Global;
+
+/// Writes the items from the first to the last.
+fn put_items<T: DerSerialize, W: Writer>(items: &[T], w: &mut W) -> Result<(), WriteError>
+    requires may { W.MayTake w.old }
+    requires forward { W.BACKWARD ≡ false }
+    ensures { W.Takes (flat_map T.format.text (map T.value items.now)) w.old w.new result }
+{
+    for item in items {
+        item.put(w)?;
+    }
+    Ok(())
+}
+
+/// Writes the items from the last to the first.
+fn put_items_back<T: DerSerialize, W: Writer>(items: &[T], w: &mut W) -> Result<(), WriteError>
+    requires may { W.MayTake w.old }
+    requires backward { W.BACKWARD ≡ true }
+    ensures { W.Takes (flat_map T.format.text (map T.value items.now)) w.old w.new result }
+{
+    let mut left = items.len();
+    while left > 0 {
+        left -= 1;
+        items[left].put(w)?;
+    }
+    Ok(())
+}
+
+/// Items, one after another.
+impl<T: DerSerialize> WriteRow for Vec<T> {
+    ghost Value = { List T.Value };
+
+    ghost value = { λ items. map T.value items.items };
+
+    ghost format = { each T.format };
+
+    fn put_row<W: Writer>(&self, w: &mut W) -> Result<(), WriteError> {
+        if W::is_backward() {
+            put_items_back(self.as_slice(), w)
+        } else {
+            put_items(self.as_slice(), w)
+        }
+    }
+
+    fn row_well_formed_at(&self, limit: u8) -> bool {
+        for item in self {
+            if !item.well_formed_at(limit) {
+                return false;
+            }
+        }
+        true
+    }
+}
+
+impl<T: DerDeserialize> ReadRow for Vec<T> {
+    fn read_row(alloc: Global, r: &mut Reader<'_>, nest: u8) -> Result<Self, Error> {
+        let mut items = Vec::new(alloc);
+        // most lists have few items, and a vector that grows by itself begins with room for more
+        if r.left() > 0 {
+            items.reserve_exact(1)?;
+        }
+        'items: while r.left() > 0 {
+            let item = T::read(alloc, r, nest)?;
+            items.push(item)?;
+        }
+        Ok(items)
+    }
+
+    ghost lawful = { lawful_each T.DerSerialize.format T.lawful };
+}
