@@ -1,13 +1,10 @@
 -- One element, read as it is.
-use Rattle.std.proofs.Common.{◌≡◌, ◌↔◌, ℕ, ◌+◌, ◌^◌, ◌<◌, List, [], ◌++◌, inl, inr, length, drop, refl, sym, ap, ◌∙◌, arith, append_assoc, length-append, length-take, length-drop}
+use Rattle.std.proofs.Common.{◌≡◌, ◌↔◌, ℕ, ◌+◌, List, [], ◌++◌, length, drop, refl, sym, ap, ◌∙◌, arith, append_assoc, length-append, length-take, length-drop}
 use Rattle.std.proofs.lemmas.List.{take-append-drop, append-nil}
 use Rattle.asn1_core_element.specs.Element.{element, head, IsElement, IsTagByte, IsFront, HasNoFront}
 use Rattle.asn1_core_element.specs.ElementLaws.{head_cut, element_long}
 use Rattle.asn1_core_element.specs.Position.{Position}
-use Rattle.asn1_core_element.specs.Writing.{IsWriteError, NotWritten}
-use Rattle.asn1_core_element.specs.declared.error.Error.{Error}
-use Rattle.asn1_core_element.specs.declared.error.Error.TheVariants.{Memory, TooLong}
-use Rattle.asn1_core_format.specs.Format.{Took, GaveUp}
+use Rattle.asn1_core_format.specs.Format.{Took}
 use Rattle.asn1_core_element.specs.Reading.{TookHeader, TookContents}
 use Rattle.asn1_core.specs.Raw.{raw}
 
@@ -32,20 +29,6 @@ module _ {old mid new : Position} {tag n : ℕ} {c : List ℕ} (h : TookHeader o
     at_least = omega (arith, t.headers, h.headers);
     at_most = omega (arith, t.headers, h.headers, element_long tag c);
   }
-
-  -- the text fits, since it was read
-  no_memory : {e : Error} → length old.left < 2 ^ 64 → IsWriteError (element tag c) e → e ≡ Memory
-  no_memory small (inl m) = m
-  no_memory small (inr l) = absurd (omega (arith, small, l.1, ap length raw_split, length-append (element tag c) new.left))
-
-  pub raw_refused : (k : ℕ) {before after : List ℕ} {e : Error} → length old.left < 2 ^ 64 → NotWritten (element tag c) before after e → GaveUp raw k old new e
-  raw_refused k {before} {after} {e} small w =
-      let m = no_memory small w.kind in
-      record {
-        kind = λ p. (let q : Memory ≡ TooLong = sym m ∙ p in cc);
-        none = λ n taken rest v s r. n m;
-        at_most = omega (arith, t.headers, h.headers);
-      }
 
 pub whole_front : {b : List ℕ} {tag n size : ℕ} → IsFront b tag n size → (size + n ≡ length b) ↔ IsElement IsTagByte b
 whole_front {b} {tag} {n} {size} f = (

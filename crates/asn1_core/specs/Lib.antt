@@ -2,4 +2,4 @@ pub mod Octets
 pub mod Raw
 pub mod Objects
 pub mod Equal
-pub mod Sample
+pub mod Der

@@ -10,7 +10,7 @@ abbrev pub oid_octets : Spelling (List ℕ)
 oid_octets = kept IsOid
 
 abbrev pub object_identifier : Format (List ℕ)
-object_identifier = leaf 6 oid_octets
+object_identifier = leaf 0x06 oid_octets
 
 pub lawful_object_identifier : IsLawful object_identifier
-lawful_object_identifier = lawful_leaf 6 (omega arith) oid_octets (lawful_kept IsOid)
+lawful_object_identifier = lawful_leaf 0x06 (omega arith) oid_octets (lawful_kept IsOid)

@@ -6,8 +6,9 @@ ghost use Rattle.asn1_core_format.specs.RowLaws.{lawful_within};
 
 use asn1_core_element::{Error, Reader};
 use asn1_core_format::{
-    Alone, DerDeserialize, DerSerialize, FirstTags, TryClone, Viewed, read_within, write_within,
+    Alone, DerDeserialize, DerSerialize, FirstTags, TryClone, Viewed, put_within, read_within,
 };
+use asn1_core_writers::{WriteError, Writer};
 use std::alloc::Global;
 
 /// An OCTET STRING whose octets are one text of `T`.
@@ -19,10 +20,10 @@ impl<T: DerSerialize> DerSerialize for OctetStringAsn1Container<T> {
 
     ghost value = { λ x. T.value x.0 };
 
-    ghost format = { within 4 T.format };
+    ghost format = { within 0x04 T.format };
 
-    fn write(&self, alloc: Global, out: &mut Vec<u8>) -> Result<(), Error> {
-        write_within(alloc, &Alone(&self.0), 4, out)
+    fn put<W: Writer>(&self, w: &mut W) -> Result<(), WriteError> {
+        put_within(0x04, &Alone(&self.0), w)
     }
 
     fn well_formed_at(&self, limit: u8) -> bool {
@@ -32,16 +33,16 @@ impl<T: DerSerialize> DerSerialize for OctetStringAsn1Container<T> {
 
 impl<T: DerDeserialize> DerDeserialize for OctetStringAsn1Container<T> {
     fn read(alloc: Global, r: &mut Reader<'_>, nest: u8) -> Result<Self, Error> {
-        let Alone(value) = read_within::<Alone<T>>(alloc, r, nest, 4)?;
+        let Alone(value) = read_within::<Alone<T>>(alloc, r, nest, 0x04)?;
         Ok(OctetStringAsn1Container(value))
     }
 
-    ghost lawful = { lawful_within T.DerSerialize.format T.lawful.row 4 (Prim.omega arith) };
+    ghost lawful = { lawful_within T.DerSerialize.format T.lawful.row 0x04 (Prim.omega arith) };
 }
 
 impl<T: DerDeserialize> FirstTags for OctetStringAsn1Container<T> {
     fn begins(tag: u8) -> bool {
-        tag == 4
+        tag == 0x04
     }
 }
 

@@ -6,9 +6,10 @@ ghost use Rattle.asn1_core_format.specs.RowLaws.{lawful_within};
 
 use asn1_core_element::{Error, Reader};
 use asn1_core_format::{
-    Alone, ApartFrom, DerDeserialize, DerSerialize, FirstTags, TryClone, Viewed, read_within,
-    write_within,
+    Alone, ApartFrom, DerDeserialize, DerSerialize, FirstTags, TryClone, Viewed, put_within,
+    read_within,
 };
+use asn1_core_writers::{WriteError, Writer};
 use std::alloc::Global;
 
 /// `[0] EXPLICIT T`
@@ -20,10 +21,10 @@ impl<T: DerSerialize> DerSerialize for ExplicitContextTag0<T> {
 
     ghost value = { λ x. T.value x.0 };
 
-    ghost format = { within 160 T.format };
+    ghost format = { within 0xA0 T.format };
 
-    fn write(&self, alloc: Global, out: &mut Vec<u8>) -> Result<(), Error> {
-        write_within(alloc, &Alone(&self.0), 0xA0, out)
+    fn put<W: Writer>(&self, w: &mut W) -> Result<(), WriteError> {
+        put_within(0xA0, &Alone(&self.0), w)
     }
 
     fn well_formed_at(&self, limit: u8) -> bool {
@@ -37,7 +38,7 @@ impl<T: DerDeserialize> DerDeserialize for ExplicitContextTag0<T> {
         Ok(ExplicitContextTag0(value))
     }
 
-    ghost lawful = { lawful_within T.DerSerialize.format T.lawful.row 160 (Prim.omega arith) };
+    ghost lawful = { lawful_within T.DerSerialize.format T.lawful.row 0xA0 (Prim.omega arith) };
 }
 
 impl<T: DerDeserialize> FirstTags for ExplicitContextTag0<T> {
@@ -69,10 +70,10 @@ impl<T: DerSerialize> DerSerialize for ExplicitContextTag1<T> {
 
     ghost value = { λ x. T.value x.0 };
 
-    ghost format = { within 161 T.format };
+    ghost format = { within 0xA1 T.format };
 
-    fn write(&self, alloc: Global, out: &mut Vec<u8>) -> Result<(), Error> {
-        write_within(alloc, &Alone(&self.0), 0xA1, out)
+    fn put<W: Writer>(&self, w: &mut W) -> Result<(), WriteError> {
+        put_within(0xA1, &Alone(&self.0), w)
     }
 
     fn well_formed_at(&self, limit: u8) -> bool {
@@ -86,7 +87,7 @@ impl<T: DerDeserialize> DerDeserialize for ExplicitContextTag1<T> {
         Ok(ExplicitContextTag1(value))
     }
 
-    ghost lawful = { lawful_within T.DerSerialize.format T.lawful.row 161 (Prim.omega arith) };
+    ghost lawful = { lawful_within T.DerSerialize.format T.lawful.row 0xA1 (Prim.omega arith) };
 }
 
 impl<T: DerDeserialize> FirstTags for ExplicitContextTag1<T> {
@@ -118,10 +119,10 @@ impl<T: DerSerialize> DerSerialize for ExplicitContextTag2<T> {
 
     ghost value = { λ x. T.value x.0 };
 
-    ghost format = { within 162 T.format };
+    ghost format = { within 0xA2 T.format };
 
-    fn write(&self, alloc: Global, out: &mut Vec<u8>) -> Result<(), Error> {
-        write_within(alloc, &Alone(&self.0), 0xA2, out)
+    fn put<W: Writer>(&self, w: &mut W) -> Result<(), WriteError> {
+        put_within(0xA2, &Alone(&self.0), w)
     }
 
     fn well_formed_at(&self, limit: u8) -> bool {
@@ -135,7 +136,7 @@ impl<T: DerDeserialize> DerDeserialize for ExplicitContextTag2<T> {
         Ok(ExplicitContextTag2(value))
     }
 
-    ghost lawful = { lawful_within T.DerSerialize.format T.lawful.row 162 (Prim.omega arith) };
+    ghost lawful = { lawful_within T.DerSerialize.format T.lawful.row 0xA2 (Prim.omega arith) };
 }
 
 impl<T: DerDeserialize> FirstTags for ExplicitContextTag2<T> {

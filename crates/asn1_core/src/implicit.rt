@@ -8,8 +8,8 @@ use asn1_core_element::{Error, Reader};
 use asn1_core_format::tagged::context_tag_of;
 use asn1_core_format::{
     ApartFrom, DerDeserialize, DerSerialize, DerTagged, FirstTags, TryClone, Viewed, read_retagged,
-    write_retagged,
 };
+use asn1_core_writers::{WriteError, Writer};
 use std::alloc::Global;
 
 /// `[0] IMPLICIT T`
@@ -23,8 +23,8 @@ impl<T: DerTagged> DerSerialize for ImplicitContextTag0<T> {
 
     ghost format = { implicit (context_tag 0 T.TAG) T.TAG T.format };
 
-    fn write(&self, alloc: Global, out: &mut Vec<u8>) -> Result<(), Error> {
-        write_retagged(alloc, &self.0, context_tag_of::<T>(0), out)
+    fn put<W: Writer>(&self, w: &mut W) -> Result<(), WriteError> {
+        self.0.put_as(context_tag_of::<T>(0), w)
     }
 
     fn well_formed_at(&self, limit: u8) -> bool {
@@ -71,8 +71,8 @@ impl<T: DerTagged> DerSerialize for ImplicitContextTag1<T> {
 
     ghost format = { implicit (context_tag 1 T.TAG) T.TAG T.format };
 
-    fn write(&self, alloc: Global, out: &mut Vec<u8>) -> Result<(), Error> {
-        write_retagged(alloc, &self.0, context_tag_of::<T>(1), out)
+    fn put<W: Writer>(&self, w: &mut W) -> Result<(), WriteError> {
+        self.0.put_as(context_tag_of::<T>(1), w)
     }
 
     fn well_formed_at(&self, limit: u8) -> bool {

@@ -8,24 +8,27 @@ pub mod implicit;
 pub mod lists;
 pub mod objects;
 pub mod octets;
+pub mod parts;
 pub mod raw;
 
 pub use asn1_core_element::{Error, Reader};
+pub use asn1_core_format::laws::{
+    limits_agree, no_accepted_input_begins_another, normal_texts_stay_normal,
+    rewriting_reaches_an_end,
+};
 pub use asn1_core_format::{
     DerDeserialize, DerSerialize, DerTagged, MAX_NESTING, TryClone, Viewed, from_bytes,
-    from_bytes_counted, to_vec,
+    from_bytes_counted, from_bytes_limited, to_vec, write_to,
 };
 pub use asn1_core_oid::ObjectIdentifier;
-pub use asn1_core_streams::{Sink, Source, StdSink, StdSource};
+pub use asn1_core_streams::{
+    ReadError, Sink, Source, StdSink, StdSource, WriteFailed, read_all, send,
+};
+pub use asn1_core_writers::{WriteError, Writer};
 pub use containers::{OctetStringAsn1Container, Optional};
 pub use explicit::{ExplicitContextTag0, ExplicitContextTag1, ExplicitContextTag2};
 pub use implicit::{ImplicitContextTag0, ImplicitContextTag1};
 pub use lists::{Asn1SequenceOf, Asn1SetOf};
-pub use objects::{ObjectIdentifierAsn1, OidRef};
+pub use objects::{KnownOid, ObjectIdentifierAsn1, OidRef};
 pub use octets::OctetStringAsn1;
 pub use raw::Asn1RawDer;
-
-#[cfg(test)]
-mod sample;
-#[cfg(test)]
-mod tests;

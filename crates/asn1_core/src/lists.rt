@@ -11,9 +11,10 @@ ghost use Rattle.asn1_core_format.specs.Views.{list_equal};
 
 use asn1_core_element::{Error, Reader};
 use asn1_core_format::{
-    DerDeserialize, DerSerialize, DerTagged, FirstTags, TryClone, Viewed, WriteRow,
-    read_row_contents, read_within, write_within,
+    DerDeserialize, DerSerialize, DerTagged, TryClone, Viewed, WriteRow, put_within,
+    read_row_contents, read_within,
 };
+use asn1_core_writers::{WriteError, Writer};
 use std::alloc::Global;
 
 /// `SEQUENCE OF T`, whose items stand in the order in which they were read.
@@ -25,10 +26,10 @@ impl<T: DerSerialize> DerSerialize for Asn1SequenceOf<T> {
 
     ghost value = { λ s. map T.value s.0.items };
 
-    ghost format = { within 48 (each T.format) };
+    ghost format = { within 0x30 (each T.format) };
 
-    fn write(&self, alloc: Global, out: &mut Vec<u8>) -> Result<(), Error> {
-        write_within(alloc, &self.0, 0x30, out)
+    fn put<W: Writer>(&self, w: &mut W) -> Result<(), WriteError> {
+        put_within(0x30, &self.0, w)
     }
 
     fn well_formed_at(&self, limit: u8) -> bool {
@@ -42,26 +43,24 @@ impl<T: DerDeserialize> DerDeserialize for Asn1SequenceOf<T> {
         Ok(Asn1SequenceOf(items))
     }
 
-    ghost lawful = { lawful_within (each T.DerSerialize.format) (lawful_each T.DerSerialize.format T.lawful) 48 (Prim.omega arith) };
+    ghost lawful = { lawful_within (each T.DerSerialize.format) (lawful_each T.DerSerialize.format T.lawful) 0x30 (Prim.omega arith) };
 }
 
 impl<T: DerDeserialize> DerTagged for Asn1SequenceOf<T> {
-    ghost TAG = { 48 };
+    ghost TAG = { 0x30 };
 
     const TAG: u8 = 0x30;
+
+    fn put_as<W: Writer>(&self, tag: u8, w: &mut W) -> Result<(), WriteError> {
+        put_within(tag, &self.0, w)
+    }
 
     fn read_contents(alloc: Global, r: &mut Reader<'_>, nest: u8) -> Result<Self, Error> {
         let items = read_row_contents::<Vec<T>>(alloc, r, nest, 0x30)?;
         Ok(Asn1SequenceOf(items))
     }
 
-    ghost tagged = { within_tagged 48 (Prim.omega arith) (each T.DerSerialize.format) };
-}
-
-impl<T: DerDeserialize> FirstTags for Asn1SequenceOf<T> {
-    fn begins(tag: u8) -> bool {
-        tag == 0x30
-    }
+    ghost tagged = { within_tagged 0x30 (Prim.omega arith) (each T.DerSerialize.format) };
 }
 
 impl<T: Viewed> Viewed for Asn1SequenceOf<T> {
@@ -87,10 +86,10 @@ impl<T: DerSerialize> DerSerialize for Asn1SetOf<T> {
 
     ghost value = { λ s. map T.value s.0.items };
 
-    ghost format = { within 49 (each T.format) };
+    ghost format = { within 0x31 (each T.format) };
 
-    fn write(&self, alloc: Global, out: &mut Vec<u8>) -> Result<(), Error> {
-        write_within(alloc, &self.0, 0x31, out)
+    fn put<W: Writer>(&self, w: &mut W) -> Result<(), WriteError> {
+        put_within(0x31, &self.0, w)
     }
 
     fn well_formed_at(&self, limit: u8) -> bool {
@@ -104,26 +103,24 @@ impl<T: DerDeserialize> DerDeserialize for Asn1SetOf<T> {
         Ok(Asn1SetOf(items))
     }
 
-    ghost lawful = { lawful_within (each T.DerSerialize.format) (lawful_each T.DerSerialize.format T.lawful) 49 (Prim.omega arith) };
+    ghost lawful = { lawful_within (each T.DerSerialize.format) (lawful_each T.DerSerialize.format T.lawful) 0x31 (Prim.omega arith) };
 }
 
 impl<T: DerDeserialize> DerTagged for Asn1SetOf<T> {
-    ghost TAG = { 49 };
+    ghost TAG = { 0x31 };
 
     const TAG: u8 = 0x31;
+
+    fn put_as<W: Writer>(&self, tag: u8, w: &mut W) -> Result<(), WriteError> {
+        put_within(tag, &self.0, w)
+    }
 
     fn read_contents(alloc: Global, r: &mut Reader<'_>, nest: u8) -> Result<Self, Error> {
         let items = read_row_contents::<Vec<T>>(alloc, r, nest, 0x31)?;
         Ok(Asn1SetOf(items))
     }
 
-    ghost tagged = { within_tagged 49 (Prim.omega arith) (each T.DerSerialize.format) };
-}
-
-impl<T: DerDeserialize> FirstTags for Asn1SetOf<T> {
-    fn begins(tag: u8) -> bool {
-        tag == 0x31
-    }
+    ghost tagged = { within_tagged 0x31 (Prim.omega arith) (each T.DerSerialize.format) };
 }
 
 impl<T: Viewed> Viewed for Asn1SetOf<T> {

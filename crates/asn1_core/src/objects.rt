@@ -7,13 +7,12 @@ ghost use Rattle.asn1_core_format.specs.TaggedLaws.{leaf_tagged};
 ghost use Rattle.asn1_core_oid.specs.OidValue.{octets_of};
 ghost use Rattle.asn1_core_oid.specs.OidValueLaws.{equal_octets};
 
-use asn1_core_element::element::write_element;
 use asn1_core_element::{Error, Reader};
 use asn1_core_format::{
-    DerDeserialize, DerSerialize, DerTagged, FirstTags, Leaf, TryClone, Viewed, read_leaf,
-    read_leaf_contents,
+    DerDeserialize, DerSerialize, DerTagged, Leaf, TryClone, Viewed, read_leaf, read_leaf_contents,
 };
-use asn1_core_oid::ObjectIdentifier;
+use asn1_core_oid::{ObjectIdentifier, is_oid};
+use asn1_core_writers::{WriteError, Writer, put_element};
 use std::alloc::Global;
 
 /// An OBJECT IDENTIFIER.
@@ -39,8 +38,8 @@ impl DerSerialize for ObjectIdentifierAsn1 {
 
     ghost format = { object_identifier };
 
-    fn write(&self, alloc: Global, out: &mut Vec<u8>) -> Result<(), Error> {
-        OidRef(&self.0).write(alloc, out)
+    fn put<W: Writer>(&self, w: &mut W) -> Result<(), WriteError> {
+        put_element(0x06, self.0.octets(), w)
     }
 
     fn well_formed_at(&self, _limit: u8) -> bool {
@@ -50,34 +49,32 @@ impl DerSerialize for ObjectIdentifierAsn1 {
 
 impl DerDeserialize for ObjectIdentifierAsn1 {
     fn read(alloc: Global, r: &mut Reader<'_>, nest: u8) -> Result<Self, Error> {
-        read_leaf(alloc, r, nest, 6)
+        read_leaf(alloc, r, nest, 0x06)
     }
 
     ghost lawful = { lawful_object_identifier };
 }
 
 impl DerTagged for ObjectIdentifierAsn1 {
-    ghost TAG = { 6 };
+    ghost TAG = { 0x06 };
 
-    const TAG: u8 = 6;
+    const TAG: u8 = 0x06;
+
+    fn put_as<W: Writer>(&self, tag: u8, w: &mut W) -> Result<(), WriteError> {
+        put_element(tag, self.0.octets(), w)
+    }
 
     fn read_contents(alloc: Global, r: &mut Reader<'_>, nest: u8) -> Result<Self, Error> {
-        read_leaf_contents(alloc, r, nest, 6)
+        read_leaf_contents(alloc, r, nest, 0x06)
     }
 
-    ghost tagged = { leaf_tagged 6 (Prim.omega arith) oid_octets };
-}
-
-impl FirstTags for ObjectIdentifierAsn1 {
-    fn begins(tag: u8) -> bool {
-        tag == 6
-    }
+    ghost tagged = { leaf_tagged 0x06 (Prim.omega arith) oid_octets };
 }
 
 impl Viewed for ObjectIdentifierAsn1 {
-    ghost View = { List ℕ };
+    ghost View = { ⟦<ObjectIdentifierAsn1 as DerSerialize>⟧.Value };
 
-    ghost view = { λ x. octets_of x.0 };
+    ghost view = { ⟦<ObjectIdentifierAsn1 as DerSerialize>⟧.value };
 
     ghost equal = { λ x y. equal_octets x.0 y.0 };
 }
@@ -99,11 +96,31 @@ impl DerSerialize for OidRef<'_> {
 
     ghost format = { object_identifier };
 
-    fn write(&self, _alloc: Global, out: &mut Vec<u8>) -> Result<(), Error> {
-        write_element(6, self.0.octets(), out)
+    fn put<W: Writer>(&self, w: &mut W) -> Result<(), WriteError> {
+        put_element(0x06, self.0.octets(), w)
     }
 
     fn well_formed_at(&self, _limit: u8) -> bool {
         true
+    }
+}
+
+/// The contents octets of an object identifier, as a part that writes: a known one is written from constants.
+#[derive(Drop)]
+pub struct KnownOid<'a>(pub &'a [u8]);
+
+impl DerSerialize for KnownOid<'_> {
+    ghost Value = { List ℕ };
+
+    ghost value = { λ x. x.0.now };
+
+    ghost format = { object_identifier };
+
+    fn put<W: Writer>(&self, w: &mut W) -> Result<(), WriteError> {
+        put_element(0x06, self.0, w)
+    }
+
+    fn well_formed_at(&self, _limit: u8) -> bool {
+        is_oid(self.0)
     }
 }

@@ -6,12 +6,11 @@ ghost use Rattle.asn1_core.specs.Equal.{octets_equal};
 ghost use Rattle.asn1_core.specs.Octets.{any_octets, octet_string, lawful_octet_string};
 ghost use Rattle.asn1_core_format.specs.TaggedLaws.{leaf_tagged};
 
-use asn1_core_element::element::write_element;
 use asn1_core_element::{Error, Reader};
 use asn1_core_format::{
-    DerDeserialize, DerSerialize, DerTagged, FirstTags, Leaf, TryClone, Viewed, read_leaf,
-    read_leaf_contents,
+    DerDeserialize, DerSerialize, DerTagged, Leaf, TryClone, Viewed, read_leaf, read_leaf_contents,
 };
+use asn1_core_writers::{WriteError, Writer, put_element};
 use std::alloc::Global;
 
 /// An OCTET STRING.
@@ -37,8 +36,8 @@ impl DerSerialize for OctetStringAsn1 {
 
     ghost format = { octet_string };
 
-    fn write(&self, _alloc: Global, out: &mut Vec<u8>) -> Result<(), Error> {
-        write_element(4, self.0.as_slice(), out)
+    fn put<W: Writer>(&self, w: &mut W) -> Result<(), WriteError> {
+        put_element(0x04, self.0.as_slice(), w)
     }
 
     fn well_formed_at(&self, _limit: u8) -> bool {
@@ -48,34 +47,32 @@ impl DerSerialize for OctetStringAsn1 {
 
 impl DerDeserialize for OctetStringAsn1 {
     fn read(alloc: Global, r: &mut Reader<'_>, nest: u8) -> Result<Self, Error> {
-        read_leaf(alloc, r, nest, 4)
+        read_leaf(alloc, r, nest, 0x04)
     }
 
     ghost lawful = { lawful_octet_string };
 }
 
 impl DerTagged for OctetStringAsn1 {
-    ghost TAG = { 4 };
+    ghost TAG = { 0x04 };
 
-    const TAG: u8 = 4;
+    const TAG: u8 = 0x04;
+
+    fn put_as<W: Writer>(&self, tag: u8, w: &mut W) -> Result<(), WriteError> {
+        put_element(tag, self.0.as_slice(), w)
+    }
 
     fn read_contents(alloc: Global, r: &mut Reader<'_>, nest: u8) -> Result<Self, Error> {
-        read_leaf_contents(alloc, r, nest, 4)
+        read_leaf_contents(alloc, r, nest, 0x04)
     }
 
-    ghost tagged = { leaf_tagged 4 (Prim.omega arith) any_octets };
-}
-
-impl FirstTags for OctetStringAsn1 {
-    fn begins(tag: u8) -> bool {
-        tag == 4
-    }
+    ghost tagged = { leaf_tagged 0x04 (Prim.omega arith) any_octets };
 }
 
 impl Viewed for OctetStringAsn1 {
-    ghost View = { List ℕ };
+    ghost View = { ⟦<OctetStringAsn1 as DerSerialize>⟧.Value };
 
-    ghost view = { λ s. s.0.items };
+    ghost view = { ⟦<OctetStringAsn1 as DerSerialize>⟧.value };
 
     ghost equal = { octets_equal };
 }

@@ -2,12 +2,12 @@
 
 ghost use Rattle.std.specs.Prelude.{ℕ, List};
 ghost use Rattle.asn1_core.specs.Equal.{raw_equal};
-ghost use Rattle.asn1_core.specs.Raw.{raw, lawful_raw};
+ghost use Rattle.asn1_core.specs.Raw.{raw, lawful_raw, plain};
 
-use asn1_core_element::element::write_element;
 use asn1_core_element::front::front;
 use asn1_core_element::{Error, Reader};
 use asn1_core_format::{DerDeserialize, DerSerialize, FirstTags, TryClone, Viewed};
+use asn1_core_writers::{WriteError, Writer, put_element};
 use std::alloc::Global;
 
 /// Any one element, kept as it is. Its contents aren't looked into.
@@ -21,9 +21,8 @@ impl DerSerialize for Asn1RawDer {
 
     ghost format = { raw };
 
-    fn write(&self, _alloc: Global, out: &mut Vec<u8>) -> Result<(), Error> {
-        out.extend_from_slice(self.0.as_slice())?;
-        Ok(())
+    fn put<W: Writer>(&self, w: &mut W) -> Result<(), WriteError> {
+        w.bytes(self.0.as_slice())
     }
 
     fn well_formed_at(&self, _limit: u8) -> bool {
@@ -36,12 +35,11 @@ impl DerSerialize for Asn1RawDer {
 
 impl DerDeserialize for Asn1RawDer {
     fn read(alloc: Global, r: &mut Reader<'_>, _nest: u8) -> Result<Self, Error> {
-        // what is left fits `usize`, and so does the text
-        let _room = r.left();
+        let left = r.left();
         let (tag, len) = r.header()?;
         let contents = r.contents(len);
-        let mut text = Vec::new(alloc);
-        write_element(tag, contents, &mut text)?;
+        let mut text = Vec::with_capacity(alloc, left - r.left())?;
+        Plain(tag, contents).write(alloc, &mut text)?;
         Ok(Asn1RawDer(text))
     }
 
@@ -55,9 +53,9 @@ impl FirstTags for Asn1RawDer {
 }
 
 impl Viewed for Asn1RawDer {
-    ghost View = { List ℕ };
+    ghost View = { ⟦<Asn1RawDer as DerSerialize>⟧.Value };
 
-    ghost view = { λ x. x.0.items };
+    ghost view = { ⟦<Asn1RawDer as DerSerialize>⟧.value };
 
     ghost equal = { raw_equal };
 }
@@ -65,5 +63,25 @@ impl Viewed for Asn1RawDer {
 impl TryClone for Asn1RawDer {
     fn try_clone(&self, alloc: Global) -> Result<Self, Error> {
         Ok(Asn1RawDer(Vec::from_slice(alloc, self.0.as_slice())?))
+    }
+}
+
+/// An element as it stands, a tag and the contents, which only writes.
+#[derive(Drop)]
+struct Plain<'a>(u8, &'a [u8]);
+
+impl DerSerialize for Plain<'_> {
+    ghost Value = { ℕ × List ℕ };
+
+    ghost value = { λ x. (x.0, x.1.now) };
+
+    ghost format = { plain };
+
+    fn put<W: Writer>(&self, w: &mut W) -> Result<(), WriteError> {
+        put_element(self.0, self.1, w)
+    }
+
+    fn well_formed_at(&self, _limit: u8) -> bool {
+        true
     }
 }

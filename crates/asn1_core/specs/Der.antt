@@ -1,0 +1,14 @@
+-- The words with which a SEQUENCE and its law are said, passed on from one place. Declares nothing. The words of
+-- std come from its own modules, `Rattle.std.specs.Prelude` and `Rattle.std.proofs.Common`.
+pub use Rattle.asn1_core_format.specs.Format.{Format, IsLawfulRow, IsLawful}
+pub use Rattle.asn1_core_format.specs.Lists.{each}
+pub use Rattle.asn1_core_format.specs.ListLaws.{lawful_each}
+pub use Rattle.asn1_core_format.specs.Numbers.{number_below, lawful_number}
+pub use Rattle.asn1_core_format.specs.Rows.{nothing, part, optional, within, option_value}
+pub use Rattle.asn1_core_format.specs.RowLaws.{lawful_nothing, lawful_part, lawful_optional, lawful_within}
+pub use Rattle.asn1_core_format.specs.Sequences.{sequence, followed_by, perhaps, lawful_sequence}
+pub use Rattle.asn1_core_format.specs.Views.{list_equal, option_equal, two_equal}
+pub use Rattle.asn1_core_oid.specs.OidValue.{octets_of}
+pub use Rattle.asn1_core.specs.Objects.{object_identifier, lawful_object_identifier}
+pub use Rattle.asn1_core.specs.Octets.{octet_string, lawful_octet_string}
+pub use Rattle.asn1_core.specs.Raw.{raw, lawful_raw}

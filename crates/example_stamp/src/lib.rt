@@ -1,0 +1,73 @@
+//! A SEQUENCE of a caller's own, whole: what docs/ARCHITECTURE.md says of adding one, as a crate that uses this library.
+#![tactic(auto)]
+
+ghost use Rattle.std.proofs.Common.{rules};
+ghost use Rattle.asn1_core.specs.Der.{octets_of, option_value};
+ghost use Rattle.example_stamp.specs.Stamps.{StampValue, stamp, lawful_stamp};
+
+use asn1_core::parts::{End, Maybe, Part, WriteError, WriteRow, Writer, put_within, read_within};
+use asn1_core::{
+    DerDeserialize, DerSerialize, Error, ObjectIdentifierAsn1, OctetStringAsn1, Reader, TryClone,
+    Viewed,
+};
+use std::alloc::Global;
+
+/// `Stamp ::= SEQUENCE { id OBJECT IDENTIFIER, data OCTET STRING, count INTEGER (0..4294967295) OPTIONAL }`
+#[derive(Debug, Drop, PartialEq, Eq)]
+pub struct Stamp {
+    pub id: ObjectIdentifierAsn1,
+    pub data: OctetStringAsn1,
+    pub count: Option<u32>,
+}
+
+type StampRow = Part<ObjectIdentifierAsn1, Part<OctetStringAsn1, Maybe<u32, End>>>;
+
+impl DerSerialize for Stamp {
+    ghost Value = { StampValue };
+
+    ghost value = { λ x. (octets_of x.id.0, (x.data.0.items, (option_value (λ n. n) x.count, tt))) };
+
+    ghost format = { stamp };
+
+    fn put<W: Writer>(&self, w: &mut W) -> Result<(), WriteError> {
+        put_within(
+            0x30,
+            &Part(&self.id, Part(&self.data, Maybe(self.count, End))),
+            w,
+        )
+    }
+
+    fn well_formed_at(&self, limit: u8) -> bool {
+        Part(&self.id, Part(&self.data, Maybe(self.count, End))).row_well_formed_at(limit)
+    }
+}
+
+impl DerDeserialize for Stamp {
+    fn read(alloc: Global, r: &mut Reader<'_>, nest: u8) -> Result<Self, Error> {
+        let row: StampRow = read_within(alloc, r, nest, 0x30)?;
+        let Part(id, Part(data, Maybe(count, End))) = row;
+        Ok(Stamp { id, data, count })
+    }
+
+    ghost lawful = { lawful_stamp };
+}
+
+impl Viewed for Stamp {
+    ghost View = { ⟦<Stamp as DerSerialize>⟧.Value };
+
+    ghost view = { ⟦<Stamp as DerSerialize>⟧.value };
+
+    ghost equal = { Prim.search rules };
+}
+
+impl TryClone for Stamp {
+    fn try_clone(&self, alloc: Global) -> Result<Self, Error> {
+        let id = self.id.try_clone(alloc)?;
+        let data = self.data.try_clone(alloc)?;
+        Ok(Stamp {
+            id,
+            data,
+            count: self.count,
+        })
+    }
+}
