@@ -10,7 +10,7 @@ abbrev pub some_octets : Spelling (List ℕ)
 some_octets = kept (λ c. c ≢ [])
 
 abbrev pub integer : Format (List ℕ)
-integer = leaf 2 some_octets
+integer = leaf 0x02 some_octets
 
 pub lawful_integer : IsLawful integer
-lawful_integer = lawful_leaf 2 (omega arith) some_octets (lawful_kept (λ c. c ≢ []))
+lawful_integer = lawful_leaf 0x02 (omega arith) some_octets (lawful_kept (λ c. c ≢ []))

@@ -10,7 +10,7 @@ use Rattle.asn1_leaves_strings.specs.Bmp.{IsBmp}
 use Rattle.asn1_leaves_strings.specs.Ia5.{IsIa5}
 
 abbrev pub bit_string : Format (List ℕ)
-bit_string = leaf 3 (kept IsBits)
+bit_string = leaf 0x03 (kept IsBits)
 
 abbrev pub bmp_string : Format (List ℕ)
 bmp_string = leaf 0x1E (kept IsBmp)
@@ -22,7 +22,7 @@ abbrev pub utf8_string : Format (List ℕ)
 utf8_string = leaf 0x0C (kept IsUtf8)
 
 pub lawful_bit_string : IsLawful bit_string
-lawful_bit_string = lawful_leaf 3 (omega arith) (kept IsBits) (lawful_kept IsBits)
+lawful_bit_string = lawful_leaf 0x03 (omega arith) (kept IsBits) (lawful_kept IsBits)
 
 pub lawful_bmp_string : IsLawful bmp_string
 lawful_bmp_string = lawful_leaf 0x1E (omega arith) (kept IsBmp) (lawful_kept IsBmp)

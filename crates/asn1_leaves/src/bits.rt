@@ -1,23 +1,23 @@
 //! BIT STRING (X.690, 8.6).
 
-ghost use Rattle.std.specs.Prelude.{ℕ, List};
+ghost use Rattle.std.specs.Prelude.{◌≡◌, ℕ, List, ◌++◌};
 ghost use Rattle.std.proofs.Common.{rules, arith};
+ghost use Rattle.asn1_core_element.specs.Element.{element, retag};
 ghost use Rattle.asn1_core_format.specs.Leaf.{kept};
 ghost use Rattle.asn1_core_format.specs.TaggedLaws.{leaf_tagged};
 ghost use Rattle.asn1_leaves.specs.Strings.{bit_string, lawful_bit_string};
 ghost use Rattle.asn1_leaves_strings.specs.Bits.{IsBits};
 ghost use Rattle.asn1_leaves_strings.specs.Octets.{contents_of};
 
-use asn1_core_element::element::write_header;
 use asn1_core_element::{Error, Reader};
 use asn1_core_format::{
-    DerDeserialize, DerSerialize, DerTagged, FirstTags, Leaf, TryClone, Viewed, read_leaf,
-    read_leaf_contents,
+    DerDeserialize, DerSerialize, DerTagged, Leaf, TryClone, Viewed, read_leaf, read_leaf_contents,
 };
+use asn1_core_writers::{WriteError, Writer, put_head};
 use asn1_leaves_strings::BitString;
 use std::alloc::Global;
 
-/// A BIT STRING as one element, with tag `03`. Unused bits are kept as they stand.
+/// A BIT STRING as one element, with tag 0x03. Unused bits are kept as they stand.
 #[derive(Debug, Drop, PartialEq, Eq)]
 pub struct BitStringAsn1(pub BitString);
 
@@ -40,6 +40,39 @@ impl Leaf for BitStringAsn1 {
     }
 }
 
+/// Writes some octets and then others.
+fn put_octets<W: Writer>(first: &[u8], then: &[u8], w: &mut W) -> Result<(), WriteError>
+    requires { W.MayTake w.old }
+    ensures { W.Takes (first.now ++ then.now) w.old w.new result }
+{
+    if W::is_backward() {
+        w.bytes(then)?;
+        w.bytes(first)
+    } else {
+        w.bytes(first)?;
+        w.bytes(then)
+    }
+}
+
+/// Writes an element whose contents are the count of unused bits and the bytes. That is also the text of any other with
+/// these contents, under this tag.
+#[tactic(auto, using(asn1_core_element::specs::ElementLaws::retag_element))]
+fn put_bits<W: Writer>(tag: u8, bits: &BitString, w: &mut W) -> Result<(), WriteError>
+    requires { W.MayTake w.old }
+    ensures text { W.Takes (element tag (contents_of bits.now)) w.old w.new result }
+    ensures retagged { (own : ℕ) → W.Takes (retag tag (element own (contents_of bits.now))) w.old w.new result }
+{
+    let unused = [bits.num_unused_bits()];
+    let bytes = bits.payload();
+    if W::is_backward() {
+        put_octets(&unused, bytes, w)?;
+        put_head(tag, 1 + bytes.len(), w)
+    } else {
+        put_head(tag, 1 + bytes.len(), w)?;
+        put_octets(&unused, bytes, w)
+    }
+}
+
 impl DerSerialize for BitStringAsn1 {
     ghost Value = { List ℕ };
 
@@ -47,12 +80,8 @@ impl DerSerialize for BitStringAsn1 {
 
     ghost format = { bit_string };
 
-    fn write(&self, _alloc: Global, out: &mut Vec<u8>) -> Result<(), Error> {
-        let bytes = self.0.payload();
-        write_header(3, bytes.len() + 1, out)?;
-        out.push(self.0.num_unused_bits())?;
-        out.extend_from_slice(bytes)?;
-        Ok(())
+    fn put<W: Writer>(&self, w: &mut W) -> Result<(), WriteError> {
+        put_bits(0x03, &self.0, w)
     }
 
     fn well_formed_at(&self, _limit: u8) -> bool {
@@ -62,34 +91,32 @@ impl DerSerialize for BitStringAsn1 {
 
 impl DerDeserialize for BitStringAsn1 {
     fn read(alloc: Global, r: &mut Reader<'_>, nest: u8) -> Result<Self, Error> {
-        read_leaf(alloc, r, nest, 3)
+        read_leaf(alloc, r, nest, 0x03)
     }
 
     ghost lawful = { lawful_bit_string };
 }
 
 impl DerTagged for BitStringAsn1 {
-    ghost TAG = { 3 };
+    ghost TAG = { 0x03 };
 
-    const TAG: u8 = 3;
+    const TAG: u8 = 0x03;
+
+    fn put_as<W: Writer>(&self, tag: u8, w: &mut W) -> Result<(), WriteError> {
+        put_bits(tag, &self.0, w)
+    }
 
     fn read_contents(alloc: Global, r: &mut Reader<'_>, nest: u8) -> Result<Self, Error> {
-        read_leaf_contents(alloc, r, nest, 3)
+        read_leaf_contents(alloc, r, nest, 0x03)
     }
 
-    ghost tagged = { leaf_tagged 3 (Prim.omega arith) (kept IsBits) };
-}
-
-impl FirstTags for BitStringAsn1 {
-    fn begins(tag: u8) -> bool {
-        tag == 3
-    }
+    ghost tagged = { leaf_tagged 0x03 (Prim.omega arith) (kept IsBits) };
 }
 
 impl Viewed for BitStringAsn1 {
-    ghost View = { List ℕ };
+    ghost View = { ⟦<BitStringAsn1 as DerSerialize>⟧.Value };
 
-    ghost view = { λ b. contents_of b.0 };
+    ghost view = { ⟦<BitStringAsn1 as DerSerialize>⟧.value };
 
     ghost equal = { Prim.search rules };
 }

@@ -5,12 +5,11 @@ ghost use Rattle.std.proofs.Common.{rules, arith};
 ghost use Rattle.asn1_core_format.specs.TaggedLaws.{leaf_tagged};
 ghost use Rattle.asn1_leaves.specs.Integers.{some_octets, integer, lawful_integer};
 
-use asn1_core_element::element::write_element;
 use asn1_core_element::{Error, Reader};
 use asn1_core_format::{
-    DerDeserialize, DerSerialize, DerTagged, FirstTags, Leaf, TryClone, Viewed, read_leaf,
-    read_leaf_contents,
+    DerDeserialize, DerSerialize, DerTagged, Leaf, TryClone, Viewed, read_leaf, read_leaf_contents,
 };
+use asn1_core_writers::{WriteError, Writer, put_element};
 use std::alloc::Global;
 
 /// An INTEGER of any size, which keeps its contents octets, at least one, of any spelling. One of no octets can be
@@ -40,8 +39,8 @@ impl DerSerialize for IntegerAsn1 {
 
     ghost format = { integer };
 
-    fn write(&self, _alloc: Global, out: &mut Vec<u8>) -> Result<(), Error> {
-        write_element(2, self.0.as_slice(), out)
+    fn put<W: Writer>(&self, w: &mut W) -> Result<(), WriteError> {
+        put_element(0x02, self.0.as_slice(), w)
     }
 
     fn well_formed_at(&self, _limit: u8) -> bool {
@@ -51,34 +50,32 @@ impl DerSerialize for IntegerAsn1 {
 
 impl DerDeserialize for IntegerAsn1 {
     fn read(alloc: Global, r: &mut Reader<'_>, nest: u8) -> Result<Self, Error> {
-        read_leaf(alloc, r, nest, 2)
+        read_leaf(alloc, r, nest, 0x02)
     }
 
     ghost lawful = { lawful_integer };
 }
 
 impl DerTagged for IntegerAsn1 {
-    ghost TAG = { 2 };
+    ghost TAG = { 0x02 };
 
-    const TAG: u8 = 2;
+    const TAG: u8 = 0x02;
+
+    fn put_as<W: Writer>(&self, tag: u8, w: &mut W) -> Result<(), WriteError> {
+        put_element(tag, self.0.as_slice(), w)
+    }
 
     fn read_contents(alloc: Global, r: &mut Reader<'_>, nest: u8) -> Result<Self, Error> {
-        read_leaf_contents(alloc, r, nest, 2)
+        read_leaf_contents(alloc, r, nest, 0x02)
     }
 
-    ghost tagged = { leaf_tagged 2 (Prim.omega arith) some_octets };
-}
-
-impl FirstTags for IntegerAsn1 {
-    fn begins(tag: u8) -> bool {
-        tag == 2
-    }
+    ghost tagged = { leaf_tagged 0x02 (Prim.omega arith) some_octets };
 }
 
 impl Viewed for IntegerAsn1 {
-    ghost View = { List ℕ };
+    ghost View = { ⟦<IntegerAsn1 as DerSerialize>⟧.Value };
 
-    ghost view = { λ x. x.0.items };
+    ghost view = { ⟦<IntegerAsn1 as DerSerialize>⟧.value };
 
     ghost equal = { Prim.search rules };
 }

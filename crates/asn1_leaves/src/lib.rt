@@ -4,8 +4,6 @@
 pub mod bits;
 pub mod integers;
 pub mod strings;
-#[cfg(test)]
-mod tests;
 pub mod times;
 
 pub use asn1_leaves_strings::{

@@ -11,16 +11,15 @@ ghost use Rattle.asn1_leaves_strings.specs.Bmp.{IsBmp};
 ghost use Rattle.asn1_leaves_strings.specs.Ia5.{IsIa5};
 ghost use Rattle.asn1_leaves_strings.specs.Octets.{octets_of_bmp, octets_of_ia5, octets_of_utf8};
 
-use asn1_core_element::element::write_element;
 use asn1_core_element::{Error, Reader};
 use asn1_core_format::{
-    DerDeserialize, DerSerialize, DerTagged, FirstTags, Leaf, TryClone, Viewed, read_leaf,
-    read_leaf_contents,
+    DerDeserialize, DerSerialize, DerTagged, Leaf, TryClone, Viewed, read_leaf, read_leaf_contents,
 };
-use asn1_leaves_strings::{BmpString, IA5String, Utf8String, is_bmp, is_ia5, is_utf8};
+use asn1_core_writers::{WriteError, Writer, put_element};
+use asn1_leaves_strings::{BmpString, IA5String, Utf8String};
 use std::alloc::Global;
 
-/// A BMPString as one element, with tag `1E`.
+/// A BMPString as one element, with tag 0x1E.
 #[derive(Debug, Drop, PartialEq, Eq)]
 pub struct BmpStringAsn1(pub BmpString);
 
@@ -35,11 +34,11 @@ impl Leaf for BmpStringAsn1 {
     ghost spelling = { kept IsBmp };
 
     fn from_contents(alloc: Global, contents: &[u8]) -> Result<Self, Error> {
-        if !is_bmp(contents) {
-            return Err(Error::Invalid);
-        }
         let octets = Vec::from_slice(alloc, contents)?;
-        Ok(BmpStringAsn1(BmpString::new(octets).unwrap()))
+        match BmpString::new(octets) {
+            Ok(string) => Ok(BmpStringAsn1(string)),
+            Err(_) => Err(Error::Invalid),
+        }
     }
 }
 
@@ -50,10 +49,11 @@ impl DerSerialize for BmpStringAsn1 {
 
     ghost format = { bmp_string };
 
-    fn write(&self, _alloc: Global, out: &mut Vec<u8>) -> Result<(), Error> {
-        write_element(0x1E, self.0.as_bytes(), out)
+    fn put<W: Writer>(&self, w: &mut W) -> Result<(), WriteError> {
+        put_element(0x1E, self.0.as_bytes(), w)
     }
 
+    #[tactic(auto, using(asn1_leaves_strings::specs::StringLaws::bmp_octets))]
     fn well_formed_at(&self, _limit: u8) -> bool {
         true
     }
@@ -72,6 +72,10 @@ impl DerTagged for BmpStringAsn1 {
 
     const TAG: u8 = 0x1E;
 
+    fn put_as<W: Writer>(&self, tag: u8, w: &mut W) -> Result<(), WriteError> {
+        put_element(tag, self.0.as_bytes(), w)
+    }
+
     fn read_contents(alloc: Global, r: &mut Reader<'_>, nest: u8) -> Result<Self, Error> {
         read_leaf_contents(alloc, r, nest, 0x1E)
     }
@@ -79,16 +83,10 @@ impl DerTagged for BmpStringAsn1 {
     ghost tagged = { leaf_tagged 0x1E (Prim.omega arith) (kept IsBmp) };
 }
 
-impl FirstTags for BmpStringAsn1 {
-    fn begins(tag: u8) -> bool {
-        tag == 0x1E
-    }
-}
-
 impl Viewed for BmpStringAsn1 {
-    ghost View = { List ℕ };
+    ghost View = { ⟦<BmpStringAsn1 as DerSerialize>⟧.Value };
 
-    ghost view = { λ s. octets_of_bmp s.0 };
+    ghost view = { ⟦<BmpStringAsn1 as DerSerialize>⟧.value };
 
     ghost equal = { Prim.search rules };
 }
@@ -99,7 +97,7 @@ impl TryClone for BmpStringAsn1 {
     }
 }
 
-/// An IA5String as one element, with tag `16`.
+/// An IA5String as one element, with tag 0x16.
 #[derive(Debug, Drop, PartialEq, Eq)]
 pub struct IA5StringAsn1(pub IA5String);
 
@@ -111,11 +109,11 @@ impl Leaf for IA5StringAsn1 {
     ghost spelling = { kept IsIa5 };
 
     fn from_contents(alloc: Global, contents: &[u8]) -> Result<Self, Error> {
-        if !is_ia5(contents) {
-            return Err(Error::Invalid);
-        }
         let octets = Vec::from_slice(alloc, contents)?;
-        Ok(IA5StringAsn1(IA5String::new(octets).unwrap()))
+        match IA5String::new(octets) {
+            Ok(string) => Ok(IA5StringAsn1(string)),
+            Err(_) => Err(Error::Invalid),
+        }
     }
 }
 
@@ -126,8 +124,8 @@ impl DerSerialize for IA5StringAsn1 {
 
     ghost format = { ia5_string };
 
-    fn write(&self, _alloc: Global, out: &mut Vec<u8>) -> Result<(), Error> {
-        write_element(0x16, self.0.as_bytes(), out)
+    fn put<W: Writer>(&self, w: &mut W) -> Result<(), WriteError> {
+        put_element(0x16, self.0.as_bytes(), w)
     }
 
     fn well_formed_at(&self, _limit: u8) -> bool {
@@ -148,6 +146,10 @@ impl DerTagged for IA5StringAsn1 {
 
     const TAG: u8 = 0x16;
 
+    fn put_as<W: Writer>(&self, tag: u8, w: &mut W) -> Result<(), WriteError> {
+        put_element(tag, self.0.as_bytes(), w)
+    }
+
     fn read_contents(alloc: Global, r: &mut Reader<'_>, nest: u8) -> Result<Self, Error> {
         read_leaf_contents(alloc, r, nest, 0x16)
     }
@@ -155,16 +157,10 @@ impl DerTagged for IA5StringAsn1 {
     ghost tagged = { leaf_tagged 0x16 (Prim.omega arith) (kept IsIa5) };
 }
 
-impl FirstTags for IA5StringAsn1 {
-    fn begins(tag: u8) -> bool {
-        tag == 0x16
-    }
-}
-
 impl Viewed for IA5StringAsn1 {
-    ghost View = { List ℕ };
+    ghost View = { ⟦<IA5StringAsn1 as DerSerialize>⟧.Value };
 
-    ghost view = { λ s. octets_of_ia5 s.0 };
+    ghost view = { ⟦<IA5StringAsn1 as DerSerialize>⟧.value };
 
     ghost equal = { Prim.search rules };
 }
@@ -175,7 +171,7 @@ impl TryClone for IA5StringAsn1 {
     }
 }
 
-/// A UTF8String as one element, with tag `0C`.
+/// A UTF8String as one element, with tag 0x0C.
 #[derive(Debug, Drop, PartialEq, Eq)]
 pub struct Utf8StringAsn1(pub Utf8String);
 
@@ -187,11 +183,11 @@ impl Leaf for Utf8StringAsn1 {
     ghost spelling = { kept IsUtf8 };
 
     fn from_contents(alloc: Global, contents: &[u8]) -> Result<Self, Error> {
-        if !is_utf8(contents) {
-            return Err(Error::Invalid);
-        }
         let octets = Vec::from_slice(alloc, contents)?;
-        Ok(Utf8StringAsn1(Utf8String::new(octets).unwrap()))
+        match Utf8String::new(octets) {
+            Ok(string) => Ok(Utf8StringAsn1(string)),
+            Err(_) => Err(Error::Invalid),
+        }
     }
 }
 
@@ -202,10 +198,11 @@ impl DerSerialize for Utf8StringAsn1 {
 
     ghost format = { utf8_string };
 
-    fn write(&self, _alloc: Global, out: &mut Vec<u8>) -> Result<(), Error> {
-        write_element(0x0C, self.0.as_bytes(), out)
+    fn put<W: Writer>(&self, w: &mut W) -> Result<(), WriteError> {
+        put_element(0x0C, self.0.as_bytes(), w)
     }
 
+    #[tactic(auto, using(asn1_leaves_strings::specs::StringLaws::utf8_octets))]
     fn well_formed_at(&self, _limit: u8) -> bool {
         true
     }
@@ -224,6 +221,10 @@ impl DerTagged for Utf8StringAsn1 {
 
     const TAG: u8 = 0x0C;
 
+    fn put_as<W: Writer>(&self, tag: u8, w: &mut W) -> Result<(), WriteError> {
+        put_element(tag, self.0.as_bytes(), w)
+    }
+
     fn read_contents(alloc: Global, r: &mut Reader<'_>, nest: u8) -> Result<Self, Error> {
         read_leaf_contents(alloc, r, nest, 0x0C)
     }
@@ -231,16 +232,10 @@ impl DerTagged for Utf8StringAsn1 {
     ghost tagged = { leaf_tagged 0x0C (Prim.omega arith) (kept IsUtf8) };
 }
 
-impl FirstTags for Utf8StringAsn1 {
-    fn begins(tag: u8) -> bool {
-        tag == 0x0C
-    }
-}
-
 impl Viewed for Utf8StringAsn1 {
-    ghost View = { List ℕ };
+    ghost View = { ⟦<Utf8StringAsn1 as DerSerialize>⟧.Value };
 
-    ghost view = { λ s. octets_of_utf8 s.0 };
+    ghost view = { ⟦<Utf8StringAsn1 as DerSerialize>⟧.value };
 
     ghost equal = { Prim.search rules };
 }

@@ -12,16 +12,16 @@ ghost use Rattle.asn1_leaves_times.specs.Times.{moment_of, moment_of_generalized
 ghost use Rattle.asn1_leaves_times.specs.TimesLaws.{equal_utc, equal_generalized};
 ghost use Rattle.asn1_leaves_times.specs.declared.calendar.Moment.{Moment};
 
-use asn1_core_element::element::write_element;
 use asn1_core_element::{Error, Reader};
 use asn1_core_format::{
-    ApartFrom, DerDeserialize, DerSerialize, DerTagged, FirstTags, Leaf, TryClone, Viewed,
-    read_leaf, read_leaf_contents,
+    ApartFrom, DerDeserialize, DerSerialize, DerTagged, Leaf, TryClone, Viewed, read_leaf,
+    read_leaf_contents,
 };
+use asn1_core_writers::{WriteError, Writer, put_element};
 use asn1_leaves_times::{GeneralizedTime, UTCTime};
 use std::alloc::Global;
 
-/// A UTCTime as one element, with tag `17`. Reading takes no memory.
+/// A UTCTime as one element, with tag 0x17. Reading takes no memory.
 #[derive(Debug, Drop, PartialEq, Eq)]
 pub struct UTCTimeAsn1(pub UTCTime);
 
@@ -47,8 +47,8 @@ impl DerSerialize for UTCTimeAsn1 {
 
     ghost format = { utc_time };
 
-    fn write(&self, _alloc: Global, out: &mut Vec<u8>) -> Result<(), Error> {
-        write_element(0x17, &self.0.spelled(), out)
+    fn put<W: Writer>(&self, w: &mut W) -> Result<(), WriteError> {
+        put_element(0x17, &self.0.spelled(), w)
     }
 
     fn well_formed_at(&self, _limit: u8) -> bool {
@@ -73,6 +73,10 @@ impl DerTagged for UTCTimeAsn1 {
 
     const TAG: u8 = 0x17;
 
+    fn put_as<W: Writer>(&self, tag: u8, w: &mut W) -> Result<(), WriteError> {
+        put_element(tag, &self.0.spelled(), w)
+    }
+
     fn read_contents(alloc: Global, r: &mut Reader<'_>, nest: u8) -> Result<Self, Error> {
         read_leaf_contents(alloc, r, nest, 0x17)
     }
@@ -80,16 +84,10 @@ impl DerTagged for UTCTimeAsn1 {
     ghost tagged = { leaf_tagged 0x17 (Prim.omega arith) utc_spelling };
 }
 
-impl FirstTags for UTCTimeAsn1 {
-    fn begins(tag: u8) -> bool {
-        tag == 0x17
-    }
-}
-
 impl Viewed for UTCTimeAsn1 {
-    ghost View = { Moment };
+    ghost View = { ⟦<UTCTimeAsn1 as DerSerialize>⟧.Value };
 
-    ghost view = { λ t. moment_of t.0 };
+    ghost view = { ⟦<UTCTimeAsn1 as DerSerialize>⟧.value };
 
     ghost equal = { λ x y. equal_utc x.0 y.0 };
 }
@@ -100,7 +98,7 @@ impl TryClone for UTCTimeAsn1 {
     }
 }
 
-/// A GeneralizedTime as one element, with tag `18`. Reading takes no memory.
+/// A GeneralizedTime as one element, with tag 0x18. Reading takes no memory.
 #[derive(Debug, Drop, PartialEq, Eq)]
 pub struct GeneralizedTimeAsn1(pub GeneralizedTime);
 
@@ -126,8 +124,8 @@ impl DerSerialize for GeneralizedTimeAsn1 {
 
     ghost format = { generalized_time };
 
-    fn write(&self, _alloc: Global, out: &mut Vec<u8>) -> Result<(), Error> {
-        write_element(0x18, &self.0.spelled(), out)
+    fn put<W: Writer>(&self, w: &mut W) -> Result<(), WriteError> {
+        put_element(0x18, &self.0.spelled(), w)
     }
 
     fn well_formed_at(&self, _limit: u8) -> bool {
@@ -152,6 +150,10 @@ impl DerTagged for GeneralizedTimeAsn1 {
 
     const TAG: u8 = 0x18;
 
+    fn put_as<W: Writer>(&self, tag: u8, w: &mut W) -> Result<(), WriteError> {
+        put_element(tag, &self.0.spelled(), w)
+    }
+
     fn read_contents(alloc: Global, r: &mut Reader<'_>, nest: u8) -> Result<Self, Error> {
         read_leaf_contents(alloc, r, nest, 0x18)
     }
@@ -159,16 +161,10 @@ impl DerTagged for GeneralizedTimeAsn1 {
     ghost tagged = { leaf_tagged 0x18 (Prim.omega arith) generalized_spelling };
 }
 
-impl FirstTags for GeneralizedTimeAsn1 {
-    fn begins(tag: u8) -> bool {
-        tag == 0x18
-    }
-}
-
 impl Viewed for GeneralizedTimeAsn1 {
-    ghost View = { Moment };
+    ghost View = { ⟦<GeneralizedTimeAsn1 as DerSerialize>⟧.Value };
 
-    ghost view = { λ t. moment_of_generalized t.0 };
+    ghost view = { ⟦<GeneralizedTimeAsn1 as DerSerialize>⟧.value };
 
     ghost equal = { λ x y. equal_generalized x.0 y.0 };
 }

@@ -1,37 +1,76 @@
 -- The octets of a BMPString, as a loop takes them two by two.
-use Rattle.std.proofs.Common.{◌≡◌, ◌↔◌, ℕ, ◌+◌, ◌-◌, ◌*◌, ◌<◌, ◌≤◌, Bool, true≢false, IsTrue, ◌==◌, List, [], ◌∷◌, length, get_or, take, drop, sym, ap, ◌∙◌, subst, arith}
-use Rattle.std.proofs.Math.Seq.{take-length}
-use Rattle.asn1_leaves_strings.specs.Bmp.{IsSurrogate, IsBmp}
-use Rattle.asn1_leaves_strings.specs.BmpLaws.{unit_of, IsBmp-nil, IsBmp-one, IsBmp-first, IsBmp-more}
+use Rattle.std.proofs.Common.{◌≡◌, ◌↔◌, ℕ, zero, suc, ◌+◌, ◌*◌, ◌/◌, ◌%◌, ◌<◌, ◌≤◌, Bool, true, false, true≢false, not, MatchBool, IsTrue, ◌||◌, ◌==◌, List, [], ◌∷◌, length, take, get_or, refl, sym, ap, subst, arith}
+use Rattle.std.proofs.lemmas.Bool.Decides.{nat_tests}
+use Rattle.std.proofs.lemmas.List.{take_all}
+use Rattle.std.proofs.lemmas.List.Elements.{All-nil, All-cons, All-head, All-tail, All-get_or, All-more}
+use Rattle.std.specs.List.{All, flat_map}
+use Rattle.std.specs.Simd.{first_chunks}
+use Rattle.asn1_leaves_strings.specs.Bmp.{IsSurrogate, unit_octets, IsBmp}
+use Rattle.asn1_leaves_strings.specs.BmpLaws.{unit_of, IsBmp-nil, IsBmp-first, IsBmp-more}
 
-both : {A B C : Type 0} → (A ↔ B) → (B ↔ C) → (A ↔ C)
-both f g = (λ a. g.0 (f.0 a), λ c. f.1 (g.1 c))
+-- the unit of two octets
+abbrev unit_at : List ℕ → ℕ
+unit_at pair = unit_of (get_or pair 0 0) (get_or pair 1 0)
 
-rest_of : (h l : ℕ) (after : List ℕ) → take (length (h ∷ l ∷ after) - 2) after ≡ after
-rest_of h l after = let n : length (h ∷ l ∷ after) - 2 ≡ length after = omega arith in ap (λ k. take k after) n ∙ take-length after
+abbrev pub IsCharacter : List ℕ → Type 0
+IsCharacter pair = ¬ (IsSurrogate (unit_at pair))
 
-unit_taken : (h l : ℕ) (after : List ℕ) → h < 256 → l < 256 → (IsSurrogate (unit_of h l) → ⊥) → IsBmp (h ∷ l ∷ after) ↔ IsBmp after
-unit_taken h l after hb lb apart = (
-  λ b. (IsBmp-first h l after b).others,
-  λ b. IsBmp-more h l after (record { first = (omega arith, apart); high_octet = hb; low_octet = lb; others = b }),
-)
+-- what is known once i pairs were looked at
+abbrev pub Looked : List (List ℕ) → ℕ → Bool → Type 0
+Looked pairs i found = MatchBool found (¬ (All IsCharacter pairs)) (All IsCharacter (take i pairs))
 
--- a unit that is no surrogate may be taken off
-pub step : (octets rest : List ℕ) (unit : ℕ) → 2 ≤ length rest → get_or rest 0 0 < 256 → get_or rest 1 0 < 256 → unit ≡ get_or rest 0 0 * 256 + get_or rest 1 0 → (IsSurrogate unit → ⊥) → (IsBmp octets ↔ IsBmp rest) → IsBmp octets ↔ IsBmp (take (length rest - 2) (drop 2 rest))
-step octets [] unit n h l u s i = absurd (omega arith)
-step octets (a ∷ []) unit n h l u s i = absurd (omega arith)
-step octets (a ∷ b ∷ r) unit n h l u s i =
-    let f = unit_taken a b r h l (λ e. s (subst IsSurrogate (sym u) e)) in
-    rw (rest_of a b r) (both i f)
+pub one_more : (pairs : List (List ℕ)) (i unit : ℕ) (found now : Bool) → i < length pairs → unit ≡ unit_at (get_or pairs i []) → (IsTrue now ↔ IsSurrogate unit) → Looked pairs i found → Looked pairs (i + 1) (found || now)
+one_more pairs i unit true now h u s l = l
+one_more pairs i unit false true h u s l = λ all. All-get_or IsCharacter pairs i [] h all (subst IsSurrogate u (s.0 refl))
+one_more pairs i unit false false h u s l = All-more IsCharacter pairs i [] h l (λ is. true≢false (sym (s.1 (subst IsSurrogate (sym u) is))))
 
--- a surrogate may not
-pub stop : (octets rest : List ℕ) (unit : ℕ) → 2 ≤ length rest → unit ≡ get_or rest 0 0 * 256 + get_or rest 1 0 → IsSurrogate unit → (IsBmp octets ↔ IsBmp rest) → IsBmp octets → ⊥
-stop octets [] unit n u s i b = absurd (omega arith)
-stop octets (x ∷ []) unit n u s i b = absurd (omega arith)
-stop octets (x ∷ y ∷ r) unit n u s i b = (IsBmp-first x y r (i.0 b)).first.1 (subst IsSurrogate u s)
+length_units : (units : List ℕ) → length (flat_map unit_octets units) ≡ 2 * length units
+length_units [] = refl
+length_units (u ∷ us) = omega (arith, length_units us)
 
--- fewer than two octets are left: there may be none
-pub last : (octets rest : List ℕ) (answer : Bool) → length rest < 2 → answer ≡ (length rest == 0) → (IsBmp octets ↔ IsBmp rest) → IsTrue answer ↔ IsBmp octets
-last octets [] answer n e i = (λ _. i.1 IsBmp-nil, λ _. e)
-last octets (a ∷ []) answer n e i = (λ t. absurd (true≢false (sym t ∙ e)), λ b. absurd (IsBmp-one a (i.0 b)))
-last octets (a ∷ b ∷ r) answer n e i = absurd (omega arith)
+is_even : (octets : List ℕ) → IsBmp octets → length octets % 2 ≡ 0
+is_even octets b = omega (arith, ap length b.is, length_units b.units)
+
+in_pairs : (n : ℕ) (octets : List ℕ) → length octets ≡ 2 * n → ((i : ℕ) → get_or octets i 0 < 256) → All IsCharacter (first_chunks 2 n octets) ↔ IsBmp octets
+in_pairs zero [] size bytes = (λ _. IsBmp-nil, λ _. All-nil IsCharacter)
+in_pairs zero (a ∷ r) size bytes = absurd (omega (arith, size))
+in_pairs (suc n) [] size bytes = absurd (omega (arith, size))
+in_pairs (suc n) (a ∷ []) size bytes = absurd (omega (arith, size))
+in_pairs (suc n) (a ∷ b ∷ r) size bytes =
+    let after = in_pairs n r (omega (arith, size)) (λ i. bytes (suc (suc i))) in
+    let pairs = first_chunks 2 n r in
+    let high : a < 256 = bytes 0 in
+    let low : b < 256 = bytes 1 in (
+      λ each. IsBmp-more a b r (record {
+        first = (omega arith, All-head IsCharacter (a ∷ b ∷ []) pairs each);
+        high_octet = high;
+        low_octet = low;
+        others = after.0 (All-tail IsCharacter (a ∷ b ∷ []) pairs each);
+      }),
+      λ is. let f = IsBmp-first a b r is in All-cons IsCharacter (a ∷ b ∷ []) pairs f.first.1 (after.1 f.others),
+    )
+
+-- the pairs, and an octet behind them
+pub record Split (octets : List ℕ) (pairs : List (List ℕ)) (odd : List ℕ) : Type 0 where
+  pub bytes : (i : ℕ) → get_or octets i 0 < 256
+  pub front : pairs ≡ first_chunks 2 (length octets / 2) octets
+  pub back : length odd ≡ length octets % 2
+
+module _ (octets : List ℕ) (pairs : List (List ℕ)) (odd : List ℕ) (s : Split octets pairs odd) where
+  is_pairs : length octets % 2 ≡ 0 → All IsCharacter pairs ↔ IsBmp octets
+  is_pairs e = rw s.front (in_pairs (length octets / 2) octets (omega (arith, e)) s.bytes)
+
+  -- a surrogate was found
+  pub none : (i : ℕ) (found : Bool) → found ≡ true → Looked pairs i found → IsTrue (not found) ↔ IsBmp octets
+  none i false e l = absurd cc
+  none i true e l = (λ t. absurd cc, λ b. absurd (l ((is_pairs (is_even octets b)).1 b)))
+
+  -- none was found
+  pub only : (i : ℕ) (found empty : Bool) → found ≡ false → length pairs ≤ i → Looked pairs i found → empty ≡ (length odd == 0) → IsTrue empty ↔ IsBmp octets
+  only i true empty f end l e = absurd cc
+  only i false empty f end l e =
+      let all : All IsCharacter pairs = subst (All IsCharacter) (take_all i pairs end) l in
+      let back = s.back in (
+        λ t. let even : length octets % 2 ≡ 0 = grind (arith, nat_tests) in (is_pairs even).0 all,
+        λ b. let even : length octets % 2 ≡ 0 = is_even octets b in grind (arith, nat_tests),
+      )

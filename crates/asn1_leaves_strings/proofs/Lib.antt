@@ -1,3 +1,3 @@
 pub mod BitWrites
 pub mod BmpReads
-pub mod Equal
+pub mod Ia5Reads

@@ -14,14 +14,6 @@ unit_of high low = high * 256 + low
 pub IsBmp-nil : IsBmp []
 IsBmp-nil = record { units = []; each = All-nil IsBmpUnit; is = refl }
 
-one_octet : (high : ℕ) (units : List ℕ) → high ∷ [] ≡ flat_map unit_octets units → ⊥
-one_octet high [] e = cc
-one_octet high (u ∷ us) e = cc
-
--- the number of octets is even
-pub IsBmp-one : (high : ℕ) → IsBmp (high ∷ []) → ⊥
-IsBmp-one high b = one_octet high b.units b.is
-
 -- The first two octets are those of a unit, and the others those of further units.
 pub record IsUnitThen (high low : ℕ) (after : List ℕ) : Type 0 where
   pub first : IsBmpUnit (unit_of high low)

@@ -1,5 +1,4 @@
 pub mod Bits
-pub mod BitsLaws
 pub mod Bmp
 pub mod BmpLaws
 pub mod CharSet

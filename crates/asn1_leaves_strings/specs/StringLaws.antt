@@ -6,13 +6,9 @@ use Rattle.std.proofs.lemmas.List.Elements.{All-tail}
 use Rattle.std.proofs.lemmas.Str.{IsUtf8-had}
 use Rattle.std.specs.List.{All, flat_map}
 use Rattle.std.specs.Str.{IsUtf8}
-use Rattle.asn1_leaves_strings.specs.Bits.{IsBits}
 use Rattle.asn1_leaves_strings.specs.Bmp.{IsBmpUnit, unit_octets, IsBmp}
-use Rattle.asn1_leaves_strings.specs.Ia5.{IsIa5}
-use Rattle.asn1_leaves_strings.specs.Octets.{octets_of_bmp, octets_of_ia5, octets_of_utf8, contents_of}
-use Rattle.asn1_leaves_strings.specs.declared.bit_string.BitString.{BitString}
+use Rattle.asn1_leaves_strings.specs.Octets.{octets_of_bmp, octets_of_utf8}
 use Rattle.asn1_leaves_strings.specs.declared.bmp_string.BmpString.{BmpString}
-use Rattle.asn1_leaves_strings.specs.declared.ia5_string.IA5String.{IA5String}
 use Rattle.asn1_leaves_strings.specs.declared.utf8_string.Utf8String.{Utf8String}
 
 -- the units of octets, two by two
@@ -45,11 +41,5 @@ IsBmp-had octets had =
 pub bmp_octets : (s : BmpString) → IsBmp (octets_of_bmp s)
 bmp_octets s = IsBmp-had (octets_of_bmp s) s.of_set
 
-pub ia5_octets : (s : IA5String) → IsIa5 (octets_of_ia5 s)
-ia5_octets s = s.of_set
-
 pub utf8_octets : (s : Utf8String) → IsUtf8 (octets_of_utf8 s)
 utf8_octets s = IsUtf8-had (octets_of_utf8 s) s.of_set
-
-pub bit_contents : (b : BitString) → IsBits (contents_of b)
-bit_contents b = b.well_formed

@@ -1,11 +1,23 @@
 //! BIT STRING.
 
-ghost use Rattle.std.specs.Prelude.{◌≡◌, ◌↔◌, ◌<◌, ◌∷◌, IsTrue, MatchOption, MatchResult};
-ghost use Rattle.asn1_leaves_strings.specs.Bits.{IsBits, bit_count, bit, with_bit, SetsBit, IsAllZero};
+ghost use Rattle.std.specs.Prelude.{◌≡◌, ◌↔◌, ℕ, ◌<◌, List, ◌∷◌, IsTrue, MatchOption, MatchResult};
+ghost use Rattle.std.proofs.Common.{rules};
+ghost use Rattle.asn1_leaves_strings.specs.Bits.{IsBits, bit_count, bit, byte_with, with_bit, SetsBit, IsAllZero};
 ghost use Rattle.asn1_core_element.specs.declared.error.Error.TheVariants.{Memory};
 
 use asn1_core_element::Error;
+use asn1_core_format::{TryClone, Viewed};
 use std::alloc::Global;
+
+/// The byte with bit `k`, counted from the lowest on, made 1 where `value` is true, and else 0.
+#[tactic(auto, using(crate::proofs::BitWrites::byte_set, crate::proofs::BitWrites::byte_cleared))]
+fn byte_with(byte: u8, k: usize, value: bool) -> u8
+    requires { k < 8 }
+    ensures { result ≡ byte_with byte k value }
+{
+    let mask = 1u8 << k;
+    if value { byte | mask } else { byte & !mask }
+}
 
 /// A string of bits, as its bytes and the count of those bits of the last byte that are no part of it.
 ///
@@ -54,18 +66,15 @@ impl BitString {
     }
 
     /// Makes the bit 1 where `value` is true, and else 0. All other bits, unused ones too, stay as they are.
+    #[tactic(auto, using(crate::proofs::BitWrites::written))]
     pub fn set(&mut self, index: usize, value: bool)
         requires { index < bit_count (contents_of self.old) }
         ensures unused { unused_of self.new ≡ unused_of self.old }
         ensures bytes { bytes_of self.new ≡ with_bit (bytes_of self.old) index value }
         ensures bits { SetsBit (bytes_of self.old) (bytes_of self.new) index value }
     {
-        let mask = 1u8 << (7 - index % 8);
-        if value {
-            self.bytes[index / 8] |= mask;
-        } else {
-            self.bytes[index / 8] &= !mask;
-        }
+        let byte = self.bytes[index / 8];
+        self.bytes[index / 8] = byte_with(byte, 7 - index % 8, value);
     }
 
     pub fn is_set(&self, index: usize) -> bool
@@ -86,5 +95,24 @@ impl BitString {
         ensures { result ≡ unused_of self.now }
     {
         self.unused
+    }
+}
+
+impl Viewed for BitString {
+    ghost use Rattle.asn1_leaves_strings.specs.Octets.{contents_of};
+
+    ghost View = { List ℕ };
+
+    ghost view = { contents_of };
+
+    ghost equal = { Prim.search rules };
+}
+
+impl TryClone for BitString {
+    fn try_clone(&self, alloc: Global) -> Result<Self, Error> {
+        Ok(BitString {
+            unused: self.unused,
+            bytes: Vec::from_slice(alloc, self.payload())?,
+        })
     }
 }

@@ -6,10 +6,7 @@ pub mod bit_string;
 pub mod bmp_string;
 pub mod char_set;
 pub mod ia5_string;
-#[cfg(test)]
-mod tests;
 pub mod utf8_string;
-mod views;
 
 pub use bit_string::BitString;
 pub use bmp_string::{BMPString, BmpString, is_bmp};

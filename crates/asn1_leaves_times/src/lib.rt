@@ -11,6 +11,3 @@ mod views;
 
 pub use generalized_time::GeneralizedTime;
 pub use utc_time::UTCTime;
-
-#[cfg(test)]
-mod tests;
