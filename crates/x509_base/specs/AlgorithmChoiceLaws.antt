@@ -31,12 +31,17 @@ module _ {A : Type 0} (T : Table A) (t : IsTable T) where
   fewer_at (Some a) v = omega arith
   fewer_at None v = omega arith
 
+  -- a known arm by the spelling with no parameters, an unknown one by its own
+  reached_at : (k : ℕ) (v : A ⊎ AlgorithmValue) → algorithm_identifier.IsWellFormed k ((arm_written T).written v) → (arm_written T).IsProper v → (a : AlgorithmValue) × algorithm_identifier.IsWellFormed k a × ((arm_written T).read a ≡ v) × (algorithm_identifier.least a ≡ (arm_written T).least v)
+  reached_at k (inl a) h i = let o = T.oid_of a in ((o, (None, tt)), (h.0, (tt, tt)), ap (λ r. arm_read r (o, (None, tt))) (t.there a), refl)
+  reached_at k (inr v) h i = (v, (h.0, (or_null_formed k v.1.0).1 h.1), ap (λ r. arm_read r v) i, refl)
+
   absent_not_written : (r : Option A) (o : List ℕ) (u : Unit {0}) → (arm_written T).written (arm_read r (o, (None, u))) ≡ (o, (None, u)) → ⊥
   absent_not_written (Some a) o u i = some_none (ap (λ x. x.1.0) i)
   absent_not_written None o u i = some_none (ap (λ x. x.1.0) i)
 
   -- a known object identifier in front of NULL
-  known_null : (a : A) (o q : List ℕ) (w : HasArmParameters T (element 48 (element 6 o ++ q))) → T.arm_of o ≡ Some a → q ≡ null
+  known_null : (a : A) (o q : List ℕ) (w : HasArmParameters T (element 0x30 (element 0x06 o ++ q))) → T.arm_of o ≡ Some a → q ≡ null
   known_null a o q w e =
       let c = same_parts o w.0 q w.1 w.2 in
       c.1 ∙ w.4 (subst IsSome (sym (ap T.arm_of (sym c.0) ∙ e)) refl)
@@ -78,6 +83,7 @@ module _ {A : Type 0} (T : Table A) (t : IsTable T) where
     chosen = λ k b v s. chosen_at k b (T.arm_of v.0) v refl s;
     settled = λ k v h i. settled v i;
     fewer = λ v. fewer_at (T.arm_of v.0) v;
+    reached = reached_at;
   }
 
   pub lawful_algorithm_choice : IsLawful (algorithm_choice T)

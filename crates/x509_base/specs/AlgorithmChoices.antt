@@ -25,7 +25,7 @@ arm_read None v = inr v
 
 -- parameters are there, and NULL behind a known object identifier
 abbrev pub HasArmParameters : {A : Type 0} → Table A → List ℕ → Type 0
-HasArmParameters T b = (o : List ℕ) × (p : List ℕ) × (b ≡ element 48 (element 6 o ++ p)) × (p ≢ []) × (IsSome (T.arm_of o) → p ≡ null)
+HasArmParameters T b = (o : List ℕ) × (p : List ℕ) × (b ≡ element 0x30 (element 0x06 o ++ p)) × (p ≢ []) × (IsSome (T.arm_of o) → p ≡ null)
 
 abbrev pub arm_written : {A : Type 0} → Table A → Loosening AlgorithmValue (A ⊎ AlgorithmValue)
 arm_written T = record {

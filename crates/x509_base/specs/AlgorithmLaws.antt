@@ -13,22 +13,22 @@ use Rattle.x509_base.specs.Algorithms.{AlgorithmValue, algorithm_identifier, nul
 
 pub lawful_algorithm_identifier : IsLawful algorithm_identifier
 lawful_algorithm_identifier =
-    lawful_within _ (lawful_part object_identifier _ lawful_object_identifier (lawful_optional raw nothing lawful_raw lawful_nothing (λ t h e. e))) 48 (omega arith)
+    lawful_within _ (lawful_part object_identifier _ lawful_object_identifier (lawful_optional raw nothing lawful_raw lawful_nothing (λ t h e. e))) 0x30 (omega arith)
 
 pub null_is_element : IsElement IsTagByte null
-null_is_element = record { tag = 5; contents = []; is_tag = omega arith; is = refl; allowed = omega arith }
+null_is_element = record { tag = 0x05; contents = []; is_tag = omega arith; is = refl; allowed = omega arith }
 
 pub null_some : null ≢ []
 unfolding head
 null_some e = cc
 
 -- which bytes an algorithm identifier is, whatever its parameters are
-pub parts_of : (k : ℕ) (b : List ℕ) (a : AlgorithmValue) → algorithm_identifier.Reads k b a → (p : List ℕ) × (b ≡ element 48 (element 6 a.0 ++ p)) × (optional raw nothing).Reads k p a.1
-parts_of k b a s = (s.2.1, s.1 ∙ ap (element 48) (s.2.2 ∙ ap (λ x. x ++ s.2.1) s.2.3.0), s.2.4)
+pub parts_of : (k : ℕ) (b : List ℕ) (a : AlgorithmValue) → algorithm_identifier.Reads k b a → (p : List ℕ) × (b ≡ element 0x30 (element 0x06 a.0 ++ p)) × (optional raw nothing).Reads k p a.1
+parts_of k b a s = (s.2.1, s.1 ∙ ap (element 0x30) (s.2.2 ∙ ap (λ x. x ++ s.2.1) s.2.3.0), s.2.4)
 
 -- the object identifier and the parameters are where they are
-pub same_parts : (o q p r : List ℕ) → element 48 (element 6 o ++ p) ≡ element 48 (element 6 q ++ r) → (o ≡ q) × (p ≡ r)
-same_parts o q p r e = let c = element_cut 6 6 o q p r (element_same 48 48 (element 6 o ++ p) (element 6 q ++ r) e).1 in (c.1, c.2)
+pub same_parts : (o q p r : List ℕ) → element 0x30 (element 0x06 o ++ p) ≡ element 0x30 (element 0x06 q ++ r) → (o ≡ q) × (p ≡ r)
+same_parts o q p r e = let c = element_cut 0x06 0x06 o q p r (element_same 0x30 0x30 (element 0x06 o ++ p) (element 0x06 q ++ r) e).1 in (c.1, c.2)
 
 -- parameters that are there fill what is left
 pub some_parameters : (k : ℕ) (p x : List ℕ) → (optional raw nothing).Reads k p (Some x, tt) → (p ≡ x) × IsElement IsTagByte x
@@ -68,6 +68,7 @@ null_loosening = record {
   chosen = null_chosen;
   settled = λ k v h i. null_settled v.0 v.1.0;
   fewer = λ a. omega arith;
+  reached = λ k v h i. (v, (h.0, (or_null_formed k v.1.0).1 h.1), refl, refl);
 }
 
 pub lawful_raw_algorithm_identifier : IsLawful raw_algorithm_identifier

@@ -1,5 +1,5 @@
 -- What an algorithm identifier holds.
-use Rattle.std.specs.Prelude.{ℕ, List, Option}
+use Rattle.std.specs.Prelude.{Option}
 use Rattle.asn1_core.specs.declared.raw.Asn1RawDer.{Asn1RawDer}
 use Rattle.asn1_core_format.specs.Rows.{option_value}
 use Rattle.asn1_core_oid.specs.OidValue.{octets_of}
@@ -21,10 +21,3 @@ parts_of a = a.parts
 -- the octets of its object identifier, and of its parameters
 abbrev pub algorithm_value : AlgorithmIdentifier → AlgorithmValue
 algorithm_value a = (octets_of a.algorithm, (option_value (λ p. p.0.items) a.parameters, tt))
-
--- what `==` sees
-abbrev pub AlgorithmView : Type 0
-AlgorithmView = List ℕ × Option (List ℕ)
-
-abbrev pub algorithm_view : AlgorithmIdentifier → AlgorithmView
-algorithm_view a = (octets_of a.algorithm, option_value (λ p. p.0.items) a.parameters)

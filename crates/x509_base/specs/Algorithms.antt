@@ -13,11 +13,11 @@ AlgorithmValue = List ℕ × (Option (List ℕ) × Unit {0})
 
 -- as it stands
 abbrev pub algorithm_identifier : Format AlgorithmValue
-algorithm_identifier = within 48 (part object_identifier (optional raw nothing))
+algorithm_identifier = within 0x30 (part object_identifier (optional raw nothing))
 
 -- NULL
 abbrev pub null : List ℕ
-null = element 5 []
+null = element 0x05 []
 
 -- NULL, as a type that only writes
 abbrev pub written_null : Format (Unit {0})
@@ -38,7 +38,7 @@ or_null (Some p) = Some p
 
 -- an algorithm identifier with parameters
 abbrev pub HasParameters : List ℕ → Type 0
-HasParameters b = (o : List ℕ) × (p : List ℕ) × (b ≡ element 48 (element 6 o ++ p)) × (p ≢ [])
+HasParameters b = (o : List ℕ) × (p : List ℕ) × (b ≡ element 0x30 (element 0x06 o ++ p)) × (p ≢ [])
 
 -- absent parameters are read as absent, and written as NULL: old producers leave them out
 abbrev pub null_written : Loosening AlgorithmValue AlgorithmValue

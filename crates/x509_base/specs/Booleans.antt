@@ -18,7 +18,7 @@ abbrev pub booleans : Spelling Bool
 booleans = record { spell = boolean_octets; IsValid = λ _. Unit {0}; IsContents = λ c. (c ≡ 0x00 ∷ []) ⊎ (c ≡ 0xFF ∷ []) }
 
 abbrev pub boolean : Format Bool
-boolean = leaf 1 booleans
+boolean = leaf 0x01 booleans
 
 one_boolean : (v w : Bool) → boolean_octets v ≡ boolean_octets w → v ≡ w
 one_boolean true true e = refl
@@ -35,18 +35,18 @@ has_boolean c (inl e) = (false, e, tt)
 has_boolean c (inr e) = (true, e, tt)
 
 pub lawful_boolean : IsLawful boolean
-lawful_boolean = lawful_leaf 1 (omega arith) booleans (record {
+lawful_boolean = lawful_leaf 0x01 (omega arith) booleans (record {
   one_value = λ v w h i e. one_boolean v w e;
   spelled = λ v h. spelled v;
   has_value = has_boolean;
 })
 
 abbrev pub explicit_false : List ℕ
-explicit_false = element 1 (0x00 ∷ [])
+explicit_false = element 0x01 (0x00 ∷ [])
 
 pub is_false : (v : Bool) → not v ≡ bytes_eq (boolean.text v) explicit_false
 is_false false = sym ((bytes_eq-Decides explicit_false explicit_false).1 refl)
-is_false true = sym (false_from_ne_true (bytes_eq (element 1 (0xFF ∷ [])) explicit_false) (λ h. (let e = (element_same 1 1 (0xFF ∷ []) (0x00 ∷ []) ((bytes_eq-Decides (element 1 (0xFF ∷ [])) explicit_false).0 h)).1 in cc)))
+is_false true = sym (false_from_ne_true (bytes_eq (element 0x01 (0xFF ∷ [])) explicit_false) (λ h. (let e = (element_same 0x01 0x01 (0xFF ∷ []) (0x00 ∷ []) ((bytes_eq-Decides (element 0x01 (0xFF ∷ [])) explicit_false).0 h)).1 in cc)))
 
 pub false_is_normal : (k : ℕ) → boolean.IsNormal k explicit_false
 false_is_normal k = (0x00 ∷ [], refl, inl refl)

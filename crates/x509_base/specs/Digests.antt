@@ -12,8 +12,8 @@ abbrev pub DigestInfoValue : Type 0
 DigestInfoValue = AlgorithmValue × (List ℕ × Unit {0})
 
 abbrev pub digest_info : Format DigestInfoValue
-digest_info = within 48 (part algorithm_identifier (part octet_string nothing))
+digest_info = within 0x30 (part algorithm_identifier (part octet_string nothing))
 
 pub lawful_digest_info : IsLawful digest_info
 lawful_digest_info =
-    lawful_within _ (lawful_part algorithm_identifier _ lawful_algorithm_identifier (lawful_part octet_string nothing lawful_octet_string lawful_nothing)) 48 (omega arith)
+    lawful_within _ (lawful_part algorithm_identifier _ lawful_algorithm_identifier (lawful_part octet_string nothing lawful_octet_string lawful_nothing)) 0x30 (omega arith)

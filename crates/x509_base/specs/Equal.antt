@@ -1,21 +1,21 @@
 -- `==` of the items of lists, and of times, is equality of what they contain.
-use Rattle.std.specs.Prelude.{◌≡◌, ◌↔◌, ◌⊎◌, Bool, true, List, ℕ}
+use Rattle.std.specs.Prelude.{◌≡◌, ◌↔◌, ◌⊎◌, Bool, true}
 use Rattle.std.proofs.Common.{rules, ap, inl, inr}
-use Rattle.asn1_core_format.specs.Views.{SeesEqual, two_equal}
+use Rattle.asn1_core_format.specs.Views.{SeesEqual}
 use Rattle.asn1_core_oid.specs.OidValue.{octets_of}
-use Rattle.asn1_core_oid.specs.OidValueLaws.{equal_octets}
-use Rattle.asn1_core.specs.Equal.{raw_equal}
 use Rattle.asn1_leaves_times.specs.TimesLaws.{equal_utc, equal_generalized}
+use Rattle.x509_base.specs.Extensions.{ExtensionValue}
+use Rattle.x509_base.specs.Names.{NameValueValue}
 use Rattle.x509_base.specs.Times.{TimeValue, time_of}
 use Rattle.x509_base.specs.declared.times.Time.TheVariants.{Utc, Generalized}
 use Rattle.x509_base.specs.contracts.names.NameValuePartialEq.TheImpl as NameValues
 use Rattle.x509_base.specs.contracts.extensions.ExtensionPartialEq.TheImpl as AnExtension
 use Rattle.x509_base.specs.contracts.times.TimePartialEq.TheImpl as Times
 
-pub name_value_equal : SeesEqual {V = List ℕ × List ℕ} NameValues.ghosts.eq (λ x. (octets_of x.ty.0, x.value.0.items))
-name_value_equal x y = two_equal (equal_octets x.ty.0 y.ty.0) (raw_equal x.value y.value)
+pub name_value_equal : SeesEqual {V = NameValueValue} NameValues.ghosts.eq (λ x. (octets_of x.ty.0, (x.value.0.items, tt)))
+name_value_equal x y = search rules
 
-pub extension_equal : SeesEqual {V = (List ℕ × Bool) × List ℕ} AnExtension.ghosts.eq (λ x. ((octets_of x.extn_id.0, x.critical), x.extn_value.0.items))
+pub extension_equal : SeesEqual {V = ExtensionValue} AnExtension.ghosts.eq (λ x. (octets_of x.extn_id.0, (x.critical, (x.extn_value.0.items, tt))))
 extension_equal x y = search rules
 
 same_first : {A B : Type 0} {p : Bool} {a c : A} → (p ≡ true) ↔ (a ≡ c) → (p ≡ true) ↔ (◌≡◌ {A = A ⊎ B} (inl a) (inl c))

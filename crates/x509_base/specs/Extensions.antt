@@ -17,7 +17,7 @@ abbrev pub ExtensionValue : Type 0
 ExtensionValue = List ℕ × (Bool × (List ℕ × Unit {0}))
 
 abbrev pub extension : Format ExtensionValue
-extension = within 48 (part object_identifier (omitted (is_text boolean explicit_false) explicit_false boolean (part octet_string nothing)))
+extension = within 0x30 (part object_identifier (omitted (is_text boolean explicit_false) explicit_false boolean (part octet_string nothing)))
 
 value_row : IsLawfulRow (part octet_string nothing)
 value_row = lawful_part octet_string nothing lawful_octet_string lawful_nothing
@@ -27,10 +27,10 @@ lawful_extension =
     lawful_within _
     (lawful_part object_identifier _ lawful_object_identifier
     (lawful_omitted (is_text boolean explicit_false) explicit_false boolean (part octet_string nothing) lawful_boolean value_row (default_text explicit_false boolean false_is_normal) (λ t h e. omega arith)))
-    48 (omega arith)
+    0x30 (omega arith)
 
 abbrev pub extensions : Format (List ExtensionValue)
-extensions = within 48 (each extension)
+extensions = within 0x30 (each extension)
 
 pub lawful_extensions : IsLawful extensions
-lawful_extensions = lawful_within (each extension) (lawful_each extension lawful_extension) 48 (omega arith)
+lawful_extensions = lawful_within (each extension) (lawful_each extension lawful_extension) 0x30 (omega arith)

@@ -15,26 +15,26 @@ abbrev pub NameValueValue : Type 0
 NameValueValue = List ℕ × (List ℕ × Unit {0})
 
 abbrev pub name_value : Format NameValueValue
-name_value = within 48 (part object_identifier (part raw nothing))
+name_value = within 0x30 (part object_identifier (part raw nothing))
 
 pub lawful_name_value : IsLawful name_value
-lawful_name_value = lawful_within _ (lawful_part object_identifier _ lawful_object_identifier (lawful_part raw nothing lawful_raw lawful_nothing)) 48 (omega arith)
+lawful_name_value = lawful_within _ (lawful_part object_identifier _ lawful_object_identifier (lawful_part raw nothing lawful_raw lawful_nothing)) 0x30 (omega arith)
 
 abbrev pub name : Format (List (List NameValueValue))
-name = within 48 (each (within 49 (each name_value)))
+name = within 0x30 (each (within 0x31 (each name_value)))
 
 pub lawful_name : IsLawful name
-lawful_name = lawful_within _ (lawful_each _ (lawful_within _ (lawful_each name_value lawful_name_value) 49 (omega arith))) 48 (omega arith)
+lawful_name = lawful_within _ (lawful_each _ (lawful_within _ (lawful_each name_value lawful_name_value) 0x31 (omega arith))) 0x30 (omega arith)
 
 abbrev pub AttributeValue : Type 0
 AttributeValue = List ℕ × (List (List ℕ) × Unit {0})
 
 abbrev pub attribute : Format AttributeValue
-attribute = within 48 (part object_identifier (part (within 49 (each raw)) nothing))
+attribute = within 0x30 (part object_identifier (part (within 0x31 (each raw)) nothing))
 
 pub lawful_attribute : IsLawful attribute
 lawful_attribute =
     lawful_within _
     (lawful_part object_identifier _ lawful_object_identifier
-    (lawful_part (within 49 (each raw)) nothing (lawful_within _ (lawful_each raw lawful_raw) 49 (omega arith)) lawful_nothing))
-    48 (omega arith)
+    (lawful_part (within 0x31 (each raw)) nothing (lawful_within _ (lawful_each raw lawful_raw) 0x31 (omega arith)) lawful_nothing))
+    0x30 (omega arith)

@@ -1,20 +1,18 @@
 //! Algorithm identifiers (RFC 5280, 4.1.1.2).
 
 ghost use Rattle.std.specs.Prelude.{◌≡◌, Some};
-ghost use Rattle.asn1_core_element.specs.Writing.{Wrote};
 ghost use Rattle.std.proofs.Common.{rules};
 ghost use Rattle.asn1_core_format.specs.Rows.{option_value};
-ghost use Rattle.asn1_core_oid.specs.OidValue.{octets_of};
 ghost use Rattle.x509_base.specs.Algorithms.{AlgorithmValue, algorithm_identifier, raw_algorithm_identifier, null, written_null};
-ghost use Rattle.x509_base.specs.AlgorithmParts.{algorithm_of, parameters_of, parts_of, algorithm_value, AlgorithmView, algorithm_view};
+ghost use Rattle.x509_base.specs.AlgorithmParts.{algorithm_of, parameters_of, parts_of, algorithm_value};
 ghost use Rattle.x509_base.specs.AlgorithmLaws.{lawful_algorithm_identifier, lawful_raw_algorithm_identifier};
 
 use asn1_core::{
-    Asn1RawDer, DerDeserialize, DerSerialize, Error, ObjectIdentifier, ObjectIdentifierAsn1,
-    OidRef, Reader, TryClone, Viewed,
+    Asn1RawDer, DerDeserialize, DerSerialize, Error, KnownOid, ObjectIdentifier,
+    ObjectIdentifierAsn1, OidRef, Reader, TryClone, Viewed,
 };
-use asn1_core_element::element::write_element;
-use asn1_core_format::{Alone, End, FirstTags, Maybe, Part, WriteRow, read_within, write_within};
+use asn1_core_format::{Alone, End, FirstTags, Maybe, Part, WriteRow, put_within, read_within};
+use asn1_core_writers::{WriteError, Writer, put_element};
 use std::alloc::Global;
 
 type AlgorithmRow = Part<ObjectIdentifierAsn1, Maybe<Asn1RawDer, End>>;
@@ -58,9 +56,9 @@ impl DerSerialize for AlgorithmIdentifier {
 
     ghost format = { algorithm_identifier };
 
-    fn write(&self, alloc: Global, out: &mut Vec<u8>) -> Result<(), Error> {
+    fn put<W: Writer>(&self, w: &mut W) -> Result<(), WriteError> {
         let parameters = Maybe(self.parameters.as_ref(), End);
-        write_within(alloc, &Part(OidRef(&self.algorithm), parameters), 0x30, out)
+        put_within(0x30, &Part(OidRef(&self.algorithm), parameters), w)
     }
 
     fn well_formed_at(&self, limit: u8) -> bool {
@@ -89,9 +87,9 @@ impl FirstTags for AlgorithmIdentifier {
 }
 
 impl Viewed for AlgorithmIdentifier {
-    ghost View = { AlgorithmView };
+    ghost View = { ⟦<AlgorithmIdentifier as DerSerialize>⟧.Value };
 
-    ghost view = { algorithm_view };
+    ghost view = { ⟦<AlgorithmIdentifier as DerSerialize>⟧.value };
 
     ghost equal = { Prim.search rules };
 }
@@ -136,16 +134,16 @@ impl RawAlgorithmIdentifier {
 }
 
 impl DerSerialize for RawAlgorithmIdentifier {
-    ghost Value = { AlgorithmValue };
+    ghost Value = { ⟦<AlgorithmIdentifier as DerSerialize>⟧.Value };
 
-    ghost value = { λ a. algorithm_value (parts_of a) };
+    ghost value = { λ a. ⟦<AlgorithmIdentifier as DerSerialize>⟧.value (parts_of a) };
 
     ghost format = { raw_algorithm_identifier };
 
-    fn write(&self, alloc: Global, out: &mut Vec<u8>) -> Result<(), Error> {
+    fn put<W: Writer>(&self, w: &mut W) -> Result<(), WriteError> {
         match self.parameters() {
-            Some(_) => self.parts.write(alloc, out),
-            None => write_algorithm(alloc, self.algorithm(), out),
+            Some(_) => self.parts.put(w),
+            None => put_algorithm(self.algorithm().octets(), w),
         }
     }
 
@@ -170,9 +168,9 @@ impl FirstTags for RawAlgorithmIdentifier {
 }
 
 impl Viewed for RawAlgorithmIdentifier {
-    ghost View = { AlgorithmView };
+    ghost View = { ⟦<RawAlgorithmIdentifier as DerSerialize>⟧.Value };
 
-    ghost view = { λ a. algorithm_view (parts_of a) };
+    ghost view = { ⟦<RawAlgorithmIdentifier as DerSerialize>⟧.value };
 
     ghost equal = { Prim.search rules };
 }
@@ -184,15 +182,12 @@ impl TryClone for RawAlgorithmIdentifier {
     }
 }
 
-/// Writes an algorithm identifier whose parameters are NULL.
-pub fn write_algorithm(
-    alloc: Global,
-    algorithm: &ObjectIdentifier,
-    out: &mut Vec<u8>,
-) -> Result<(), Error>
-    ensures { Wrote (algorithm_identifier.text (octets_of algorithm.now, (Some null, tt))) out.old.items out.new.items result }
+/// Writes an algorithm identifier with these contents octets of its object identifier, and with NULL as parameters.
+pub fn put_algorithm<W: Writer>(octets: &[u8], w: &mut W) -> Result<(), WriteError>
+    requires { W.MayTake w.old }
+    ensures { W.Takes (algorithm_identifier.text (octets.now, (Some null, tt))) w.old w.new result }
 {
-    write_within(alloc, &Part(OidRef(algorithm), Alone(Null)), 0x30, out)
+    put_within(0x30, &Part(KnownOid(octets), Alone(Null)), w)
 }
 
 /// NULL (X.690, 8.8), which only writes.
@@ -206,8 +201,8 @@ impl DerSerialize for Null {
 
     ghost format = { written_null };
 
-    fn write(&self, _alloc: Global, out: &mut Vec<u8>) -> Result<(), Error> {
-        write_element(5, &[], out)
+    fn put<W: Writer>(&self, w: &mut W) -> Result<(), WriteError> {
+        put_element(0x05, &[], w)
     }
 
     fn well_formed_at(&self, _limit: u8) -> bool {

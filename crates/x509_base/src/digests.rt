@@ -1,18 +1,16 @@
 //! Digests, and the identifier of a key (RFC 2315, 9.4; RFC 5280, 4.2.1.2).
 
-ghost use Rattle.std.specs.Prelude.{ℕ, List, Option};
 ghost use Rattle.std.proofs.Common.{rules, arith};
 ghost use Rattle.asn1_core.specs.Octets.{any_octets, octet_string, lawful_octet_string};
-ghost use Rattle.asn1_core_format.specs.Rows.{option_value};
 ghost use Rattle.asn1_core_format.specs.TaggedLaws.{leaf_tagged};
-ghost use Rattle.asn1_core_oid.specs.OidValue.{octets_of};
 ghost use Rattle.x509_base.specs.Digests.{DigestInfoValue, digest_info, lawful_digest_info};
 
 use crate::algorithms::AlgorithmIdentifier;
 use asn1_core::{
     DerDeserialize, DerSerialize, DerTagged, Error, OctetStringAsn1, Reader, TryClone, Viewed,
 };
-use asn1_core_format::{End, FirstTags, Part, WriteRow, read_within, write_within};
+use asn1_core_format::{End, Part, WriteRow, put_within, read_within};
+use asn1_core_writers::{WriteError, Writer};
 use std::alloc::Global;
 
 /// `DigestInfo ::= SEQUENCE { digestAlgorithm AlgorithmIdentifier, digest OCTET STRING }`
@@ -27,12 +25,12 @@ type DigestInfoRow = Part<AlgorithmIdentifier, Part<OctetStringAsn1, End>>;
 impl DerSerialize for DigestInfo {
     ghost Value = { DigestInfoValue };
 
-    ghost value = { λ x. (⟦<AlgorithmIdentifier as DerSerialize>⟧.value x.oid, (x.digest.0.items, tt)) };
+    ghost value = { λ x. (⟦<AlgorithmIdentifier as DerSerialize>⟧.value x.oid, (⟦<OctetStringAsn1 as DerSerialize>⟧.value x.digest, tt)) };
 
     ghost format = { digest_info };
 
-    fn write(&self, alloc: Global, out: &mut Vec<u8>) -> Result<(), Error> {
-        write_within(alloc, &Part(&self.oid, Part(&self.digest, End)), 0x30, out)
+    fn put<W: Writer>(&self, w: &mut W) -> Result<(), WriteError> {
+        put_within(0x30, &Part(&self.oid, Part(&self.digest, End)), w)
     }
 
     fn well_formed_at(&self, limit: u8) -> bool {
@@ -50,9 +48,9 @@ impl DerDeserialize for DigestInfo {
 }
 
 impl Viewed for DigestInfo {
-    ghost View = { (List ℕ × Option (List ℕ)) × List ℕ };
+    ghost View = { ⟦<DigestInfo as DerSerialize>⟧.Value };
 
-    ghost view = { λ x. (⟦<AlgorithmIdentifier as Viewed>⟧.view x.oid, x.digest.0.items) };
+    ghost view = { ⟦<DigestInfo as DerSerialize>⟧.value };
 
     ghost equal = { Prim.search rules };
 }
@@ -70,14 +68,14 @@ impl TryClone for DigestInfo {
 pub struct SubjectKeyIdentifier(pub OctetStringAsn1);
 
 impl DerSerialize for SubjectKeyIdentifier {
-    ghost Value = { List ℕ };
+    ghost Value = { ⟦<OctetStringAsn1 as DerSerialize>⟧.Value };
 
-    ghost value = { λ x. x.0.0.items };
+    ghost value = { λ x. ⟦<OctetStringAsn1 as DerSerialize>⟧.value x.0 };
 
     ghost format = { octet_string };
 
-    fn write(&self, alloc: Global, out: &mut Vec<u8>) -> Result<(), Error> {
-        self.0.write(alloc, out)
+    fn put<W: Writer>(&self, w: &mut W) -> Result<(), WriteError> {
+        self.0.put(w)
     }
 
     fn well_formed_at(&self, limit: u8) -> bool {
@@ -94,27 +92,25 @@ impl DerDeserialize for SubjectKeyIdentifier {
 }
 
 impl DerTagged for SubjectKeyIdentifier {
-    ghost TAG = { 4 };
+    ghost TAG = { 0x04 };
 
-    const TAG: u8 = 4;
+    const TAG: u8 = 0x04;
+
+    fn put_as<W: Writer>(&self, tag: u8, w: &mut W) -> Result<(), WriteError> {
+        self.0.put_as(tag, w)
+    }
 
     fn read_contents(alloc: Global, r: &mut Reader<'_>, nest: u8) -> Result<Self, Error> {
         Ok(SubjectKeyIdentifier(OctetStringAsn1::read_contents(alloc, r, nest)?))
     }
 
-    ghost tagged = { leaf_tagged 4 (Prim.omega arith) any_octets };
-}
-
-impl FirstTags for SubjectKeyIdentifier {
-    fn begins(tag: u8) -> bool {
-        tag == 4
-    }
+    ghost tagged = { leaf_tagged 0x04 (Prim.omega arith) any_octets };
 }
 
 impl Viewed for SubjectKeyIdentifier {
-    ghost View = { List ℕ };
+    ghost View = { ⟦<SubjectKeyIdentifier as DerSerialize>⟧.Value };
 
-    ghost view = { λ x. x.0.0.items };
+    ghost view = { ⟦<SubjectKeyIdentifier as DerSerialize>⟧.value };
 
     ghost equal = { Prim.search rules };
 }

@@ -1,8 +1,7 @@
 //! Extensions (RFC 5280, 4.2).
 
-ghost use Rattle.std.specs.Prelude.{◌≡◌, ◌↔◌, ℕ, List, Bool, [], ◌∷◌, map, IsTrue};
-ghost use Rattle.std.proofs.Common.{rules, arith};
-ghost use Rattle.asn1_core_format.specs.Leaf.{leaf};
+ghost use Rattle.std.specs.Prelude.{List, Bool, map};
+ghost use Rattle.std.proofs.Common.{arith};
 ghost use Rattle.asn1_core_oid.specs.OidValue.{octets_of};
 ghost use Rattle.x509_base.specs.Booleans.{booleans, boolean, lawful_boolean, explicit_false, is_false, false_is_normal, false_reads};
 ghost use Rattle.asn1_core_format.specs.Views.{list_equal};
@@ -13,11 +12,11 @@ use asn1_core::{
     DerDeserialize, DerSerialize, Error, ObjectIdentifierAsn1, OctetStringAsn1, Reader, TryClone,
     Viewed,
 };
-use asn1_core_element::element::write_element;
 use asn1_core_format::{
-    ApartFrom, End, FirstTags, HasDefault, Leaf, Omitted, Part, WriteRow, read_leaf, read_within,
-    write_within,
+    ApartFrom, End, FirstTags, HasDefault, Leaf, Omitted, Part, WriteRow, put_within, read_leaf,
+    read_within,
 };
+use asn1_core_writers::{WriteError, Writer, put_element};
 use std::alloc::Global;
 
 /// BOOLEAN (X.690, 8.2 and 11.1), with FALSE as what absence stands for.
@@ -47,11 +46,11 @@ impl DerSerialize for Critical {
 
     ghost format = { boolean };
 
-    fn write(&self, _alloc: Global, out: &mut Vec<u8>) -> Result<(), Error> {
+    fn put<W: Writer>(&self, w: &mut W) -> Result<(), WriteError> {
         if self.0 {
-            write_element(1, &[0xFF], out)
+            put_element(0x01, &[0xFF], w)
         } else {
-            write_element(1, &[0x00], out)
+            put_element(0x01, &[0x00], w)
         }
     }
 
@@ -62,7 +61,7 @@ impl DerSerialize for Critical {
 
 impl DerDeserialize for Critical {
     fn read(alloc: Global, r: &mut Reader<'_>, nest: u8) -> Result<Self, Error> {
-        read_leaf(alloc, r, nest, 1)
+        read_leaf(alloc, r, nest, 0x01)
     }
 
     ghost lawful = { lawful_boolean };
@@ -70,7 +69,7 @@ impl DerDeserialize for Critical {
 
 impl FirstTags for Critical {
     fn begins(tag: u8) -> bool {
-        tag == 1
+        tag == 0x01
     }
 }
 
@@ -111,10 +110,10 @@ impl DerSerialize for Extension {
 
     ghost format = { extension };
 
-    fn write(&self, alloc: Global, out: &mut Vec<u8>) -> Result<(), Error> {
+    fn put<W: Writer>(&self, w: &mut W) -> Result<(), WriteError> {
         let value = Part(&self.extn_value, End);
         let critical = Omitted(Critical(self.critical), value);
-        write_within(alloc, &Part(&self.extn_id, critical), 0x30, out)
+        put_within(0x30, &Part(&self.extn_id, critical), w)
     }
 
     fn well_formed_at(&self, limit: u8) -> bool {
@@ -139,9 +138,9 @@ impl DerDeserialize for Extension {
 }
 
 impl Viewed for Extension {
-    ghost View = { (List ℕ × Bool) × List ℕ };
+    ghost View = { ⟦<Extension as DerSerialize>⟧.Value };
 
-    ghost view = { λ x. ((octets_of x.extn_id.0, x.critical), x.extn_value.0.items) };
+    ghost view = { ⟦<Extension as DerSerialize>⟧.value };
 
     ghost equal = { extension_equal };
 }
@@ -169,8 +168,8 @@ impl DerSerialize for Extensions {
 
     ghost format = { extensions };
 
-    fn write(&self, alloc: Global, out: &mut Vec<u8>) -> Result<(), Error> {
-        write_within(alloc, &self.0, 0x30, out)
+    fn put<W: Writer>(&self, w: &mut W) -> Result<(), WriteError> {
+        put_within(0x30, &self.0, w)
     }
 
     fn well_formed_at(&self, limit: u8) -> bool {
@@ -193,9 +192,9 @@ impl FirstTags for Extensions {
 }
 
 impl Viewed for Extensions {
-    ghost View = { List ((List ℕ × Bool) × List ℕ) };
+    ghost View = { ⟦<Extensions as DerSerialize>⟧.Value };
 
-    ghost view = { λ x. map ⟦<Extension as Viewed>⟧.view x.0.items };
+    ghost view = { ⟦<Extensions as DerSerialize>⟧.value };
 
     ghost equal = { λ x y. list_equal _ _ extension_equal x.0.items y.0.items };
 }

@@ -6,8 +6,6 @@ pub mod algorithms;
 pub mod digests;
 pub mod extensions;
 pub mod names;
-#[cfg(test)]
-mod tests;
 pub mod times;
 pub mod versions;
 

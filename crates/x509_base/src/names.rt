@@ -1,10 +1,9 @@
 //! Names and attributes (RFC 5280, 4.1.2.4; RFC 5652, 5.3).
 
-ghost use Rattle.std.specs.Prelude.{ℕ, List, map};
+ghost use Rattle.std.specs.Prelude.{map};
 ghost use Rattle.std.proofs.Common.{rules};
 ghost use Rattle.asn1_core_oid.specs.OidValue.{octets_of};
-ghost use Rattle.asn1_core_format.specs.Views.{two_equal, list_equal};
-ghost use Rattle.asn1_core_oid.specs.OidValueLaws.{equal_octets};
+ghost use Rattle.asn1_core_format.specs.Views.{list_equal};
 ghost use Rattle.asn1_core.specs.Equal.{raw_equal};
 ghost use Rattle.x509_base.specs.Equal.{name_value_equal};
 ghost use Rattle.x509_base.specs.Names.{NameValueValue, name_value, name, AttributeValue, attribute, lawful_name_value, lawful_name, lawful_attribute};
@@ -13,7 +12,8 @@ use asn1_core::{
     Asn1RawDer, Asn1SequenceOf, Asn1SetOf, DerDeserialize, DerSerialize, Error,
     ObjectIdentifierAsn1, Reader, TryClone, Viewed,
 };
-use asn1_core_format::{End, FirstTags, Part, WriteRow, read_within, write_within};
+use asn1_core_format::{End, FirstTags, Part, WriteRow, put_within, read_within};
+use asn1_core_writers::{WriteError, Writer};
 use std::alloc::Global;
 
 /// `AttributeTypeAndValue ::= SEQUENCE { type OBJECT IDENTIFIER, value ANY }`
@@ -32,8 +32,8 @@ impl DerSerialize for NameValue {
 
     ghost format = { name_value };
 
-    fn write(&self, alloc: Global, out: &mut Vec<u8>) -> Result<(), Error> {
-        write_within(alloc, &Part(&self.ty, Part(&self.value, End)), 0x30, out)
+    fn put<W: Writer>(&self, w: &mut W) -> Result<(), WriteError> {
+        put_within(0x30, &Part(&self.ty, Part(&self.value, End)), w)
     }
 
     fn well_formed_at(&self, limit: u8) -> bool {
@@ -51,9 +51,9 @@ impl DerDeserialize for NameValue {
 }
 
 impl Viewed for NameValue {
-    ghost View = { List ℕ × List ℕ };
+    ghost View = { ⟦<NameValue as DerSerialize>⟧.Value };
 
-    ghost view = { λ x. (octets_of x.ty.0, x.value.0.items) };
+    ghost view = { ⟦<NameValue as DerSerialize>⟧.value };
 
     ghost equal = { name_value_equal };
 }
@@ -71,14 +71,14 @@ impl TryClone for NameValue {
 pub struct Name(pub Asn1SequenceOf<Asn1SetOf<NameValue>>);
 
 impl DerSerialize for Name {
-    ghost Value = { List (List NameValueValue) };
+    ghost Value = { ⟦<Asn1SequenceOf<Asn1SetOf<NameValue>> as DerSerialize>⟧.Value };
 
     ghost value = { λ x. ⟦<Asn1SequenceOf<Asn1SetOf<NameValue>> as DerSerialize>⟧.value x.0 };
 
     ghost format = { name };
 
-    fn write(&self, alloc: Global, out: &mut Vec<u8>) -> Result<(), Error> {
-        self.0.write(alloc, out)
+    fn put<W: Writer>(&self, w: &mut W) -> Result<(), WriteError> {
+        self.0.put(w)
     }
 
     fn well_formed_at(&self, limit: u8) -> bool {
@@ -101,9 +101,9 @@ impl FirstTags for Name {
 }
 
 impl Viewed for Name {
-    ghost View = { List (List (List ℕ × List ℕ)) };
+    ghost View = { ⟦<Name as DerSerialize>⟧.Value };
 
-    ghost view = { λ x. ⟦<Asn1SequenceOf<Asn1SetOf<NameValue>> as Viewed>⟧.view x.0 };
+    ghost view = { ⟦<Name as DerSerialize>⟧.value };
 
     ghost equal = { λ x y. list_equal _ _ (λ a b. list_equal _ _ name_value_equal a.0.items b.0.items) x.0.0.items y.0.0.items };
 }
@@ -130,8 +130,8 @@ impl DerSerialize for Attribute {
 
     ghost format = { attribute };
 
-    fn write(&self, alloc: Global, out: &mut Vec<u8>) -> Result<(), Error> {
-        write_within(alloc, &Part(&self.ty, Part(&self.value, End)), 0x30, out)
+    fn put<W: Writer>(&self, w: &mut W) -> Result<(), WriteError> {
+        put_within(0x30, &Part(&self.ty, Part(&self.value, End)), w)
     }
 
     fn well_formed_at(&self, limit: u8) -> bool {
@@ -149,11 +149,11 @@ impl DerDeserialize for Attribute {
 }
 
 impl Viewed for Attribute {
-    ghost View = { List ℕ × List (List ℕ) };
+    ghost View = { ⟦<Attribute as DerSerialize>⟧.Value };
 
-    ghost view = { λ x. (octets_of x.ty.0, map (λ v. v.0.items) x.value.0.items) };
+    ghost view = { ⟦<Attribute as DerSerialize>⟧.value };
 
-    ghost equal = { λ x y. two_equal (equal_octets x.ty.0 y.ty.0) (list_equal _ _ raw_equal x.value.0.items y.value.0.items) };
+    ghost equal = { λ x y. let values = list_equal _ _ raw_equal x.value.0.items y.value.0.items in Prim.search rules };
 }
 
 impl TryClone for Attribute {

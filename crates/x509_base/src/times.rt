@@ -9,6 +9,7 @@ ghost use Rattle.x509_base.specs.Times.{TimeValue, time, time_of, lawful_time};
 use asn1_core::{DerDeserialize, DerSerialize, Error, Reader, TryClone, Viewed};
 use asn1_core_format::FirstTags;
 use asn1_core_format::rows::next_is;
+use asn1_core_writers::{WriteError, Writer};
 use asn1_leaves::{GeneralizedTimeAsn1, UTCTimeAsn1};
 use std::alloc::Global;
 
@@ -26,10 +27,10 @@ impl DerSerialize for Time {
 
     ghost format = { time };
 
-    fn write(&self, alloc: Global, out: &mut Vec<u8>) -> Result<(), Error> {
+    fn put<W: Writer>(&self, w: &mut W) -> Result<(), WriteError> {
         match self {
-            Time::Utc(time) => time.write(alloc, out),
-            Time::Generalized(time) => time.write(alloc, out),
+            Time::Utc(time) => time.put(w),
+            Time::Generalized(time) => time.put(w),
         }
     }
 
@@ -66,9 +67,9 @@ impl FirstTags for Time {
 }
 
 impl Viewed for Time {
-    ghost View = { TimeValue };
+    ghost View = { ⟦<Time as DerSerialize>⟧.Value };
 
-    ghost view = { time_of };
+    ghost view = { ⟦<Time as DerSerialize>⟧.value };
 
     ghost equal = { time_equal };
 }

@@ -9,7 +9,8 @@ ghost use Rattle.x509_base.specs.Versions.{number_of};
 
 use asn1_core::{DerDeserialize, DerSerialize, Error, Reader, TryClone, Viewed};
 use asn1_core_format::{FirstTags, Leaf, read_leaf};
-use asn1_core_numbers::{unsigned, write_unsigned};
+use asn1_core_numbers::unsigned;
+use asn1_core_writers::{WriteError, Writer, put_unsigned};
 use std::alloc::Global;
 
 /// `Version ::= INTEGER { v1(0), v2(1), v3(2) }`
@@ -46,13 +47,13 @@ impl DerSerialize for Version {
 
     ghost format = { number_below 3 };
 
-    fn write(&self, _alloc: Global, out: &mut Vec<u8>) -> Result<(), Error> {
+    fn put<W: Writer>(&self, w: &mut W) -> Result<(), WriteError> {
         let number = match self {
             Version::V1 => 0,
             Version::V2 => 1,
             Version::V3 => 2,
         };
-        write_unsigned(2, number, out)
+        put_unsigned(0x02, number, w)
     }
 
     fn well_formed_at(&self, _limit: u8) -> bool {
@@ -67,7 +68,7 @@ impl DerDeserialize for Version {
         ensures gives { Gives number_of (number_below 3) nest r.old r.new result }
         ensures memory { IfErr result (λ e. e ≢ Memory) }
     {
-        read_leaf(alloc, r, nest, 2)
+        read_leaf(alloc, r, nest, 0x02)
     }
 
     ghost lawful = { lawful_number 3 };
@@ -75,14 +76,14 @@ impl DerDeserialize for Version {
 
 impl FirstTags for Version {
     fn begins(tag: u8) -> bool {
-        tag == 2
+        tag == 0x02
     }
 }
 
 impl Viewed for Version {
-    ghost View = { ℕ };
+    ghost View = { ⟦<Version as DerSerialize>⟧.Value };
 
-    ghost view = { number_of };
+    ghost view = { ⟦<Version as DerSerialize>⟧.value };
 
     ghost equal = { Prim.search rules };
 }

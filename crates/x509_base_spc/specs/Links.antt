@@ -36,7 +36,7 @@ abbrev pub url : Format (List ℕ)
 url = implicit 0x80 0x16 ia5_string
 
 abbrev pub moniker : Format SerializedObjectValue
-moniker = implicit 0xA1 48 serialized_object
+moniker = implicit 0xA1 0x30 serialized_object
 
 abbrev pub file : Format StringValue
 file = within 0xA2 spc_string
@@ -48,7 +48,7 @@ abbrev pub OpusInfoValue : Type 0
 OpusInfoValue = Option StringValue × (Option LinkValue × Unit {0})
 
 abbrev pub opus_info : Format OpusInfoValue
-opus_info = within 48 (optional (within 0xA0 spc_string) (optional (within 0xA1 spc_link) nothing))
+opus_info = within 0x30 (optional (within 0xA0 spc_string) (optional (within 0xA1 spc_link) nothing))
 
 lawful_unicode : IsLawful unicode
 lawful_unicode = lawful_implicit 0x80 0x1E bmp_string lawful_bmp_string (leaf_tagged 0x1E (omega arith) (kept IsBmp)) (omega arith)
@@ -63,7 +63,7 @@ pub lawful_url : IsLawful url
 lawful_url = lawful_implicit 0x80 0x16 ia5_string lawful_ia5_string (leaf_tagged 0x16 (omega arith) (kept IsIa5)) (omega arith)
 
 pub lawful_moniker : IsLawful moniker
-lawful_moniker = lawful_implicit 0xA1 48 serialized_object lawful_serialized_object (within_tagged 48 (omega arith) serialized_object_row) (omega arith)
+lawful_moniker = lawful_implicit 0xA1 0x30 serialized_object lawful_serialized_object (within_tagged 0x30 (omega arith) serialized_object_row) (omega arith)
 
 pub lawful_file : IsLawful file
 lawful_file = lawful_within spc_string lawful_spc_string.row 0xA2 (omega arith)
@@ -79,4 +79,4 @@ lawful_opus_info =
     (lawful_optional (within 0xA0 spc_string) _ (lawful_within spc_string lawful_spc_string.row 0xA0 (omega arith))
     (lawful_optional (within 0xA1 spc_link) nothing (lawful_within spc_link lawful_spc_link.row 0xA1 (omega arith)) lawful_nothing (λ t h e. e))
     (λ t h e. ⊎_elim (λ (l : t ≡ 0xA1). omega arith) (λ (n : ⊥). n) e))
-    48 (omega arith)
+    0x30 (omega arith)

@@ -14,11 +14,11 @@ abbrev pub serialized_object_row : Format SerializedObjectValue
 serialized_object_row = part octet_string (part octet_string nothing)
 
 abbrev pub serialized_object : Format SerializedObjectValue
-serialized_object = within 48 serialized_object_row
+serialized_object = within 0x30 serialized_object_row
 
 pub lawful_serialized_object : IsLawful serialized_object
 lawful_serialized_object =
-    lawful_within serialized_object_row (lawful_part octet_string _ lawful_octet_string (lawful_part octet_string nothing lawful_octet_string lawful_nothing)) 48 (omega arith)
+    lawful_within serialized_object_row (lawful_part octet_string _ lawful_octet_string (lawful_part octet_string nothing lawful_octet_string lawful_nothing)) 0x30 (omega arith)
 
 -- the class of page hashes, as its octets stand in a serialized object
 abbrev pub page_hash_class : List ℕ

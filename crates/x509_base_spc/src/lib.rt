@@ -5,8 +5,6 @@ pub mod links;
 pub mod objects;
 pub mod opus_info;
 pub mod string_error;
-#[cfg(test)]
-mod tests;
 pub mod texts;
 
 pub use links::{File, Moniker, SpcLink, SpcString, Url};

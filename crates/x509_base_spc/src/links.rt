@@ -1,10 +1,8 @@
 //! Strings and links.
 
-ghost use Rattle.std.specs.Prelude.{◌≡◌, ℕ, List};
+ghost use Rattle.std.specs.Prelude.{◌≡◌};
 ghost use Rattle.std.proofs.Common.{rules, arith, ⊎_elim};
-ghost use Rattle.asn1_leaves_strings.specs.Octets.{octets_of_ia5};
 ghost use Rattle.x509_base_spc.specs.Links.{StringValue, LinkValue, spc_string, url, moniker, file, spc_link, lawful_spc_string, lawful_url, lawful_moniker, lawful_file, lawful_spc_link};
-ghost use Rattle.x509_base_spc.specs.Objects.{SerializedObjectValue};
 ghost use Rattle.x509_base_spc.specs.Values.{string_of, link_of};
 
 use crate::objects::SpcSerializedObject;
@@ -13,6 +11,7 @@ use asn1_core::{
     ImplicitContextTag1, Optional, Reader, TryClone, Viewed,
 };
 use asn1_core_format::{ApartFrom, Either, FirstTags};
+use asn1_core_writers::{WriteError, Writer};
 use asn1_leaves::{BMPStringAsn1, IA5StringAsn1};
 use std::alloc::Global;
 
@@ -30,10 +29,10 @@ impl DerSerialize for SpcString {
 
     ghost format = { spc_string };
 
-    fn write(&self, alloc: Global, out: &mut Vec<u8>) -> Result<(), Error> {
+    fn put<W: Writer>(&self, w: &mut W) -> Result<(), WriteError> {
         match self {
-            SpcString::Unicode(text) => text.0.write(alloc, out),
-            SpcString::Ancii(text) => text.0.write(alloc, out),
+            SpcString::Unicode(text) => text.0.put(w),
+            SpcString::Ancii(text) => text.0.put(w),
         }
     }
 
@@ -63,9 +62,9 @@ impl FirstTags for SpcString {
 }
 
 impl Viewed for SpcString {
-    ghost View = { StringValue };
+    ghost View = { ⟦<SpcString as DerSerialize>⟧.Value };
 
-    ghost view = { string_of };
+    ghost view = { ⟦<SpcString as DerSerialize>⟧.value };
 
     ghost equal = { Prim.search rules };
 }
@@ -84,14 +83,14 @@ impl TryClone for SpcString {
 pub struct Url(pub Optional<ImplicitContextTag0<IA5StringAsn1>>);
 
 impl DerSerialize for Url {
-    ghost Value = { List ℕ };
+    ghost Value = { ⟦<ImplicitContextTag0<IA5StringAsn1> as DerSerialize>⟧.Value };
 
-    ghost value = { λ x. octets_of_ia5 x.0.0.0.0 };
+    ghost value = { λ x. ⟦<ImplicitContextTag0<IA5StringAsn1> as DerSerialize>⟧.value x.0.0 };
 
     ghost format = { url };
 
-    fn write(&self, alloc: Global, out: &mut Vec<u8>) -> Result<(), Error> {
-        self.0.0.write(alloc, out)
+    fn put<W: Writer>(&self, w: &mut W) -> Result<(), WriteError> {
+        self.0.0.put(w)
     }
 
     fn well_formed_at(&self, limit: u8) -> bool {
@@ -118,9 +117,9 @@ impl ApartFrom<Either<Moniker, File>> for Url {
 }
 
 impl Viewed for Url {
-    ghost View = { List ℕ };
+    ghost View = { ⟦<Url as DerSerialize>⟧.Value };
 
-    ghost view = { λ x. octets_of_ia5 x.0.0.0.0 };
+    ghost view = { ⟦<Url as DerSerialize>⟧.value };
 
     ghost equal = { Prim.search rules };
 }
@@ -136,14 +135,14 @@ impl TryClone for Url {
 pub struct Moniker(pub Optional<ImplicitContextTag1<SpcSerializedObject>>);
 
 impl DerSerialize for Moniker {
-    ghost Value = { SerializedObjectValue };
+    ghost Value = { ⟦<ImplicitContextTag1<SpcSerializedObject> as DerSerialize>⟧.Value };
 
-    ghost value = { λ x. ⟦<SpcSerializedObject as DerSerialize>⟧.value x.0.0.0 };
+    ghost value = { λ x. ⟦<ImplicitContextTag1<SpcSerializedObject> as DerSerialize>⟧.value x.0.0 };
 
     ghost format = { moniker };
 
-    fn write(&self, alloc: Global, out: &mut Vec<u8>) -> Result<(), Error> {
-        self.0.0.write(alloc, out)
+    fn put<W: Writer>(&self, w: &mut W) -> Result<(), WriteError> {
+        self.0.0.put(w)
     }
 
     fn well_formed_at(&self, limit: u8) -> bool {
@@ -170,9 +169,9 @@ impl ApartFrom<File> for Moniker {
 }
 
 impl Viewed for Moniker {
-    ghost View = { List ℕ × List ℕ };
+    ghost View = { ⟦<Moniker as DerSerialize>⟧.Value };
 
-    ghost view = { λ x. ⟦<SpcSerializedObject as Viewed>⟧.view x.0.0.0 };
+    ghost view = { ⟦<Moniker as DerSerialize>⟧.value };
 
     ghost equal = { Prim.search rules };
 }
@@ -188,14 +187,14 @@ impl TryClone for Moniker {
 pub struct File(pub ExplicitContextTag2<SpcString>);
 
 impl DerSerialize for File {
-    ghost Value = { StringValue };
+    ghost Value = { ⟦<ExplicitContextTag2<SpcString> as DerSerialize>⟧.Value };
 
-    ghost value = { λ x. string_of x.0.0 };
+    ghost value = { λ x. ⟦<ExplicitContextTag2<SpcString> as DerSerialize>⟧.value x.0 };
 
     ghost format = { file };
 
-    fn write(&self, alloc: Global, out: &mut Vec<u8>) -> Result<(), Error> {
-        self.0.write(alloc, out)
+    fn put<W: Writer>(&self, w: &mut W) -> Result<(), WriteError> {
+        self.0.put(w)
     }
 
     fn well_formed_at(&self, limit: u8) -> bool {
@@ -218,9 +217,9 @@ impl FirstTags for File {
 }
 
 impl Viewed for File {
-    ghost View = { StringValue };
+    ghost View = { ⟦<File as DerSerialize>⟧.Value };
 
-    ghost view = { λ x. string_of x.0.0 };
+    ghost view = { ⟦<File as DerSerialize>⟧.value };
 
     ghost equal = { Prim.search rules };
 }
@@ -246,11 +245,11 @@ impl DerSerialize for SpcLink {
 
     ghost format = { spc_link };
 
-    fn write(&self, alloc: Global, out: &mut Vec<u8>) -> Result<(), Error> {
+    fn put<W: Writer>(&self, w: &mut W) -> Result<(), WriteError> {
         match self {
-            SpcLink::Url(url) => url.write(alloc, out),
-            SpcLink::Moniker(moniker) => moniker.write(alloc, out),
-            SpcLink::File(file) => file.write(alloc, out),
+            SpcLink::Url(url) => url.put(w),
+            SpcLink::Moniker(moniker) => moniker.put(w),
+            SpcLink::File(file) => file.put(w),
         }
     }
 
@@ -282,9 +281,9 @@ impl FirstTags for SpcLink {
 }
 
 impl Viewed for SpcLink {
-    ghost View = { LinkValue };
+    ghost View = { ⟦<SpcLink as DerSerialize>⟧.Value };
 
-    ghost view = { link_of };
+    ghost view = { ⟦<SpcLink as DerSerialize>⟧.value };
 
     ghost equal = { Prim.search rules };
 }

@@ -1,18 +1,17 @@
 //! Serialized objects, and the identifiers of their classes.
 
-ghost use Rattle.std.specs.Prelude.{◌≡◌, ℕ, List, [], MatchResult};
+ghost use Rattle.std.specs.Prelude.{◌≡◌, [], MatchResult};
 ghost use Rattle.std.proofs.Common.{rules, arith};
 ghost use Rattle.asn1_core_element.specs.declared.error.Error.TheVariants.{Memory};
-ghost use Rattle.asn1_core.specs.Octets.{any_octets, octet_string, lawful_octet_string};
-ghost use Rattle.asn1_core_format.specs.TaggedLaws.{leaf_tagged, within_tagged};
+ghost use Rattle.asn1_core.specs.Octets.{octet_string, lawful_octet_string};
+ghost use Rattle.asn1_core_format.specs.TaggedLaws.{within_tagged};
 ghost use Rattle.x509_base_spc.specs.Objects.{SerializedObjectValue, serialized_object_row, serialized_object, lawful_serialized_object, page_hash_class};
 
 use asn1_core::{
     DerDeserialize, DerSerialize, DerTagged, Error, OctetStringAsn1, Reader, TryClone, Viewed,
 };
-use asn1_core_format::{
-    End, FirstTags, Part, WriteRow, read_row_contents, read_within, write_within,
-};
+use asn1_core_format::{End, Part, WriteRow, put_within, read_row_contents, read_within};
+use asn1_core_writers::{WriteError, Writer};
 use std::alloc::Global;
 
 /// The class of page hashes.
@@ -34,14 +33,14 @@ impl SpcUuid {
 }
 
 impl DerSerialize for SpcUuid {
-    ghost Value = { List ℕ };
+    ghost Value = { ⟦<OctetStringAsn1 as DerSerialize>⟧.Value };
 
-    ghost value = { λ x. x.0.0.items };
+    ghost value = { λ x. ⟦<OctetStringAsn1 as DerSerialize>⟧.value x.0 };
 
     ghost format = { octet_string };
 
-    fn write(&self, alloc: Global, out: &mut Vec<u8>) -> Result<(), Error> {
-        self.0.write(alloc, out)
+    fn put<W: Writer>(&self, w: &mut W) -> Result<(), WriteError> {
+        self.0.put(w)
     }
 
     fn well_formed_at(&self, limit: u8) -> bool {
@@ -58,9 +57,9 @@ impl DerDeserialize for SpcUuid {
 }
 
 impl Viewed for SpcUuid {
-    ghost View = { List ℕ };
+    ghost View = { ⟦<SpcUuid as DerSerialize>⟧.Value };
 
-    ghost view = { λ x. x.0.0.items };
+    ghost view = { ⟦<SpcUuid as DerSerialize>⟧.value };
 
     ghost equal = { Prim.search rules };
 }
@@ -102,13 +101,9 @@ impl DerSerialize for SpcSerializedObject {
 
     ghost format = { serialized_object };
 
-    fn write(&self, alloc: Global, out: &mut Vec<u8>) -> Result<(), Error> {
-        write_within(
-            alloc,
-            &Part(&self.class_id, Part(&self.serialized_data, End)),
-            0x30,
-            out,
-        )
+    fn put<W: Writer>(&self, w: &mut W) -> Result<(), WriteError> {
+        let row = Part(&self.class_id, Part(&self.serialized_data, End));
+        put_within(0x30, &row, w)
     }
 
     fn well_formed_at(&self, limit: u8) -> bool {
@@ -131,9 +126,14 @@ impl DerDeserialize for SpcSerializedObject {
 }
 
 impl DerTagged for SpcSerializedObject {
-    ghost TAG = { 48 };
+    ghost TAG = { 0x30 };
 
     const TAG: u8 = 0x30;
+
+    fn put_as<W: Writer>(&self, tag: u8, w: &mut W) -> Result<(), WriteError> {
+        let row = Part(&self.class_id, Part(&self.serialized_data, End));
+        put_within(tag, &row, w)
+    }
 
     fn read_contents(alloc: Global, r: &mut Reader<'_>, nest: u8) -> Result<Self, Error> {
         let Part(class_id, Part(serialized_data, End)) = read_row_contents::<SerializedObjectRow>(
@@ -145,13 +145,13 @@ impl DerTagged for SpcSerializedObject {
         })
     }
 
-    ghost tagged = { within_tagged 48 (Prim.omega arith) serialized_object_row };
+    ghost tagged = { within_tagged 0x30 (Prim.omega arith) serialized_object_row };
 }
 
 impl Viewed for SpcSerializedObject {
-    ghost View = { List ℕ × List ℕ };
+    ghost View = { ⟦<SpcSerializedObject as DerSerialize>⟧.Value };
 
-    ghost view = { λ x. (x.class_id.0.0.items, x.serialized_data.0.items) };
+    ghost view = { ⟦<SpcSerializedObject as DerSerialize>⟧.value };
 
     ghost equal = { Prim.search rules };
 }

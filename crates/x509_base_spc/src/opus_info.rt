@@ -1,9 +1,8 @@
 //! What a signature says of the program that it signs.
 
-ghost use Rattle.std.specs.Prelude.{◌≡◌, Option};
 ghost use Rattle.std.proofs.Common.{rules};
 ghost use Rattle.asn1_core_format.specs.Rows.{option_value};
-ghost use Rattle.x509_base_spc.specs.Links.{StringValue, LinkValue, OpusInfoValue, opus_info, lawful_opus_info};
+ghost use Rattle.x509_base_spc.specs.Links.{OpusInfoValue, opus_info, lawful_opus_info};
 ghost use Rattle.x509_base_spc.specs.Values.{string_of, link_of};
 
 use crate::links::{SpcLink, SpcString};
@@ -11,7 +10,8 @@ use asn1_core::{
     DerDeserialize, DerSerialize, Error, ExplicitContextTag0, ExplicitContextTag1, Reader,
     TryClone, Viewed,
 };
-use asn1_core_format::{End, FirstTags, Maybe, WriteRow, read_within, write_within};
+use asn1_core_format::{End, FirstTags, Maybe, WriteRow, put_within, read_within};
+use asn1_core_writers::{WriteError, Writer};
 use std::alloc::Global;
 
 /// `SpcSpOpusInfo ::= SEQUENCE { programName [0] EXPLICIT SpcString OPTIONAL, moreInfo [1] EXPLICIT SpcLink OPTIONAL }`
@@ -30,16 +30,14 @@ impl DerSerialize for SpcSpOpusInfo {
 
     ghost format = { opus_info };
 
-    fn write(&self, alloc: Global, out: &mut Vec<u8>) -> Result<(), Error> {
-        let name = self.program_name.as_ref();
-        let link = self.more_info.as_ref();
-        write_within(alloc, &Maybe(name, Maybe(link, End)), 0x30, out)
+    fn put<W: Writer>(&self, w: &mut W) -> Result<(), WriteError> {
+        let link = Maybe(self.more_info.as_ref(), End);
+        put_within(0x30, &Maybe(self.program_name.as_ref(), link), w)
     }
 
     fn well_formed_at(&self, limit: u8) -> bool {
-        let name = self.program_name.as_ref();
-        let link = self.more_info.as_ref();
-        Maybe(name, Maybe(link, End)).row_well_formed_at(limit)
+        let link = Maybe(self.more_info.as_ref(), End);
+        Maybe(self.program_name.as_ref(), link).row_well_formed_at(limit)
     }
 }
 
@@ -64,9 +62,9 @@ impl FirstTags for SpcSpOpusInfo {
 }
 
 impl Viewed for SpcSpOpusInfo {
-    ghost View = { Option StringValue × Option LinkValue };
+    ghost View = { ⟦<SpcSpOpusInfo as DerSerialize>⟧.Value };
 
-    ghost view = { λ x. (option_value (λ n. string_of n.0) x.program_name, option_value (λ l. link_of l.0) x.more_info) };
+    ghost view = { ⟦<SpcSpOpusInfo as DerSerialize>⟧.value };
 
     ghost equal = { Prim.search rules };
 }
