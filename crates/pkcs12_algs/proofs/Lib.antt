@@ -1,0 +1,3 @@
+pub mod OidReads
+pub mod AlgorithmArms
+pub mod KnownAlgorithms

@@ -1,0 +1,33 @@
+-- Algorithms that are known by their object identifiers, whatever their parameters are, and any other.
+use Rattle.std.specs.Prelude.{◌≡◌, ◌⊎◌, ℕ, List, None}
+use Rattle.std.proofs.Common.{inl, inr}
+use Rattle.asn1_core_format.specs.Eithers.{from_one}
+use Rattle.asn1_core_format.specs.Format.{Format}
+use Rattle.x509_base.specs.Algorithms.{AlgorithmValue}
+use Rattle.x509_base.specs.AlgorithmParts.{parts_of, algorithm_value}
+use Rattle.x509_base.specs.AlgorithmChoices.{arm_read, algorithm_choice}
+use Rattle.x509_base.specs.declared.algorithms.RawAlgorithmIdentifier.{RawAlgorithmIdentifier}
+use Rattle.pkcs12_algs.specs.Tables.{Listed, listing}
+
+-- a known object identifier, or an algorithm identifier with another
+abbrev pub KnownOrRaw : List (List ℕ) → Type 0
+KnownOrRaw oids = Listed oids ⊎ AlgorithmValue
+
+abbrev pub known_or_raw : (oids : List (List ℕ)) → Format (KnownOrRaw oids)
+known_or_raw oids = algorithm_choice (listing oids)
+
+abbrev pub raw_value : RawAlgorithmIdentifier → AlgorithmValue
+raw_value a = algorithm_value (parts_of a)
+
+-- what an algorithm identifier stands for
+abbrev pub from_raw : (oids : List (List ℕ)) → AlgorithmValue → KnownOrRaw oids
+from_raw oids v = arm_read ((listing oids).arm_of v.0) v
+
+-- the algorithm identifier of a known algorithm has no parameters
+abbrev pub into_raw : (oids : List (List ℕ)) → KnownOrRaw oids → AlgorithmValue
+into_raw oids = from_one (λ a. (a.0, (None, tt))) (λ v. v)
+
+-- the known algorithm with that object identifier
+abbrev pub IsKnown : (oids : List (List ℕ)) → KnownOrRaw oids → List ℕ → Type 0
+IsKnown oids (inl a) o = a.0 ≡ o
+IsKnown oids (inr v) o = ⊥

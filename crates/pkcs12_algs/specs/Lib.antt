@@ -1,0 +1,13 @@
+pub mod Tables
+pub mod TableLaws
+pub mod Algorithms
+pub mod OidChoices
+pub mod OidChoiceLaws
+pub mod Oids
+pub mod Digests
+pub mod Pbkdf2
+pub mod Pbes1
+pub mod Pbes2
+pub mod Encryption
+pub mod Equal
+pub mod EncryptionEqual

@@ -1,0 +1,106 @@
+-- Encryption by PBES2 (RFC 8018, 6.2 and appendix A.4).
+--
+-- PBES2-params ::= SEQUENCE {
+--     keyDerivationFunc AlgorithmIdentifier {{PBES2-KDFs}},
+--     encryptionScheme AlgorithmIdentifier {{PBES2-Encs}} }
+--
+-- PBES2-KDFs ALGORITHM-IDENTIFIER ::= { {PBKDF2-params IDENTIFIED BY id-PBKDF2}, ... }
+-- The parameters of AES in CBC mode are its initialization vector, an OCTET STRING (RFC 8018, appendix B.2.5).
+use Rattle.std.specs.Prelude.{◌≡◌, ◌⊎◌, ℕ, List, [], ◌∷◌, Some}
+use Rattle.asn1_core.specs.Der.{Format, IsLawful, sequence, part, nothing, octet_string, lawful_sequence, followed_by, lawful_nothing, lawful_octet_string}
+use Rattle.std.proofs.Common.{refl, inl, inr}
+use Rattle.asn1_core_format.specs.Choices.{Choice, known}
+use Rattle.asn1_core_oid.specs.Oid.{IsOid}
+use Rattle.asn1_core_oid.specs.OidTestLaws.{oid_from_test}
+use Rattle.x509_base.specs.Algorithms.{AlgorithmValue}
+use Rattle.x509_base.specs.AlgorithmChoices.{Table, IsTable}
+use Rattle.pkcs12_algs.specs.Algorithms.{raw_value}
+use Rattle.pkcs12_algs.specs.OidChoices.{among, any_other}
+use Rattle.pkcs12_algs.specs.OidChoiceLaws.{IsOidChoice, other_chosen, known_chosen, among_chosen}
+use Rattle.pkcs12_algs.specs.Oids.{pbkdf2_oid}
+use Rattle.pkcs12_algs.specs.Pbkdf2.{Pbkdf2Value, pbkdf2_value, pbkdf2_params, lawful_pbkdf2_params}
+use Rattle.pkcs12_algs.specs.Tables.{table, arm_with}
+use Rattle.pkcs12_algs.specs.TableLaws.{is_table, valid_arm}
+use Rattle.pkcs12_algs.specs.declared.pbes2.Pbes2AesCbcEncryption.{Pbes2AesCbcEncryption}
+use Rattle.pkcs12_algs.specs.declared.pbes2.Pbes2AesCbcEncryption.TheVariants.{Aes128, Aes192, Aes256}
+use Rattle.pkcs12_algs.specs.declared.pbes2.Pbes2EncryptionScheme.{Pbes2EncryptionScheme}
+use Rattle.pkcs12_algs.specs.declared.pbes2.Pbes2EncryptionScheme.TheVariants as Scheme
+use Rattle.pkcs12_algs.specs.declared.pbes2.Pbes2KeyDerivationFunc.{Pbes2KeyDerivationFunc}
+use Rattle.pkcs12_algs.specs.declared.pbes2.Pbes2KeyDerivationFunc.TheVariants as Kdf
+use Rattle.pkcs12_algs.specs.declared.pbes2.Pbes2Params.{Pbes2Params}
+
+-- aes128-CBC-PAD, aes192-CBC-PAD, aes256-CBC-PAD: 2.16.840.1.101.3.4.1 with 2, 22, 42 behind it
+abbrev pub aes_oid : Pbes2AesCbcEncryption → List ℕ
+aes_oid Aes128 = 0x60 ∷ 0x86 ∷ 0x48 ∷ 0x01 ∷ 0x65 ∷ 0x03 ∷ 0x04 ∷ 0x01 ∷ 0x02 ∷ []
+aes_oid Aes192 = 0x60 ∷ 0x86 ∷ 0x48 ∷ 0x01 ∷ 0x65 ∷ 0x03 ∷ 0x04 ∷ 0x01 ∷ 0x16 ∷ []
+aes_oid Aes256 = 0x60 ∷ 0x86 ∷ 0x48 ∷ 0x01 ∷ 0x65 ∷ 0x03 ∷ 0x04 ∷ 0x01 ∷ 0x2A ∷ []
+
+abbrev pub aes_kinds : List Pbes2AesCbcEncryption
+aes_kinds = Aes128 ∷ Aes192 ∷ Aes256 ∷ []
+
+abbrev pub aes_table : Table Pbes2AesCbcEncryption
+aes_table = table aes_oid aes_kinds
+
+found_aes : (a : Pbes2AesCbcEncryption) → arm_with aes_oid aes_kinds (aes_oid a) ≡ Some a
+found_aes Aes128 = refl
+found_aes Aes192 = refl
+found_aes Aes256 = refl
+
+pub aes_is_table : IsTable aes_table
+aes_is_table = is_table aes_oid aes_kinds found_aes
+
+pub aes_valid : (a : Pbes2AesCbcEncryption) → IsOid (aes_oid a)
+aes_valid a = valid_arm aes_oid aes_kinds refl (aes_oid a) a (found_aes a)
+
+-- PBKDF2 with its parameters, or any other function
+abbrev pub KdfValue : Type 0
+KdfValue = Pbkdf2Value ⊎ AlgorithmValue
+
+abbrev pub kdf_value : Pbes2KeyDerivationFunc → KdfValue
+kdf_value (Kdf.Pbkdf2 x) = inl (pbkdf2_value x)
+kdf_value (Kdf.Unknown a) = inr (raw_value a)
+
+abbrev pub kdf_choice : Choice KdfValue
+kdf_choice = known pbkdf2_oid pbkdf2_params any_other
+
+pub kdf_chosen : IsOidChoice kdf_choice
+kdf_chosen = known_chosen (oid_from_test pbkdf2_oid refl) lawful_pbkdf2_params.row other_chosen
+
+abbrev pub kdf : Format KdfValue
+kdf = sequence kdf_choice.row
+
+pub lawful_kdf : IsLawful kdf
+lawful_kdf = lawful_sequence kdf_chosen.lawful.row
+
+-- AES in CBC mode with its initialization vector, or any other scheme
+abbrev pub SchemeValue : Type 0
+SchemeValue = (Pbes2AesCbcEncryption × List ℕ) ⊎ AlgorithmValue
+
+abbrev pub scheme_value : Pbes2EncryptionScheme → SchemeValue
+scheme_value (Scheme.AesCbc kind iv) = inl (kind, iv.0.items)
+scheme_value (Scheme.Unknown a) = inr (raw_value a)
+
+abbrev pub scheme_choice : Choice SchemeValue
+scheme_choice = among aes_table octet_string any_other
+
+pub scheme_chosen : IsOidChoice scheme_choice
+scheme_chosen = among_chosen aes_is_table aes_valid lawful_octet_string.row other_chosen
+
+abbrev pub scheme : Format SchemeValue
+scheme = sequence scheme_choice.row
+
+pub lawful_scheme : IsLawful scheme
+lawful_scheme = lawful_sequence scheme_chosen.lawful.row
+
+-- the function, and the scheme
+abbrev pub Pbes2Value : Type 0
+Pbes2Value = KdfValue × (SchemeValue × Unit {0})
+
+abbrev pub pbes2_value : Pbes2Params → Pbes2Value
+pbes2_value x = (kdf_value x.key_derivation_func, (scheme_value x.encryption_scheme, tt))
+
+abbrev pub pbes2_params : Format Pbes2Value
+pbes2_params = sequence (part kdf (part scheme nothing))
+
+pub lawful_pbes2_params : IsLawful pbes2_params
+lawful_pbes2_params = lawful_sequence (followed_by lawful_kdf (followed_by lawful_scheme lawful_nothing))

@@ -1,0 +1,87 @@
+-- Keys from passwords by PBKDF2 (RFC 8018, 5.2 and appendix A.2).
+--
+-- PBKDF2-params ::= SEQUENCE {
+--     salt CHOICE { specified OCTET STRING, otherSource AlgorithmIdentifier {{PBKDF2-SaltSources}} },
+--     iterationCount INTEGER (1..MAX),
+--     keyLength INTEGER (1..MAX) OPTIONAL,
+--     prf AlgorithmIdentifier {{PBKDF2-PRFs}} DEFAULT algid-hmacWithSHA1 }
+--
+-- Counts and lengths of 0 are read, up to 2^32 - 1. A PRF that is left out and one that is HMAC with SHA-1 are told apart.
+use Rattle.std.specs.Prelude.{◌≡◌, ◌⊎◌, ◌^◌, ℕ, List, [], ◌∷◌, Option, map}
+use Rattle.asn1_core.specs.Der.{Format, IsLawful, sequence, part, optional, nothing, octet_string, number_below, option_value, lawful_sequence, followed_by, perhaps, lawful_nothing, lawful_octet_string, lawful_number}
+use Rattle.std.proofs.Common.{refl, inl, inr, ⊎_elim, arith}
+use Rattle.asn1_core_format.specs.Eithers.{either, lawful_either}
+use Rattle.x509_base.specs.Algorithms.{AlgorithmValue, raw_algorithm_identifier}
+use Rattle.x509_base.specs.AlgorithmLaws.{lawful_raw_algorithm_identifier}
+use Rattle.x509_base.specs.AlgorithmChoiceLaws.{lawful_algorithm_choice}
+use Rattle.pkcs12_algs.specs.Algorithms.{KnownOrRaw, known_or_raw, raw_value}
+use Rattle.pkcs12_algs.specs.Tables.{listing}
+use Rattle.pkcs12_algs.specs.TableLaws.{listing_is_table}
+use Rattle.pkcs12_algs.specs.declared.pbkdf2.Pbkdf2Params.{Pbkdf2Params}
+use Rattle.pkcs12_algs.specs.declared.pbkdf2.Pbkdf2SaltSource.{Pbkdf2SaltSource}
+use Rattle.pkcs12_algs.specs.declared.pbkdf2.Pbkdf2SaltSource.TheVariants.{Specified, OtherSource}
+use Rattle.pkcs12_algs.specs.declared.prfs.Pbkdf2Prf.{Pbkdf2Prf}
+use Rattle.pkcs12_algs.specs.declared.prfs.Pbkdf2Prf.TheVariants.{HmacWithSha1, HmacWithSha224, HmacWithSha256, HmacWithSha384, HmacWithSha512, Unknown}
+
+-- id-hmacWithSHA1 and its kin (RFC 8018, appendix B.1): 1.2.840.113549.2 with 7, 8, 9, 10, 11 behind it
+abbrev pub prf_oid : Pbkdf2Prf → List ℕ
+prf_oid HmacWithSha1 = 0x2A ∷ 0x86 ∷ 0x48 ∷ 0x86 ∷ 0xF7 ∷ 0x0D ∷ 0x02 ∷ 0x07 ∷ []
+prf_oid HmacWithSha224 = 0x2A ∷ 0x86 ∷ 0x48 ∷ 0x86 ∷ 0xF7 ∷ 0x0D ∷ 0x02 ∷ 0x08 ∷ []
+prf_oid HmacWithSha256 = 0x2A ∷ 0x86 ∷ 0x48 ∷ 0x86 ∷ 0xF7 ∷ 0x0D ∷ 0x02 ∷ 0x09 ∷ []
+prf_oid HmacWithSha384 = 0x2A ∷ 0x86 ∷ 0x48 ∷ 0x86 ∷ 0xF7 ∷ 0x0D ∷ 0x02 ∷ 0x0A ∷ []
+prf_oid HmacWithSha512 = 0x2A ∷ 0x86 ∷ 0x48 ∷ 0x86 ∷ 0xF7 ∷ 0x0D ∷ 0x02 ∷ 0x0B ∷ []
+prf_oid (Unknown a) = (raw_value a).0
+
+abbrev pub prf_oids : List (List ℕ)
+prf_oids = map prf_oid (HmacWithSha1 ∷ HmacWithSha224 ∷ HmacWithSha256 ∷ HmacWithSha384 ∷ HmacWithSha512 ∷ [])
+
+abbrev pub PrfValue : Type 0
+PrfValue = KnownOrRaw prf_oids
+
+abbrev pub prf_value : Pbkdf2Prf → PrfValue
+prf_value HmacWithSha1 = inl (prf_oid HmacWithSha1, refl)
+prf_value HmacWithSha224 = inl (prf_oid HmacWithSha224, refl)
+prf_value HmacWithSha256 = inl (prf_oid HmacWithSha256, refl)
+prf_value HmacWithSha384 = inl (prf_oid HmacWithSha384, refl)
+prf_value HmacWithSha512 = inl (prf_oid HmacWithSha512, refl)
+prf_value (Unknown a) = inr (raw_value a)
+
+abbrev pub prf : Format PrfValue
+prf = known_or_raw prf_oids
+
+pub lawful_prf : IsLawful prf
+lawful_prf = lawful_algorithm_choice (listing prf_oids) (listing_is_table prf_oids)
+
+-- the salt, or where it comes from
+abbrev pub SaltValue : Type 0
+SaltValue = List ℕ ⊎ AlgorithmValue
+
+abbrev pub salt_value : Pbkdf2SaltSource → SaltValue
+salt_value (Specified s) = inl s.0.items
+salt_value (OtherSource a) = inr (raw_value a)
+
+abbrev pub salt : Format SaltValue
+salt = either octet_string raw_algorithm_identifier
+
+pub lawful_salt : IsLawful salt
+lawful_salt = lawful_either octet_string raw_algorithm_identifier lawful_octet_string lawful_raw_algorithm_identifier (λ t h e. omega arith)
+
+-- the salt, the iteration count, the key length, and the PRF
+abbrev pub Pbkdf2Value : Type 0
+Pbkdf2Value = SaltValue × (ℕ × (Option ℕ × (Option PrfValue × Unit {0})))
+
+abbrev pub pbkdf2_value : Pbkdf2Params → Pbkdf2Value
+pbkdf2_value x = (salt_value x.salt, (x.iteration_count, (option_value (λ n. n) x.key_length, (option_value prf_value x.prf, tt))))
+
+abbrev pub pbkdf2_params : Format Pbkdf2Value
+pbkdf2_params =
+    sequence (part salt (part (number_below (2 ^ 32)) (optional (number_below (2 ^ 32)) (optional prf nothing))))
+
+-- a key length begins with 02, and a PRF with 30
+length_or_prf : (t : ℕ) → (number_below (2 ^ 32)).IsTag t → (optional prf nothing).IsTag t → ⊥
+length_or_prf t h e = ⊎_elim (λ (i : t ≡ 0x30). omega (arith, h, i)) (λ i. i) e
+
+pub lawful_pbkdf2_params : IsLawful pbkdf2_params
+lawful_pbkdf2_params =
+    lawful_sequence (followed_by lawful_salt (followed_by (lawful_number (2 ^ 32))
+    (perhaps (lawful_number (2 ^ 32)) length_or_prf (perhaps lawful_prf (λ t h e. e) lawful_nothing))))

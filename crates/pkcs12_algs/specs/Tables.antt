@@ -1,0 +1,34 @@
+-- Tables of known object identifiers, by their contents octets.
+use Rattle.std.specs.Prelude.{◌≡◌, ℕ, Bool, true, false, List, [], ◌∷◌, ◌&&◌, Option, Some, None, if◌then◌else◌}
+use Rattle.std.proofs.Common.{refl}
+use Rattle.std.specs.Str.{bytes_eq}
+use Rattle.asn1_core_oid.specs.OidTest.{is_oid}
+use Rattle.x509_base.specs.AlgorithmChoices.{Table}
+
+-- the first of the arms with that object identifier
+abbrev pub arm_with : {A : Type 0} → (A → List ℕ) → List A → List ℕ → Option A
+arm_with oid_of [] o = None
+arm_with oid_of (a ∷ arms) o = if bytes_eq o (oid_of a) then Some a else arm_with oid_of arms o
+
+abbrev pub table : {A : Type 0} → (A → List ℕ) → List A → Table A
+table oid_of arms = record { oid_of = oid_of; arm_of = arm_with oid_of arms }
+
+abbrev pub is_listed : List (List ℕ) → List ℕ → Bool
+is_listed [] o = false
+is_listed (p ∷ oids) o = if bytes_eq o p then true else is_listed oids o
+
+-- the object identifiers of a list, which are arms themselves
+abbrev pub Listed : List (List ℕ) → Type 0
+Listed oids = (o : List ℕ) × (is_listed oids o ≡ true)
+
+abbrev pub listed_where : (oids : List (List ℕ)) (o : List ℕ) (t : Bool) → is_listed oids o ≡ t → Option (Listed oids)
+listed_where oids o true e = Some (o, e)
+listed_where oids o false e = None
+
+abbrev pub listing : (oids : List (List ℕ)) → Table (Listed oids)
+listing oids = record { oid_of = λ a. a.0; arm_of = λ o. listed_where oids o (is_listed oids o) refl }
+
+-- each of them is spelled as an object identifier is
+abbrev pub are_oids : List (List ℕ) → Bool
+are_oids [] = true
+are_oids (o ∷ oids) = is_oid o && are_oids oids

@@ -1,0 +1,180 @@
+//! Digests with their algorithms.
+
+ghost use Rattle.std.specs.Prelude.{◌≡◌, Bool, true, MatchResult};
+ghost use Rattle.std.proofs.Common.{refl, rules};
+ghost use Rattle.asn1_core_element.specs.declared.error.Error.TheVariants.{Memory};
+ghost use Rattle.pkcs12_algs.specs.Algorithms.{raw_value, from_raw, into_raw};
+ghost use Rattle.pkcs12_algs.specs.Digests.{digest_oids, DigestValue, digest_value, DigestInfoValue, digest_info_value, digest_info, lawful_digest_info};
+ghost use Rattle.pkcs12_algs.specs.Equal.{digest_equal, digest_info_equal};
+
+use crate::algorithms::{
+    Algorithm, AlgorithmPart, AlgorithmRef, algorithm_from_raw, clone_algorithm, raw_of_algorithm,
+};
+use asn1_core::parts::{End, FirstTags, Part, WriteRow, put_within, read_within};
+use asn1_core::{
+    DerDeserialize, DerSerialize, Error, OctetStringAsn1, Reader, TryClone, Viewed, WriteError,
+    Writer,
+};
+use std::alloc::Global;
+use x509_base::RawAlgorithmIdentifier;
+
+/// `DigestAlgorithmIdentifier ::= AlgorithmIdentifier` (RFC 2315, 6.3), as the digest algorithm of a MAC (RFC 7292, 4):
+/// an algorithm that is known by its object identifier, whatever its parameters are, or any other.
+#[derive(Debug, Drop, PartialEq, Eq)]
+pub enum Pkcs12DigestAlgorithm {
+    Sha1,
+    Sha224,
+    Sha256,
+    Sha384,
+    Sha512,
+    Unknown(RawAlgorithmIdentifier),
+}
+
+const SHA1: &[u8] = &[0x2B, 0x0E, 0x03, 0x02, 0x1A];
+
+const SHA224: &[u8] = &[0x60, 0x86, 0x48, 0x01, 0x65, 0x03, 0x04, 0x02, 0x04];
+
+const SHA256: &[u8] = &[0x60, 0x86, 0x48, 0x01, 0x65, 0x03, 0x04, 0x02, 0x01];
+
+const SHA384: &[u8] = &[0x60, 0x86, 0x48, 0x01, 0x65, 0x03, 0x04, 0x02, 0x02];
+
+const SHA512: &[u8] = &[0x60, 0x86, 0x48, 0x01, 0x65, 0x03, 0x04, 0x02, 0x03];
+
+impl Algorithm for Pkcs12DigestAlgorithm {
+    ghost OIDS = { digest_oids };
+
+    ghost value = { digest_value };
+
+    fn parts(&self) -> Result<&'static [u8], &RawAlgorithmIdentifier> {
+        match self {
+            Self::Sha1 => Ok(SHA1),
+            Self::Sha224 => Ok(SHA224),
+            Self::Sha256 => Ok(SHA256),
+            Self::Sha384 => Ok(SHA384),
+            Self::Sha512 => Ok(SHA512),
+            Self::Unknown(raw) => Err(raw),
+        }
+    }
+
+    fn known(octets: &[u8]) -> Option<Self> {
+        match octets {
+            SHA1 => Some(Self::Sha1),
+            SHA224 => Some(Self::Sha224),
+            SHA256 => Some(Self::Sha256),
+            SHA384 => Some(Self::Sha384),
+            SHA512 => Some(Self::Sha512),
+            _ => None,
+        }
+    }
+
+    fn other(raw: RawAlgorithmIdentifier) -> Self {
+        Self::Unknown(raw)
+    }
+
+    ghost valid = { refl };
+}
+
+impl Pkcs12DigestAlgorithm {
+    /// The algorithm that an algorithm identifier stands for. The parameters of a known one are dropped.
+    pub fn from_raw(raw: RawAlgorithmIdentifier) -> Self
+        ensures { digest_value result ≡ from_raw digest_oids (raw_value raw) }
+    {
+        algorithm_from_raw(raw)
+    }
+
+    /// Its algorithm identifier: of a known one, without parameters. Refuses by `Memory` alone.
+    pub fn into_raw(self, alloc: Global) -> Result<RawAlgorithmIdentifier, Error>
+        ensures { MatchResult result (λ raw. raw_value raw ≡ into_raw digest_oids (digest_value self)) (λ e. e ≡ Memory) }
+    {
+        match self {
+            Self::Unknown(raw) => Ok(raw),
+            known => raw_of_algorithm(alloc, &known),
+        }
+    }
+}
+
+impl Viewed for Pkcs12DigestAlgorithm {
+    ghost View = { DigestValue };
+
+    ghost view = { digest_value };
+
+    ghost equal = { digest_equal };
+}
+
+impl TryClone for Pkcs12DigestAlgorithm {
+    fn try_clone(&self, alloc: Global) -> Result<Self, Error> {
+        clone_algorithm(alloc, self)
+    }
+}
+
+/// `DigestInfo ::= SEQUENCE { digestAlgorithm DigestAlgorithmIdentifier, digest Digest }`, as RFC 7292 takes it from
+/// RFC 2315, 9.4, with `Digest ::= OCTET STRING`. A known algorithm is written with NULL as its parameters.
+#[derive(Debug, Drop, PartialEq, Eq)]
+pub struct Pkcs12DigestInfo {
+    pub digest_algorithm: Pkcs12DigestAlgorithm,
+    pub digest: OctetStringAsn1,
+}
+
+type DigestInfoRow = Part<AlgorithmPart<Pkcs12DigestAlgorithm>, Part<OctetStringAsn1, End>>;
+
+impl DerSerialize for Pkcs12DigestInfo {
+    ghost Value = { DigestInfoValue };
+
+    ghost value = { digest_info_value };
+
+    ghost format = { digest_info };
+
+    fn put<W: Writer>(&self, w: &mut W) -> Result<(), WriteError> {
+        let row = Part(
+            AlgorithmRef(&self.digest_algorithm),
+            Part(&self.digest, End),
+        );
+        put_within(0x30, &row, w)
+    }
+
+    fn well_formed_at(&self, limit: u8) -> bool {
+        let row = Part(
+            AlgorithmRef(&self.digest_algorithm),
+            Part(&self.digest, End),
+        );
+        row.row_well_formed_at(limit)
+    }
+}
+
+impl DerDeserialize for Pkcs12DigestInfo {
+    fn read(alloc: Global, r: &mut Reader<'_>, nest: u8) -> Result<Self, Error> {
+        let row: DigestInfoRow = read_within(alloc, r, nest, 0x30)?;
+        let Part(AlgorithmPart(digest_algorithm), Part(digest, End)) = row;
+        Ok(Self {
+            digest_algorithm,
+            digest,
+        })
+    }
+
+    ghost lawful = { lawful_digest_info };
+}
+
+impl FirstTags for Pkcs12DigestInfo {
+    fn begins(tag: u8) -> bool {
+        tag == 0x30
+    }
+}
+
+impl Viewed for Pkcs12DigestInfo {
+    ghost View = { ⟦<Pkcs12DigestInfo as DerSerialize>⟧.Value };
+
+    ghost view = { ⟦<Pkcs12DigestInfo as DerSerialize>⟧.value };
+
+    ghost equal = { digest_info_equal };
+}
+
+impl TryClone for Pkcs12DigestInfo {
+    fn try_clone(&self, alloc: Global) -> Result<Self, Error> {
+        let digest_algorithm = self.digest_algorithm.try_clone(alloc)?;
+        let digest = self.digest.try_clone(alloc)?;
+        Ok(Self {
+            digest_algorithm,
+            digest,
+        })
+    }
+}

@@ -1,0 +1,97 @@
+//! What a PKCS #12 file is encrypted by.
+
+ghost use Rattle.std.specs.Prelude.{◌≡◌};
+ghost use Rattle.pkcs12_algs.specs.Encryption.{EncryptionAlgorithmValue, encryption_algorithm_value, encryption_algorithm, lawful_encryption_algorithm};
+ghost use Rattle.pkcs12_algs.specs.EncryptionEqual.{encryption_algorithm_equal};
+
+use crate::choices::{Among, WriteChoice, read_choice};
+use crate::pbes1::{Pbes1AlgorithmKind, Pbes1Params};
+use crate::pbes2::Pbes2Params;
+use asn1_core::parts::Either;
+use asn1_core::{
+    DerDeserialize, DerSerialize, Error, Reader, TryClone, Viewed, WriteError, Writer,
+};
+use std::alloc::Global;
+use x509_base::RawAlgorithmIdentifier;
+
+/// `ContentEncryptionAlgorithmIdentifier ::= AlgorithmIdentifier` (RFC 2315, 10.1), as PKCS #12 uses it: PBES2
+/// (RFC 8018, 6.2), one of `pkcs-12PbeIds` (RFC 7292, appendix C), or any other.
+#[derive(Debug, Drop, PartialEq, Eq)]
+pub enum Pkcs12EncryptionAlgorithm {
+    Pbes1 {
+        kind: Pbes1AlgorithmKind,
+        params: Pbes1Params,
+    },
+    Pbes2(Pbes2Params),
+    Unknown(RawAlgorithmIdentifier),
+}
+
+type Pbes1Ref<'a> = Among<Pbes1AlgorithmKind, &'a Pbes1Params, &'a RawAlgorithmIdentifier>;
+
+type EncryptionRef<'a> = Either<&'a Pbes2Params, Pbes1Ref<'a>>;
+
+type Pbes1Choice = Among<Pbes1AlgorithmKind, Pbes1Params, RawAlgorithmIdentifier>;
+
+impl Pkcs12EncryptionAlgorithm {
+    fn choice(&self) -> EncryptionRef<'_>
+        ensures { ⟦<EncryptionRef<'static> as WriteChoice>⟧.value result ≡ encryption_algorithm_value self.now }
+    {
+        match self {
+            Self::Pbes1 { kind, params } => Either::Second(Among::Arm(*kind, params)),
+            Self::Pbes2(params) => Either::First(params),
+            Self::Unknown(raw) => Either::Second(Among::Other(raw)),
+        }
+    }
+}
+
+impl DerSerialize for Pkcs12EncryptionAlgorithm {
+    ghost Value = { EncryptionAlgorithmValue };
+
+    ghost value = { encryption_algorithm_value };
+
+    ghost format = { encryption_algorithm };
+
+    fn put<W: Writer>(&self, w: &mut W) -> Result<(), WriteError> {
+        self.choice().put_choice(w)
+    }
+
+    fn well_formed_at(&self, limit: u8) -> bool {
+        self.choice().choice_well_formed_at(limit)
+    }
+}
+
+impl DerDeserialize for Pkcs12EncryptionAlgorithm {
+    fn read(alloc: Global, r: &mut Reader<'_>, nest: u8) -> Result<Self, Error> {
+        let choice: Either<Pbes2Params, Pbes1Choice> = read_choice(alloc, r, nest)?;
+        match choice {
+            Either::First(params) => Ok(Self::Pbes2(params)),
+            Either::Second(Among::Arm(kind, params)) => Ok(Self::Pbes1 { kind, params }),
+            Either::Second(Among::Other(raw)) => Ok(Self::Unknown(raw)),
+        }
+    }
+
+    ghost lawful = { lawful_encryption_algorithm };
+}
+
+impl Viewed for Pkcs12EncryptionAlgorithm {
+    ghost View = { ⟦<Pkcs12EncryptionAlgorithm as DerSerialize>⟧.Value };
+
+    ghost view = { ⟦<Pkcs12EncryptionAlgorithm as DerSerialize>⟧.value };
+
+    ghost equal = { encryption_algorithm_equal };
+}
+
+impl TryClone for Pkcs12EncryptionAlgorithm {
+    fn try_clone(&self, alloc: Global) -> Result<Self, Error> {
+        match self {
+            Self::Pbes1 { kind, params } => {
+                Ok(Self::Pbes1 {
+                    kind: *kind,
+                    params: params.try_clone(alloc)?,
+                })
+            }
+            Self::Pbes2(params) => Ok(Self::Pbes2(params.try_clone(alloc)?)),
+            Self::Unknown(raw) => Ok(Self::Unknown(raw.try_clone(alloc)?)),
+        }
+    }
+}

@@ -1,0 +1,84 @@
+//! MACs with what they were made from.
+
+ghost use Rattle.std.proofs.Common.{rules};
+ghost use Rattle.pkcs12_algs.specs.Digests.{MacValue, mac_value, mac_data, lawful_mac_data};
+ghost use Rattle.pkcs12_algs.specs.Equal.{mac_equal};
+
+use crate::digests::Pkcs12DigestInfo;
+use asn1_core::parts::{End, FirstTags, Maybe, Part, WriteRow, put_within, read_within};
+use asn1_core::{
+    DerDeserialize, DerSerialize, Error, OctetStringAsn1, Reader, TryClone, Viewed, WriteError,
+    Writer,
+};
+use std::alloc::Global;
+
+/// `MacData ::= SEQUENCE { mac DigestInfo, macSalt OCTET STRING, iterations INTEGER DEFAULT 1 }` (RFC 7292, 4). A
+/// count that is left out and one that is 1 are told apart, and written as they were read.
+#[derive(Debug, Drop, PartialEq, Eq)]
+pub struct MacData {
+    pub mac: Pkcs12DigestInfo,
+    pub salt: OctetStringAsn1,
+    pub iterations: Option<u32>,
+}
+
+type MacRow = Part<Pkcs12DigestInfo, Part<OctetStringAsn1, Maybe<u32, End>>>;
+
+impl DerSerialize for MacData {
+    ghost Value = { MacValue };
+
+    ghost value = { mac_value };
+
+    ghost format = { mac_data };
+
+    fn put<W: Writer>(&self, w: &mut W) -> Result<(), WriteError> {
+        put_within(
+            0x30,
+            &Part(&self.mac, Part(&self.salt, Maybe(self.iterations, End))),
+            w,
+        )
+    }
+
+    fn well_formed_at(&self, limit: u8) -> bool {
+        Part(&self.mac, Part(&self.salt, Maybe(self.iterations, End))).row_well_formed_at(limit)
+    }
+}
+
+impl DerDeserialize for MacData {
+    fn read(alloc: Global, r: &mut Reader<'_>, nest: u8) -> Result<Self, Error> {
+        let row: MacRow = read_within(alloc, r, nest, 0x30)?;
+        let Part(mac, Part(salt, Maybe(iterations, End))) = row;
+        Ok(Self {
+            mac,
+            salt,
+            iterations,
+        })
+    }
+
+    ghost lawful = { lawful_mac_data };
+}
+
+impl FirstTags for MacData {
+    fn begins(tag: u8) -> bool {
+        tag == 0x30
+    }
+}
+
+impl Viewed for MacData {
+    ghost View = { ⟦<MacData as DerSerialize>⟧.Value };
+
+    ghost view = { ⟦<MacData as DerSerialize>⟧.value };
+
+    ghost equal = { mac_equal };
+}
+
+impl TryClone for MacData {
+    fn try_clone(&self, alloc: Global) -> Result<Self, Error> {
+        let mac = self.mac.try_clone(alloc)?;
+        let salt = self.salt.try_clone(alloc)?;
+        Ok(Self {
+            mac,
+            salt,
+            iterations: self.iterations,
+        })
+    }
+}

@@ -1,0 +1,128 @@
+//! Encryption by a password with parameters of the first kind.
+
+ghost use Rattle.std.specs.Prelude.{◌≡◌, MatchResult};
+ghost use Rattle.std.proofs.Common.{rules};
+ghost use Rattle.asn1_core_element.specs.declared.error.Error.TheVariants.{Memory};
+ghost use Rattle.asn1_core_oid.specs.OidValue.{octets_of};
+ghost use Rattle.pkcs12_algs.specs.Pbes1.{pbe_oid, pbe_table, pbe_is_table, pbe_valid, Pbes1Value, pbes1_value, pbes1_params, lawful_pbes1_params};
+ghost use Rattle.pkcs12_algs.specs.declared.pbes1.Pbes1AlgorithmKind.{Pbes1AlgorithmKind};
+
+use crate::kinds::{Kind, oid_of_kind};
+use asn1_core::parts::{End, Part, WriteRow, put_within, read_within};
+use asn1_core::{
+    DerDeserialize, DerSerialize, Error, ObjectIdentifier, OctetStringAsn1, Reader, TryClone,
+    Viewed, WriteError, Writer,
+};
+use std::alloc::Global;
+
+/// The algorithms of `pkcs-12PbeIds` (RFC 7292, appendix C) that are known.
+#[derive(Clone, Copy, Debug, PartialEq, Eq)]
+pub enum Pbes1AlgorithmKind {
+    /// `pbeWithSHAAnd40BitRC2-CBC`
+    ShaAnd40BitRc2Cbc,
+    /// `pbeWithSHAAnd3-KeyTripleDES-CBC`
+    ShaAnd3Key3DesCbc,
+}
+
+const RC2: &[u8] = &[0x2A, 0x86, 0x48, 0x86, 0xF7, 0x0D, 0x01, 0x0C, 0x01, 0x06];
+
+const TRIPLE_DES: &[u8] = &[0x2A, 0x86, 0x48, 0x86, 0xF7, 0x0D, 0x01, 0x0C, 0x01, 0x03];
+
+impl Kind for Pbes1AlgorithmKind {
+    ghost table = { pbe_table };
+
+    fn octets(self) -> &'static [u8] {
+        match self {
+            Self::ShaAnd40BitRc2Cbc => RC2,
+            Self::ShaAnd3Key3DesCbc => TRIPLE_DES,
+        }
+    }
+
+    fn with_octets(octets: &[u8]) -> Option<Self> {
+        match octets {
+            RC2 => Some(Self::ShaAnd40BitRc2Cbc),
+            TRIPLE_DES => Some(Self::ShaAnd3Key3DesCbc),
+            _ => None,
+        }
+    }
+
+    ghost is_table = { pbe_is_table };
+
+    ghost valid = { pbe_valid };
+}
+
+impl Pbes1AlgorithmKind {
+    /// Its object identifier. Refuses by `Memory` alone.
+    pub fn to_oid(&self, alloc: Global) -> Result<ObjectIdentifier, Error>
+        ensures { MatchResult result (λ oid. octets_of oid ≡ pbe_oid self.now) (λ e. e ≡ Memory) }
+    {
+        oid_of_kind(alloc, *self)
+    }
+}
+
+impl Viewed for Pbes1AlgorithmKind {
+    ghost View = { Pbes1AlgorithmKind };
+
+    ghost view = { λ x. x };
+
+    ghost equal = { Prim.search rules };
+}
+
+impl TryClone for Pbes1AlgorithmKind {
+    fn try_clone(&self, _alloc: Global) -> Result<Self, Error> {
+        Ok(*self)
+    }
+}
+
+/// `pkcs-12PbeParams ::= SEQUENCE { salt OCTET STRING, iterations INTEGER }` (RFC 7292, appendix C)
+#[derive(Debug, Drop, PartialEq, Eq)]
+pub struct Pbes1Params {
+    pub salt: OctetStringAsn1,
+    pub iterations: u32,
+}
+
+type Pbes1Row = Part<OctetStringAsn1, Part<u32, End>>;
+
+impl DerSerialize for Pbes1Params {
+    ghost Value = { Pbes1Value };
+
+    ghost value = { pbes1_value };
+
+    ghost format = { pbes1_params };
+
+    fn put<W: Writer>(&self, w: &mut W) -> Result<(), WriteError> {
+        put_within(0x30, &Part(&self.salt, Part(self.iterations, End)), w)
+    }
+
+    fn well_formed_at(&self, limit: u8) -> bool {
+        Part(&self.salt, Part(self.iterations, End)).row_well_formed_at(limit)
+    }
+}
+
+impl DerDeserialize for Pbes1Params {
+    fn read(alloc: Global, r: &mut Reader<'_>, nest: u8) -> Result<Self, Error> {
+        let row: Pbes1Row = read_within(alloc, r, nest, 0x30)?;
+        let Part(salt, Part(iterations, End)) = row;
+        Ok(Self { salt, iterations })
+    }
+
+    ghost lawful = { lawful_pbes1_params };
+}
+
+impl Viewed for Pbes1Params {
+    ghost View = { ⟦<Pbes1Params as DerSerialize>⟧.Value };
+
+    ghost view = { ⟦<Pbes1Params as DerSerialize>⟧.value };
+
+    ghost equal = { Prim.search rules };
+}
+
+impl TryClone for Pbes1Params {
+    fn try_clone(&self, alloc: Global) -> Result<Self, Error> {
+        let salt = self.salt.try_clone(alloc)?;
+        Ok(Self {
+            salt,
+            iterations: self.iterations,
+        })
+    }
+}

@@ -1,0 +1,293 @@
+//! Encryption by PBES2: key derivation, and then an encryption scheme.
+
+ghost use Rattle.std.specs.Prelude.{◌≡◌, MatchResult};
+ghost use Rattle.std.proofs.Common.{refl, rules};
+ghost use Rattle.asn1_core_element.specs.declared.error.Error.TheVariants.{Memory};
+ghost use Rattle.asn1_core_oid.specs.OidTestLaws.{oid_from_test};
+ghost use Rattle.asn1_core_oid.specs.OidValue.{octets_of};
+ghost use Rattle.pkcs12_algs.specs.Oids.{pbes2_oid};
+ghost use Rattle.pkcs12_algs.specs.Pbes2.{aes_oid, aes_table, aes_is_table, aes_valid, KdfValue, kdf_value, kdf, lawful_kdf, SchemeValue, scheme_value, scheme, lawful_scheme, Pbes2Value, pbes2_value, pbes2_params, lawful_pbes2_params};
+ghost use Rattle.pkcs12_algs.specs.declared.pbes2.Pbes2AesCbcEncryption.{Pbes2AesCbcEncryption};
+ghost use Rattle.pkcs12_algs.specs.Equal.{kdf_equal, pbes2_equal};
+
+use crate::choices::{Among, Parameters, WriteChoice, read_choice};
+use crate::kinds::{Kind, oid_of_kind};
+use crate::pbkdf2::Pbkdf2Params;
+use asn1_core::parts::{Either, End, Part, WriteRow, put_within, read_within};
+use asn1_core::{
+    DerDeserialize, DerSerialize, Error, ObjectIdentifier, OctetStringAsn1, Reader, TryClone,
+    Viewed, WriteError, Writer,
+};
+use std::alloc::Global;
+use x509_base::RawAlgorithmIdentifier;
+
+/// `AlgorithmIdentifier {{PBES2-KDFs}}` (RFC 8018, appendix A.4)
+#[derive(Debug, Drop, PartialEq, Eq)]
+pub enum Pbes2KeyDerivationFunc {
+    Pbkdf2(Pbkdf2Params),
+    Unknown(RawAlgorithmIdentifier),
+}
+
+type KdfRef<'a> = Either<&'a Pbkdf2Params, &'a RawAlgorithmIdentifier>;
+
+impl Pbes2KeyDerivationFunc {
+    fn choice(&self) -> KdfRef<'_>
+        ensures { ⟦<KdfRef<'static> as WriteChoice>⟧.value result ≡ kdf_value self.now }
+    {
+        match self {
+            Self::Pbkdf2(params) => Either::First(params),
+            Self::Unknown(raw) => Either::Second(raw),
+        }
+    }
+}
+
+impl DerSerialize for Pbes2KeyDerivationFunc {
+    ghost Value = { KdfValue };
+
+    ghost value = { kdf_value };
+
+    ghost format = { kdf };
+
+    fn put<W: Writer>(&self, w: &mut W) -> Result<(), WriteError> {
+        self.choice().put_choice(w)
+    }
+
+    fn well_formed_at(&self, limit: u8) -> bool {
+        self.choice().choice_well_formed_at(limit)
+    }
+}
+
+impl DerDeserialize for Pbes2KeyDerivationFunc {
+    fn read(alloc: Global, r: &mut Reader<'_>, nest: u8) -> Result<Self, Error> {
+        let choice: Either<Pbkdf2Params, RawAlgorithmIdentifier> = read_choice(alloc, r, nest)?;
+        match choice {
+            Either::First(params) => Ok(Self::Pbkdf2(params)),
+            Either::Second(raw) => Ok(Self::Unknown(raw)),
+        }
+    }
+
+    ghost lawful = { lawful_kdf };
+}
+
+impl Viewed for Pbes2KeyDerivationFunc {
+    ghost View = { ⟦<Pbes2KeyDerivationFunc as DerSerialize>⟧.Value };
+
+    ghost view = { ⟦<Pbes2KeyDerivationFunc as DerSerialize>⟧.value };
+
+    ghost equal = { kdf_equal };
+}
+
+impl TryClone for Pbes2KeyDerivationFunc {
+    fn try_clone(&self, alloc: Global) -> Result<Self, Error> {
+        match self {
+            Self::Pbkdf2(params) => Ok(Self::Pbkdf2(params.try_clone(alloc)?)),
+            Self::Unknown(raw) => Ok(Self::Unknown(raw.try_clone(alloc)?)),
+        }
+    }
+}
+
+/// AES in CBC mode with padding (RFC 8018, appendix B.2.5), by the length of its key in bits.
+#[derive(Clone, Copy, Debug, PartialEq, Eq)]
+pub enum Pbes2AesCbcEncryption {
+    Aes128,
+    Aes192,
+    Aes256,
+}
+
+const AES128: &[u8] = &[0x60, 0x86, 0x48, 0x01, 0x65, 0x03, 0x04, 0x01, 0x02];
+
+const AES192: &[u8] = &[0x60, 0x86, 0x48, 0x01, 0x65, 0x03, 0x04, 0x01, 0x16];
+
+const AES256: &[u8] = &[0x60, 0x86, 0x48, 0x01, 0x65, 0x03, 0x04, 0x01, 0x2A];
+
+impl Kind for Pbes2AesCbcEncryption {
+    ghost table = { aes_table };
+
+    fn octets(self) -> &'static [u8] {
+        match self {
+            Self::Aes128 => AES128,
+            Self::Aes192 => AES192,
+            Self::Aes256 => AES256,
+        }
+    }
+
+    fn with_octets(octets: &[u8]) -> Option<Self> {
+        match octets {
+            AES128 => Some(Self::Aes128),
+            AES192 => Some(Self::Aes192),
+            AES256 => Some(Self::Aes256),
+            _ => None,
+        }
+    }
+
+    ghost is_table = { aes_is_table };
+
+    ghost valid = { aes_valid };
+}
+
+impl Pbes2AesCbcEncryption {
+    /// Its object identifier. Refuses by `Memory` alone.
+    pub fn to_oid(&self, alloc: Global) -> Result<ObjectIdentifier, Error>
+        ensures { MatchResult result (λ oid. octets_of oid ≡ aes_oid self.now) (λ e. e ≡ Memory) }
+    {
+        oid_of_kind(alloc, *self)
+    }
+}
+
+impl Viewed for Pbes2AesCbcEncryption {
+    ghost View = { Pbes2AesCbcEncryption };
+
+    ghost view = { λ x. x };
+
+    ghost equal = { Prim.search rules };
+}
+
+impl TryClone for Pbes2AesCbcEncryption {
+    fn try_clone(&self, _alloc: Global) -> Result<Self, Error> {
+        Ok(*self)
+    }
+}
+
+/// `AlgorithmIdentifier {{PBES2-Encs}}` (RFC 8018, appendix A.4)
+#[derive(Debug, Drop, PartialEq, Eq)]
+pub enum Pbes2EncryptionScheme {
+    AesCbc {
+        kind: Pbes2AesCbcEncryption,
+        /// The initialization vector. Its length is not looked at.
+        iv: OctetStringAsn1,
+    },
+    Unknown(RawAlgorithmIdentifier),
+}
+
+type SchemeRef<'a> = Among<Pbes2AesCbcEncryption, &'a OctetStringAsn1, &'a RawAlgorithmIdentifier>;
+
+type SchemeChoice = Among<Pbes2AesCbcEncryption, OctetStringAsn1, RawAlgorithmIdentifier>;
+
+impl Pbes2EncryptionScheme {
+    fn choice(&self) -> SchemeRef<'_>
+        ensures { ⟦<SchemeRef<'static> as WriteChoice>⟧.value result ≡ scheme_value self.now }
+    {
+        match self {
+            Self::AesCbc { kind, iv } => Among::Arm(*kind, iv),
+            Self::Unknown(raw) => Among::Other(raw),
+        }
+    }
+}
+
+impl DerSerialize for Pbes2EncryptionScheme {
+    ghost Value = { SchemeValue };
+
+    ghost value = { scheme_value };
+
+    ghost format = { scheme };
+
+    fn put<W: Writer>(&self, w: &mut W) -> Result<(), WriteError> {
+        self.choice().put_choice(w)
+    }
+
+    fn well_formed_at(&self, limit: u8) -> bool {
+        self.choice().choice_well_formed_at(limit)
+    }
+}
+
+impl DerDeserialize for Pbes2EncryptionScheme {
+    fn read(alloc: Global, r: &mut Reader<'_>, nest: u8) -> Result<Self, Error> {
+        let choice: SchemeChoice = read_choice(alloc, r, nest)?;
+        match choice {
+            Among::Arm(kind, iv) => Ok(Self::AesCbc { kind, iv }),
+            Among::Other(raw) => Ok(Self::Unknown(raw)),
+        }
+    }
+
+    ghost lawful = { lawful_scheme };
+}
+
+impl Viewed for Pbes2EncryptionScheme {
+    ghost View = { ⟦<Pbes2EncryptionScheme as DerSerialize>⟧.Value };
+
+    ghost view = { ⟦<Pbes2EncryptionScheme as DerSerialize>⟧.value };
+
+    ghost equal = { Prim.search rules };
+}
+
+impl TryClone for Pbes2EncryptionScheme {
+    fn try_clone(&self, alloc: Global) -> Result<Self, Error> {
+        match self {
+            Self::AesCbc { kind, iv } => Ok(Self::AesCbc {
+                kind: *kind,
+                iv: iv.try_clone(alloc)?,
+            }),
+            Self::Unknown(raw) => Ok(Self::Unknown(raw.try_clone(alloc)?)),
+        }
+    }
+}
+
+/// `PBES2-params ::= SEQUENCE { keyDerivationFunc AlgorithmIdentifier {{PBES2-KDFs}}, encryptionScheme AlgorithmIdentifier
+/// {{PBES2-Encs}} }` (RFC 8018, appendix A.4)
+#[derive(Debug, Drop, PartialEq, Eq)]
+pub struct Pbes2Params {
+    pub key_derivation_func: Pbes2KeyDerivationFunc,
+    pub encryption_scheme: Pbes2EncryptionScheme,
+}
+
+type Pbes2Row = Part<Pbes2KeyDerivationFunc, Part<Pbes2EncryptionScheme, End>>;
+
+impl DerSerialize for Pbes2Params {
+    ghost Value = { Pbes2Value };
+
+    ghost value = { pbes2_value };
+
+    ghost format = { pbes2_params };
+
+    fn put<W: Writer>(&self, w: &mut W) -> Result<(), WriteError> {
+        let scheme = Part(&self.encryption_scheme, End);
+        put_within(0x30, &Part(&self.key_derivation_func, scheme), w)
+    }
+
+    fn well_formed_at(&self, limit: u8) -> bool {
+        let scheme = Part(&self.encryption_scheme, End);
+        Part(&self.key_derivation_func, scheme).row_well_formed_at(limit)
+    }
+}
+
+impl DerDeserialize for Pbes2Params {
+    fn read(alloc: Global, r: &mut Reader<'_>, nest: u8) -> Result<Self, Error> {
+        let row: Pbes2Row = read_within(alloc, r, nest, 0x30)?;
+        let Part(key_derivation_func, Part(encryption_scheme, End)) = row;
+        Ok(Self {
+            key_derivation_func,
+            encryption_scheme,
+        })
+    }
+
+    ghost lawful = { lawful_pbes2_params };
+}
+
+impl Parameters for Pbes2Params {
+    ghost OID = { pbes2_oid };
+
+    fn octets() -> &'static [u8] {
+        &[0x2A, 0x86, 0x48, 0x86, 0xF7, 0x0D, 0x01, 0x05, 0x0D]
+    }
+
+    ghost valid = { oid_from_test pbes2_oid refl };
+}
+
+impl Viewed for Pbes2Params {
+    ghost View = { ⟦<Pbes2Params as DerSerialize>⟧.Value };
+
+    ghost view = { ⟦<Pbes2Params as DerSerialize>⟧.value };
+
+    ghost equal = { pbes2_equal };
+}
+
+impl TryClone for Pbes2Params {
+    fn try_clone(&self, alloc: Global) -> Result<Self, Error> {
+        let key_derivation_func = self.key_derivation_func.try_clone(alloc)?;
+        let encryption_scheme = self.encryption_scheme.try_clone(alloc)?;
+        Ok(Self {
+            key_derivation_func,
+            encryption_scheme,
+        })
+    }
+}

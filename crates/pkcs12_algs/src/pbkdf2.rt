@@ -1,0 +1,206 @@
+//! The parameters of PBKDF2.
+
+ghost use Rattle.std.specs.Prelude.{◌≡◌};
+ghost use Rattle.std.proofs.Common.{rules, refl};
+ghost use Rattle.asn1_core_oid.specs.OidTestLaws.{oid_from_test};
+ghost use Rattle.pkcs12_algs.specs.Oids.{pbkdf2_oid};
+ghost use Rattle.pkcs12_algs.specs.Pbkdf2.{SaltValue, salt_value, salt, lawful_salt, Pbkdf2Value, pbkdf2_value, pbkdf2_params, lawful_pbkdf2_params};
+ghost use Rattle.pkcs12_algs.specs.Equal.{pbkdf2_equal};
+
+use crate::algorithms::{AlgorithmPart, AlgorithmRef};
+use crate::choices::Parameters;
+use crate::prfs::Pbkdf2Prf;
+use asn1_core::parts::{End, Maybe, Part, WriteRow, put_within, read_within};
+use asn1_core::{
+    DerDeserialize, DerSerialize, Error, OctetStringAsn1, Reader, TryClone, Viewed, WriteError,
+    Writer,
+};
+use asn1_core_format::rows::next_is;
+use std::alloc::Global;
+use x509_base::RawAlgorithmIdentifier;
+
+/// `salt CHOICE { specified OCTET STRING, otherSource AlgorithmIdentifier {{PBKDF2-SaltSources}} }`
+#[derive(Debug, Drop, PartialEq, Eq)]
+pub enum Pbkdf2SaltSource {
+    Specified(OctetStringAsn1),
+    OtherSource(RawAlgorithmIdentifier),
+}
+
+/// A salt that is only lent, as a part that writes.
+#[derive(Drop)]
+struct SaltRef<'a>(&'a Pbkdf2SaltSource);
+
+impl DerSerialize for SaltRef<'_> {
+    ghost Value = { SaltValue };
+
+    ghost value = { λ x. salt_value x.0.now };
+
+    ghost format = { salt };
+
+    fn put<W: Writer>(&self, w: &mut W) -> Result<(), WriteError> {
+        match self.0 {
+            Pbkdf2SaltSource::Specified(salt) => salt.put(w),
+            Pbkdf2SaltSource::OtherSource(raw) => raw.put(w),
+        }
+    }
+
+    fn well_formed_at(&self, limit: u8) -> bool {
+        match self.0 {
+            Pbkdf2SaltSource::Specified(salt) => salt.well_formed_at(limit),
+            Pbkdf2SaltSource::OtherSource(raw) => raw.well_formed_at(limit),
+        }
+    }
+}
+
+/// A salt as a part that is read.
+#[derive(Drop)]
+struct SaltPart(Pbkdf2SaltSource);
+
+impl DerSerialize for SaltPart {
+    ghost Value = { SaltValue };
+
+    ghost value = { λ x. salt_value x.0 };
+
+    ghost format = { salt };
+
+    fn put<W: Writer>(&self, w: &mut W) -> Result<(), WriteError> {
+        SaltRef(&self.0).put(w)
+    }
+
+    fn well_formed_at(&self, limit: u8) -> bool {
+        SaltRef(&self.0).well_formed_at(limit)
+    }
+}
+
+impl DerDeserialize for SaltPart {
+    fn read(alloc: Global, r: &mut Reader<'_>, nest: u8) -> Result<Self, Error> {
+        if next_is::<OctetStringAsn1>(r) {
+            let salt = OctetStringAsn1::read(alloc, r, nest)?;
+            return Ok(SaltPart(Pbkdf2SaltSource::Specified(salt)));
+        }
+        let raw = RawAlgorithmIdentifier::read(alloc, r, nest)?;
+        Ok(SaltPart(Pbkdf2SaltSource::OtherSource(raw)))
+    }
+
+    ghost lawful = { lawful_salt };
+}
+
+impl Viewed for Pbkdf2SaltSource {
+    ghost View = { SaltValue };
+
+    ghost view = { salt_value };
+
+    ghost equal = { Prim.search rules };
+}
+
+impl TryClone for Pbkdf2SaltSource {
+    fn try_clone(&self, alloc: Global) -> Result<Self, Error> {
+        match self {
+            Self::Specified(salt) => Ok(Self::Specified(salt.try_clone(alloc)?)),
+            Self::OtherSource(raw) => Ok(Self::OtherSource(raw.try_clone(alloc)?)),
+        }
+    }
+}
+
+/// `PBKDF2-params ::= SEQUENCE { salt CHOICE { .. }, iterationCount INTEGER (1..MAX), keyLength INTEGER (1..MAX) OPTIONAL,
+/// prf AlgorithmIdentifier {{PBKDF2-PRFs}} DEFAULT algid-hmacWithSHA1 }` (RFC 8018, appendix A.2). A count or length
+/// of 0 is read. A PRF that is left out and one that is the default are told apart, and written as they were read.
+#[derive(Debug, Drop, PartialEq, Eq)]
+pub struct Pbkdf2Params {
+    pub salt: Pbkdf2SaltSource,
+    pub iteration_count: u32,
+    /// In octets.
+    pub key_length: Option<u32>,
+    pub prf: Option<Pbkdf2Prf>,
+}
+
+type Pbkdf2Row = Part<SaltPart, Part<u32, Maybe<u32, Maybe<AlgorithmPart<Pbkdf2Prf>, End>>>>;
+
+type Pbkdf2Ref<'a> = Part<
+    SaltRef<'a>,
+    Part<u32, Maybe<u32, Maybe<AlgorithmRef<'a, Pbkdf2Prf>, End>>>,
+>;
+
+impl Pbkdf2Params {
+    fn row(&self) -> Pbkdf2Ref<'_>
+        ensures { ⟦<Pbkdf2Ref<'static> as WriteRow>⟧.value result ≡ ⟦<Pbkdf2Params as DerSerialize>⟧.value self.now }
+    {
+        let prf = match &self.prf {
+            Some(prf) => Some(AlgorithmRef(prf)),
+            None => None,
+        };
+        Part(
+            SaltRef(&self.salt),
+            Part(
+                self.iteration_count,
+                Maybe(self.key_length, Maybe(prf, End)),
+            ),
+        )
+    }
+}
+
+impl DerSerialize for Pbkdf2Params {
+    ghost Value = { Pbkdf2Value };
+
+    ghost value = { pbkdf2_value };
+
+    ghost format = { pbkdf2_params };
+
+    fn put<W: Writer>(&self, w: &mut W) -> Result<(), WriteError> {
+        put_within(0x30, &self.row(), w)
+    }
+
+    fn well_formed_at(&self, limit: u8) -> bool {
+        self.row().row_well_formed_at(limit)
+    }
+}
+
+impl DerDeserialize for Pbkdf2Params {
+    fn read(alloc: Global, r: &mut Reader<'_>, nest: u8) -> Result<Self, Error> {
+        let row: Pbkdf2Row = read_within(alloc, r, nest, 0x30)?;
+        let Part(SaltPart(salt), Part(iteration_count, Maybe(key_length, Maybe(prf, End)))) = row;
+        let prf = match prf {
+            Some(AlgorithmPart(prf)) => Some(prf),
+            None => None,
+        };
+        Ok(Self {
+            salt,
+            iteration_count,
+            key_length,
+            prf,
+        })
+    }
+
+    ghost lawful = { lawful_pbkdf2_params };
+}
+
+impl Parameters for Pbkdf2Params {
+    ghost OID = { pbkdf2_oid };
+
+    fn octets() -> &'static [u8] {
+        &[0x2A, 0x86, 0x48, 0x86, 0xF7, 0x0D, 0x01, 0x05, 0x0C]
+    }
+
+    ghost valid = { oid_from_test pbkdf2_oid refl };
+}
+
+impl Viewed for Pbkdf2Params {
+    ghost View = { ⟦<Pbkdf2Params as DerSerialize>⟧.Value };
+
+    ghost view = { ⟦<Pbkdf2Params as DerSerialize>⟧.value };
+
+    ghost equal = { pbkdf2_equal };
+}
+
+impl TryClone for Pbkdf2Params {
+    fn try_clone(&self, alloc: Global) -> Result<Self, Error> {
+        let salt = self.salt.try_clone(alloc)?;
+        let prf = self.prf.try_clone(alloc)?;
+        Ok(Self {
+            salt,
+            iteration_count: self.iteration_count,
+            key_length: self.key_length,
+            prf,
+        })
+    }
+}
