@@ -10,11 +10,11 @@ use Rattle.x509_containers.specs.Oids.{data_oid}
 use Rattle.x509_containers.specs.AuthSafes.{data_content, any_content, unknown_content, raw_auth_safe_choice, raw_auth_safe}
 
 pub lawful_data_content : {V : Type 0} (F : Format V) → IsLawful F → IsLawful (data_content F)
-lawful_data_content F f = lawful_within (within 4 F) (lawful_within F f.row 4 (omega arith)).row 160 (omega arith)
+lawful_data_content F f = lawful_within (within 0x04 F) (lawful_within F f.row 0x04 (omega arith)).row 0xA0 (omega arith)
 
 pub lawful_unknown_content : IsLawfulChoice unknown_content
 lawful_unknown_content =
-    lawful_otherwise IsOid any_content (lawful_optional (within 160 raw) nothing (lawful_within raw lawful_raw.row 160 (omega arith)) lawful_nothing (λ t h e. e))
+    lawful_otherwise IsOid any_content (lawful_optional (within 0xA0 raw) nothing (lawful_within raw lawful_raw.row 0xA0 (omega arith)) lawful_nothing (λ t h e. e))
 
 pub lawful_raw_auth_safe_choice : IsLawfulChoice raw_auth_safe_choice
 lawful_raw_auth_safe_choice = lawful_known data_oid (data_content raw) unknown_content (lawful_data_content raw lawful_raw).row lawful_unknown_content
@@ -23,4 +23,4 @@ pub lawful_raw_auth_safe_row : IsLawfulRow raw_auth_safe_choice.row
 lawful_raw_auth_safe_row = lawful_raw_auth_safe_choice.row
 
 pub lawful_raw_auth_safe : IsLawful raw_auth_safe
-lawful_raw_auth_safe = lawful_within raw_auth_safe_choice.row lawful_raw_auth_safe_row 48 (omega arith)
+lawful_raw_auth_safe = lawful_within raw_auth_safe_choice.row lawful_raw_auth_safe_row 0x30 (omega arith)

@@ -13,7 +13,7 @@ use Rattle.x509_containers.specs.declared.auth_safes.RawAuthenticatedSafeContent
 
 -- an element in the OCTET STRING
 abbrev pub data_content : {V : Type 0} → Format V → Format V
-data_content F = within 0xA0 (within 4 F)
+data_content F = within 0xA0 (within 0x04 F)
 
 -- any content, or none
 abbrev pub ContentValue : Type 0
@@ -37,12 +37,4 @@ abbrev pub raw_auth_safe_choice : Choice RawAuthSafeValue
 raw_auth_safe_choice = known data_oid (data_content raw) unknown_content
 
 abbrev pub raw_auth_safe : Format RawAuthSafeValue
-raw_auth_safe = within 48 raw_auth_safe_choice.row
-
--- what `==` sees
-abbrev pub RawAuthSafeView : Type 0
-RawAuthSafeView = List ℕ ⊎ (List ℕ × Option (List ℕ))
-
-abbrev pub raw_auth_safe_view : RawAuthenticatedSafeContentInfo → RawAuthSafeView
-raw_auth_safe_view (Data x) = inl x.0.items
-raw_auth_safe_view (Unknown t c) = inr (octets_of t, option_value (λ x. x.0.items) c)
+raw_auth_safe = within 0x30 raw_auth_safe_choice.row

@@ -1,8 +1,7 @@
 -- The kinds of input that the program knows, by the words that name them.
 use Rattle.std.specs.Prelude.{ℕ, List, codes}
 use Rattle.x509_containers_engine.specs.Engine.{Rewriting, rewriting_of}
-use Rattle.x509_containers.specs.DigestInfos.{digest_info}
-use Rattle.x509_containers.specs.Macs.{mac_data}
+use Rattle.pkcs12_algs.specs.Digests.{digest_info, mac_data}
 use Rattle.x509_containers.specs.Pfxs.{raw_pfx}
 use Rattle.x509_containers.specs.declared.kinds.Kind.{Kind}
 use Rattle.x509_containers.specs.declared.kinds.Kind.TheVariants.{MacData, Pkcs12DigestInfo, RawPfx}

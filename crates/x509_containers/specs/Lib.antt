@@ -1,11 +1,5 @@
 pub mod Oids
 pub mod OidsLaws
-pub mod Tables
-pub mod TableLaws
-pub mod DigestAlgorithms
-pub mod DigestAlgorithmLaws
-pub mod DigestInfos
-pub mod Macs
 pub mod Versions
 pub mod AuthSafes
 pub mod AuthSafeLaws

@@ -4,9 +4,9 @@ use Rattle.std.proofs.Common.{arith}
 use Rattle.asn1_core_format.specs.Format.{Format, IsLawful}
 use Rattle.asn1_core_format.specs.Rows.{nothing, part, optional, within, option_value}
 use Rattle.asn1_core_format.specs.RowLaws.{lawful_nothing, lawful_part, lawful_optional, lawful_within}
-use Rattle.x509_containers.specs.AuthSafes.{RawAuthSafeValue, raw_auth_safe_value, raw_auth_safe, RawAuthSafeView, raw_auth_safe_view}
+use Rattle.x509_containers.specs.AuthSafes.{RawAuthSafeValue, raw_auth_safe_value, raw_auth_safe}
 use Rattle.x509_containers.specs.AuthSafeLaws.{lawful_raw_auth_safe}
-use Rattle.x509_containers.specs.Macs.{MacValue, mac_value, mac_data, lawful_mac_data, MacView, mac_view}
+use Rattle.pkcs12_algs.specs.Digests.{MacValue, mac_value, mac_data, lawful_mac_data}
 use Rattle.x509_containers.specs.Versions.{version, lawful_version}
 use Rattle.x509_containers.specs.declared.pfxs.RawPfx.{RawPfx}
 
@@ -18,7 +18,7 @@ abbrev pub raw_pfx_value : RawPfx → RawPfxValue
 raw_pfx_value p = (p.version, (raw_auth_safe_value p.auth_safe, (option_value mac_value p.mac_data, tt)))
 
 abbrev pub raw_pfx : Format RawPfxValue
-raw_pfx = within 48 (part (version 3) (part raw_auth_safe (optional mac_data nothing)))
+raw_pfx = within 0x30 (part (version 3) (part raw_auth_safe (optional mac_data nothing)))
 
 pub lawful_raw_pfx : IsLawful raw_pfx
 lawful_raw_pfx =
@@ -26,11 +26,4 @@ lawful_raw_pfx =
     (lawful_part (version 3) _ (lawful_version 3)
     (lawful_part raw_auth_safe _ lawful_raw_auth_safe
     (lawful_optional mac_data nothing lawful_mac_data lawful_nothing (λ t h e. e))))
-    48 (omega arith)
-
--- what `==` sees
-abbrev pub RawPfxView : Type 0
-RawPfxView = ℕ × (RawAuthSafeView × Option MacView)
-
-abbrev pub raw_pfx_view : RawPfx → RawPfxView
-raw_pfx_view p = (p.version, (raw_auth_safe_view p.auth_safe, option_value mac_view p.mac_data))
+    0x30 (omega arith)

@@ -1,18 +1,19 @@
 //! What a PFX authenticates.
 
 ghost use Rattle.std.proofs.Common.{rules};
-ghost use Rattle.x509_containers.specs.AuthSafes.{RawAuthSafeValue, raw_auth_safe_value, raw_auth_safe_choice, raw_auth_safe, RawAuthSafeView, raw_auth_safe_view};
+ghost use Rattle.x509_containers.specs.AuthSafes.{RawAuthSafeValue, raw_auth_safe_value, raw_auth_safe_choice, raw_auth_safe};
 ghost use Rattle.x509_containers.specs.AuthSafeLaws.{lawful_raw_auth_safe_row, lawful_raw_auth_safe};
 
 use crate::oids::{DATA, is_oid_of};
 use asn1_core::{
-    Asn1RawDer, DerDeserialize, DerSerialize, Error, ExplicitContextTag0, ObjectIdentifier,
-    ObjectIdentifierAsn1, OctetStringAsn1Container, OidRef, Reader, TryClone, Viewed,
+    Asn1RawDer, DerDeserialize, DerSerialize, Error, ExplicitContextTag0, KnownOid,
+    ObjectIdentifier, ObjectIdentifierAsn1, OctetStringAsn1Container, OidRef, Reader, TryClone,
+    Viewed,
 };
-use asn1_core_element::element::write_element;
 use asn1_core_format::{
-    Alone, End, FirstTags, Maybe, ReadRow, WriteRow, read_within, write_within,
+    Alone, End, FirstTags, Maybe, Part, ReadRow, WriteRow, put_within, read_within,
 };
+use asn1_core_writers::{WriteError, Writer};
 use std::alloc::Global;
 
 /// The `authSafe` of a PFX, a `ContentInfo ::= SEQUENCE { contentType ContentType, content [0] EXPLICIT ANY DEFINED BY
@@ -35,21 +36,18 @@ impl WriteRow for RawAuthenticatedSafeContentInfo {
 
     ghost format = { raw_auth_safe_choice.row };
 
-    fn write_row(&self, alloc: Global, out: &mut Vec<u8>) -> Result<(), Error> {
+    fn put_row<W: Writer>(&self, w: &mut W) -> Result<(), WriteError> {
         match self {
             RawAuthenticatedSafeContentInfo::Data(content) => {
-                write_element(6, &DATA, out)?;
-                ExplicitContextTag0(OctetStringAsn1Container(content)).write(alloc, out)
+                let content = ExplicitContextTag0(OctetStringAsn1Container(content));
+                Part(KnownOid(&DATA), Alone(content)).put_row(w)
             }
             RawAuthenticatedSafeContentInfo::Unknown {
                 content_type,
                 content,
             } => {
-                OidRef(content_type).write(alloc, out)?;
-                match content {
-                    Some(content) => ExplicitContextTag0(content).write(alloc, out),
-                    None => Ok(()),
-                }
+                let content = content.as_ref().map(ExplicitContextTag0);
+                Part(OidRef(content_type), Maybe(content, End)).put_row(w)
             }
         }
     }
@@ -105,8 +103,8 @@ impl DerSerialize for RawAuthenticatedSafeContentInfo {
 
     ghost format = { raw_auth_safe };
 
-    fn write(&self, alloc: Global, out: &mut Vec<u8>) -> Result<(), Error> {
-        write_within(alloc, self, 0x30, out)
+    fn put<W: Writer>(&self, w: &mut W) -> Result<(), WriteError> {
+        put_within(0x30, self, w)
     }
 
     fn well_formed_at(&self, limit: u8) -> bool {
@@ -129,9 +127,9 @@ impl FirstTags for RawAuthenticatedSafeContentInfo {
 }
 
 impl Viewed for RawAuthenticatedSafeContentInfo {
-    ghost View = { RawAuthSafeView };
+    ghost View = { ⟦<RawAuthenticatedSafeContentInfo as DerSerialize>⟧.Value };
 
-    ghost view = { raw_auth_safe_view };
+    ghost view = { ⟦<RawAuthenticatedSafeContentInfo as DerSerialize>⟧.value };
 
     ghost equal = { Prim.search rules };
 }

@@ -4,8 +4,9 @@ ghost use Rattle.std.specs.Prelude.{◌≡◌, ◌≢◌, ◌+◌, ◌<◌, Matc
 ghost use Rattle.x509_containers_engine.specs.Engine.{Runs, read_failures, write_failures};
 ghost use Rattle.x509_containers.specs.Kinds.{rewriting_as};
 
-use crate::{MacData, Pkcs12DigestInfo, RawPfx};
+use crate::pfxs::RawPfx;
 use asn1_core_streams::{Sink, Source};
+use pkcs12_algs::{MacData, Pkcs12DigestInfo};
 use std::alloc::Global;
 use x509_containers_engine::{Mode, Outcome, run_at};
 

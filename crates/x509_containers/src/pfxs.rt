@@ -1,13 +1,15 @@
 //! The raw PFX.
 
-ghost use Rattle.x509_containers.specs.Pfxs.{RawPfxValue, raw_pfx_value, raw_pfx, lawful_raw_pfx, RawPfxView, raw_pfx_view};
+ghost use Rattle.std.specs.Prelude.{◌≡◌};
+ghost use Rattle.x509_containers.specs.Pfxs.{RawPfxValue, raw_pfx_value, raw_pfx, lawful_raw_pfx};
 ghost use Rattle.x509_containers.specs.PfxEqual.{raw_pfx_equal};
 
 use crate::auth_safes::RawAuthenticatedSafeContentInfo;
-use crate::macs::MacData;
 use crate::versions::FixedVersion;
 use asn1_core::{DerDeserialize, DerSerialize, Error, Reader, TryClone, Viewed};
-use asn1_core_format::{End, FirstTags, Maybe, Part, WriteRow, read_within, write_within};
+use asn1_core_format::{End, FirstTags, Maybe, Part, WriteRow, put_within, read_within};
+use asn1_core_writers::{WriteError, Writer};
+use pkcs12_algs::MacData;
 use std::alloc::Global;
 
 /// `PFX ::= SEQUENCE { version INTEGER {v3(3)}(v3,...), authSafe ContentInfo, macData MacData OPTIONAL }` (RFC 7292, 4),
@@ -21,6 +23,20 @@ pub struct RawPfx {
 
 type PfxRow = Part<FixedVersion<3>, Part<RawAuthenticatedSafeContentInfo, Maybe<MacData, End>>>;
 
+type PfxRef<'a> = Part<
+    FixedVersion<3>,
+    Part<&'a RawAuthenticatedSafeContentInfo, Maybe<&'a MacData, End>>,
+>;
+
+impl RawPfx {
+    fn row(&self) -> PfxRef<'_>
+        ensures { ⟦<PfxRef<'static> as WriteRow>⟧.value result ≡ ⟦<RawPfx as DerSerialize>⟧.value self.now }
+    {
+        let mac_data = Maybe(self.mac_data.as_ref(), End);
+        Part(FixedVersion(self.version), Part(&self.auth_safe, mac_data))
+    }
+}
+
 impl DerSerialize for RawPfx {
     ghost Value = { RawPfxValue };
 
@@ -28,26 +44,12 @@ impl DerSerialize for RawPfx {
 
     ghost format = { raw_pfx };
 
-    fn write(&self, alloc: Global, out: &mut Vec<u8>) -> Result<(), Error> {
-        let version = FixedVersion::<3>(self.version);
-        write_within(
-            alloc,
-            &Part(
-                version,
-                Part(&self.auth_safe, Maybe(self.mac_data.as_ref(), End)),
-            ),
-            0x30,
-            out,
-        )
+    fn put<W: Writer>(&self, w: &mut W) -> Result<(), WriteError> {
+        put_within(0x30, &self.row(), w)
     }
 
     fn well_formed_at(&self, limit: u8) -> bool {
-        let version = FixedVersion::<3>(self.version);
-        Part(
-            version,
-            Part(&self.auth_safe, Maybe(self.mac_data.as_ref(), End)),
-        )
-        .row_well_formed_at(limit)
+        self.row().row_well_formed_at(limit)
     }
 }
 
@@ -73,9 +75,9 @@ impl FirstTags for RawPfx {
 }
 
 impl Viewed for RawPfx {
-    ghost View = { RawPfxView };
+    ghost View = { ⟦<RawPfx as DerSerialize>⟧.Value };
 
-    ghost view = { raw_pfx_view };
+    ghost view = { ⟦<RawPfx as DerSerialize>⟧.value };
 
     ghost equal = { raw_pfx_equal };
 }

@@ -5,6 +5,7 @@ ghost use Rattle.x509_containers.specs.Versions.{only, version, lawful_version};
 
 use asn1_core::{DerDeserialize, DerSerialize, Error, Reader};
 use asn1_core_format::{Leaf, read_leaf};
+use asn1_core_writers::{WriteError, Writer};
 use std::alloc::Global;
 
 /// An INTEGER that holds `N`, the only version that is read. Another is written, and is not well-formed.
@@ -36,8 +37,8 @@ impl<const N: u8> DerSerialize for FixedVersion<N> {
 
     ghost format = { version N };
 
-    fn write(&self, alloc: Global, out: &mut Vec<u8>) -> Result<(), Error> {
-        self.0.write(alloc, out)
+    fn put<W: Writer>(&self, w: &mut W) -> Result<(), WriteError> {
+        self.0.put(w)
     }
 
     fn well_formed_at(&self, _limit: u8) -> bool {
@@ -47,7 +48,7 @@ impl<const N: u8> DerSerialize for FixedVersion<N> {
 
 impl<const N: u8> DerDeserialize for FixedVersion<N> {
     fn read(alloc: Global, r: &mut Reader<'_>, nest: u8) -> Result<Self, Error> {
-        read_leaf(alloc, r, nest, 2)
+        read_leaf(alloc, r, nest, 0x02)
     }
 
     ghost lawful = { lawful_version N };

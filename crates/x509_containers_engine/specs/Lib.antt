@@ -1,3 +1,4 @@
+pub mod Modes
 pub mod Lines
 pub mod Engine
 pub mod Steps

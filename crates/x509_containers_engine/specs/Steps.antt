@@ -1,20 +1,24 @@
 -- What the steps of a run do.
-use Rattle.std.specs.Prelude.{◌≡◌, ◌⊎◌, ◌↔◌, ℕ, ◌+◌, List, Option, Result, MatchResult}
+use Rattle.std.specs.Prelude.{◌≡◌, ◌⊎◌, ◌↔◌, ℕ, ◌+◌, List, [], length, Option, Some, Result, MatchResult}
 use Rattle.std.specs.Io.KnownBytes.{Appends}
 use Rattle.asn1_core_element.specs.declared.error.Error.{Error}
 use Rattle.asn1_core_streams.specs.Streams.{AppendsBeginning}
+use Rattle.asn1_core_writers.specs.Comparing.{Comparison}
 use Rattle.x509_containers_engine.specs.Engine.{Rewriting, IsRefusal, Says, Leaves, read_failures, write_failures}
 use Rattle.x509_containers_engine.specs.declared.outcome.Mode.{Mode}
 use Rattle.x509_containers_engine.specs.declared.outcome.Outcome.{Outcome}
 use Rattle.x509_containers_engine.specs.declared.outcome.Outcome.TheVariants.{WriteFailed}
 
--- t is the text of a value of b, and is b exactly where b is normal
-pub record IsRewriting (K : Rewriting) (b t : List ℕ) : Type 0 where
-  pub to : K.To b t
-  pub back : (t ≡ b) ↔ K.IsNormal b
+-- what a comparison tells of the text of a value of b: its length, and that it is b, which it is exactly where b is normal
+pub record IsCompared (K : Rewriting) (b : List ℕ) (w : Comparison) : Type 0 where
+  pub text : List ℕ
+  pub to : K.To b text
+  pub total : w.total ≡ length text
+  pub same : (w.before ≡ Some []) ↔ (text ≡ b)
+  pub back : (text ≡ b) ↔ K.IsNormal b
 
-abbrev pub Rewritten : {A : Type 0} → (A → List ℕ) → Rewriting → List ℕ → Result A Error → Type 0
-Rewritten items K b r = MatchResult r (λ t. IsRewriting K b (items t)) (λ e. IsRefusal K b e)
+abbrev pub Compares : Rewriting → List ℕ → Result Comparison Error → Type 0
+Compares K b r = MatchResult r (λ w. IsCompared K b w) (λ e. IsRefusal K b e)
 
 -- what is to be written, and with which outcome
 abbrev pub Answers : {A : Type 0} → (A → List ℕ) → Rewriting → List ℕ → Mode → Result (Outcome × A) Error → Type 0

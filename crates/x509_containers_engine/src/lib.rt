@@ -5,8 +5,6 @@
 pub mod lines;
 pub mod outcome;
 pub mod run;
-#[cfg(test)]
-mod tests;
 
 pub use lines::refusal;
 pub use outcome::{Mode, Outcome};

@@ -1,5 +1,7 @@
 //! What is asked of an input, and what came of it.
 
+ghost use Rattle.std.specs.Prelude.{◌≡◌, ◌≢◌, MatchOption};
+
 use asn1_core_element::Error;
 
 /// What is asked of an input.
@@ -9,6 +11,21 @@ pub enum Mode {
     Check,
     /// The text of its value.
     Rewrite,
+}
+
+impl Mode {
+    ghost use Rattle.x509_containers_engine.specs.Modes.{word_of_mode};
+
+    /// The mode that a word names: its name in lower case.
+    pub fn from_word(word: &str) -> Option<Mode>
+        ensures { MatchOption result ((mode : Mode) → word.now ≢ word_of_mode mode) (λ mode. word.now ≡ word_of_mode mode) }
+    {
+        match word {
+            "check" => Some(Mode::Check),
+            "rewrite" => Some(Mode::Rewrite),
+            _ => None,
+        }
+    }
 }
 
 /// What came of an input.

@@ -3,42 +3,39 @@
 ghost use Rattle.std.specs.Prelude.{◌≡◌, ◌+◌, ◌<◌, MatchResult};
 ghost use Rattle.x509_containers_engine.specs.Engine.{rewriting_of, Runs, read_failures, write_failures};
 ghost use Rattle.x509_containers_engine.specs.Lines.{refusal_line};
-ghost use Rattle.x509_containers_engine.specs.Steps.{Rewritten, Answers, Delivers, Tells};
+ghost use Rattle.x509_containers_engine.specs.Steps.{Compares, Answers, Delivers, Tells};
+ghost use Rattle.x509_containers_engine.specs.declared.outcome.Mode.TheVariants.{Check, Rewrite};
 ghost use Rattle.x509_containers_engine.specs.declared.outcome.Outcome.TheVariants.{Refused};
 
 use crate::lines::{loose_line, normal_line, refusal};
 use crate::outcome::{Mode, Outcome};
 use asn1_core_element::Error;
-use asn1_core_format::{DerDeserialize, from_bytes, to_vec};
+use asn1_core_format::{DerDeserialize, from_bytes, write_to};
 use asn1_core_streams::{ReadError, Sink, Source, read_all, send};
+use asn1_core_writers::{Compare, WriteError, Writer};
 use std::alloc::Global;
 
-/// The text of the value of an input.
-fn rewritten<T: DerDeserialize>(alloc: Global, bytes: &[u8]) -> Result<Vec<u8>, Error>
-    ensures { Rewritten (λ v. v.items) (rewriting_of T.format) bytes.now result }
+/// The input, compared with the text of its value, which is made for that alone, piece by piece.
+fn compared<'a, T: DerDeserialize>(alloc: Global, bytes: &'a [u8]) -> Result<Compare<'a>, Error>
+    ensures { Compares (rewriting_of T.format) bytes.now result }
 {
     let value: T = from_bytes(alloc, bytes)?;
-    to_vec(alloc, &value)
+    let mut w = Compare::new(bytes);
+    match value.put(&mut w) {
+        Ok(()) => Ok(w),
+        Err(_) => Err(Error::TooLong),
+    }
 }
 
-/// What is to be written of an input, and with which outcome.
-fn answer<T: DerDeserialize>(
-    alloc: Global,
-    bytes: &[u8],
-    mode: Mode,
-) -> Result<(Outcome, Vec<u8>), Error>
-    ensures { Answers (λ v. v.items) (rewriting_of T.format) bytes.now mode result }
+/// The line that is to be written of an input in checking, and with which outcome.
+fn verdict<T: DerDeserialize>(alloc: Global, bytes: &[u8]) -> Result<(Outcome, Vec<u8>), Error>
+    ensures { Answers (λ v. v.items) (rewriting_of T.format) bytes.now Check result }
 {
-    let text = rewritten::<T>(alloc, bytes)?;
-    match mode {
-        Mode::Rewrite => Ok((Outcome::Written, text)),
-        Mode::Check => {
-            if text.as_slice() == bytes {
-                Ok((Outcome::Normal, normal_line(alloc, bytes.len())?))
-            } else {
-                Ok((Outcome::Loose, loose_line(alloc, bytes.len(), text.len())?))
-            }
-        }
+    let w = compared::<T>(alloc, bytes)?;
+    if w.is_same() {
+        Ok((Outcome::Normal, normal_line(alloc, bytes.len())?))
+    } else {
+        Ok((Outcome::Loose, loose_line(alloc, bytes.len(), w.total())?))
     }
 }
 
@@ -67,7 +64,36 @@ fn refuse<W: Sink>(sink: &mut W, mode: Mode, error: Error) -> Outcome
     )
 }
 
-/// Writes what is to be said of an input.
+/// Writes one line on an input.
+fn check<T: DerDeserialize, W: Sink>(alloc: Global, bytes: &[u8], sink: &mut W) -> Outcome
+    requires { W.failed sink.old < u64.MAX }
+    ensures { Tells (rewriting_of T.format) bytes.now Check
+        W.held sink.old sink.new (W.failed sink.old) (W.failed sink.new) result }
+{
+    match verdict::<T>(alloc, bytes) {
+        Ok((outcome, line)) => deliver(sink, outcome, line.as_slice()),
+        Err(error) => refuse(sink, Mode::Check, error),
+    }
+}
+
+/// Writes the text of the value of an input, piece by piece as it is made.
+fn rewrite<T: DerDeserialize, W: Sink>(alloc: Global, bytes: &[u8], sink: &mut W) -> Outcome
+    requires { W.failed sink.old < u64.MAX }
+    ensures { Tells (rewriting_of T.format) bytes.now Rewrite
+        W.held sink.old sink.new (W.failed sink.old) (W.failed sink.new) result }
+{
+    let value: T = match from_bytes(alloc, bytes) {
+        Ok(value) => value,
+        Err(error) => return refuse(sink, Mode::Rewrite, error),
+    };
+    match write_to(&value, sink) {
+        Ok(()) => Outcome::Written,
+        Err(WriteError::TooLong) => refuse(sink, Mode::Rewrite, Error::TooLong),
+        Err(WriteError::Failed) => Outcome::WriteFailed,
+    }
+}
+
+/// Writes what is asked of an input.
 fn tell<T: DerDeserialize, W: Sink>(
     alloc: Global,
     bytes: &[u8],
@@ -78,9 +104,9 @@ fn tell<T: DerDeserialize, W: Sink>(
     ensures { Tells (rewriting_of T.format) bytes.now mode
         W.held sink.old sink.new (W.failed sink.old) (W.failed sink.new) result }
 {
-    match answer::<T>(alloc, bytes, mode) {
-        Ok((outcome, text)) => deliver(sink, outcome, text.as_slice()),
-        Err(error) => refuse(sink, mode, error),
+    match mode {
+        Mode::Check => check::<T, W>(alloc, bytes, sink),
+        Mode::Rewrite => rewrite::<T, W>(alloc, bytes, sink),
     }
 }
 

@@ -1,0 +1,85 @@
+//! The whole program.
+
+ghost use Rattle.std.specs.Prelude.{◌≡◌, ◌<◌, map, string_bytes};
+ghost use Rattle.x509_containers_program.specs.Program.{IsAsked, Fits, Did, Complains, Answers};
+
+use crate::answers::Answer;
+use crate::words::{WordsError, asked};
+use asn1_core_streams::{Sink, Source, send};
+use std::alloc::Global;
+use x509_containers::run;
+
+/// Runs the source as the words ask.
+fn run_asked<R: Source, W: Sink>(
+    alloc: Global,
+    words: &[String],
+    source: &mut R,
+    output: &mut W,
+) -> Answer
+    requires reads { R.failed source.old < u64.MAX }
+    requires writes { W.failed output.old < u64.MAX }
+    ensures asked { IsAsked result (map string_bytes words.now) }
+    ensures did { Did result R.coming R.failed W.held W.failed source.old source.new output.old output.new }
+{
+    match asked(words) {
+        Some((mode, kind)) => {
+            let outcome = run(alloc, source, output, mode, kind);
+            Answer::Ran {
+                mode,
+                kind,
+                outcome,
+            }
+        }
+        None => Answer::WrongWords,
+    }
+}
+
+/// Runs the source as the words ask, where they are known.
+fn run_known<R: Source, W: Sink>(
+    alloc: Global,
+    words: Result<Vec<String>, WordsError>,
+    source: &mut R,
+    output: &mut W,
+) -> Answer
+    requires reads { R.failed source.old < u64.MAX }
+    requires writes { W.failed output.old < u64.MAX }
+    ensures fits { Fits (λ v. map string_bytes v.items) words result }
+    ensures did { Did result R.coming R.failed W.held W.failed source.old source.new output.old output.new }
+{
+    match words {
+        Ok(words) => run_asked(alloc, words.as_slice(), source, output),
+        Err(WordsError::NotUtf8) => Answer::WrongWords,
+        Err(WordsError::Memory) => Answer::NoMemory,
+    }
+}
+
+/// Says a line, or nothing. A sink that fails is left at that.
+fn complain<C: Sink>(complaints: &mut C, line: &str)
+    requires { C.failed complaints.old < u64.MAX }
+    ensures { Complains line.now C.held C.failed complaints.old complaints.new }
+{
+    if !line.is_empty() {
+        let _ = send(complaints, line.as_bytes());
+    }
+}
+
+/// Does what the words of a command line ask for, and answers the exit status: 0 where the input is normal or its text
+/// was written, 3 where it is loose, 1 where it was refused, memory was, or a read or a write failed, 2 where the words
+/// are wrong. The words begin with the program's name. Wrong words are answered before a byte is read.
+pub fn answer_words<R: Source, W: Sink, C: Sink>(
+    alloc: Global,
+    words: Result<Vec<String>, WordsError>,
+    source: &mut R,
+    output: &mut W,
+    complaints: &mut C,
+) -> u8
+    requires reads { R.failed source.old < u64.MAX }
+    requires writes { W.failed output.old < u64.MAX }
+    requires complaints { C.failed complaints.old < u64.MAX }
+    ensures { Answers (λ v. map string_bytes v.items) words R.coming R.failed W.held W.failed C.held C.failed
+        source.old source.new output.old output.new complaints.old complaints.new result }
+{
+    let answer = run_known(alloc, words, source, output);
+    complain(complaints, answer.complaint());
+    answer.status()
+}
