@@ -1,0 +1,51 @@
+//! Texts past one length octet, and requests for memory.
+
+use crate::checks::is_read;
+use asn1_core::{Asn1RawDer, Asn1SequenceOf, OctetStringAsn1};
+use asn1_core_format::{DerSerialize, to_vec};
+use asn1_core_streams::ReadError;
+use std::alloc::AllocError;
+use std::test::Fail;
+
+#[test]
+fn octet_strings_of_6000_octets(rt: HostRuntime) -> Result<(), Fail> {
+    let mut text = Vec::from_slice(rt.alloc(), &[0x04, 0x82, 0x17, 0x70])?;
+    text.resize(6004, 0x5A)?;
+    let octets: OctetStringAsn1 = is_read(rt.alloc(), &text)?;
+    assert_eq!(rt; octets.0.len(), 6000);
+    let raw: Asn1RawDer = is_read(rt.alloc(), &text)?;
+    assert_eq!(rt; raw.0.as_slice(), text.as_slice());
+    Ok(())
+}
+
+#[test]
+fn lists_of_2000_items(rt: HostRuntime) -> Result<(), Fail> {
+    let mut text = Vec::from_slice(rt.alloc(), &[0x30, 0x82, 0x17, 0x70])?;
+    for _ in 0..2000 {
+        text.extend_from_slice(&[0x02, 0x01, 0x07])?;
+    }
+    let numbers: Asn1SequenceOf<u8> = is_read(rt.alloc(), &text)?;
+    assert_eq!(rt; numbers.0.len(), 2000);
+    assert!(rt; numbers.0.iter().all(|n| *n == 7));
+    Ok(())
+}
+
+#[test]
+fn memory_that_no_process_has(rt: HostRuntime) -> Result<(), Fail> {
+    let refused: Result<Vec<u8>, AllocError> = Vec::with_capacity(rt.alloc(), 1 << 47);
+    assert_eq!(rt; refused.err().map(ReadError::from), Some(ReadError::Memory));
+    Ok(())
+}
+
+/// Where there is room, none is asked for.
+#[test]
+fn room_is_used(rt: HostRuntime) -> Result<(), Fail> {
+    let list = Asn1SequenceOf(vec![in rt.alloc(); 7u8; 100]?);
+    let size = list.encoded_len()?;
+    let mut enough = Vec::with_capacity(rt.alloc(), size)?;
+    let capacity = enough.capacity();
+    list.write(rt.alloc(), &mut enough)?;
+    assert_eq!(rt; enough.capacity(), capacity);
+    assert_eq!(rt; enough.as_slice(), to_vec(rt.alloc(), &list)?.as_slice());
+    Ok(())
+}

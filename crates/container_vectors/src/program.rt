@@ -1,0 +1,295 @@
+//! The whole program: from the words of a command line and an input to its output, its complaint and its exit status.
+
+use crate::texts::hex;
+use asn1_core::{Sink, Source, StdSink, StdSource};
+use asn1_vectors::fakes::{Broken, Trickle};
+use std::alloc::{AllocError, Global};
+use std::env::{Env, FillError};
+use std::test::Fail;
+use x509_containers::{Error, Kind, Mode, Outcome};
+use x509_containers_program::{Answer, WordsError, answer_words, words_of};
+
+/// A PFX around an empty SEQUENCE.
+const EMPTY_PFX: &str = "30 16 02 01 03 30 11 06 09 2A 86 48 86 F7 0D 01 07 01 A0 04 04 02 30 00";
+
+/// A digest as Microsoft writes it, without parameters, and the same with NULL.
+const WITHOUT_NULL: &str =
+    "30 1F 30 07 06 05 2B 0E 03 02 1A 04 14 9B 9F 55 86 D8 5A 38 61 A2 2D 40 2F E7 89 66 9C 64 02 76 81";
+
+const WITH_NULL: &str =
+    "30 21 30 09 06 05 2B 0E 03 02 1A 05 00 04 14 9B 9F 55 86 D8 5A 38 61 A2 2D 40 2F E7 89 66 9C 64 02 76 81";
+
+const USAGE: &str = "usage: derbox check|rewrite KIND\n";
+
+/// The words of a command line.
+#[derive(Drop)]
+struct CommandLine<'a>(&'a [&'a [u8]]);
+
+impl Env for CommandLine<'_> {
+    fn arg(&self, i: usize, buf: &mut [u8]) -> Result<usize, FillError> {
+        let Some(word) = self.0.get(i) else {
+            return Err(FillError::NotPresent);
+        };
+        if word.len() > buf.len() {
+            return Err(FillError::TooLong);
+        }
+        buf[..word.len()].copy_from_slice(word);
+        Ok(word.len())
+    }
+
+    fn var(&self, _name: &str, _buf: &mut [u8]) -> Result<usize, FillError> {
+        Err(FillError::NotPresent)
+    }
+
+    fn var_at(&self, _i: usize, _buf: &mut [u8]) -> Result<usize, FillError> {
+        Err(FillError::NotPresent)
+    }
+}
+
+/// What comes of words and an input: the exit status, what is left of the input, the output, and the complaint.
+fn answered<'a>(
+    alloc: Global,
+    words: &[&[u8]],
+    input: &'a [u8],
+) -> (u8, &'a [u8], Vec<u8>, Vec<u8>) {
+    let words = words_of(&CommandLine(words), alloc);
+    let mut source = StdSource::new(input);
+    let mut output = StdSink::new(Vec::new(alloc));
+    let mut complaints = StdSink::new(Vec::new(alloc));
+    let status = answer_words(alloc, words, &mut source, &mut output, &mut complaints);
+    (
+        status,
+        source.into_inner(),
+        output.into_inner(),
+        complaints.into_inner(),
+    )
+}
+
+#[test]
+fn texts_are_written_anew(rt: HostRuntime) -> Result<(), Fail> {
+    for (kind, input, text) in [
+        (b"rawpfx".as_slice(), EMPTY_PFX, EMPTY_PFX),
+        (b"pkcs12digestinfo", WITHOUT_NULL, WITH_NULL),
+    ] {
+        let input = hex(rt.alloc(), &[input])?;
+        let words = [b"derbox".as_slice(), b"rewrite", kind];
+        let (status, left, output, complaint) = answered(rt.alloc(), &words, &input);
+        assert_eq!(rt; status, 0, "{kind:?}");
+        assert!(rt; left.is_empty(), "{kind:?}");
+        assert_eq!(rt; output, hex(rt.alloc(), &[text])?);
+        assert!(rt; complaint.is_empty(), "{kind:?}");
+    }
+    Ok(())
+}
+
+/// Each kind of outcome with its exit status, on standard output in checking, and a refusal in rewriting on standard
+/// error.
+#[test]
+fn lines_and_statuses(rt: HostRuntime) -> Result<(), Fail> {
+    for (mode, kind, input, status, output, complaint) in [
+        (
+            b"check".as_slice(),
+            b"rawpfx".as_slice(),
+            EMPTY_PFX,
+            0,
+            "normal 24\n",
+            "",
+        ),
+        (
+            b"check",
+            b"pkcs12digestinfo",
+            WITHOUT_NULL,
+            3,
+            "loose 33 -> 35\n",
+            "",
+        ),
+        (
+            b"check",
+            b"rawpfx",
+            "30 03 02 01 03",
+            1,
+            "refused: missing\n",
+            "",
+        ),
+        (
+            b"rewrite",
+            b"rawpfx",
+            "30 03 02 01 03",
+            1,
+            "",
+            "refused: missing\n",
+        ),
+        (
+            b"check",
+            b"macdata",
+            "30 80 00 00",
+            1,
+            "refused: malformed\n",
+            "",
+        ),
+        (
+            b"rewrite",
+            b"macdata",
+            "30 80 00 00",
+            1,
+            "",
+            "refused: malformed\n",
+        ),
+    ] {
+        let input = hex(rt.alloc(), &[input])?;
+        let words = [b"derbox".as_slice(), mode, kind];
+        let answer = answered(rt.alloc(), &words, &input);
+        assert_eq!(rt; answer.0, status, "{mode:?} {kind:?}");
+        assert_eq!(rt; answer.2.as_slice(), output.as_bytes());
+        assert_eq!(rt; answer.3.as_slice(), complaint.as_bytes());
+    }
+    Ok(())
+}
+
+/// Wrong words are answered before a byte is read.
+#[test]
+fn wrong_words(rt: HostRuntime) {
+    let wrong: [&[&[u8]]; 11] = [
+        &[],
+        &[b"derbox"],
+        &[b"derbox", b"check"],
+        &[b"check", b"rawpfx"],
+        &[b"derbox", b"check", b"rawpfx", b"rawpfx"],
+        &[b"derbox", b"check", b"pfx"],
+        &[b"derbox", b"check", b"RawPfx"],
+        &[b"derbox", b"check", b""],
+        &[b"derbox", b"Check", b"rawpfx"],
+        &[b"derbox", b"", b"rawpfx"],
+        &[b"derbox", b"check", b"rawpfx\xFF"],
+    ];
+    for words in wrong {
+        let (status, left, output, complaint) = answered(rt.alloc(), words, b"ab");
+        assert_eq!(rt; status, 2, "{words:?}");
+        assert_eq!(rt; left, b"ab".as_slice());
+        assert!(rt; output.is_empty(), "{words:?}");
+        assert_eq!(rt; complaint.as_slice(), USAGE.as_bytes());
+    }
+}
+
+#[test]
+fn memory_for_words(rt: HostRuntime) {
+    let mut source = StdSource::new(b"ab".as_slice());
+    let mut output = StdSink::new(Vec::new(rt.alloc()));
+    let mut complaints = StdSink::new(Vec::new(rt.alloc()));
+    let words = Err(WordsError::Memory);
+    let status = answer_words(rt.alloc(), words, &mut source, &mut output, &mut complaints);
+    assert_eq!(rt; status, 1);
+    assert_eq!(rt; source.into_inner(), b"ab".as_slice());
+    assert!(rt; output.into_inner().is_empty());
+    let complaint = complaints.into_inner();
+    assert_eq!(rt; complaint.as_slice(), b"refused: no memory\n".as_slice());
+}
+
+fn words_for(alloc: Global, mode: &str) -> Result<Vec<String>, AllocError> {
+    let mut words = Vec::new(alloc);
+    for word in ["derbox", mode, "rawpfx"] {
+        words.push(String::from_str(alloc, word)?)?;
+    }
+    Ok(words)
+}
+
+#[test]
+fn reads_that_fail(rt: HostRuntime) -> Result<(), Fail> {
+    for mode in ["check", "rewrite"] {
+        let mut source = Trickle::new(&[0x30, 0x00], 1);
+        let mut output = StdSink::new(Vec::new(rt.alloc()));
+        let mut complaints = StdSink::new(Vec::new(rt.alloc()));
+        let words = Ok(words_for(rt.alloc(), mode)?);
+        let status = answer_words(rt.alloc(), words, &mut source, &mut output, &mut complaints);
+        assert_eq!(rt; status, 1, "{mode}");
+        assert_eq!(rt; source.failures(), 1, "{mode}");
+        assert!(rt; output.into_inner().is_empty(), "{mode}");
+        let complaint = complaints.into_inner();
+        assert_eq!(rt; complaint.as_slice(), b"derbox: read failed\n".as_slice());
+    }
+    Ok(())
+}
+
+/// A complaint that can't be written changes nothing else.
+#[test]
+fn writes_that_fail(rt: HostRuntime) -> Result<(), Fail> {
+    let input = hex(rt.alloc(), &[EMPTY_PFX])?;
+    for mode in ["check", "rewrite"] {
+        let mut source = StdSource::new(input.as_slice());
+        let mut output = StdSink::new(Broken);
+        let mut complaints = StdSink::new(Vec::new(rt.alloc()));
+        let words = Ok(words_for(rt.alloc(), mode)?);
+        let status = answer_words(rt.alloc(), words, &mut source, &mut output, &mut complaints);
+        assert_eq!(rt; status, 1, "{mode}");
+        assert_eq!(rt; output.failures(), 1, "{mode}");
+        let complaint = complaints.into_inner();
+        assert_eq!(rt; complaint.as_slice(), b"derbox: write failed\n".as_slice());
+
+        let mut again = StdSource::new(input.as_slice());
+        let mut deaf = StdSink::new(Broken);
+        let words = Ok(words_for(rt.alloc(), mode)?);
+        let status = answer_words(rt.alloc(), words, &mut again, &mut output, &mut deaf);
+        assert_eq!(rt; status, 1, "{mode}");
+        assert_eq!(rt; deaf.failures(), 1, "{mode}");
+    }
+    Ok(())
+}
+
+#[test]
+fn statuses_and_complaints(rt: HostRuntime) {
+    let invalid = Outcome::Refused(Error::Invalid);
+    for (mode, outcome, status, complaint) in [
+        (Mode::Check, Outcome::Normal, 0, ""),
+        (Mode::Check, Outcome::Loose, 3, ""),
+        (Mode::Rewrite, Outcome::Written, 0, ""),
+        (Mode::Check, invalid, 1, ""),
+        (Mode::Rewrite, invalid, 1, "refused: invalid\n"),
+        (Mode::Check, Outcome::ReadFailed, 1, "derbox: read failed\n"),
+        (
+            Mode::Rewrite,
+            Outcome::ReadFailed,
+            1,
+            "derbox: read failed\n",
+        ),
+        (
+            Mode::Check,
+            Outcome::WriteFailed,
+            1,
+            "derbox: write failed\n",
+        ),
+        (
+            Mode::Rewrite,
+            Outcome::WriteFailed,
+            1,
+            "derbox: write failed\n",
+        ),
+    ] {
+        let kind = Kind::RawPfx;
+        let answer = Answer::Ran {
+            mode,
+            kind,
+            outcome,
+        };
+        assert_eq!(rt; answer.status(), status, "{answer:?}");
+        assert_eq!(rt; answer.complaint(), complaint, "{answer:?}");
+    }
+    assert_eq!(rt; Answer::WrongWords.status(), 2);
+    assert_eq!(rt; Answer::WrongWords.complaint(), USAGE);
+    assert_eq!(rt; Answer::NoMemory.status(), 1);
+    assert_eq!(rt; Answer::NoMemory.complaint(), "refused: no memory\n");
+}
+
+#[test]
+fn words_are_read_whole(rt: HostRuntime) -> Result<(), Fail> {
+    let words = words_of(
+        &CommandLine(&[b"derbox", b"check", b"\xC3\xA9"]),
+        rt.alloc(),
+    )?;
+    assert_eq!(rt; words.len(), 3);
+    assert_eq!(rt; words.last().map(|word| word.as_str()), Some("\u{E9}"));
+    let not_utf8 = words_of(&CommandLine(&[b"derbox", b"\xC3\x28"]), rt.alloc());
+    assert_eq!(rt; not_utf8.err(), Some(WordsError::NotUtf8));
+    let text = format!(in rt.alloc(); "{}, {}", WordsError::NotUtf8, WordsError::Memory)?;
+    assert_eq!(rt; text.as_str(), "not UTF-8, no memory");
+    Ok(())
+}
