@@ -1,0 +1,228 @@
+//! Times of writing, measuring, sending, reading and cloning, each as a ratio to a copy of the same bytes. Prints nothing
+//! without a word on its command line.
+#![tactic(auto)]
+
+use asn1_core::{
+    Asn1RawDer, Asn1SequenceOf, Asn1SetOf, DerDeserialize, DerSerialize, Error,
+    ExplicitContextTag0, ObjectIdentifier, ObjectIdentifierAsn1, OctetStringAsn1, StdSink,
+    TryClone, from_bytes, to_vec,
+};
+use std::alloc::Global;
+use std::time::Instant;
+use std::{env, io};
+use thiserror::Error as ThisError;
+use x509_base::{Extension, Extensions, Name, NameValue};
+use x509_containers::{RawAuthenticatedSafeContentInfo, RawPfx};
+
+/// How often each call is timed; the shortest time counts.
+const ROUNDS: u32 = 30;
+
+/// Why nothing more was measured.
+#[derive(Debug, Drop, ThisError)]
+enum Failure {
+    #[error("{0}")]
+    Der(#[from] Error),
+    #[error("{0}")]
+    Clock(#[from] io::Error),
+    #[error("sending failed")]
+    Sending,
+}
+
+/// Keeps the shortest of the times, in nanoseconds.
+#[derive(Drop)]
+struct Shortest(u64);
+
+impl Shortest {
+    fn take(&mut self, rt: &HostRuntime, start: &Instant) -> Result<(), Failure> {
+        let nanos = start.elapsed(rt)?.as_nanos();
+        if nanos < u128::from(self.0) {
+            self.0 = nanos as u64;
+        }
+        Ok(())
+    }
+
+    /// The time in hundredths of another.
+    fn percent(&self, of: &Shortest) -> u64 {
+        (u128::from(self.0) * 100 / u128::from(of.0.max(1))).min(1_000_000_000) as u64
+    }
+}
+
+fn copy_time(rt: &HostRuntime, bytes: &[u8]) -> Result<Shortest, Failure> {
+    let mut best = Shortest(u64::MAX);
+    for _ in 0..ROUNDS {
+        let start = Instant::now(rt)?;
+        let _copy = Vec::from_slice(rt.alloc(), bytes).map_err(Error::from)?;
+        best.take(rt, &start)?;
+    }
+    Ok(best)
+}
+
+fn write_time<T: DerSerialize>(rt: &HostRuntime, value: &T) -> Result<Shortest, Failure> {
+    let mut best = Shortest(u64::MAX);
+    for _ in 0..ROUNDS {
+        let start = Instant::now(rt)?;
+        let _text = to_vec(rt.alloc(), value)?;
+        best.take(rt, &start)?;
+    }
+    Ok(best)
+}
+
+fn length_time<T: DerSerialize>(rt: &HostRuntime, value: &T) -> Result<Shortest, Failure> {
+    let mut best = Shortest(u64::MAX);
+    for _ in 0..ROUNDS {
+        let start = Instant::now(rt)?;
+        let _length = value.encoded_len()?;
+        best.take(rt, &start)?;
+    }
+    Ok(best)
+}
+
+fn send_time<T: DerSerialize>(rt: &HostRuntime, value: &T) -> Result<Shortest, Failure> {
+    let mut best = Shortest(u64::MAX);
+    for _ in 0..ROUNDS {
+        let mut sink = StdSink::new(io::sink());
+        let start = Instant::now(rt)?;
+        let Ok(()) = value.emit(&mut sink) else {
+            return Err(Failure::Sending);
+        };
+        best.take(rt, &start)?;
+    }
+    Ok(best)
+}
+
+fn read_time<T: DerDeserialize>(rt: &HostRuntime, bytes: &[u8]) -> Result<(T, Shortest), Failure> {
+    let mut best = Shortest(u64::MAX);
+    let mut value = from_bytes::<T>(rt.alloc(), bytes)?;
+    for _ in 0..ROUNDS {
+        let start = Instant::now(rt)?;
+        value = from_bytes(rt.alloc(), bytes)?;
+        best.take(rt, &start)?;
+    }
+    Ok((value, best))
+}
+
+fn clone_time<T: TryClone>(rt: &HostRuntime, value: &T) -> Result<Shortest, Failure> {
+    let mut best = Shortest(u64::MAX);
+    for _ in 0..ROUNDS {
+        let start = Instant::now(rt)?;
+        let _copy = value.try_clone(rt.alloc())?;
+        best.take(rt, &start)?;
+    }
+    Ok(best)
+}
+
+/// Prints one line: the ratios of a value's calls to a copy of its text, in hundredths.
+fn measure<T: DerDeserialize + TryClone>(
+    rt: &HostRuntime,
+    name: &str,
+    built: &T,
+) -> Result<(), Failure> {
+    let bytes = to_vec(rt.alloc(), built)?;
+    let (value, read) = read_time::<T>(rt, bytes.as_slice())?;
+    let copy = copy_time(rt, bytes.as_slice())?;
+    let size = bytes.len();
+    let nanos = copy.0;
+    let written = write_time(rt, &value)?.percent(&copy);
+    let measured = length_time(rt, &value)?.percent(&copy);
+    let sent = send_time(rt, &value)?.percent(&copy);
+    let read = read.percent(&copy);
+    let cloned = clone_time(rt, &value)?.percent(&copy);
+    println!(rt;
+        "{name}: {size} bytes, copy {nanos} ns; in % of it: to_vec {written}, encoded_len {measured}, emit {sent}, from_bytes {read}, try_clone {cloned}"
+    )?;
+    Ok(())
+}
+
+fn octets(alloc: Global, size: usize) -> Result<Vec<u8>, Error> {
+    let mut octets = Vec::new(alloc);
+    octets.resize(size, 7u8)?;
+    Ok(octets)
+}
+
+fn common_name(alloc: Global) -> Result<ObjectIdentifierAsn1, Error> {
+    Ok(ObjectIdentifierAsn1(ObjectIdentifier::from_octets(alloc, &[0x55, 0x04, 0x03])?))
+}
+
+fn extensions(alloc: Global, count: usize) -> Result<Extensions, Error> {
+    let mut items = Vec::new(alloc);
+    for i in 0..count {
+        items.push(Extension {
+            extn_id: common_name(alloc)?,
+            critical: i % 2 == 0,
+            extn_value: OctetStringAsn1(octets(alloc, 20)?),
+        })?;
+    }
+    Ok(Extensions(items))
+}
+
+fn name(alloc: Global, count: usize) -> Result<Name, Error> {
+    let mut sets = Vec::new(alloc);
+    for _ in 0..count {
+        let mut parts = Vec::new(alloc);
+        let value = Asn1RawDer(to_vec(alloc, &OctetStringAsn1(octets(alloc, 12)?))?);
+        parts.push(NameValue {
+            ty: common_name(alloc)?,
+            value,
+        })?;
+        sets.push(Asn1SetOf(parts))?;
+    }
+    Ok(Name(Asn1SequenceOf(sets)))
+}
+
+fn pfx(alloc: Global, size: usize) -> Result<RawPfx, Error> {
+    let content = Asn1RawDer(to_vec(alloc, &OctetStringAsn1(octets(alloc, size)?))?);
+    Ok(RawPfx {
+        version: 3,
+        auth_safe: RawAuthenticatedSafeContentInfo::Data(content),
+        mac_data: None,
+    })
+}
+
+type Four<T> = ExplicitContextTag0<
+    ExplicitContextTag0<ExplicitContextTag0<ExplicitContextTag0<T>>>,
+>;
+
+fn four<T>(value: T) -> Four<T> {
+    ExplicitContextTag0(ExplicitContextTag0(ExplicitContextTag0(ExplicitContextTag0(value))))
+}
+
+/// The same octets under no tag, under four and under sixteen: writing is linear in the bytes at every depth.
+fn measure_depths(rt: &HostRuntime) -> Result<(), Failure> {
+    let alloc = rt.alloc();
+    measure(
+        rt,
+        "octets, depth 1",
+        &OctetStringAsn1(octets(alloc, 100_000)?),
+    )?;
+    measure(
+        rt,
+        "octets, depth 5",
+        &four(OctetStringAsn1(octets(alloc, 100_000)?)),
+    )?;
+    measure(
+        rt,
+        "octets, depth 17",
+        &four(four(four(four(OctetStringAsn1(octets(alloc, 100_000)?))))),
+    )
+}
+
+fn measure_all(rt: &HostRuntime) -> Result<(), Failure> {
+    let alloc = rt.alloc();
+    measure(rt, "extensions, 20000", &extensions(alloc, 20_000)?)?;
+    measure(rt, "name, 2000 parts", &name(alloc, 2_000)?)?;
+    measure(rt, "raw pfx, 1 MB", &pfx(alloc, 1_000_000)?)?;
+    measure_depths(rt)
+}
+
+fn main(rt: HostRuntime) {
+    let Ok(mut words) = env::args(&rt) else {
+        return;
+    };
+    words.next();
+    if words.next().is_none() {
+        return;
+    }
+    if let Err(failure) = measure_all(&rt) {
+        let _ = eprintln!(rt; "der_benchmark: {failure}");
+    }
+}
