@@ -298,7 +298,8 @@ fn pfxs_with_other_content(rt: HostRuntime) -> Result<(), Fail> {
         };
         let pfx: RawPfx = is_kept(rt.alloc(), &text)?;
         assert_eq!(rt; pfx.auth_safe, expected, "{begin}");
-        let alone: RawAuthenticatedSafeContentInfo = is_kept(rt.alloc(), &text[5..])?;
+        let content = text.get(5..).ok_or("content")?;
+        let alone: RawAuthenticatedSafeContentInfo = is_kept(rt.alloc(), content)?;
         assert_eq!(rt; alone, expected, "{begin}");
     }
     assert!(rt; RawAuthenticatedSafeContentInfo::begins(0x30));
