@@ -17,8 +17,8 @@ pub use asn1_core_format::laws::{
     rewriting_reaches_an_end,
 };
 pub use asn1_core_format::{
-    DerDeserialize, DerSerialize, DerTagged, MAX_NESTING, TryClone, Viewed, from_bytes,
-    from_bytes_counted, from_bytes_limited, to_vec, write_to,
+    DerDeserialize, DerSerialize, DerTagged, EqualByText, MAX_NESTING, TryClone, Viewed,
+    from_bytes, from_bytes_counted, from_bytes_limited, to_vec, write_to,
 };
 pub use asn1_core_oid::ObjectIdentifier;
 pub use asn1_core_streams::{

@@ -9,7 +9,8 @@ ghost use Rattle.asn1_core_oid.specs.OidValueLaws.{equal_octets};
 
 use asn1_core_element::{Error, Reader};
 use asn1_core_format::{
-    DerDeserialize, DerSerialize, DerTagged, Leaf, TryClone, Viewed, read_leaf, read_leaf_contents,
+    DerDeserialize, DerSerialize, DerTagged, EqualByText, Leaf, TryClone, read_leaf,
+    read_leaf_contents,
 };
 use asn1_core_oid::{ObjectIdentifier, is_oid};
 use asn1_core_writers::{WriteError, Writer, put_element};
@@ -71,12 +72,8 @@ impl DerTagged for ObjectIdentifierAsn1 {
     ghost tagged = { leaf_tagged 0x06 (Prim.omega arith) oid_octets };
 }
 
-impl Viewed for ObjectIdentifierAsn1 {
-    ghost View = { ⟦<ObjectIdentifierAsn1 as DerSerialize>⟧.Value };
-
-    ghost view = { ⟦<ObjectIdentifierAsn1 as DerSerialize>⟧.value };
-
-    ghost equal = { λ x y. equal_octets x.0 y.0 };
+impl EqualByText for ObjectIdentifierAsn1 {
+    ghost equal_by_text = { λ x y. equal_octets x.0 y.0 };
 }
 
 impl TryClone for ObjectIdentifierAsn1 {

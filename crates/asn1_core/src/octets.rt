@@ -8,7 +8,8 @@ ghost use Rattle.asn1_core_format.specs.TaggedLaws.{leaf_tagged};
 
 use asn1_core_element::{Error, Reader};
 use asn1_core_format::{
-    DerDeserialize, DerSerialize, DerTagged, Leaf, TryClone, Viewed, read_leaf, read_leaf_contents,
+    DerDeserialize, DerSerialize, DerTagged, EqualByText, Leaf, TryClone, read_leaf,
+    read_leaf_contents,
 };
 use asn1_core_writers::{WriteError, Writer, put_element};
 use std::alloc::Global;
@@ -69,12 +70,8 @@ impl DerTagged for OctetStringAsn1 {
     ghost tagged = { leaf_tagged 0x04 (Prim.omega arith) any_octets };
 }
 
-impl Viewed for OctetStringAsn1 {
-    ghost View = { ⟦<OctetStringAsn1 as DerSerialize>⟧.Value };
-
-    ghost view = { ⟦<OctetStringAsn1 as DerSerialize>⟧.value };
-
-    ghost equal = { octets_equal };
+impl EqualByText for OctetStringAsn1 {
+    ghost equal_by_text = { octets_equal };
 }
 
 impl TryClone for OctetStringAsn1 {

@@ -6,7 +6,7 @@ ghost use Rattle.asn1_core.specs.Raw.{raw, lawful_raw, plain};
 
 use asn1_core_element::front::front;
 use asn1_core_element::{Error, Reader};
-use asn1_core_format::{DerDeserialize, DerSerialize, FirstTags, TryClone, Viewed};
+use asn1_core_format::{DerDeserialize, DerSerialize, EqualByText, FirstTags, TryClone};
 use asn1_core_writers::{WriteError, Writer, put_element};
 use std::alloc::Global;
 
@@ -52,12 +52,8 @@ impl FirstTags for Asn1RawDer {
     }
 }
 
-impl Viewed for Asn1RawDer {
-    ghost View = { ⟦<Asn1RawDer as DerSerialize>⟧.Value };
-
-    ghost view = { ⟦<Asn1RawDer as DerSerialize>⟧.value };
-
-    ghost equal = { raw_equal };
+impl EqualByText for Asn1RawDer {
+    ghost equal_by_text = { raw_equal };
 }
 
 impl TryClone for Asn1RawDer {

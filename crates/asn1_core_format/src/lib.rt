@@ -24,6 +24,6 @@ pub use rows::{
 };
 pub use tagged::{DerTagged, read_retagged};
 pub use traits::{DerDeserialize, DerSerialize, MAX_NESTING};
-pub use views::{TryClone, Viewed};
+pub use views::{EqualByText, TryClone, Viewed};
 pub use whole::{from_bytes, from_bytes_counted, from_bytes_limited, to_vec, write_to};
 pub use within::{put_within, read_row_contents, read_within};

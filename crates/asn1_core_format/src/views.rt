@@ -9,15 +9,28 @@ use crate::traits::DerSerialize;
 use asn1_core_element::Error;
 use std::alloc::Global;
 
-/// A type whose `==` is equality of what it contains.
+/// A type whose `==` is equality of what it contains. A type with a text has it by `EqualByText`.
 pub trait Viewed: PartialEq {
-    /// What a value contains, and not where it lies in memory. Of a type with a text that is its `Value`, so that what
-    /// `==` and clones keep is what texts are of.
+    /// What a value contains, and not where it lies in memory.
     ghost View: { Type 0 };
 
     ghost view: { Self → View };
 
     ghost equal: { SeesEqual Self.PartialEq.eq view };
+}
+
+/// A type with a text whose `==` is equality of the values that texts are of. So `==` and clones can't keep less than
+/// the text says.
+pub trait EqualByText: DerSerialize + PartialEq {
+    ghost equal_by_text: { SeesEqual Self.PartialEq.eq Self.DerSerialize.value };
+}
+
+impl<T: EqualByText> Viewed for T {
+    ghost View = { T.DerSerialize.Value };
+
+    ghost view = { T.DerSerialize.value };
+
+    ghost equal = { T.equal_by_text };
 }
 
 /// A clone that takes memory.
@@ -27,12 +40,8 @@ pub trait TryClone: Viewed + Drop {
         ensures { Clones Self.view self.now result };
 }
 
-impl Viewed for u8 {
-    ghost View = { ⟦<u8 as DerSerialize>⟧.Value };
-
-    ghost view = { ⟦<u8 as DerSerialize>⟧.value };
-
-    ghost equal = { Prim.search rules };
+impl EqualByText for u8 {
+    ghost equal_by_text = { Prim.search rules };
 }
 
 impl TryClone for u8 {
@@ -41,12 +50,8 @@ impl TryClone for u8 {
     }
 }
 
-impl Viewed for u32 {
-    ghost View = { ⟦<u32 as DerSerialize>⟧.Value };
-
-    ghost view = { ⟦<u32 as DerSerialize>⟧.value };
-
-    ghost equal = { Prim.search rules };
+impl EqualByText for u32 {
+    ghost equal_by_text = { Prim.search rules };
 }
 
 impl TryClone for u32 {

@@ -11,7 +11,8 @@ ghost use Rattle.asn1_leaves_strings.specs.Octets.{contents_of};
 
 use asn1_core_element::{Error, Reader};
 use asn1_core_format::{
-    DerDeserialize, DerSerialize, DerTagged, Leaf, TryClone, Viewed, read_leaf, read_leaf_contents,
+    DerDeserialize, DerSerialize, DerTagged, EqualByText, Leaf, TryClone, read_leaf,
+    read_leaf_contents,
 };
 use asn1_core_writers::{WriteError, Writer, put_head};
 use asn1_leaves_strings::BitString;
@@ -113,12 +114,8 @@ impl DerTagged for BitStringAsn1 {
     ghost tagged = { leaf_tagged 0x03 (Prim.omega arith) (kept IsBits) };
 }
 
-impl Viewed for BitStringAsn1 {
-    ghost View = { ⟦<BitStringAsn1 as DerSerialize>⟧.Value };
-
-    ghost view = { ⟦<BitStringAsn1 as DerSerialize>⟧.value };
-
-    ghost equal = { Prim.search rules };
+impl EqualByText for BitStringAsn1 {
+    ghost equal_by_text = { Prim.search rules };
 }
 
 impl TryClone for BitStringAsn1 {

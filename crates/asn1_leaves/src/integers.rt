@@ -7,7 +7,8 @@ ghost use Rattle.asn1_leaves.specs.Integers.{some_octets, integer, lawful_intege
 
 use asn1_core_element::{Error, Reader};
 use asn1_core_format::{
-    DerDeserialize, DerSerialize, DerTagged, Leaf, TryClone, Viewed, read_leaf, read_leaf_contents,
+    DerDeserialize, DerSerialize, DerTagged, EqualByText, Leaf, TryClone, read_leaf,
+    read_leaf_contents,
 };
 use asn1_core_writers::{WriteError, Writer, put_element};
 use std::alloc::Global;
@@ -72,12 +73,8 @@ impl DerTagged for IntegerAsn1 {
     ghost tagged = { leaf_tagged 0x02 (Prim.omega arith) some_octets };
 }
 
-impl Viewed for IntegerAsn1 {
-    ghost View = { ⟦<IntegerAsn1 as DerSerialize>⟧.Value };
-
-    ghost view = { ⟦<IntegerAsn1 as DerSerialize>⟧.value };
-
-    ghost equal = { Prim.search rules };
+impl EqualByText for IntegerAsn1 {
+    ghost equal_by_text = { Prim.search rules };
 }
 
 impl TryClone for IntegerAsn1 {

@@ -13,7 +13,8 @@ ghost use Rattle.asn1_leaves_strings.specs.Octets.{octets_of_bmp, octets_of_ia5,
 
 use asn1_core_element::{Error, Reader};
 use asn1_core_format::{
-    DerDeserialize, DerSerialize, DerTagged, Leaf, TryClone, Viewed, read_leaf, read_leaf_contents,
+    DerDeserialize, DerSerialize, DerTagged, EqualByText, Leaf, TryClone, read_leaf,
+    read_leaf_contents,
 };
 use asn1_core_writers::{WriteError, Writer, put_element};
 use asn1_leaves_strings::{BmpString, IA5String, Utf8String};
@@ -83,12 +84,8 @@ impl DerTagged for BmpStringAsn1 {
     ghost tagged = { leaf_tagged 0x1E (Prim.omega arith) (kept IsBmp) };
 }
 
-impl Viewed for BmpStringAsn1 {
-    ghost View = { ⟦<BmpStringAsn1 as DerSerialize>⟧.Value };
-
-    ghost view = { ⟦<BmpStringAsn1 as DerSerialize>⟧.value };
-
-    ghost equal = { Prim.search rules };
+impl EqualByText for BmpStringAsn1 {
+    ghost equal_by_text = { Prim.search rules };
 }
 
 impl TryClone for BmpStringAsn1 {
@@ -157,12 +154,8 @@ impl DerTagged for IA5StringAsn1 {
     ghost tagged = { leaf_tagged 0x16 (Prim.omega arith) (kept IsIa5) };
 }
 
-impl Viewed for IA5StringAsn1 {
-    ghost View = { ⟦<IA5StringAsn1 as DerSerialize>⟧.Value };
-
-    ghost view = { ⟦<IA5StringAsn1 as DerSerialize>⟧.value };
-
-    ghost equal = { Prim.search rules };
+impl EqualByText for IA5StringAsn1 {
+    ghost equal_by_text = { Prim.search rules };
 }
 
 impl TryClone for IA5StringAsn1 {
@@ -232,12 +225,8 @@ impl DerTagged for Utf8StringAsn1 {
     ghost tagged = { leaf_tagged 0x0C (Prim.omega arith) (kept IsUtf8) };
 }
 
-impl Viewed for Utf8StringAsn1 {
-    ghost View = { ⟦<Utf8StringAsn1 as DerSerialize>⟧.Value };
-
-    ghost view = { ⟦<Utf8StringAsn1 as DerSerialize>⟧.value };
-
-    ghost equal = { Prim.search rules };
+impl EqualByText for Utf8StringAsn1 {
+    ghost equal_by_text = { Prim.search rules };
 }
 
 impl TryClone for Utf8StringAsn1 {

@@ -14,7 +14,7 @@ ghost use Rattle.asn1_leaves_times.specs.declared.calendar.Moment.{Moment};
 
 use asn1_core_element::{Error, Reader};
 use asn1_core_format::{
-    ApartFrom, DerDeserialize, DerSerialize, DerTagged, Leaf, TryClone, Viewed, read_leaf,
+    ApartFrom, DerDeserialize, DerSerialize, DerTagged, EqualByText, Leaf, TryClone, read_leaf,
     read_leaf_contents,
 };
 use asn1_core_writers::{WriteError, Writer, put_element};
@@ -84,12 +84,8 @@ impl DerTagged for UTCTimeAsn1 {
     ghost tagged = { leaf_tagged 0x17 (Prim.omega arith) utc_spelling };
 }
 
-impl Viewed for UTCTimeAsn1 {
-    ghost View = { ⟦<UTCTimeAsn1 as DerSerialize>⟧.Value };
-
-    ghost view = { ⟦<UTCTimeAsn1 as DerSerialize>⟧.value };
-
-    ghost equal = { λ x y. equal_utc x.0 y.0 };
+impl EqualByText for UTCTimeAsn1 {
+    ghost equal_by_text = { λ x y. equal_utc x.0 y.0 };
 }
 
 impl TryClone for UTCTimeAsn1 {
@@ -161,12 +157,8 @@ impl DerTagged for GeneralizedTimeAsn1 {
     ghost tagged = { leaf_tagged 0x18 (Prim.omega arith) generalized_spelling };
 }
 
-impl Viewed for GeneralizedTimeAsn1 {
-    ghost View = { ⟦<GeneralizedTimeAsn1 as DerSerialize>⟧.Value };
-
-    ghost view = { ⟦<GeneralizedTimeAsn1 as DerSerialize>⟧.value };
-
-    ghost equal = { λ x y. equal_generalized x.0 y.0 };
+impl EqualByText for GeneralizedTimeAsn1 {
+    ghost equal_by_text = { λ x y. equal_generalized x.0 y.0 };
 }
 
 impl TryClone for GeneralizedTimeAsn1 {

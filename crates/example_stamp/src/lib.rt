@@ -7,8 +7,8 @@ ghost use Rattle.example_stamp.specs.Stamps.{StampValue, stamp, lawful_stamp};
 
 use asn1_core::parts::{End, Maybe, Part, WriteError, WriteRow, Writer, put_within, read_within};
 use asn1_core::{
-    DerDeserialize, DerSerialize, Error, ObjectIdentifierAsn1, OctetStringAsn1, Reader, TryClone,
-    Viewed,
+    DerDeserialize, DerSerialize, EqualByText, Error, ObjectIdentifierAsn1, OctetStringAsn1,
+    Reader, TryClone,
 };
 use std::alloc::Global;
 
@@ -52,12 +52,8 @@ impl DerDeserialize for Stamp {
     ghost lawful = { lawful_stamp };
 }
 
-impl Viewed for Stamp {
-    ghost View = { ⟦<Stamp as DerSerialize>⟧.Value };
-
-    ghost view = { ⟦<Stamp as DerSerialize>⟧.value };
-
-    ghost equal = { Prim.search rules };
+impl EqualByText for Stamp {
+    ghost equal_by_text = { Prim.search rules };
 }
 
 impl TryClone for Stamp {

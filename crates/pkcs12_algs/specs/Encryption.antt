@@ -1,6 +1,6 @@
 -- The encryption of what a PKCS #12 file protects by a password.
 --
--- ContentEncryptionAlgorithmIdentifier ::= AlgorithmIdentifier (RFC 2315, 10.1), whose algorithm is id-PBES2 with
+-- ContentEncryptionAlgorithmIdentifier ::= AlgorithmIdentifier (RFC 2315, 6.2), whose algorithm is id-PBES2 with
 -- PBES2-params (RFC 8018, appendix A.4), one of pkcs-12PbeIds with pkcs-12PbeParams (RFC 7292, appendix C), or any other.
 use Rattle.std.specs.Prelude.{◌⊎◌}
 use Rattle.asn1_core.specs.Der.{Format, IsLawful, sequence, lawful_sequence}

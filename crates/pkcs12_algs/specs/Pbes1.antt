@@ -1,4 +1,4 @@
--- PKCS #12 password based encryption with parameters of the first kind (RFC 7292, appendix C; RFC 8018, appendix A.3).
+-- PKCS #12 password based encryption with parameters of the first kind (RFC 7292, appendix C).
 --
 -- pkcs-12PbeParams ::= SEQUENCE { salt OCTET STRING, iterations INTEGER }
 use Rattle.std.specs.Prelude.{◌≡◌, ◌^◌, ℕ, List, [], ◌∷◌, Some}

@@ -12,14 +12,15 @@ use crate::algorithms::{
 };
 use asn1_core::parts::{End, FirstTags, Part, WriteRow, put_within, read_within};
 use asn1_core::{
-    DerDeserialize, DerSerialize, Error, OctetStringAsn1, Reader, TryClone, Viewed, WriteError,
-    Writer,
+    DerDeserialize, DerSerialize, EqualByText, Error, OctetStringAsn1, Reader, TryClone, Viewed,
+    WriteError, Writer,
 };
 use std::alloc::Global;
 use x509_base::RawAlgorithmIdentifier;
 
 /// `DigestAlgorithmIdentifier ::= AlgorithmIdentifier` (RFC 2315, 6.3), as the digest algorithm of a MAC (RFC 7292, 4):
-/// an algorithm that is known by its object identifier, whatever its parameters are, or any other.
+/// an algorithm that is known by its object identifier (RFC 8017, appendix B.1), whatever its parameters are, or any
+/// other. An `Unknown` with the object identifier of a known one isn't well-formed: its text is read as the known one.
 #[derive(Debug, Drop, PartialEq, Eq)]
 pub enum Pkcs12DigestAlgorithm {
     Sha1,
@@ -160,12 +161,8 @@ impl FirstTags for Pkcs12DigestInfo {
     }
 }
 
-impl Viewed for Pkcs12DigestInfo {
-    ghost View = { ⟦<Pkcs12DigestInfo as DerSerialize>⟧.Value };
-
-    ghost view = { ⟦<Pkcs12DigestInfo as DerSerialize>⟧.value };
-
-    ghost equal = { digest_info_equal };
+impl EqualByText for Pkcs12DigestInfo {
+    ghost equal_by_text = { digest_info_equal };
 }
 
 impl TryClone for Pkcs12DigestInfo {

@@ -9,13 +9,14 @@ use crate::pbes1::{Pbes1AlgorithmKind, Pbes1Params};
 use crate::pbes2::Pbes2Params;
 use asn1_core::parts::Either;
 use asn1_core::{
-    DerDeserialize, DerSerialize, Error, Reader, TryClone, Viewed, WriteError, Writer,
+    DerDeserialize, DerSerialize, EqualByText, Error, Reader, TryClone, WriteError, Writer,
 };
 use std::alloc::Global;
 use x509_base::RawAlgorithmIdentifier;
 
-/// `ContentEncryptionAlgorithmIdentifier ::= AlgorithmIdentifier` (RFC 2315, 10.1), as PKCS #12 uses it: PBES2
-/// (RFC 8018, 6.2), one of `pkcs-12PbeIds` (RFC 7292, appendix C), or any other.
+/// `ContentEncryptionAlgorithmIdentifier ::= AlgorithmIdentifier` (RFC 2315, 6.2), as PKCS #12 uses it: PBES2
+/// (RFC 8018, 6.2), one of `pkcs-12PbeIds` (RFC 7292, appendix C), or any other, as the schemes that RFC 8018 itself
+/// calls PBES1. A known object identifier with other parameters, or with none, is refused and not `Unknown`.
 #[derive(Debug, Drop, PartialEq, Eq)]
 pub enum Pkcs12EncryptionAlgorithm {
     Pbes1 {
@@ -73,12 +74,8 @@ impl DerDeserialize for Pkcs12EncryptionAlgorithm {
     ghost lawful = { lawful_encryption_algorithm };
 }
 
-impl Viewed for Pkcs12EncryptionAlgorithm {
-    ghost View = { ⟦<Pkcs12EncryptionAlgorithm as DerSerialize>⟧.Value };
-
-    ghost view = { ⟦<Pkcs12EncryptionAlgorithm as DerSerialize>⟧.value };
-
-    ghost equal = { encryption_algorithm_equal };
+impl EqualByText for Pkcs12EncryptionAlgorithm {
+    ghost equal_by_text = { encryption_algorithm_equal };
 }
 
 impl TryClone for Pkcs12EncryptionAlgorithm {

@@ -7,17 +7,20 @@ ghost use Rattle.pkcs12_algs.specs.Equal.{mac_equal};
 use crate::digests::Pkcs12DigestInfo;
 use asn1_core::parts::{End, FirstTags, Maybe, Part, WriteRow, put_within, read_within};
 use asn1_core::{
-    DerDeserialize, DerSerialize, Error, OctetStringAsn1, Reader, TryClone, Viewed, WriteError,
-    Writer,
+    DerDeserialize, DerSerialize, EqualByText, Error, OctetStringAsn1, Reader, TryClone,
+    WriteError, Writer,
 };
 use std::alloc::Global;
 
 /// `MacData ::= SEQUENCE { mac DigestInfo, macSalt OCTET STRING, iterations INTEGER DEFAULT 1 }` (RFC 7292, 4). A
-/// count that is left out and one that is 1 are told apart, and written as they were read.
+/// count that is left out and one that is 1 are told apart, and written as they were read; a count past 32 bits is
+/// refused.
 #[derive(Debug, Drop, PartialEq, Eq)]
 pub struct MacData {
+    /// The MAC, as a digest.
     pub mac: Pkcs12DigestInfo,
     pub salt: OctetStringAsn1,
+    /// How often the key derivation hashes; 1 where it is left out.
     pub iterations: Option<u32>,
 }
 
@@ -63,12 +66,8 @@ impl FirstTags for MacData {
     }
 }
 
-impl Viewed for MacData {
-    ghost View = { ⟦<MacData as DerSerialize>⟧.Value };
-
-    ghost view = { ⟦<MacData as DerSerialize>⟧.value };
-
-    ghost equal = { mac_equal };
+impl EqualByText for MacData {
+    ghost equal_by_text = { mac_equal };
 }
 
 impl TryClone for MacData {

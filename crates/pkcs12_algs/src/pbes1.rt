@@ -10,15 +10,15 @@ ghost use Rattle.pkcs12_algs.specs.declared.pbes1.Pbes1AlgorithmKind.{Pbes1Algor
 use crate::kinds::{Kind, oid_of_kind};
 use asn1_core::parts::{End, Part, WriteRow, put_within, read_within};
 use asn1_core::{
-    DerDeserialize, DerSerialize, Error, ObjectIdentifier, OctetStringAsn1, Reader, TryClone,
-    Viewed, WriteError, Writer,
+    DerDeserialize, DerSerialize, EqualByText, Error, ObjectIdentifier, OctetStringAsn1, Reader,
+    TryClone, Viewed, WriteError, Writer,
 };
 use std::alloc::Global;
 
 /// The algorithms of `pkcs-12PbeIds` (RFC 7292, appendix C) that are known.
 #[derive(Clone, Copy, Debug, PartialEq, Eq)]
 pub enum Pbes1AlgorithmKind {
-    /// `pbeWithSHAAnd40BitRC2-CBC`
+    /// `pbewithSHAAnd40BitRC2-CBC`
     ShaAnd40BitRc2Cbc,
     /// `pbeWithSHAAnd3-KeyTripleDES-CBC`
     ShaAnd3Key3DesCbc,
@@ -74,7 +74,8 @@ impl TryClone for Pbes1AlgorithmKind {
     }
 }
 
-/// `pkcs-12PbeParams ::= SEQUENCE { salt OCTET STRING, iterations INTEGER }` (RFC 7292, appendix C)
+/// `pkcs-12PbeParams ::= SEQUENCE { salt OCTET STRING, iterations INTEGER }` (RFC 7292, appendix C). A count of 0 is
+/// read, and one past 32 bits is refused.
 #[derive(Debug, Drop, PartialEq, Eq)]
 pub struct Pbes1Params {
     pub salt: OctetStringAsn1,
@@ -109,12 +110,8 @@ impl DerDeserialize for Pbes1Params {
     ghost lawful = { lawful_pbes1_params };
 }
 
-impl Viewed for Pbes1Params {
-    ghost View = { ⟦<Pbes1Params as DerSerialize>⟧.Value };
-
-    ghost view = { ⟦<Pbes1Params as DerSerialize>⟧.value };
-
-    ghost equal = { Prim.search rules };
+impl EqualByText for Pbes1Params {
+    ghost equal_by_text = { Prim.search rules };
 }
 
 impl TryClone for Pbes1Params {

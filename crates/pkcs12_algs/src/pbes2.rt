@@ -15,13 +15,14 @@ use crate::kinds::{Kind, oid_of_kind};
 use crate::pbkdf2::Pbkdf2Params;
 use asn1_core::parts::{Either, End, Part, WriteRow, put_within, read_within};
 use asn1_core::{
-    DerDeserialize, DerSerialize, Error, ObjectIdentifier, OctetStringAsn1, Reader, TryClone,
-    Viewed, WriteError, Writer,
+    DerDeserialize, DerSerialize, EqualByText, Error, ObjectIdentifier, OctetStringAsn1, Reader,
+    TryClone, Viewed, WriteError, Writer,
 };
 use std::alloc::Global;
 use x509_base::RawAlgorithmIdentifier;
 
-/// `AlgorithmIdentifier {{PBES2-KDFs}}` (RFC 8018, appendix A.4)
+/// `AlgorithmIdentifier {{PBES2-KDFs}}` (RFC 8018, appendix A.4). PBKDF2 with other parameters, or with none, is refused
+/// and not `Unknown`.
 #[derive(Debug, Drop, PartialEq, Eq)]
 pub enum Pbes2KeyDerivationFunc {
     Pbkdf2(Pbkdf2Params),
@@ -69,12 +70,8 @@ impl DerDeserialize for Pbes2KeyDerivationFunc {
     ghost lawful = { lawful_kdf };
 }
 
-impl Viewed for Pbes2KeyDerivationFunc {
-    ghost View = { ⟦<Pbes2KeyDerivationFunc as DerSerialize>⟧.Value };
-
-    ghost view = { ⟦<Pbes2KeyDerivationFunc as DerSerialize>⟧.value };
-
-    ghost equal = { kdf_equal };
+impl EqualByText for Pbes2KeyDerivationFunc {
+    ghost equal_by_text = { kdf_equal };
 }
 
 impl TryClone for Pbes2KeyDerivationFunc {
@@ -148,12 +145,13 @@ impl TryClone for Pbes2AesCbcEncryption {
     }
 }
 
-/// `AlgorithmIdentifier {{PBES2-Encs}}` (RFC 8018, appendix A.4)
+/// `AlgorithmIdentifier {{PBES2-Encs}}` (RFC 8018, appendix A.4). AES with other parameters, or with none, is refused
+/// and not `Unknown`.
 #[derive(Debug, Drop, PartialEq, Eq)]
 pub enum Pbes2EncryptionScheme {
     AesCbc {
         kind: Pbes2AesCbcEncryption,
-        /// The initialization vector. Its length is not looked at.
+        /// The initialization vector, of 16 octets where the standard is kept; its length is not looked at.
         iv: OctetStringAsn1,
     },
     Unknown(RawAlgorithmIdentifier),
@@ -202,12 +200,8 @@ impl DerDeserialize for Pbes2EncryptionScheme {
     ghost lawful = { lawful_scheme };
 }
 
-impl Viewed for Pbes2EncryptionScheme {
-    ghost View = { ⟦<Pbes2EncryptionScheme as DerSerialize>⟧.Value };
-
-    ghost view = { ⟦<Pbes2EncryptionScheme as DerSerialize>⟧.value };
-
-    ghost equal = { Prim.search rules };
+impl EqualByText for Pbes2EncryptionScheme {
+    ghost equal_by_text = { Prim.search rules };
 }
 
 impl TryClone for Pbes2EncryptionScheme {
@@ -273,12 +267,8 @@ impl Parameters for Pbes2Params {
     ghost valid = { oid_from_test pbes2_oid refl };
 }
 
-impl Viewed for Pbes2Params {
-    ghost View = { ⟦<Pbes2Params as DerSerialize>⟧.Value };
-
-    ghost view = { ⟦<Pbes2Params as DerSerialize>⟧.value };
-
-    ghost equal = { pbes2_equal };
+impl EqualByText for Pbes2Params {
+    ghost equal_by_text = { pbes2_equal };
 }
 
 impl TryClone for Pbes2Params {

@@ -12,14 +12,15 @@ use crate::choices::Parameters;
 use crate::prfs::Pbkdf2Prf;
 use asn1_core::parts::{End, Maybe, Part, WriteRow, put_within, read_within};
 use asn1_core::{
-    DerDeserialize, DerSerialize, Error, OctetStringAsn1, Reader, TryClone, Viewed, WriteError,
-    Writer,
+    DerDeserialize, DerSerialize, EqualByText, Error, OctetStringAsn1, Reader, TryClone, Viewed,
+    WriteError, Writer,
 };
 use asn1_core_format::rows::next_is;
 use std::alloc::Global;
 use x509_base::RawAlgorithmIdentifier;
 
-/// `salt CHOICE { specified OCTET STRING, otherSource AlgorithmIdentifier {{PBKDF2-SaltSources}} }`
+/// `salt CHOICE { specified OCTET STRING, otherSource AlgorithmIdentifier {{PBKDF2-SaltSources}} }` (RFC 8018,
+/// appendix A.2). The standard knows no other source, so one is kept as it is.
 #[derive(Debug, Drop, PartialEq, Eq)]
 pub enum Pbkdf2SaltSource {
     Specified(OctetStringAsn1),
@@ -104,7 +105,8 @@ impl TryClone for Pbkdf2SaltSource {
 
 /// `PBKDF2-params ::= SEQUENCE { salt CHOICE { .. }, iterationCount INTEGER (1..MAX), keyLength INTEGER (1..MAX) OPTIONAL,
 /// prf AlgorithmIdentifier {{PBKDF2-PRFs}} DEFAULT algid-hmacWithSHA1 }` (RFC 8018, appendix A.2). A count or length
-/// of 0 is read. A PRF that is left out and one that is the default are told apart, and written as they were read.
+/// of 0 is read, and one past 32 bits is refused. A PRF that is left out and one that is the default are told apart,
+/// and written as they were read.
 #[derive(Debug, Drop, PartialEq, Eq)]
 pub struct Pbkdf2Params {
     pub salt: Pbkdf2SaltSource,
@@ -184,12 +186,8 @@ impl Parameters for Pbkdf2Params {
     ghost valid = { oid_from_test pbkdf2_oid refl };
 }
 
-impl Viewed for Pbkdf2Params {
-    ghost View = { ⟦<Pbkdf2Params as DerSerialize>⟧.Value };
-
-    ghost view = { ⟦<Pbkdf2Params as DerSerialize>⟧.value };
-
-    ghost equal = { pbkdf2_equal };
+impl EqualByText for Pbkdf2Params {
+    ghost equal_by_text = { pbkdf2_equal };
 }
 
 impl TryClone for Pbkdf2Params {

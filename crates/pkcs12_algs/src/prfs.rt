@@ -14,7 +14,8 @@ use std::alloc::Global;
 use x509_base::RawAlgorithmIdentifier;
 
 /// `prf AlgorithmIdentifier {{PBKDF2-PRFs}}` (RFC 8018, appendices A.2 and B.1): a function that is known by its object
-/// identifier, whatever its parameters are, or any other.
+/// identifier, whatever its parameters are, or any other, as those over SHA-512/224 and SHA-512/256. A known one is
+/// written with NULL as its parameters.
 #[derive(Debug, Drop, PartialEq, Eq)]
 pub enum Pbkdf2Prf {
     HmacWithSha1,

@@ -8,8 +8,8 @@ ghost use Rattle.x509_base.specs.AlgorithmParts.{algorithm_of, parameters_of, pa
 ghost use Rattle.x509_base.specs.AlgorithmLaws.{lawful_algorithm_identifier, lawful_raw_algorithm_identifier};
 
 use asn1_core::{
-    Asn1RawDer, DerDeserialize, DerSerialize, Error, KnownOid, ObjectIdentifier,
-    ObjectIdentifierAsn1, OidRef, Reader, TryClone, Viewed,
+    Asn1RawDer, DerDeserialize, DerSerialize, EqualByText, Error, KnownOid, ObjectIdentifier,
+    ObjectIdentifierAsn1, OidRef, Reader, TryClone,
 };
 use asn1_core_format::{Alone, End, FirstTags, Maybe, Part, WriteRow, put_within, read_within};
 use asn1_core_writers::{WriteError, Writer, put_element};
@@ -86,12 +86,8 @@ impl FirstTags for AlgorithmIdentifier {
     }
 }
 
-impl Viewed for AlgorithmIdentifier {
-    ghost View = { ⟦<AlgorithmIdentifier as DerSerialize>⟧.Value };
-
-    ghost view = { ⟦<AlgorithmIdentifier as DerSerialize>⟧.value };
-
-    ghost equal = { Prim.search rules };
+impl EqualByText for AlgorithmIdentifier {
+    ghost equal_by_text = { Prim.search rules };
 }
 
 impl TryClone for AlgorithmIdentifier {
@@ -167,12 +163,8 @@ impl FirstTags for RawAlgorithmIdentifier {
     }
 }
 
-impl Viewed for RawAlgorithmIdentifier {
-    ghost View = { ⟦<RawAlgorithmIdentifier as DerSerialize>⟧.Value };
-
-    ghost view = { ⟦<RawAlgorithmIdentifier as DerSerialize>⟧.value };
-
-    ghost equal = { Prim.search rules };
+impl EqualByText for RawAlgorithmIdentifier {
+    ghost equal_by_text = { Prim.search rules };
 }
 
 impl TryClone for RawAlgorithmIdentifier {

@@ -7,7 +7,7 @@ ghost use Rattle.x509_base.specs.Digests.{DigestInfoValue, digest_info, lawful_d
 
 use crate::algorithms::AlgorithmIdentifier;
 use asn1_core::{
-    DerDeserialize, DerSerialize, DerTagged, Error, OctetStringAsn1, Reader, TryClone, Viewed,
+    DerDeserialize, DerSerialize, DerTagged, EqualByText, Error, OctetStringAsn1, Reader, TryClone,
 };
 use asn1_core_format::{End, Part, WriteRow, put_within, read_within};
 use asn1_core_writers::{WriteError, Writer};
@@ -47,12 +47,8 @@ impl DerDeserialize for DigestInfo {
     ghost lawful = { lawful_digest_info };
 }
 
-impl Viewed for DigestInfo {
-    ghost View = { ⟦<DigestInfo as DerSerialize>⟧.Value };
-
-    ghost view = { ⟦<DigestInfo as DerSerialize>⟧.value };
-
-    ghost equal = { Prim.search rules };
+impl EqualByText for DigestInfo {
+    ghost equal_by_text = { Prim.search rules };
 }
 
 impl TryClone for DigestInfo {
@@ -107,12 +103,8 @@ impl DerTagged for SubjectKeyIdentifier {
     ghost tagged = { leaf_tagged 0x04 (Prim.omega arith) any_octets };
 }
 
-impl Viewed for SubjectKeyIdentifier {
-    ghost View = { ⟦<SubjectKeyIdentifier as DerSerialize>⟧.Value };
-
-    ghost view = { ⟦<SubjectKeyIdentifier as DerSerialize>⟧.value };
-
-    ghost equal = { Prim.search rules };
+impl EqualByText for SubjectKeyIdentifier {
+    ghost equal_by_text = { Prim.search rules };
 }
 
 impl TryClone for SubjectKeyIdentifier {

@@ -9,8 +9,8 @@ ghost use Rattle.x509_base.specs.Equal.{extension_equal};
 ghost use Rattle.x509_base.specs.Extensions.{ExtensionValue, extension, extensions, lawful_extension, lawful_extensions};
 
 use asn1_core::{
-    DerDeserialize, DerSerialize, Error, ObjectIdentifierAsn1, OctetStringAsn1, Reader, TryClone,
-    Viewed,
+    DerDeserialize, DerSerialize, EqualByText, Error, ObjectIdentifierAsn1, OctetStringAsn1,
+    Reader, TryClone,
 };
 use asn1_core_format::{
     ApartFrom, End, FirstTags, HasDefault, Leaf, Omitted, Part, WriteRow, put_within, read_leaf,
@@ -137,12 +137,8 @@ impl DerDeserialize for Extension {
     ghost lawful = { lawful_extension };
 }
 
-impl Viewed for Extension {
-    ghost View = { ⟦<Extension as DerSerialize>⟧.Value };
-
-    ghost view = { ⟦<Extension as DerSerialize>⟧.value };
-
-    ghost equal = { extension_equal };
+impl EqualByText for Extension {
+    ghost equal_by_text = { extension_equal };
 }
 
 impl TryClone for Extension {
@@ -191,12 +187,8 @@ impl FirstTags for Extensions {
     }
 }
 
-impl Viewed for Extensions {
-    ghost View = { ⟦<Extensions as DerSerialize>⟧.Value };
-
-    ghost view = { ⟦<Extensions as DerSerialize>⟧.value };
-
-    ghost equal = { λ x y. list_equal _ _ extension_equal x.0.items y.0.items };
+impl EqualByText for Extensions {
+    ghost equal_by_text = { λ x y. list_equal _ _ extension_equal x.0.items y.0.items };
 }
 
 impl TryClone for Extensions {

@@ -9,8 +9,8 @@ ghost use Rattle.x509_base.specs.Equal.{name_value_equal};
 ghost use Rattle.x509_base.specs.Names.{NameValueValue, name_value, name, AttributeValue, attribute, lawful_name_value, lawful_name, lawful_attribute};
 
 use asn1_core::{
-    Asn1RawDer, Asn1SequenceOf, Asn1SetOf, DerDeserialize, DerSerialize, Error,
-    ObjectIdentifierAsn1, Reader, TryClone, Viewed,
+    Asn1RawDer, Asn1SequenceOf, Asn1SetOf, DerDeserialize, DerSerialize, EqualByText, Error,
+    ObjectIdentifierAsn1, Reader, TryClone,
 };
 use asn1_core_format::{End, FirstTags, Part, WriteRow, put_within, read_within};
 use asn1_core_writers::{WriteError, Writer};
@@ -50,12 +50,8 @@ impl DerDeserialize for NameValue {
     ghost lawful = { lawful_name_value };
 }
 
-impl Viewed for NameValue {
-    ghost View = { ⟦<NameValue as DerSerialize>⟧.Value };
-
-    ghost view = { ⟦<NameValue as DerSerialize>⟧.value };
-
-    ghost equal = { name_value_equal };
+impl EqualByText for NameValue {
+    ghost equal_by_text = { name_value_equal };
 }
 
 impl TryClone for NameValue {
@@ -100,12 +96,8 @@ impl FirstTags for Name {
     }
 }
 
-impl Viewed for Name {
-    ghost View = { ⟦<Name as DerSerialize>⟧.Value };
-
-    ghost view = { ⟦<Name as DerSerialize>⟧.value };
-
-    ghost equal = { λ x y. list_equal _ _ (λ a b. list_equal _ _ name_value_equal a.0.items b.0.items) x.0.0.items y.0.0.items };
+impl EqualByText for Name {
+    ghost equal_by_text = { λ x y. list_equal _ _ (λ a b. list_equal _ _ name_value_equal a.0.items b.0.items) x.0.0.items y.0.0.items };
 }
 
 impl TryClone for Name {
@@ -148,12 +140,8 @@ impl DerDeserialize for Attribute {
     ghost lawful = { lawful_attribute };
 }
 
-impl Viewed for Attribute {
-    ghost View = { ⟦<Attribute as DerSerialize>⟧.Value };
-
-    ghost view = { ⟦<Attribute as DerSerialize>⟧.value };
-
-    ghost equal = { λ x y. let values = list_equal _ _ raw_equal x.value.0.items y.value.0.items in Prim.search rules };
+impl EqualByText for Attribute {
+    ghost equal_by_text = { λ x y. let values = list_equal _ _ raw_equal x.value.0.items y.value.0.items in Prim.search rules };
 }
 
 impl TryClone for Attribute {

@@ -6,7 +6,7 @@ ghost use Rattle.std.specs.Prelude.{◌≡◌, ◌≢◌, false, IfErr};
 ghost use Rattle.x509_base.specs.Equal.{time_equal};
 ghost use Rattle.x509_base.specs.Times.{TimeValue, time, time_of, lawful_time};
 
-use asn1_core::{DerDeserialize, DerSerialize, Error, Reader, TryClone, Viewed};
+use asn1_core::{DerDeserialize, DerSerialize, EqualByText, Error, Reader, TryClone};
 use asn1_core_format::FirstTags;
 use asn1_core_format::rows::next_is;
 use asn1_core_writers::{WriteError, Writer};
@@ -66,12 +66,8 @@ impl FirstTags for Time {
     }
 }
 
-impl Viewed for Time {
-    ghost View = { ⟦<Time as DerSerialize>⟧.Value };
-
-    ghost view = { ⟦<Time as DerSerialize>⟧.value };
-
-    ghost equal = { time_equal };
+impl EqualByText for Time {
+    ghost equal_by_text = { time_equal };
 }
 
 impl TryClone for Time {

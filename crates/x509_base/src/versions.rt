@@ -7,7 +7,7 @@ ghost use Rattle.std.proofs.Common.{rules};
 ghost use Rattle.asn1_core_format.specs.Numbers.{numbers_below, number_below, lawful_number};
 ghost use Rattle.x509_base.specs.Versions.{number_of};
 
-use asn1_core::{DerDeserialize, DerSerialize, Error, Reader, TryClone, Viewed};
+use asn1_core::{DerDeserialize, DerSerialize, EqualByText, Error, Reader, TryClone};
 use asn1_core_format::{FirstTags, Leaf, read_leaf};
 use asn1_core_numbers::unsigned;
 use asn1_core_writers::{WriteError, Writer, put_unsigned};
@@ -80,12 +80,8 @@ impl FirstTags for Version {
     }
 }
 
-impl Viewed for Version {
-    ghost View = { ⟦<Version as DerSerialize>⟧.Value };
-
-    ghost view = { ⟦<Version as DerSerialize>⟧.value };
-
-    ghost equal = { Prim.search rules };
+impl EqualByText for Version {
+    ghost equal_by_text = { Prim.search rules };
 }
 
 impl TryClone for Version {

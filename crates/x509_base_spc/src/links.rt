@@ -7,8 +7,8 @@ ghost use Rattle.x509_base_spc.specs.Values.{string_of, link_of};
 
 use crate::objects::SpcSerializedObject;
 use asn1_core::{
-    DerDeserialize, DerSerialize, Error, ExplicitContextTag2, ImplicitContextTag0,
-    ImplicitContextTag1, Optional, Reader, TryClone, Viewed,
+    DerDeserialize, DerSerialize, EqualByText, Error, ExplicitContextTag2, ImplicitContextTag0,
+    ImplicitContextTag1, Optional, Reader, TryClone,
 };
 use asn1_core_format::{ApartFrom, Either, FirstTags};
 use asn1_core_writers::{WriteError, Writer};
@@ -61,12 +61,8 @@ impl FirstTags for SpcString {
     }
 }
 
-impl Viewed for SpcString {
-    ghost View = { ⟦<SpcString as DerSerialize>⟧.Value };
-
-    ghost view = { ⟦<SpcString as DerSerialize>⟧.value };
-
-    ghost equal = { Prim.search rules };
+impl EqualByText for SpcString {
+    ghost equal_by_text = { Prim.search rules };
 }
 
 impl TryClone for SpcString {
@@ -116,12 +112,8 @@ impl ApartFrom<Either<Moniker, File>> for Url {
     ghost no_common_tag = { λ t h e. ⊎_elim (λ (m : t ≡ 0xA1). Prim.omega arith) (λ (f : t ≡ 0xA2). Prim.omega arith) e };
 }
 
-impl Viewed for Url {
-    ghost View = { ⟦<Url as DerSerialize>⟧.Value };
-
-    ghost view = { ⟦<Url as DerSerialize>⟧.value };
-
-    ghost equal = { Prim.search rules };
+impl EqualByText for Url {
+    ghost equal_by_text = { Prim.search rules };
 }
 
 impl TryClone for Url {
@@ -168,12 +160,8 @@ impl ApartFrom<File> for Moniker {
     ghost no_common_tag = { λ t h e. Prim.omega arith };
 }
 
-impl Viewed for Moniker {
-    ghost View = { ⟦<Moniker as DerSerialize>⟧.Value };
-
-    ghost view = { ⟦<Moniker as DerSerialize>⟧.value };
-
-    ghost equal = { Prim.search rules };
+impl EqualByText for Moniker {
+    ghost equal_by_text = { Prim.search rules };
 }
 
 impl TryClone for Moniker {
@@ -216,12 +204,8 @@ impl FirstTags for File {
     }
 }
 
-impl Viewed for File {
-    ghost View = { ⟦<File as DerSerialize>⟧.Value };
-
-    ghost view = { ⟦<File as DerSerialize>⟧.value };
-
-    ghost equal = { Prim.search rules };
+impl EqualByText for File {
+    ghost equal_by_text = { Prim.search rules };
 }
 
 impl TryClone for File {
@@ -280,12 +264,8 @@ impl FirstTags for SpcLink {
     }
 }
 
-impl Viewed for SpcLink {
-    ghost View = { ⟦<SpcLink as DerSerialize>⟧.Value };
-
-    ghost view = { ⟦<SpcLink as DerSerialize>⟧.value };
-
-    ghost equal = { Prim.search rules };
+impl EqualByText for SpcLink {
+    ghost equal_by_text = { Prim.search rules };
 }
 
 impl TryClone for SpcLink {

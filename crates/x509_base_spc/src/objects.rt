@@ -8,7 +8,7 @@ ghost use Rattle.asn1_core_format.specs.TaggedLaws.{within_tagged};
 ghost use Rattle.x509_base_spc.specs.Objects.{SerializedObjectValue, serialized_object_row, serialized_object, lawful_serialized_object, page_hash_class};
 
 use asn1_core::{
-    DerDeserialize, DerSerialize, DerTagged, Error, OctetStringAsn1, Reader, TryClone, Viewed,
+    DerDeserialize, DerSerialize, DerTagged, EqualByText, Error, OctetStringAsn1, Reader, TryClone,
 };
 use asn1_core_format::{End, Part, WriteRow, put_within, read_row_contents, read_within};
 use asn1_core_writers::{WriteError, Writer};
@@ -56,12 +56,8 @@ impl DerDeserialize for SpcUuid {
     ghost lawful = { lawful_octet_string };
 }
 
-impl Viewed for SpcUuid {
-    ghost View = { ⟦<SpcUuid as DerSerialize>⟧.Value };
-
-    ghost view = { ⟦<SpcUuid as DerSerialize>⟧.value };
-
-    ghost equal = { Prim.search rules };
+impl EqualByText for SpcUuid {
+    ghost equal_by_text = { Prim.search rules };
 }
 
 impl TryClone for SpcUuid {
@@ -148,12 +144,8 @@ impl DerTagged for SpcSerializedObject {
     ghost tagged = { within_tagged 0x30 (Prim.omega arith) serialized_object_row };
 }
 
-impl Viewed for SpcSerializedObject {
-    ghost View = { ⟦<SpcSerializedObject as DerSerialize>⟧.Value };
-
-    ghost view = { ⟦<SpcSerializedObject as DerSerialize>⟧.value };
-
-    ghost equal = { Prim.search rules };
+impl EqualByText for SpcSerializedObject {
+    ghost equal_by_text = { Prim.search rules };
 }
 
 impl TryClone for SpcSerializedObject {

@@ -7,8 +7,8 @@ ghost use Rattle.x509_base_spc.specs.Values.{string_of, link_of};
 
 use crate::links::{SpcLink, SpcString};
 use asn1_core::{
-    DerDeserialize, DerSerialize, Error, ExplicitContextTag0, ExplicitContextTag1, Reader,
-    TryClone, Viewed,
+    DerDeserialize, DerSerialize, EqualByText, Error, ExplicitContextTag0, ExplicitContextTag1,
+    Reader, TryClone,
 };
 use asn1_core_format::{End, FirstTags, Maybe, WriteRow, put_within, read_within};
 use asn1_core_writers::{WriteError, Writer};
@@ -61,12 +61,8 @@ impl FirstTags for SpcSpOpusInfo {
     }
 }
 
-impl Viewed for SpcSpOpusInfo {
-    ghost View = { ⟦<SpcSpOpusInfo as DerSerialize>⟧.Value };
-
-    ghost view = { ⟦<SpcSpOpusInfo as DerSerialize>⟧.value };
-
-    ghost equal = { Prim.search rules };
+impl EqualByText for SpcSpOpusInfo {
+    ghost equal_by_text = { Prim.search rules };
 }
 
 impl TryClone for SpcSpOpusInfo {

@@ -6,9 +6,8 @@ ghost use Rattle.x509_containers.specs.AuthSafeLaws.{lawful_raw_auth_safe_row, l
 
 use crate::oids::{DATA, is_oid_of};
 use asn1_core::{
-    Asn1RawDer, DerDeserialize, DerSerialize, Error, ExplicitContextTag0, KnownOid,
+    Asn1RawDer, DerDeserialize, DerSerialize, EqualByText, Error, ExplicitContextTag0, KnownOid,
     ObjectIdentifier, ObjectIdentifierAsn1, OctetStringAsn1Container, OidRef, Reader, TryClone,
-    Viewed,
 };
 use asn1_core_format::{
     Alone, End, FirstTags, Maybe, Part, ReadRow, WriteRow, put_within, read_within,
@@ -126,12 +125,8 @@ impl FirstTags for RawAuthenticatedSafeContentInfo {
     }
 }
 
-impl Viewed for RawAuthenticatedSafeContentInfo {
-    ghost View = { ⟦<RawAuthenticatedSafeContentInfo as DerSerialize>⟧.Value };
-
-    ghost view = { ⟦<RawAuthenticatedSafeContentInfo as DerSerialize>⟧.value };
-
-    ghost equal = { Prim.search rules };
+impl EqualByText for RawAuthenticatedSafeContentInfo {
+    ghost equal_by_text = { Prim.search rules };
 }
 
 impl TryClone for RawAuthenticatedSafeContentInfo {

@@ -9,8 +9,8 @@ mod pfxs;
 mod versions;
 
 pub use asn1_core::{
-    Asn1RawDer, Asn1SequenceOf, Asn1SetOf, DerDeserialize, DerSerialize, DerTagged, Error,
-    ExplicitContextTag0, ExplicitContextTag1, ExplicitContextTag2, ImplicitContextTag0,
+    Asn1RawDer, Asn1SequenceOf, Asn1SetOf, DerDeserialize, DerSerialize, DerTagged, EqualByText,
+    Error, ExplicitContextTag0, ExplicitContextTag1, ExplicitContextTag2, ImplicitContextTag0,
     ImplicitContextTag1, KnownOid, MAX_NESTING, ObjectIdentifier, ObjectIdentifierAsn1,
     OctetStringAsn1, OctetStringAsn1Container, OidRef, Optional, ReadError, Reader, Sink, Source,
     StdSink, StdSource, TryClone, Viewed, WriteError, WriteFailed, Writer, from_bytes,

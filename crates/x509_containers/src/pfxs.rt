@@ -6,7 +6,7 @@ ghost use Rattle.x509_containers.specs.PfxEqual.{raw_pfx_equal};
 
 use crate::auth_safes::RawAuthenticatedSafeContentInfo;
 use crate::versions::FixedVersion;
-use asn1_core::{DerDeserialize, DerSerialize, Error, Reader, TryClone, Viewed};
+use asn1_core::{DerDeserialize, DerSerialize, EqualByText, Error, Reader, TryClone};
 use asn1_core_format::{End, FirstTags, Maybe, Part, WriteRow, put_within, read_within};
 use asn1_core_writers::{WriteError, Writer};
 use pkcs12_algs::MacData;
@@ -74,12 +74,8 @@ impl FirstTags for RawPfx {
     }
 }
 
-impl Viewed for RawPfx {
-    ghost View = { ⟦<RawPfx as DerSerialize>⟧.Value };
-
-    ghost view = { ⟦<RawPfx as DerSerialize>⟧.value };
-
-    ghost equal = { raw_pfx_equal };
+impl EqualByText for RawPfx {
+    ghost equal_by_text = { raw_pfx_equal };
 }
 
 impl TryClone for RawPfx {
