@@ -1,7 +1,7 @@
 //! What is asked of every type: that its texts are read, written and sent, and its values cloned. An answer names what
 //! didn't hold, and the text.
 
-use crate::fakes::{Full, Narrow};
+use crate::fakes::Narrow;
 use asn1_core_element::{Error, Reader};
 use asn1_core_format::{
     DerDeserialize, DerSerialize, DerTagged, FirstTags, MAX_NESTING, TryClone, from_bytes,
@@ -51,13 +51,7 @@ pub fn is_sent<T: DerSerialize>(
     width: usize,
 ) -> Result<(), Fail> {
     for writes_left in 0..=text.len() {
-        let mut sink = Narrow {
-            taken: Vec::with_capacity(alloc, text.len())?,
-            width,
-            writes_left,
-            full: Full::Fails,
-            failed: 0,
-        };
+        let mut sink = Narrow::new(alloc, width, writes_left);
         let outcome = write_to(value, &mut sink);
         if outcome.is_ok() {
             expect(sink.failures() == 0, "no failure", text)?;

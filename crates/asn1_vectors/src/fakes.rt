@@ -1,10 +1,14 @@
-//! Sources and sinks that move few bytes a call, and fail.
+//! Sources and sinks that move few bytes a call, and fail; and a type of a caller's own.
 
 ghost use Rattle.std.specs.Prelude.{◌≡◌, None};
 
+use asn1_core::Asn1RawDer;
+use asn1_core_format::DerSerialize;
 use asn1_core_streams::{Sink, Source};
-use std::alloc::{AllocError, Global};
+use asn1_core_writers::{WriteError, Writer};
+use std::alloc::Global;
 use std::io::{self, Error, ErrorKind, Read, Write};
+use std::rc::Rc;
 
 /// Gives one byte a read, and fails after a number of reads.
 #[derive(Drop)]
@@ -67,6 +71,20 @@ pub struct Narrow {
     pub failed: u64,
 }
 
+impl Narrow {
+    pub fn new(alloc: Global, width: usize, writes_left: usize) -> Self
+        ensures { result.failed ≡ 0 }
+    {
+        Narrow {
+            taken: Vec::new(alloc),
+            width,
+            writes_left,
+            full: Full::Fails,
+            failed: 0,
+        }
+    }
+}
+
 impl Sink for Narrow {
     ghost held = { λ _. None };
 
@@ -113,5 +131,25 @@ impl Write for Broken {
 
     fn flush(&mut self) -> io::Result<()> {
         Ok(())
+    }
+}
+
+/// A raw element that several lists share, so that a text may be longer than the memory that it is made from.
+#[derive(Debug, Drop)]
+pub struct Shared(pub Rc<Asn1RawDer>);
+
+impl DerSerialize for Shared {
+    ghost Value = { ⟦<Asn1RawDer as DerSerialize>⟧.Value };
+
+    ghost value = { λ x. ⟦<Asn1RawDer as DerSerialize>⟧.value x.0.value };
+
+    ghost format = { ⟦<Asn1RawDer as DerSerialize>⟧.format };
+
+    fn put<W: Writer>(&self, w: &mut W) -> Result<(), WriteError> {
+        self.0.put(w)
+    }
+
+    fn well_formed_at(&self, limit: u8) -> bool {
+        self.0.well_formed_at(limit)
     }
 }

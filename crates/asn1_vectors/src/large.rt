@@ -1,10 +1,13 @@
 //! Texts past one length octet, and requests for memory.
 
 use crate::checks::is_read;
+use crate::fakes::Shared;
 use asn1_core::{Asn1RawDer, Asn1SequenceOf, OctetStringAsn1};
+use asn1_core_element::Error;
 use asn1_core_format::{DerSerialize, to_vec};
 use asn1_core_streams::ReadError;
 use std::alloc::AllocError;
+use std::rc::Rc;
 use std::test::Fail;
 
 #[test]
@@ -37,7 +40,25 @@ fn memory_that_no_process_has(rt: HostRuntime) -> Result<(), Fail> {
     Ok(())
 }
 
-/// Where there is room, none is asked for.
+/// A list whose text takes 2^47 bytes and more, which no process may have: 2^24 bytes, 2^23 times.
+#[test]
+fn a_text_that_no_process_has(rt: HostRuntime) -> Result<(), Fail> {
+    let raw = Rc::new(rt.alloc(), Asn1RawDer(vec![in rt.alloc(); 0; 1 << 24]?))?;
+    let mut items = Vec::with_capacity(rt.alloc(), 1 << 23)?;
+    for _ in 0..1 << 23 {
+        items.push(Shared(raw.clone()?))?;
+    }
+    let huge = Asn1SequenceOf(items);
+    assert_eq!(rt; to_vec(rt.alloc(), &huge).err(), Some(Error::Memory));
+    let mut out = Vec::from_slice(rt.alloc(), b"before")?;
+    let capacity = out.capacity();
+    assert_eq!(rt; huge.write(rt.alloc(), &mut out), Err(Error::Memory));
+    assert_eq!(rt; out.as_slice(), b"before".as_slice());
+    assert!(rt; out.capacity() >= capacity);
+    Ok(())
+}
+
+/// Where there is room, none is asked for; where there is none, it is asked for once.
 #[test]
 fn room_is_used(rt: HostRuntime) -> Result<(), Fail> {
     let list = Asn1SequenceOf(vec![in rt.alloc(); 7u8; 100]?);
@@ -46,6 +67,11 @@ fn room_is_used(rt: HostRuntime) -> Result<(), Fail> {
     let capacity = enough.capacity();
     list.write(rt.alloc(), &mut enough)?;
     assert_eq!(rt; enough.capacity(), capacity);
-    assert_eq!(rt; enough.as_slice(), to_vec(rt.alloc(), &list)?.as_slice());
+    let text = to_vec(rt.alloc(), &list)?;
+    assert_eq!(rt; text.as_slice(), enough.as_slice());
+    assert_eq!(rt; text.capacity(), size);
+    let mut short = Vec::with_capacity(rt.alloc(), size.saturating_sub(1))?;
+    list.write(rt.alloc(), &mut short)?;
+    assert_eq!(rt; short.as_slice(), text.as_slice());
     Ok(())
 }

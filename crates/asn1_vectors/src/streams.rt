@@ -26,13 +26,8 @@ fn each_read_fails_in_turn(rt: HostRuntime) -> Result<(), Fail> {
 fn each_write_fails_in_turn(rt: HostRuntime) -> Result<(), Fail> {
     for full in [Full::TakesNone, Full::Fails] {
         for writes_left in 0..=8usize {
-            let mut sink = Narrow {
-                taken: Vec::with_capacity(rt.alloc(), 8)?,
-                width: 1,
-                writes_left,
-                full,
-                failed: 0,
-            };
+            let mut sink = Narrow::new(rt.alloc(), 1, writes_left);
+            sink.full = full;
             let outcome = send(&mut sink, &BYTES);
             assert_eq!(rt; outcome.is_ok(), writes_left == 8);
             assert_eq!(rt; sink.taken.as_slice(), &BYTES[..writes_left]);

@@ -1,6 +1,6 @@
 //! Headers, elements and numbers over each writer, as X.690 spells them (8.1.3, 8.3 and 10.1).
 
-use crate::fakes::{Full, Narrow};
+use crate::fakes::Narrow;
 use crate::numbers::ELEMENTS;
 use asn1_core_format::write_to;
 use asn1_core_streams::{Sink, StdSink};
@@ -143,13 +143,8 @@ fn a_sink_with_nearly_all_failures(rt: HostRuntime) -> Result<(), Fail> {
         (1, Err(WriteError::Failed), u64::MAX),
         (0, Err(WriteError::Failed), u64::MAX),
     ] {
-        let mut sink = Narrow {
-            taken: Vec::with_capacity(rt.alloc(), 3)?,
-            width: 2,
-            writes_left,
-            full: Full::Fails,
-            failed: u64::MAX - 1,
-        };
+        let mut sink = Narrow::new(rt.alloc(), 2, writes_left);
+        sink.failed = u64::MAX - 1;
         assert_eq!(rt; write_to(&7u8, &mut sink), outcome, "at {writes_left}");
         assert_eq!(rt; sink.failures(), failures, "at {writes_left}");
         assert!(rt; SEVEN.starts_with(&sink.taken), "at {writes_left}");
