@@ -3,9 +3,13 @@
 #![tactic(auto)]
 
 #[cfg(test)]
+mod algorithm_runs;
+#[cfg(test)]
 mod algorithms;
 #[cfg(test)]
 mod certificates;
+#[cfg(test)]
+mod encryption;
 #[cfg(test)]
 mod extensions;
 #[cfg(test)]

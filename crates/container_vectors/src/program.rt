@@ -2,9 +2,10 @@
 
 use crate::texts::hex;
 use asn1_core::{Sink, Source, StdSink, StdSource};
-use asn1_vectors::fakes::{Broken, Trickle};
+use asn1_vectors::fakes::{Narrow, Trickle};
 use std::alloc::{AllocError, Global};
 use std::env::{Env, FillError};
+use std::io::{self, ErrorKind};
 use std::test::Fail;
 use x509_containers::{Error, Kind, Mode, Outcome};
 use x509_containers_program::{Answer, WordsError, answer_words, words_of};
@@ -193,44 +194,63 @@ fn words_for(alloc: Global, mode: &str) -> Result<Vec<String>, AllocError> {
     Ok(words)
 }
 
+/// Each of the 24 bytes takes a read, and one more says that no more are to come.
 #[test]
-fn reads_that_fail(rt: HostRuntime) -> Result<(), Fail> {
+fn each_read_fails_in_turn(rt: HostRuntime) -> Result<(), Fail> {
+    let input = hex(rt.alloc(), &[EMPTY_PFX])?;
     for mode in ["check", "rewrite"] {
-        let mut source = Trickle::new(&[0x30, 0x00], 1);
-        let mut output = StdSink::new(Vec::new(rt.alloc()));
-        let mut complaints = StdSink::new(Vec::new(rt.alloc()));
-        let words = Ok(words_for(rt.alloc(), mode)?);
-        let status = answer_words(rt.alloc(), words, &mut source, &mut output, &mut complaints);
-        assert_eq!(rt; status, 1, "{mode}");
-        assert_eq!(rt; source.failures(), 1, "{mode}");
-        assert!(rt; output.into_inner().is_empty(), "{mode}");
-        let complaint = complaints.into_inner();
-        assert_eq!(rt; complaint.as_slice(), b"derbox: read failed\n".as_slice());
+        for reads_left in 0..=24 {
+            let mut source = Trickle::new(&input, reads_left);
+            let mut output = StdSink::new(Vec::new(rt.alloc()));
+            let mut complaints = StdSink::new(Vec::new(rt.alloc()));
+            let words = Ok(words_for(rt.alloc(), mode)?);
+            let status = answer_words(rt.alloc(), words, &mut source, &mut output, &mut complaints);
+            assert_eq!(rt; status, 1, "{mode} {reads_left}");
+            assert_eq!(rt; source.failures(), 1, "{mode} {reads_left}");
+            assert!(rt; output.into_inner().is_empty(), "{mode} {reads_left}");
+            let complaint = complaints.into_inner();
+            assert_eq!(rt; complaint.as_slice(), b"derbox: read failed\n".as_slice());
+        }
+    }
+    Ok(())
+}
+
+#[test]
+fn each_write_fails_in_turn(rt: HostRuntime) -> Result<(), Fail> {
+    let input = hex(rt.alloc(), &[EMPTY_PFX])?;
+    for (mode, written) in [("check", b"normal 24\n".as_slice()), ("rewrite", &input)] {
+        for writes_left in 0..written.len() {
+            let mut source = StdSource::new(input.as_slice());
+            let mut output = Narrow::new(rt.alloc(), 1, writes_left);
+            let mut complaints = StdSink::new(Vec::new(rt.alloc()));
+            let words = Ok(words_for(rt.alloc(), mode)?);
+            let status = answer_words(rt.alloc(), words, &mut source, &mut output, &mut complaints);
+            assert_eq!(rt; status, 1, "{mode} {writes_left}");
+            assert_eq!(rt; output.failures(), 1, "{mode} {writes_left}");
+            assert_eq!(rt; output.taken.as_slice(), &written[..writes_left]);
+            let complaint = complaints.into_inner();
+            assert_eq!(rt; complaint.as_slice(), b"derbox: write failed\n".as_slice());
+        }
     }
     Ok(())
 }
 
 /// A complaint that can't be written changes nothing else.
 #[test]
-fn writes_that_fail(rt: HostRuntime) -> Result<(), Fail> {
-    let input = hex(rt.alloc(), &[EMPTY_PFX])?;
-    for mode in ["check", "rewrite"] {
-        let mut source = StdSource::new(input.as_slice());
-        let mut output = StdSink::new(Broken);
-        let mut complaints = StdSink::new(Vec::new(rt.alloc()));
-        let words = Ok(words_for(rt.alloc(), mode)?);
+fn each_write_of_a_complaint_fails_in_turn(rt: HostRuntime) -> Result<(), Fail> {
+    for writes_left in 0..USAGE.len() {
+        let mut source = StdSource::new(b"ab".as_slice());
+        let mut output = StdSink::new(Vec::new(rt.alloc()));
+        let mut complaints = Narrow::new(rt.alloc(), 1, writes_left);
+        let words = Ok(words_for(rt.alloc(), "verify")?);
         let status = answer_words(rt.alloc(), words, &mut source, &mut output, &mut complaints);
-        assert_eq!(rt; status, 1, "{mode}");
-        assert_eq!(rt; output.failures(), 1, "{mode}");
-        let complaint = complaints.into_inner();
-        assert_eq!(rt; complaint.as_slice(), b"derbox: write failed\n".as_slice());
-
-        let mut again = StdSource::new(input.as_slice());
-        let mut deaf = StdSink::new(Broken);
-        let words = Ok(words_for(rt.alloc(), mode)?);
-        let status = answer_words(rt.alloc(), words, &mut again, &mut output, &mut deaf);
-        assert_eq!(rt; status, 1, "{mode}");
-        assert_eq!(rt; deaf.failures(), 1, "{mode}");
+        assert_eq!(rt; status, 2, "at {writes_left}");
+        assert_eq!(rt; complaints.failures(), 1, "at {writes_left}");
+        assert_eq!(rt;
+            complaints.taken.as_slice(),
+            &USAGE.as_bytes()[..writes_left]
+        );
+        assert!(rt; output.into_inner().is_empty(), "at {writes_left}");
     }
     Ok(())
 }
@@ -282,14 +302,30 @@ fn statuses_and_complaints(rt: HostRuntime) {
 #[test]
 fn words_are_read_whole(rt: HostRuntime) -> Result<(), Fail> {
     let words = words_of(
-        &CommandLine(&[b"derbox", b"check", b"\xC3\xA9"]),
+        &CommandLine(&[b"derbox", b"", b"check", b"\xC3\xA9"]),
         rt.alloc(),
     )?;
-    assert_eq!(rt; words.len(), 3);
+    assert_eq!(rt; words.len(), 4);
     assert_eq!(rt; words.last().map(|word| word.as_str()), Some("\u{E9}"));
     let not_utf8 = words_of(&CommandLine(&[b"derbox", b"\xC3\x28"]), rt.alloc());
     assert_eq!(rt; not_utf8.err(), Some(WordsError::NotUtf8));
-    let text = format!(in rt.alloc(); "{}, {}", WordsError::NotUtf8, WordsError::Memory)?;
-    assert_eq!(rt; text.as_str(), "not UTF-8, no memory");
+    Ok(())
+}
+
+#[test]
+fn a_command_line_of_no_words(rt: HostRuntime) -> Result<(), Fail> {
+    let words = words_of(&CommandLine(&[]), rt.alloc())?;
+    assert!(rt; words.is_empty());
+    Ok(())
+}
+
+#[test]
+fn errors_of_words(rt: HostRuntime) -> Result<(), Fail> {
+    let memory = WordsError::from(io::Error::from(ErrorKind::OutOfMemory));
+    assert_eq!(rt; memory, WordsError::Memory);
+    let not_utf8 = WordsError::from(io::Error::from(ErrorKind::InvalidData));
+    assert_eq!(rt; not_utf8, WordsError::NotUtf8);
+    let text = format!(in rt.alloc(); "{memory}, {not_utf8}")?;
+    assert_eq!(rt; text.as_str(), "no memory, not UTF-8");
     Ok(())
 }

@@ -2,7 +2,7 @@
 
 use crate::texts::hex;
 use asn1_core::{Asn1SequenceOf, Sink, Source, StdSink, StdSource};
-use asn1_vectors::fakes::{Full, Narrow, Trickle};
+use asn1_vectors::fakes::{Narrow, Trickle};
 use std::alloc::Global;
 use std::process::Abort;
 use std::test::Fail;
@@ -183,13 +183,7 @@ fn writes_fail_in_turn(
     let (outcome, written) = expected(alloc, case, mode)?;
     for writes_left in 0..=written.len() {
         let mut source = StdSource::new(input.as_slice());
-        let mut sink = Narrow {
-            taken: Vec::with_capacity(alloc, written.len())?,
-            width,
-            writes_left,
-            full: Full::TakesNone,
-            failed: 0,
-        };
+        let mut sink = Narrow::new(alloc, width, writes_left);
         let ran = run(alloc, &mut source, &mut sink, mode, case.kind);
         assert_eq!(rt; source.failures(), 0);
         if ran != Outcome::WriteFailed {

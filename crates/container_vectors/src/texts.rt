@@ -29,6 +29,17 @@ pub fn refused<T: DerDeserialize>(alloc: Global, texts: &[&str]) -> Result<Optio
     Ok(refusal::<T>(alloc, &hex(alloc, texts)?))
 }
 
+/// Asks of the octets why they are refused.
+pub fn are_refused<T: DerDeserialize>(alloc: Global, cases: &[(&str, Error)]) -> Result<(), Fail> {
+    for (text, error) in cases {
+        let why = refused::<T>(alloc, &[text])?;
+        if why != Some(*error) {
+            return Err(Fail::new(format_args!("{why:?}: {text}")));
+        }
+    }
+    Ok(())
+}
+
 /// How many headers are read of the octets, which are accepted.
 pub fn headers_of<T: DerDeserialize>(alloc: Global, texts: &[&str]) -> Result<usize, Fail> {
     let (outcome, headers) = from_bytes_counted::<T>(alloc, &hex(alloc, texts)?);

@@ -6,7 +6,10 @@ ghost use Rattle.x509_containers.specs.Kinds.{rewriting_as};
 
 use crate::pfxs::RawPfx;
 use asn1_core_streams::{Sink, Source};
-use pkcs12_algs::{MacData, Pkcs12DigestInfo};
+use pkcs12_algs::{
+    MacData, Pbes1Params, Pbes2EncryptionScheme, Pbes2KeyDerivationFunc, Pbes2Params, Pbkdf2Params,
+    Pkcs12DigestInfo, Pkcs12EncryptionAlgorithm,
+};
 use std::alloc::Global;
 use x509_containers_engine::{Mode, Outcome, run_at};
 
@@ -14,7 +17,13 @@ use x509_containers_engine::{Mode, Outcome, run_at};
 #[derive(Clone, Copy, Debug, PartialEq, Eq)]
 pub enum Kind {
     MacData,
+    Pbes1Params,
+    Pbes2EncryptionScheme,
+    Pbes2KeyDerivationFunc,
+    Pbes2Params,
+    Pbkdf2Params,
     Pkcs12DigestInfo,
+    Pkcs12EncryptionAlgorithm,
     RawPfx,
 }
 
@@ -27,7 +36,13 @@ impl Kind {
     {
         match word {
             "macdata" => Some(Kind::MacData),
+            "pbes1params" => Some(Kind::Pbes1Params),
+            "pbes2encryptionscheme" => Some(Kind::Pbes2EncryptionScheme),
+            "pbes2keyderivationfunc" => Some(Kind::Pbes2KeyDerivationFunc),
+            "pbes2params" => Some(Kind::Pbes2Params),
+            "pbkdf2params" => Some(Kind::Pbkdf2Params),
             "pkcs12digestinfo" => Some(Kind::Pkcs12DigestInfo),
+            "pkcs12encryptionalgorithm" => Some(Kind::Pkcs12EncryptionAlgorithm),
             "rawpfx" => Some(Kind::RawPfx),
             _ => None,
         }
@@ -53,7 +68,19 @@ pub fn run<R: Source, W: Sink>(
 {
     match kind {
         Kind::MacData => run_at::<MacData, R, W>(alloc, source, sink, mode),
+        Kind::Pbes1Params => run_at::<Pbes1Params, R, W>(alloc, source, sink, mode),
+        Kind::Pbes2EncryptionScheme => run_at::<Pbes2EncryptionScheme, R, W>(
+            alloc, source, sink, mode,
+        ),
+        Kind::Pbes2KeyDerivationFunc => run_at::<Pbes2KeyDerivationFunc, R, W>(
+            alloc, source, sink, mode,
+        ),
+        Kind::Pbes2Params => run_at::<Pbes2Params, R, W>(alloc, source, sink, mode),
+        Kind::Pbkdf2Params => run_at::<Pbkdf2Params, R, W>(alloc, source, sink, mode),
         Kind::Pkcs12DigestInfo => run_at::<Pkcs12DigestInfo, R, W>(alloc, source, sink, mode),
+        Kind::Pkcs12EncryptionAlgorithm => run_at::<Pkcs12EncryptionAlgorithm, R, W>(
+            alloc, source, sink, mode,
+        ),
         Kind::RawPfx => run_at::<RawPfx, R, W>(alloc, source, sink, mode),
     }
 }
