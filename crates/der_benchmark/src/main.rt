@@ -186,7 +186,7 @@ fn four<T>(value: T) -> Four<T> {
     ExplicitContextTag0(ExplicitContextTag0(ExplicitContextTag0(ExplicitContextTag0(value))))
 }
 
-/// The same octets under no tag, under four and under sixteen: writing is linear in the bytes at every depth.
+/// The same octets under no tag, under four and under eight: writing is linear in the bytes at every depth.
 fn measure_depths(rt: &HostRuntime) -> Result<(), Failure> {
     let alloc = rt.alloc();
     measure(
@@ -201,8 +201,8 @@ fn measure_depths(rt: &HostRuntime) -> Result<(), Failure> {
     )?;
     measure(
         rt,
-        "octets, depth 17",
-        &four(four(four(four(OctetStringAsn1(octets(alloc, 100_000)?))))),
+        "octets, depth 9",
+        &four(four(OctetStringAsn1(octets(alloc, 100_000)?))),
     )
 }
 
