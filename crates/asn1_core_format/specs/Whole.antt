@@ -1,5 +1,5 @@
 -- Whole inputs and texts.
-use Rattle.std.specs.Prelude.{◌≡◌, ◌≢◌, ◌↔◌, ℕ, ◌+◌, ◌*◌, ◌≤◌, List, length, Result, MatchResult}
+use Rattle.std.specs.Prelude.{◌≡◌, ◌≢◌, ◌↔◌, ℕ, ◌+◌, ◌*◌, ◌≤◌, List, ◌++◌, length, Result, MatchResult}
 use Rattle.asn1_core_element.specs.Element.{IsElement}
 use Rattle.asn1_core_element.specs.declared.error.Error.{Error}
 use Rattle.asn1_core_element.specs.declared.error.Error.TheVariants.{TooLong, Memory}
@@ -22,9 +22,15 @@ pub record HasNoValue {V : Type 0} (F : Format V) (k : ℕ) (b : List ℕ) (e : 
 abbrev pub AnswersInput : {T V : Type 0} → (T → V) → Format V → ℕ → List ℕ → Result T Error → Type 0
 AnswersInput value F k b r = MatchResult r (λ x. IsValueOf F k b (value x)) (λ e. HasNoValue F k b e)
 
--- how many headers were read: at most one more than half the bytes
-abbrev pub HeadersOfInput : {T V : Type 0} → (T → V) → Format V → List ℕ → Result T Error → ℕ → Type 0
-HeadersOfInput value F b r n = MatchResult r (λ x. (2 * n ≤ length b) × (F.least (value x) ≤ n)) (λ e. 2 * n ≤ length b + 2)
+-- how many headers were read of an input that gives no value: at most one more than half the bytes; and where a text
+-- begins it, as many at least as that text has
+pub record HeadersOfRefused {V : Type 0} (F : Format V) (k : ℕ) (b : List ℕ) (e : Error) (n : ℕ) : Type 0 where
+  pub at_most : 2 * n ≤ length b + 2
+  pub at_least : e ≢ Memory → (taken rest : List ℕ) (v : V) → b ≡ taken ++ rest → F.Reads k taken v → F.least v ≤ n
+
+-- how many headers were read
+abbrev pub HeadersOfInput : {T V : Type 0} → (T → V) → Format V → ℕ → List ℕ → Result T Error → ℕ → Type 0
+HeadersOfInput value F k b r n = MatchResult r (λ x. (2 * n ≤ length b) × (F.least (value x) ≤ n)) (λ e. HeadersOfRefused F k b e n)
 
 -- the vector is the text
 abbrev pub Written : {A : Type 0} → (A → List ℕ) → List ℕ → Result A Error → Type 0

@@ -37,7 +37,7 @@ pub fn from_bytes_counted<T: DerDeserialize>(
     bytes: &[u8],
 ) -> (Result<T, Error>, usize)
     ensures answer { AnswersInput T.value T.format 64 bytes.now result.0 }
-    ensures headers { HeadersOfInput T.value T.format bytes.now result.0 result.1 }
+    ensures headers { HeadersOfInput T.value T.format 64 bytes.now result.0 result.1 }
 {
     let mut r = Reader::new(bytes);
     let outcome = whole(alloc, MAX_NESTING, &mut r);
@@ -48,7 +48,7 @@ fn whole<T: DerDeserialize>(alloc: Global, limit: u8, r: &mut Reader<'_>) -> Res
     requires sound { r.old.refused ≡ false }
     requires start { r.old.headers ≡ 0 }
     ensures answer { AnswersInput T.value T.format limit r.old.left result }
-    ensures headers { HeadersOfInput T.value T.format r.old.left result r.new.headers }
+    ensures headers { HeadersOfInput T.value T.format limit r.old.left result r.new.headers }
 {
     let value = T::read(alloc, r, limit)?;
     if r.left() > 0 {
