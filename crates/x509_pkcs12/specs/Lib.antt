@@ -1,0 +1,10 @@
+pub mod Versions
+pub mod Contents
+pub mod ContentsLaws
+pub mod ContentsEqual
+pub mod AuthSafes
+pub mod Pfxs
+pub mod MacOctets
+pub mod Agree
+pub mod Parsed
+pub mod Equal

@@ -1,0 +1,271 @@
+//! The contents that a PKCS #12 file holds.
+
+ghost use Rattle.std.specs.Prelude.{◌≡◌, false};
+ghost use Rattle.asn1_core_format.specs.Rows.{option_value, GivesRow};
+ghost use Rattle.asn1_core_format.specs.Sequences.{sequence, lawful_sequence};
+ghost use Rattle.x509_pkcs12_parts.specs.Contents.{encrypted_contents_value};
+ghost use Rattle.x509_pkcs12.specs.Contents.{AnyContentValue, any_content, encrypted_content, ContentInfoValue, content_info_value, content_choice, content_info};
+ghost use Rattle.x509_pkcs12.specs.ContentsEqual.{content_info_equal};
+ghost use Rattle.x509_pkcs12.specs.ContentsLaws.{lawful_any_content, lawful_content_row, lawful_content_info};
+
+use crate::versions::FixedVersion;
+use asn1_core::{
+    Asn1RawDer, DerDeserialize, DerSerialize, EqualByText, Error, ExplicitContextTag0, KnownOid,
+    ObjectIdentifier, ObjectIdentifierAsn1, OctetStringAsn1Container, OidRef, Reader, TryClone,
+};
+use asn1_core_format::{Alone, End, Maybe, Part, ReadRow, WriteRow, put_within, read_within};
+use asn1_core_writers::{WriteError, Writer};
+use std::alloc::Global;
+use x509_pkcs12_bags::SafeContents;
+use x509_pkcs12_parts::EncryptedSafeContents;
+use x509_pkcs12_parts::oids::{DATA, ENCRYPTED_DATA, is_oid_of};
+
+/// An item of `AuthenticatedSafe`, a `ContentInfo ::= SEQUENCE { contentType ContentType, content [0] EXPLICIT ANY
+/// DEFINED BY contentType OPTIONAL }` (RFC 2315, 7; RFC 7292, 4.1).
+#[derive(Debug, Drop, PartialEq, Eq)]
+pub enum SafeContentsContentInfo {
+    /// The bags in the OCTET STRING of `pkcs7-data`.
+    Data(SafeContents),
+    /// The encrypted bags in `pkcs7-encryptedData`, whose version is 0.
+    EncryptedData(EncryptedSafeContents),
+    /// Any other content type.
+    Unknown {
+        content_type: ObjectIdentifier,
+        content: Option<Asn1RawDer>,
+    },
+}
+
+/// `content [0] EXPLICIT ANY OPTIONAL`, of an element that is only lent, which only writes.
+#[derive(Drop)]
+pub(crate) struct AnyContentRef<'a>(pub &'a Option<Asn1RawDer>);
+
+impl WriteRow for AnyContentRef<'_> {
+    ghost Value = { AnyContentValue };
+
+    ghost value = { λ x. (option_value (λ c. c.0.items) x.0.now, tt) };
+
+    ghost format = { any_content };
+
+    fn put_row<W: Writer>(&self, w: &mut W) -> Result<(), WriteError> {
+        match self.0 {
+            Some(content) => ExplicitContextTag0(content).put(w),
+            None => End.put_row(w),
+        }
+    }
+
+    fn row_well_formed_at(&self, limit: u8) -> bool {
+        match self.0 {
+            Some(content) => content.well_formed_at(limit),
+            None => true,
+        }
+    }
+}
+
+/// `content [0] EXPLICIT ANY OPTIONAL`, at the end of a `ContentInfo`.
+#[derive(Drop)]
+pub(crate) struct AnyContent(pub Option<Asn1RawDer>);
+
+impl WriteRow for AnyContent {
+    ghost Value = { AnyContentValue };
+
+    ghost value = { λ x. (option_value (λ c. c.0.items) x.0, tt) };
+
+    ghost format = { any_content };
+
+    fn put_row<W: Writer>(&self, w: &mut W) -> Result<(), WriteError> {
+        AnyContentRef(&self.0).put_row(w)
+    }
+
+    fn row_well_formed_at(&self, limit: u8) -> bool {
+        AnyContentRef(&self.0).row_well_formed_at(limit)
+    }
+}
+
+impl ReadRow for AnyContent {
+    fn read_row(alloc: Global, r: &mut Reader<'_>, nest: u8) -> Result<Self, Error> {
+        let Maybe(tagged, End) = Maybe::<ExplicitContextTag0<Asn1RawDer>, End>::read_row(
+            alloc, r, nest,
+        )?;
+        match tagged {
+            Some(ExplicitContextTag0(content)) => Ok(AnyContent(Some(content))),
+            None => Ok(AnyContent(None)),
+        }
+    }
+
+    ghost lawful = { lawful_any_content };
+}
+
+/// `EncryptedData ::= SEQUENCE { version Version, encryptedContentInfo EncryptedContentInfo }` (RFC 2315, 13), in a tag.
+type EncryptedRow = ExplicitContextTag0<
+    Asn1Sequence<Part<FixedVersion<0>, Part<EncryptedSafeContents, End>>>,
+>;
+
+type EncryptedRef<'a> = ExplicitContextTag0<
+    Asn1Sequence<Part<FixedVersion<0>, Part<&'a EncryptedSafeContents, End>>>,
+>;
+
+/// A SEQUENCE of parts.
+#[derive(Drop)]
+struct Asn1Sequence<R>(R);
+
+impl<R: WriteRow> DerSerialize for Asn1Sequence<R> {
+    ghost Value = { R.Value };
+
+    ghost value = { λ x. R.value x.0 };
+
+    ghost format = { sequence R.format };
+
+    fn put<W: Writer>(&self, w: &mut W) -> Result<(), WriteError> {
+        put_within(0x30, &self.0, w)
+    }
+
+    fn well_formed_at(&self, limit: u8) -> bool {
+        self.0.row_well_formed_at(limit)
+    }
+}
+
+impl<R: ReadRow> DerDeserialize for Asn1Sequence<R> {
+    fn read(alloc: Global, r: &mut Reader<'_>, nest: u8) -> Result<Self, Error> {
+        Ok(Asn1Sequence(read_within(alloc, r, nest, 0x30)?))
+    }
+
+    ghost lawful = { lawful_sequence R.lawful };
+}
+
+fn encrypted_ref(contents: &EncryptedSafeContents) -> EncryptedRef<'_>
+    ensures { ⟦<EncryptedRef<'static> as DerSerialize>⟧.value result ≡ (0, (encrypted_contents_value contents.now, tt)) }
+{
+    ExplicitContextTag0(Asn1Sequence(Part(FixedVersion(0), Part(contents, End))))
+}
+
+impl WriteRow for SafeContentsContentInfo {
+    ghost Value = { ContentInfoValue };
+
+    ghost value = { content_info_value };
+
+    ghost format = { content_choice.row };
+
+    fn put_row<W: Writer>(&self, w: &mut W) -> Result<(), WriteError> {
+        match self {
+            SafeContentsContentInfo::Data(bags) => {
+                let data = ExplicitContextTag0(OctetStringAsn1Container(bags));
+                Part(KnownOid(&DATA), Alone(data)).put_row(w)
+            }
+            SafeContentsContentInfo::EncryptedData(contents) => {
+                Part(KnownOid(&ENCRYPTED_DATA), Alone(encrypted_ref(contents))).put_row(w)
+            }
+            SafeContentsContentInfo::Unknown {
+                content_type,
+                content,
+            } => Part(OidRef(content_type), AnyContentRef(content)).put_row(w),
+        }
+    }
+
+    #[tactic(auto, using(crate::specs::ContentsLaws::not_data))]
+    fn row_well_formed_at(&self, limit: u8) -> bool {
+        match self {
+            SafeContentsContentInfo::Data(bags) => bags.well_formed_at(limit),
+            SafeContentsContentInfo::EncryptedData(contents) => contents.well_formed_at(limit),
+            SafeContentsContentInfo::Unknown {
+                content_type,
+                content,
+            } => {
+                if is_oid_of(content_type, &DATA) || is_oid_of(content_type, &ENCRYPTED_DATA) {
+                    return false;
+                }
+                AnyContentRef(content).row_well_formed_at(limit)
+            }
+        }
+    }
+}
+
+impl ReadRow for SafeContentsContentInfo {
+    fn read_row(alloc: Global, r: &mut Reader<'_>, nest: u8) -> Result<Self, Error> {
+        let ObjectIdentifierAsn1(content_type) = ObjectIdentifierAsn1::read(alloc, r, nest)?;
+        if is_oid_of(&content_type, &DATA) {
+            let Alone(ExplicitContextTag0(OctetStringAsn1Container(bags))) = Alone::<
+                ExplicitContextTag0<OctetStringAsn1Container<SafeContents>>,
+            >::read_row(alloc, r, nest)?;
+            return Ok(SafeContentsContentInfo::Data(bags));
+        }
+        if is_oid_of(&content_type, &ENCRYPTED_DATA) {
+            let contents = read_encrypted(alloc, r, nest)?;
+            return Ok(SafeContentsContentInfo::EncryptedData(contents));
+        }
+        let AnyContent(content) = AnyContent::read_row(alloc, r, nest)?;
+        Ok(SafeContentsContentInfo::Unknown {
+            content_type,
+            content,
+        })
+    }
+
+    ghost lawful = { lawful_content_row };
+}
+
+/// Reads `[0] EXPLICIT EncryptedData`, to the end of the open contents.
+fn read_encrypted(
+    alloc: Global,
+    r: &mut Reader<'_>,
+    nest: u8,
+) -> Result<EncryptedSafeContents, Error>
+    requires { r.old.refused ≡ false }
+    ensures { GivesRow (λ c. (0, (encrypted_contents_value c, tt))) encrypted_content nest r.old r.new result }
+{
+    let Alone(ExplicitContextTag0(Asn1Sequence(row))) = Alone::<EncryptedRow>::read_row(
+        alloc, r, nest,
+    )?;
+    let Part(_, Part(contents, End)) = row;
+    Ok(contents)
+}
+
+impl DerSerialize for SafeContentsContentInfo {
+    ghost Value = { ContentInfoValue };
+
+    ghost value = { content_info_value };
+
+    ghost format = { content_info };
+
+    fn put<W: Writer>(&self, w: &mut W) -> Result<(), WriteError> {
+        put_within(0x30, self, w)
+    }
+
+    fn well_formed_at(&self, limit: u8) -> bool {
+        self.row_well_formed_at(limit)
+    }
+}
+
+impl DerDeserialize for SafeContentsContentInfo {
+    fn read(alloc: Global, r: &mut Reader<'_>, nest: u8) -> Result<Self, Error> {
+        read_within::<SafeContentsContentInfo>(alloc, r, nest, 0x30)
+    }
+
+    ghost lawful = { lawful_content_info };
+}
+
+impl EqualByText for SafeContentsContentInfo {
+    ghost equal_by_text = { content_info_equal };
+}
+
+impl TryClone for SafeContentsContentInfo {
+    fn try_clone(&self, alloc: Global) -> Result<Self, Error> {
+        match self {
+            SafeContentsContentInfo::Data(bags) => {
+                Ok(SafeContentsContentInfo::Data(bags.try_clone(alloc)?))
+            }
+            SafeContentsContentInfo::EncryptedData(contents) => {
+                Ok(SafeContentsContentInfo::EncryptedData(contents.try_clone(alloc)?))
+            }
+            SafeContentsContentInfo::Unknown {
+                content_type,
+                content,
+            } => {
+                let content_type = content_type.try_clone(alloc)?;
+                let content = content.try_clone(alloc)?;
+                Ok(SafeContentsContentInfo::Unknown {
+                    content_type,
+                    content,
+                })
+            }
+        }
+    }
+}

@@ -1,0 +1,31 @@
+//! PKCS #12 files (RFC 7292): what they hold, in the representation that the caller picks.
+#![tactic(auto)]
+
+pub mod auth_safes;
+pub mod contents;
+pub mod laws;
+pub mod parsed;
+pub mod pfxs;
+pub mod raw;
+pub mod representations;
+mod versions;
+
+pub use auth_safes::AuthenticatedSafeContentInfo;
+pub use contents::SafeContentsContentInfo;
+pub use laws::{
+    mac_octets_stand_in_the_text, mac_octets_survive_where_normal, reads_as_the_raw_one,
+};
+pub use parsed::ParsedAuthenticatedSafeDataRepr;
+pub use pfxs::Pfx;
+pub use pkcs12_algs::{
+    MacData, Pbes1AlgorithmKind, Pbes1Params, Pbes2AesCbcEncryption, Pbes2EncryptionScheme,
+    Pbes2KeyDerivationFunc, Pbes2Params, Pbkdf2Params, Pbkdf2Prf, Pbkdf2SaltSource,
+    Pkcs12DigestAlgorithm, Pkcs12DigestInfo, Pkcs12EncryptionAlgorithm,
+};
+pub use raw::{RawAuthenticatedSafeContentInfo, RawAuthenticatedSafeDataRepr, RawPfx};
+pub use representations::AuthenticatedSafeDataRepr;
+pub use x509_pkcs12_bags::{SafeBag, SafeBagKind, SafeContents};
+pub use x509_pkcs12_parts::{
+    CertificateBag, CrlBag, EncryptedKeyBag, EncryptedSafeContents, KeyBag, Pkcs12Attribute,
+    SecretBag,
+};

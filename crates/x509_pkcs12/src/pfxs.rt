@@ -1,0 +1,91 @@
+//! PFX.
+
+ghost use Rattle.std.specs.Prelude.{◌≡◌, Option};
+ghost use Rattle.std.proofs.Common.{rules};
+ghost use Rattle.std.proofs.lemmas.Bool.Decides.{Decides-eqb};
+ghost use Rattle.asn1_core_format.specs.Rows.{option_value};
+ghost use Rattle.asn1_core_format.specs.Views.{SeesEqual, option_equal, two_equal};
+ghost use Rattle.pkcs12_algs.specs.Digests.{mac_value};
+ghost use Rattle.pkcs12_algs.specs.Equal.{mac_equal, with_end};
+ghost use Rattle.x509_pkcs12.specs.Equal.{seen_as};
+ghost use Rattle.x509_pkcs12.specs.Pfxs.{PfxValue, pfx, lawful_pfx};
+
+use crate::auth_safes::AuthenticatedSafeContentInfo;
+use crate::representations::AuthenticatedSafeDataRepr;
+use crate::versions::FixedVersion;
+use asn1_core::{
+    DerDeserialize, DerSerialize, EqualByText, Error, Reader, TryClone, WriteError, Writer,
+};
+use asn1_core_format::{End, FirstTags, Maybe, Part, WriteRow, put_within, read_within};
+use pkcs12_algs::MacData;
+use std::alloc::Global;
+
+/// `PFX ::= SEQUENCE { version INTEGER {v3(3)}(v3,...), authSafe ContentInfo, macData MacData OPTIONAL }` (RFC 7292, 4),
+/// with the data of `authSafe` in the representation `R`. Only version 3 is read, and well-formed.
+#[derive(Drop)]
+#[derive_where(PartialEq, Eq, Debug; R::Repr)]
+pub struct Pfx<R: AuthenticatedSafeDataRepr> {
+    pub version: u8,
+    pub auth_safe: AuthenticatedSafeContentInfo<R>,
+    pub mac_data: Option<MacData>,
+}
+
+type PfxRow<R> = Part<FixedVersion<3>, Part<AuthenticatedSafeContentInfo<R>, Maybe<MacData, End>>>;
+
+impl<R: AuthenticatedSafeDataRepr> DerSerialize for Pfx<R> {
+    ghost Value = { PfxValue R.Value };
+
+    ghost value = { λ p. (p.version, (⟦<AuthenticatedSafeContentInfo<R> as WriteRow>⟧.value p.auth_safe, (option_value mac_value p.mac_data, tt))) };
+
+    ghost format = { pfx R.format };
+
+    fn put<W: Writer>(&self, w: &mut W) -> Result<(), WriteError> {
+        let rest = Part(&self.auth_safe, Maybe(self.mac_data.as_ref(), End));
+        put_within(0x30, &Part(FixedVersion::<3>(self.version), rest), w)
+    }
+
+    fn well_formed_at(&self, limit: u8) -> bool {
+        let rest = Part(&self.auth_safe, Maybe(self.mac_data.as_ref(), End));
+        Part(FixedVersion::<3>(self.version), rest).row_well_formed_at(limit)
+    }
+}
+
+impl<R: AuthenticatedSafeDataRepr> DerDeserialize for Pfx<R> {
+    fn read(alloc: Global, r: &mut Reader<'_>, nest: u8) -> Result<Self, Error> {
+        let row: PfxRow<R> = read_within(alloc, r, nest, 0x30)?;
+        let Part(FixedVersion(version), Part(auth_safe, Maybe(mac_data, End))) = row;
+        Ok(Pfx {
+            version,
+            auth_safe,
+            mac_data,
+        })
+    }
+
+    ghost lawful = { lawful_pfx R.DerSerialize.format R.lawful };
+}
+
+impl<R: AuthenticatedSafeDataRepr> FirstTags for Pfx<R> {
+    fn begins(tag: u8) -> bool {
+        tag == 0x30
+    }
+}
+
+impl<R: AuthenticatedSafeDataRepr> EqualByText for Pfx<R> {
+    ghost equal_by_text = { λ x y.
+        let same = seen_as R.Repr.equal R.seen in
+        let authentic : SeesEqual ⟦<AuthenticatedSafeContentInfo<R> as PartialEq>⟧.eq ⟦<AuthenticatedSafeContentInfo<R> as WriteRow>⟧.value = Prim.search rules in
+        two_equal (Decides-eqb x.version y.version) (two_equal (authentic x.auth_safe y.auth_safe)
+        (with_end (option_equal _ mac_value mac_equal x.mac_data y.mac_data))) };
+}
+
+impl<R: AuthenticatedSafeDataRepr> TryClone for Pfx<R> {
+    fn try_clone(&self, alloc: Global) -> Result<Self, Error> {
+        let auth_safe = self.auth_safe.try_clone(alloc)?;
+        let mac_data = self.mac_data.try_clone(alloc)?;
+        Ok(Pfx {
+            version: self.version,
+            auth_safe,
+            mac_data,
+        })
+    }
+}

@@ -1,0 +1,113 @@
+//! How the data of an authenticated safe is kept.
+
+ghost use Rattle.std.specs.Prelude.{◌≡◌, ◌↔◌, ◌-◌, ◌<◌, ◌≤◌, ◌++◌, IsTrue, length, take, vec_capacity};
+ghost use Rattle.asn1_core_writers.specs.Sinks.{Emits};
+ghost use Rattle.asn1_core_writers.specs.Texts.{Measures, Writes};
+
+use asn1_core::{DerDeserialize, DerSerialize, Error, Sink, TryClone, WriteError, Writer};
+use asn1_core_writers::{Backward, Measure};
+use std::alloc::Global;
+use std::mem;
+
+/// A representation of the data of `authSafe`: what is read from the element in its OCTET STRING, and written as that
+/// element. Callers see it as a `Repr`, which corresponds to it one to one.
+pub trait AuthenticatedSafeDataRepr: DerDeserialize {
+    /// What `Pfx` and `AuthenticatedSafeContentInfo` hold.
+    type Repr: Eq + TryClone + Drop;
+
+    ghost into: { Self → Self.Repr };
+
+    ghost from: { Self.Repr → Self };
+
+    fn into_repr(self) -> Self::Repr
+        ensures { result ≡ into self };
+
+    fn from_repr(repr: Self::Repr) -> Self
+        ensures { result ≡ from repr };
+
+    /// Writes the text of `from_repr(repr)`, of an ill-formed one too. All other writing is by this.
+    fn put_repr<W: Writer>(repr: &Self::Repr, w: &mut W) -> Result<(), WriteError>
+        requires { W.MayTake w.old }
+        ensures { W.Takes (Self.format.text (Self.value (from repr.now))) w.old w.new result };
+
+    /// Whether `from_repr(repr)` is well-formed with nesting of at most `limit` levels.
+    fn repr_well_formed_at(repr: &Self::Repr, limit: u8) -> bool
+        ensures { IsTrue result ↔ Self.format.IsWellFormed limit (Self.value (from repr.now)) };
+
+    /// The length of the text of `from_repr(repr)`. Refuses by `TooLong` alone, and takes no memory.
+    final fn repr_len(repr: &Self::Repr) -> Result<usize, Error>
+        ensures { Measures (Self.format.text (Self.value (from repr.now))) result }
+    {
+        let mut w = Measure::new();
+        match Self::put_repr(repr, &mut w) {
+            Ok(()) => Ok(w.total()),
+            Err(_) => Err(Error::TooLong),
+        }
+    }
+
+    /// Appends the text of `from_repr(repr)`. Asks for memory once at most, and not where there is room. A refusal
+    /// leaves the buffer's contents as they were.
+    final fn write_repr(alloc: Global, repr: &Self::Repr, out: &mut Vec<u8>) -> Result<(), Error>
+        ensures text { Writes (Self.format.text (Self.value (from repr.now))) out.old.items (vec_capacity out.old) out.new.items result }
+        ensures capacity { vec_capacity out.old ≤ vec_capacity out.new }
+    {
+        let size = Self::repr_len(repr)?;
+        let len = out.len();
+        out.reserve(size)?;
+        out.resize(len + size, 0)?;
+        fill::<Self>(repr, alloc, out);
+        Ok(())
+    }
+
+    /// Sends the text of `from_repr(repr)`. Takes no memory. A text that is too long is not begun.
+    final fn emit_repr<S: Sink>(repr: &Self::Repr, sink: &mut S) -> Result<(), WriteError>
+        requires { S.failed sink.old < u64.MAX }
+        ensures { Emits (Self.format.text (Self.value (from repr.now))) sink.old sink.new (S.held sink.old) (S.held sink.new) (S.failed sink.old) (S.failed sink.new) result }
+    {
+        if Self::repr_len(repr).is_err() {
+            return Err(WriteError::TooLong);
+        }
+        Self::put_repr(repr, sink)
+    }
+
+    ghost there: { (x : Self.Repr) → into (from x) ≡ x };
+
+    ghost back: { (x : Self) → from (into x) ≡ x };
+
+    ghost seen: { (x y : Self.Repr) → (Self.Repr.view x ≡ Self.Repr.view y)
+        ↔ (Self.DerSerialize.value (from x) ≡ Self.DerSerialize.value (from y)) };
+}
+
+/// Writes the text over the end of the buffer.
+fn fill<R: AuthenticatedSafeDataRepr>(repr: &R::Repr, alloc: Global, out: &mut Vec<u8>)
+    requires { length (R.format.text (R.value (R.from repr.now))) ≤ length out.old.items }
+    ensures text { out.new.items ≡ take (length out.old.items - length (R.format.text (R.value (R.from repr.now)))) out.old.items ++ R.format.text (R.value (R.from repr.now)) }
+    ensures capacity { vec_capacity out.new ≡ vec_capacity out.old }
+{
+    let mut w = Backward::new(mem::replace(out, Vec::new(alloc)));
+    match R::put_repr(repr, &mut w) {
+        Ok(()) => {}
+        Err(_) => unreachable!(),
+    }
+    *out = w.into_inner();
+}
+
+/// The data of a representation, which is only lent and only writes.
+#[derive(Drop)]
+pub(crate) struct ReprRef<'a, R: AuthenticatedSafeDataRepr>(pub &'a R::Repr);
+
+impl<R: AuthenticatedSafeDataRepr> DerSerialize for ReprRef<'_, R> {
+    ghost Value = { R.Value };
+
+    ghost value = { λ x. R.value (R.from x.0.now) };
+
+    ghost format = { R.format };
+
+    fn put<W: Writer>(&self, w: &mut W) -> Result<(), WriteError> {
+        R::put_repr(self.0, w)
+    }
+
+    fn well_formed_at(&self, limit: u8) -> bool {
+        R::repr_well_formed_at(self.0, limit)
+    }
+}

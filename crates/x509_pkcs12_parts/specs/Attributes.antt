@@ -1,0 +1,50 @@
+-- PKCS12Attribute ::= SEQUENCE { attrId OBJECT IDENTIFIER, attrValues SET OF ANY }
+-- friendlyName: SET (SIZE (1)) OF BMPString; localKeyId: SET (SIZE (1)) OF OCTET STRING
+use Rattle.std.specs.Prelude.{◌⊎◌, ℕ, List, Option, map}
+use Rattle.asn1_core.specs.Der.{Format, each, within, sequence, optional, nothing, octet_string, raw, octets_of, option_value}
+use Rattle.std.proofs.Common.{inl, inr, Vec, Global}
+use Rattle.asn1_core_format.specs.Choices.{Choice, known, otherwise}
+use Rattle.asn1_core_oid.specs.Oid.{IsOid}
+use Rattle.asn1_leaves.specs.Strings.{bmp_string}
+use Rattle.asn1_leaves_strings.specs.Octets.{octets_of_bmp}
+use Rattle.x509_pkcs12_parts.specs.Oids.{friendly_name_oid, local_key_id_oid}
+use Rattle.x509_pkcs12_parts.specs.declared.attributes.Pkcs12Attribute.{Pkcs12Attribute}
+use Rattle.x509_pkcs12_parts.specs.declared.attributes.Pkcs12Attribute.TheVariants.{FriendlyName, LocalKeyId, Unknown}
+
+-- a name; or an identifier; or an object identifier and any values
+abbrev pub AttributeValue : Type 0
+AttributeValue = List ℕ ⊎ (List ℕ ⊎ (List ℕ × List (List ℕ)))
+
+abbrev pub attribute_value : Pkcs12Attribute → AttributeValue
+attribute_value (FriendlyName n) = inl (octets_of_bmp n)
+attribute_value (LocalKeyId i) = inr (inl i.0.items)
+attribute_value (Unknown o vs) = inr (inr (octets_of o, map (λ v. v.0.items) vs.items))
+
+-- a set of exactly one
+abbrev pub set_of_one : {V : Type 0} → Format V → Format V
+set_of_one F = within 0x31 F
+
+abbrev pub any_values : Format (List (List ℕ))
+any_values = within 0x31 (each raw)
+
+abbrev pub unknown_attribute : Choice (List ℕ × List (List ℕ))
+unknown_attribute = otherwise IsOid any_values
+
+abbrev pub local_key_id : Choice (List ℕ ⊎ (List ℕ × List (List ℕ)))
+local_key_id = known local_key_id_oid (set_of_one octet_string) unknown_attribute
+
+abbrev pub attribute_choice : Choice AttributeValue
+attribute_choice = known friendly_name_oid (set_of_one bmp_string) local_key_id
+
+abbrev pub pkcs12_attribute : Format AttributeValue
+pkcs12_attribute = sequence attribute_choice.row
+
+-- the attributes of a bag: absent, or a set, which may be empty
+abbrev pub AttributesValue : Type 0
+AttributesValue = Option (List AttributeValue) × Unit {0}
+
+abbrev pub attributes_value : Option (Vec Pkcs12Attribute Global) → AttributesValue
+attributes_value a = (option_value (λ v. map attribute_value v.items) a, tt)
+
+abbrev pub attributes : Format AttributesValue
+attributes = optional (within 0x31 (each pkcs12_attribute)) nothing

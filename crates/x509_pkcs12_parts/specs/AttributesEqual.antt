@@ -1,0 +1,22 @@
+-- `==` of attributes sees what they contain.
+use Rattle.std.proofs.Common.{rules}
+use Rattle.std.specs.Prelude.{List}
+use Rattle.asn1_core.specs.Der.{list_equal, option_equal}
+use Rattle.std.specs.Option.{option_eq}
+use Rattle.asn1_core.specs.Equal.{raw_equal}
+use Rattle.asn1_core_format.specs.Rows.{option_value}
+use Rattle.asn1_core_format.specs.Views.{SeesEqual}
+use Rattle.x509_pkcs12_parts.specs.Attributes.{attribute_value}
+use Rattle.x509_pkcs12_parts.specs.contracts.attributes.Pkcs12AttributePartialEq.TheImpl as Attribute
+use Rattle.x509_pkcs12_parts.specs.declared.attributes.Pkcs12Attribute.TheVariants.{FriendlyName, LocalKeyId, Unknown}
+
+pub attribute_equal : SeesEqual Attribute.ghosts.eq attribute_value
+attribute_equal (Unknown o vs) (Unknown p ws) = let values = list_equal _ _ raw_equal vs.items ws.items in search rules
+attribute_equal (Unknown o vs) (FriendlyName b) = search rules
+attribute_equal (Unknown o vs) (LocalKeyId b) = search rules
+attribute_equal (FriendlyName a) (Unknown p ws) = search rules
+attribute_equal (FriendlyName a) (FriendlyName b) = search rules
+attribute_equal (FriendlyName a) (LocalKeyId b) = search rules
+attribute_equal (LocalKeyId a) (Unknown p ws) = search rules
+attribute_equal (LocalKeyId a) (FriendlyName b) = search rules
+attribute_equal (LocalKeyId a) (LocalKeyId b) = search rules

@@ -1,0 +1,62 @@
+-- CertBag ::= SEQUENCE { certId OBJECT IDENTIFIER, certValue [0] EXPLICIT ANY DEFINED BY certId }
+-- CRLBag ::= SEQUENCE { crlId OBJECT IDENTIFIER, crlValue [0] EXPLICIT ANY DEFINED BY crlId }
+-- SecretBag ::= SEQUENCE { secretTypeId OBJECT IDENTIFIER, secretValue [0] EXPLICIT ANY DEFINED BY secretTypeId }
+-- EncryptedPrivateKeyInfo ::= SEQUENCE { encryptionAlgorithm AlgorithmIdentifier, encryptedData OCTET STRING }
+use Rattle.std.specs.Prelude.{◌⊎◌, ℕ, List}
+use Rattle.asn1_core.specs.Der.{Format, within, sequence, part, nothing, object_identifier, octet_string, raw, octets_of}
+use Rattle.std.proofs.Common.{inl, inr}
+use Rattle.asn1_core_format.specs.Choices.{Choice, known, otherwise}
+use Rattle.asn1_core_oid.specs.Oid.{IsOid}
+use Rattle.pkcs12_algs.specs.Encryption.{EncryptionAlgorithmValue, encryption_algorithm_value, encryption_algorithm}
+use Rattle.x509_pkcs12_parts.specs.Oids.{x509_certificate_oid, x509_crl_oid}
+use Rattle.x509_pkcs12_parts.specs.declared.bags.CertificateBag.{CertificateBag}
+use Rattle.x509_pkcs12_parts.specs.declared.bags.CertificateBag.TheVariants as Certificate
+use Rattle.x509_pkcs12_parts.specs.declared.bags.CrlBag.{CrlBag}
+use Rattle.x509_pkcs12_parts.specs.declared.bags.CrlBag.TheVariants as Crl
+use Rattle.x509_pkcs12_parts.specs.declared.bags.EncryptedKeyBag.{EncryptedKeyBag}
+use Rattle.x509_pkcs12_parts.specs.declared.bags.SecretBag.{SecretBag}
+
+-- the octets of an X.509 one; or an object identifier and any element
+abbrev pub OctetsOrAny : Type 0
+OctetsOrAny = List ℕ ⊎ (List ℕ × List ℕ)
+
+abbrev pub certificate_value : CertificateBag → OctetsOrAny
+certificate_value (Certificate.X509 o) = inl o.0.items
+certificate_value (Certificate.Unknown t v) = inr (octets_of t, v.0.items)
+
+abbrev pub crl_value : CrlBag → OctetsOrAny
+crl_value (Crl.X509 o) = inl o.0.items
+crl_value (Crl.Unknown t v) = inr (octets_of t, v.0.items)
+
+abbrev pub any_value : Choice (List ℕ × List ℕ)
+any_value = otherwise IsOid (within 0xA0 raw)
+
+abbrev pub certificate_choice : Choice OctetsOrAny
+certificate_choice = known x509_certificate_oid (within 0xA0 octet_string) any_value
+
+abbrev pub crl_choice : Choice OctetsOrAny
+crl_choice = known x509_crl_oid (within 0xA0 octet_string) any_value
+
+abbrev pub certificate_bag : Format OctetsOrAny
+certificate_bag = sequence certificate_choice.row
+
+abbrev pub crl_bag : Format OctetsOrAny
+crl_bag = sequence crl_choice.row
+
+abbrev pub SecretValue : Type 0
+SecretValue = List ℕ × (List ℕ × Unit {0})
+
+abbrev pub secret_value : SecretBag → SecretValue
+secret_value b = (octets_of b.type_id, (b.value.0.items, tt))
+
+abbrev pub secret_bag : Format SecretValue
+secret_bag = sequence (part object_identifier (part (within 0xA0 raw) nothing))
+
+abbrev pub EncryptedKeyValue : Type 0
+EncryptedKeyValue = EncryptionAlgorithmValue × (List ℕ × Unit {0})
+
+abbrev pub encrypted_key_value : EncryptedKeyBag → EncryptedKeyValue
+encrypted_key_value b = (encryption_algorithm_value b.algorithm, (b.encrypted_data.0.items, tt))
+
+abbrev pub encrypted_key_bag : Format EncryptedKeyValue
+encrypted_key_bag = sequence (part encryption_algorithm (part octet_string nothing))

@@ -1,0 +1,23 @@
+-- `==` of certificates, revocation lists, secrets and encrypted keys sees what they contain.
+use Rattle.std.proofs.Common.{rules}
+use Rattle.asn1_core.specs.Equal.{octets_equal}
+use Rattle.asn1_core_format.specs.Views.{SeesEqual, two_equal}
+use Rattle.pkcs12_algs.specs.Equal.{with_end}
+use Rattle.pkcs12_algs.specs.EncryptionEqual.{encryption_algorithm_equal}
+use Rattle.x509_pkcs12_parts.specs.Bags.{certificate_value, crl_value, secret_value, encrypted_key_value}
+use Rattle.x509_pkcs12_parts.specs.contracts.bags.CertificateBagPartialEq.TheImpl as Certificate
+use Rattle.x509_pkcs12_parts.specs.contracts.bags.CrlBagPartialEq.TheImpl as Crl
+use Rattle.x509_pkcs12_parts.specs.contracts.bags.EncryptedKeyBagPartialEq.TheImpl as EncryptedKey
+use Rattle.x509_pkcs12_parts.specs.contracts.bags.SecretBagPartialEq.TheImpl as Secret
+
+pub certificate_equal : SeesEqual Certificate.ghosts.eq certificate_value
+certificate_equal = search rules
+
+pub crl_equal : SeesEqual Crl.ghosts.eq crl_value
+crl_equal = search rules
+
+pub secret_equal : SeesEqual Secret.ghosts.eq secret_value
+secret_equal = search rules
+
+pub encrypted_key_equal : SeesEqual EncryptedKey.ghosts.eq encrypted_key_value
+encrypted_key_equal x y = two_equal (encryption_algorithm_equal x.algorithm y.algorithm) (with_end (octets_equal x.encrypted_data y.encrypted_data))

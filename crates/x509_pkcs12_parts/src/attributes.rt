@@ -1,0 +1,215 @@
+//! The attributes of a bag.
+
+ghost use Rattle.std.specs.Prelude.{ℕ, List};
+ghost use Rattle.asn1_leaves.specs.Strings.{bmp_string};
+ghost use Rattle.asn1_leaves_strings.specs.Octets.{octets_of_bmp};
+ghost use Rattle.x509_pkcs12_parts.specs.Attributes.{AttributeValue, attribute_value, attribute_choice, pkcs12_attribute, AttributesValue, attributes_value, attributes};
+ghost use Rattle.x509_pkcs12_parts.specs.AttributesEqual.{attribute_equal};
+ghost use Rattle.x509_pkcs12_parts.specs.AttributesLaws.{lawful_attribute_row, lawful_pkcs12_attribute, lawful_attributes};
+
+use crate::oids::{FRIENDLY_NAME, LOCAL_KEY_ID, is_oid_of};
+use crate::sets::{SetOfOne, SetRef};
+use asn1_core::{
+    Asn1RawDer, Asn1SetOf, DerDeserialize, DerSerialize, EqualByText, Error, KnownOid,
+    ObjectIdentifier, ObjectIdentifierAsn1, OctetStringAsn1, OidRef, Reader, TryClone,
+};
+use asn1_core_format::{Alone, End, Maybe, Part, ReadRow, WriteRow, put_within, read_within};
+use asn1_core_writers::{WriteError, Writer, put_element};
+use asn1_leaves::{BmpString, BmpStringAsn1};
+use std::alloc::Global;
+
+/// `PKCS12Attribute ::= SEQUENCE { attrId ATTRIBUTE.&id, attrValues SET OF ATTRIBUTE.&Type }` (RFC 7292, 4.2), of which
+/// the two that RFC 2985, 5.5 defines have exactly one value each.
+#[derive(Debug, Drop, PartialEq, Eq)]
+pub enum Pkcs12Attribute {
+    /// The name that is shown to a user.
+    FriendlyName(BmpString),
+    /// What ties a key to its certificate.
+    LocalKeyId(OctetStringAsn1),
+    /// Any other attribute.
+    Unknown {
+        oid: ObjectIdentifier,
+        value: Vec<Asn1RawDer>,
+    },
+}
+
+/// A string that is only lent, as a part that writes.
+#[derive(Drop)]
+struct BmpRef<'a>(&'a BmpString);
+
+impl DerSerialize for BmpRef<'_> {
+    ghost Value = { List ℕ };
+
+    ghost value = { λ x. octets_of_bmp x.0.now };
+
+    ghost format = { bmp_string };
+
+    fn put<W: Writer>(&self, w: &mut W) -> Result<(), WriteError> {
+        put_element(0x1E, self.0.as_bytes(), w)
+    }
+
+    #[tactic(auto, using(asn1_leaves_strings::specs::StringLaws::bmp_octets))]
+    fn well_formed_at(&self, _limit: u8) -> bool {
+        true
+    }
+}
+
+impl WriteRow for Pkcs12Attribute {
+    ghost Value = { AttributeValue };
+
+    ghost value = { attribute_value };
+
+    ghost format = { attribute_choice.row };
+
+    fn put_row<W: Writer>(&self, w: &mut W) -> Result<(), WriteError> {
+        match self {
+            Pkcs12Attribute::FriendlyName(name) => {
+                Part(KnownOid(&FRIENDLY_NAME), Alone(SetOfOne(BmpRef(name)))).put_row(w)
+            }
+            Pkcs12Attribute::LocalKeyId(id) => {
+                Part(KnownOid(&LOCAL_KEY_ID), Alone(SetOfOne(id))).put_row(w)
+            }
+            Pkcs12Attribute::Unknown { oid, value } => {
+                Part(OidRef(oid), Alone(SetRef(value))).put_row(w)
+            }
+        }
+    }
+
+    #[tactic(auto, using(asn1_leaves_strings::specs::StringLaws::bmp_octets))]
+    fn row_well_formed_at(&self, limit: u8) -> bool {
+        match self {
+            Pkcs12Attribute::FriendlyName(_) => true,
+            Pkcs12Attribute::LocalKeyId(_) => true,
+            Pkcs12Attribute::Unknown { oid, value } => {
+                if is_oid_of(oid, &FRIENDLY_NAME) || is_oid_of(oid, &LOCAL_KEY_ID) {
+                    return false;
+                }
+                value.row_well_formed_at(limit)
+            }
+        }
+    }
+}
+
+impl ReadRow for Pkcs12Attribute {
+    fn read_row(alloc: Global, r: &mut Reader<'_>, nest: u8) -> Result<Self, Error> {
+        let ObjectIdentifierAsn1(oid) = ObjectIdentifierAsn1::read(alloc, r, nest)?;
+        if is_oid_of(&oid, &FRIENDLY_NAME) {
+            let Alone(SetOfOne(BmpStringAsn1(name))) = Alone::<SetOfOne<BmpStringAsn1>>::read_row(
+                alloc, r, nest,
+            )?;
+            return Ok(Pkcs12Attribute::FriendlyName(name));
+        }
+        if is_oid_of(&oid, &LOCAL_KEY_ID) {
+            let Alone(SetOfOne(id)) = Alone::<SetOfOne<OctetStringAsn1>>::read_row(alloc, r, nest)?;
+            return Ok(Pkcs12Attribute::LocalKeyId(id));
+        }
+        let Alone(Asn1SetOf(value)) = Alone::<Asn1SetOf<Asn1RawDer>>::read_row(alloc, r, nest)?;
+        Ok(Pkcs12Attribute::Unknown { oid, value })
+    }
+
+    ghost lawful = { lawful_attribute_row };
+}
+
+impl DerSerialize for Pkcs12Attribute {
+    ghost Value = { AttributeValue };
+
+    ghost value = { attribute_value };
+
+    ghost format = { pkcs12_attribute };
+
+    fn put<W: Writer>(&self, w: &mut W) -> Result<(), WriteError> {
+        put_within(0x30, self, w)
+    }
+
+    fn well_formed_at(&self, limit: u8) -> bool {
+        self.row_well_formed_at(limit)
+    }
+}
+
+impl DerDeserialize for Pkcs12Attribute {
+    fn read(alloc: Global, r: &mut Reader<'_>, nest: u8) -> Result<Self, Error> {
+        read_within::<Pkcs12Attribute>(alloc, r, nest, 0x30)
+    }
+
+    ghost lawful = { lawful_pkcs12_attribute };
+}
+
+impl EqualByText for Pkcs12Attribute {
+    ghost equal_by_text = { attribute_equal };
+}
+
+impl TryClone for Pkcs12Attribute {
+    fn try_clone(&self, alloc: Global) -> Result<Self, Error> {
+        match self {
+            Pkcs12Attribute::FriendlyName(name) => {
+                Ok(Pkcs12Attribute::FriendlyName(name.try_clone(alloc)?))
+            }
+            Pkcs12Attribute::LocalKeyId(id) => {
+                Ok(Pkcs12Attribute::LocalKeyId(id.try_clone(alloc)?))
+            }
+            Pkcs12Attribute::Unknown { oid, value } => {
+                let oid = oid.try_clone(alloc)?;
+                let value = value.try_clone(alloc)?;
+                Ok(Pkcs12Attribute::Unknown { oid, value })
+            }
+        }
+    }
+}
+
+/// `bagAttributes SET OF PKCS12Attribute OPTIONAL`, at the end of a bag.
+#[derive(Drop)]
+pub struct Attributes(pub Option<Vec<Pkcs12Attribute>>);
+
+impl WriteRow for Attributes {
+    ghost Value = { AttributesValue };
+
+    ghost value = { λ x. attributes_value x.0 };
+
+    ghost format = { attributes };
+
+    fn put_row<W: Writer>(&self, w: &mut W) -> Result<(), WriteError> {
+        AttributesRef(&self.0).put_row(w)
+    }
+
+    fn row_well_formed_at(&self, limit: u8) -> bool {
+        AttributesRef(&self.0).row_well_formed_at(limit)
+    }
+}
+
+impl ReadRow for Attributes {
+    fn read_row(alloc: Global, r: &mut Reader<'_>, nest: u8) -> Result<Self, Error> {
+        let Maybe(set, End) = Maybe::<Asn1SetOf<Pkcs12Attribute>, End>::read_row(alloc, r, nest)?;
+        match set {
+            Some(Asn1SetOf(items)) => Ok(Attributes(Some(items))),
+            None => Ok(Attributes(None)),
+        }
+    }
+
+    ghost lawful = { lawful_attributes };
+}
+
+/// The attributes of a bag that are only lent, which only write.
+#[derive(Drop)]
+pub struct AttributesRef<'a>(pub &'a Option<Vec<Pkcs12Attribute>>);
+
+impl WriteRow for AttributesRef<'_> {
+    ghost Value = { AttributesValue };
+
+    ghost value = { λ x. attributes_value x.0.now };
+
+    ghost format = { attributes };
+
+    fn put_row<W: Writer>(&self, w: &mut W) -> Result<(), WriteError> {
+        match self.0 {
+            Some(items) => put_within(0x31, items, w),
+            None => End.put_row(w),
+        }
+    }
+
+    fn row_well_formed_at(&self, limit: u8) -> bool {
+        match self.0 {
+            Some(items) => items.row_well_formed_at(limit),
+            None => true,
+        }
+    }
+}

@@ -1,0 +1,345 @@
+//! Certificates, revocation lists, secrets and encrypted keys, as bags hold them.
+
+ghost use Rattle.std.specs.Prelude.{◌≡◌};
+ghost use Rattle.x509_pkcs12_parts.specs.Bags.{OctetsOrAny, certificate_value, certificate_choice, certificate_bag, crl_value, crl_choice, crl_bag, SecretValue, secret_value, secret_bag, EncryptedKeyValue, encrypted_key_value, encrypted_key_bag};
+ghost use Rattle.x509_pkcs12_parts.specs.BagsEqual.{certificate_equal, crl_equal, secret_equal, encrypted_key_equal};
+ghost use Rattle.x509_pkcs12_parts.specs.BagsLaws.{lawful_certificate_row, lawful_certificate_bag, lawful_crl_row, lawful_crl_bag, lawful_secret_bag, lawful_encrypted_key_bag};
+
+use crate::oids::{X509_CERTIFICATE, X509_CRL, is_oid_of};
+use asn1_core::{
+    Asn1RawDer, DerDeserialize, DerSerialize, EqualByText, Error, ExplicitContextTag0, KnownOid,
+    ObjectIdentifier, ObjectIdentifierAsn1, OctetStringAsn1, OidRef, Reader, TryClone,
+};
+use asn1_core_format::{Alone, End, Part, ReadRow, WriteRow, put_within, read_within};
+use asn1_core_writers::{WriteError, Writer};
+use pkcs12_algs::Pkcs12EncryptionAlgorithm;
+use std::alloc::Global;
+
+/// `KeyBag ::= PrivateKeyInfo`, which is not looked into (RFC 7292, 4.2.1).
+pub type KeyBag = Asn1RawDer;
+
+/// `CertBag ::= SEQUENCE { certId BAG-TYPE.&id, certValue [0] EXPLICIT BAG-TYPE.&Type }` (RFC 7292, 4.2.3).
+#[derive(Debug, Drop, PartialEq, Eq)]
+pub enum CertificateBag {
+    /// The DER of an X.509 certificate, which is not looked into.
+    X509(OctetStringAsn1),
+    /// Any other certificate.
+    Unknown {
+        type_id: ObjectIdentifier,
+        value: Asn1RawDer,
+    },
+}
+
+impl WriteRow for CertificateBag {
+    ghost Value = { OctetsOrAny };
+
+    ghost value = { certificate_value };
+
+    ghost format = { certificate_choice.row };
+
+    fn put_row<W: Writer>(&self, w: &mut W) -> Result<(), WriteError> {
+        match self {
+            CertificateBag::X509(octets) => {
+                Part(
+                    KnownOid(&X509_CERTIFICATE),
+                    Alone(ExplicitContextTag0(octets)),
+                )
+                .put_row(w)
+            }
+            CertificateBag::Unknown { type_id, value } => {
+                Part(OidRef(type_id), Alone(ExplicitContextTag0(value))).put_row(w)
+            }
+        }
+    }
+
+    fn row_well_formed_at(&self, limit: u8) -> bool {
+        match self {
+            CertificateBag::X509(_) => true,
+            CertificateBag::Unknown { type_id, value } => {
+                if is_oid_of(type_id, &X509_CERTIFICATE) {
+                    return false;
+                }
+                value.well_formed_at(limit)
+            }
+        }
+    }
+}
+
+impl ReadRow for CertificateBag {
+    fn read_row(alloc: Global, r: &mut Reader<'_>, nest: u8) -> Result<Self, Error> {
+        let ObjectIdentifierAsn1(type_id) = ObjectIdentifierAsn1::read(alloc, r, nest)?;
+        if is_oid_of(&type_id, &X509_CERTIFICATE) {
+            let Alone(ExplicitContextTag0(octets)) = Alone::<
+                ExplicitContextTag0<OctetStringAsn1>,
+            >::read_row(alloc, r, nest)?;
+            return Ok(CertificateBag::X509(octets));
+        }
+        let Alone(ExplicitContextTag0(value)) = Alone::<ExplicitContextTag0<Asn1RawDer>>::read_row(
+            alloc, r, nest,
+        )?;
+        Ok(CertificateBag::Unknown { type_id, value })
+    }
+
+    ghost lawful = { lawful_certificate_row };
+}
+
+impl DerSerialize for CertificateBag {
+    ghost Value = { OctetsOrAny };
+
+    ghost value = { certificate_value };
+
+    ghost format = { certificate_bag };
+
+    fn put<W: Writer>(&self, w: &mut W) -> Result<(), WriteError> {
+        put_within(0x30, self, w)
+    }
+
+    fn well_formed_at(&self, limit: u8) -> bool {
+        self.row_well_formed_at(limit)
+    }
+}
+
+impl DerDeserialize for CertificateBag {
+    fn read(alloc: Global, r: &mut Reader<'_>, nest: u8) -> Result<Self, Error> {
+        read_within::<CertificateBag>(alloc, r, nest, 0x30)
+    }
+
+    ghost lawful = { lawful_certificate_bag };
+}
+
+impl EqualByText for CertificateBag {
+    ghost equal_by_text = { certificate_equal };
+}
+
+impl TryClone for CertificateBag {
+    fn try_clone(&self, alloc: Global) -> Result<Self, Error> {
+        match self {
+            CertificateBag::X509(octets) => Ok(CertificateBag::X509(octets.try_clone(alloc)?)),
+            CertificateBag::Unknown { type_id, value } => {
+                let type_id = type_id.try_clone(alloc)?;
+                let value = value.try_clone(alloc)?;
+                Ok(CertificateBag::Unknown { type_id, value })
+            }
+        }
+    }
+}
+
+/// `CRLBag ::= SEQUENCE { crlId BAG-TYPE.&id, crlValue [0] EXPLICIT BAG-TYPE.&Type }` (RFC 7292, 4.2.4).
+#[derive(Debug, Drop, PartialEq, Eq)]
+pub enum CrlBag {
+    /// The DER of an X.509 revocation list, which is not looked into.
+    X509(OctetStringAsn1),
+    /// Any other revocation list.
+    Unknown {
+        type_id: ObjectIdentifier,
+        value: Asn1RawDer,
+    },
+}
+
+impl WriteRow for CrlBag {
+    ghost Value = { OctetsOrAny };
+
+    ghost value = { crl_value };
+
+    ghost format = { crl_choice.row };
+
+    fn put_row<W: Writer>(&self, w: &mut W) -> Result<(), WriteError> {
+        match self {
+            CrlBag::X509(octets) => {
+                Part(KnownOid(&X509_CRL), Alone(ExplicitContextTag0(octets))).put_row(w)
+            }
+            CrlBag::Unknown { type_id, value } => {
+                Part(OidRef(type_id), Alone(ExplicitContextTag0(value))).put_row(w)
+            }
+        }
+    }
+
+    fn row_well_formed_at(&self, limit: u8) -> bool {
+        match self {
+            CrlBag::X509(_) => true,
+            CrlBag::Unknown { type_id, value } => {
+                if is_oid_of(type_id, &X509_CRL) {
+                    return false;
+                }
+                value.well_formed_at(limit)
+            }
+        }
+    }
+}
+
+impl ReadRow for CrlBag {
+    fn read_row(alloc: Global, r: &mut Reader<'_>, nest: u8) -> Result<Self, Error> {
+        let ObjectIdentifierAsn1(type_id) = ObjectIdentifierAsn1::read(alloc, r, nest)?;
+        if is_oid_of(&type_id, &X509_CRL) {
+            let Alone(ExplicitContextTag0(octets)) = Alone::<
+                ExplicitContextTag0<OctetStringAsn1>,
+            >::read_row(alloc, r, nest)?;
+            return Ok(CrlBag::X509(octets));
+        }
+        let Alone(ExplicitContextTag0(value)) = Alone::<ExplicitContextTag0<Asn1RawDer>>::read_row(
+            alloc, r, nest,
+        )?;
+        Ok(CrlBag::Unknown { type_id, value })
+    }
+
+    ghost lawful = { lawful_crl_row };
+}
+
+impl DerSerialize for CrlBag {
+    ghost Value = { OctetsOrAny };
+
+    ghost value = { crl_value };
+
+    ghost format = { crl_bag };
+
+    fn put<W: Writer>(&self, w: &mut W) -> Result<(), WriteError> {
+        put_within(0x30, self, w)
+    }
+
+    fn well_formed_at(&self, limit: u8) -> bool {
+        self.row_well_formed_at(limit)
+    }
+}
+
+impl DerDeserialize for CrlBag {
+    fn read(alloc: Global, r: &mut Reader<'_>, nest: u8) -> Result<Self, Error> {
+        read_within::<CrlBag>(alloc, r, nest, 0x30)
+    }
+
+    ghost lawful = { lawful_crl_bag };
+}
+
+impl EqualByText for CrlBag {
+    ghost equal_by_text = { crl_equal };
+}
+
+impl TryClone for CrlBag {
+    fn try_clone(&self, alloc: Global) -> Result<Self, Error> {
+        match self {
+            CrlBag::X509(octets) => Ok(CrlBag::X509(octets.try_clone(alloc)?)),
+            CrlBag::Unknown { type_id, value } => {
+                let type_id = type_id.try_clone(alloc)?;
+                let value = value.try_clone(alloc)?;
+                Ok(CrlBag::Unknown { type_id, value })
+            }
+        }
+    }
+}
+
+/// `SecretBag ::= SEQUENCE { secretTypeId BAG-TYPE.&id, secretValue [0] EXPLICIT BAG-TYPE.&Type }` (RFC 7292, 4.2.5).
+#[derive(Debug, Drop, PartialEq, Eq)]
+pub struct SecretBag {
+    pub type_id: ObjectIdentifier,
+    pub value: Asn1RawDer,
+}
+
+type SecretRow = Part<ObjectIdentifierAsn1, Part<ExplicitContextTag0<Asn1RawDer>, End>>;
+
+type SecretRef<'a> = Part<OidRef<'a>, Part<ExplicitContextTag0<&'a Asn1RawDer>, End>>;
+
+impl SecretBag {
+    fn row(&self) -> SecretRef<'_>
+        ensures { ⟦<SecretRef<'static> as WriteRow>⟧.value result ≡ ⟦<SecretBag as DerSerialize>⟧.value self.now }
+    {
+        Part(
+            OidRef(&self.type_id),
+            Part(ExplicitContextTag0(&self.value), End),
+        )
+    }
+}
+
+impl DerSerialize for SecretBag {
+    ghost Value = { SecretValue };
+
+    ghost value = { secret_value };
+
+    ghost format = { secret_bag };
+
+    fn put<W: Writer>(&self, w: &mut W) -> Result<(), WriteError> {
+        put_within(0x30, &self.row(), w)
+    }
+
+    fn well_formed_at(&self, limit: u8) -> bool {
+        self.row().row_well_formed_at(limit)
+    }
+}
+
+impl DerDeserialize for SecretBag {
+    fn read(alloc: Global, r: &mut Reader<'_>, nest: u8) -> Result<Self, Error> {
+        let row: SecretRow = read_within(alloc, r, nest, 0x30)?;
+        let Part(ObjectIdentifierAsn1(type_id), Part(ExplicitContextTag0(value), End)) = row;
+        Ok(SecretBag { type_id, value })
+    }
+
+    ghost lawful = { lawful_secret_bag };
+}
+
+impl EqualByText for SecretBag {
+    ghost equal_by_text = { secret_equal };
+}
+
+impl TryClone for SecretBag {
+    fn try_clone(&self, alloc: Global) -> Result<Self, Error> {
+        let type_id = self.type_id.try_clone(alloc)?;
+        let value = self.value.try_clone(alloc)?;
+        Ok(SecretBag { type_id, value })
+    }
+}
+
+/// `PKCS8ShroudedKeyBag ::= EncryptedPrivateKeyInfo`, `EncryptedPrivateKeyInfo ::= SEQUENCE { encryptionAlgorithm
+/// AlgorithmIdentifier, encryptedData OCTET STRING }` (RFC 7292, 4.2.2; RFC 5958, 3).
+#[derive(Debug, Drop, PartialEq, Eq)]
+pub struct EncryptedKeyBag {
+    pub algorithm: Pkcs12EncryptionAlgorithm,
+    pub encrypted_data: OctetStringAsn1,
+}
+
+type EncryptedKeyRow = Part<Pkcs12EncryptionAlgorithm, Part<OctetStringAsn1, End>>;
+
+impl DerSerialize for EncryptedKeyBag {
+    ghost Value = { EncryptedKeyValue };
+
+    ghost value = { encrypted_key_value };
+
+    ghost format = { encrypted_key_bag };
+
+    fn put<W: Writer>(&self, w: &mut W) -> Result<(), WriteError> {
+        put_within(
+            0x30,
+            &Part(&self.algorithm, Part(&self.encrypted_data, End)),
+            w,
+        )
+    }
+
+    fn well_formed_at(&self, limit: u8) -> bool {
+        Part(&self.algorithm, Part(&self.encrypted_data, End)).row_well_formed_at(limit)
+    }
+}
+
+impl DerDeserialize for EncryptedKeyBag {
+    fn read(alloc: Global, r: &mut Reader<'_>, nest: u8) -> Result<Self, Error> {
+        let row: EncryptedKeyRow = read_within(alloc, r, nest, 0x30)?;
+        let Part(algorithm, Part(encrypted_data, End)) = row;
+        Ok(EncryptedKeyBag {
+            algorithm,
+            encrypted_data,
+        })
+    }
+
+    ghost lawful = { lawful_encrypted_key_bag };
+}
+
+impl EqualByText for EncryptedKeyBag {
+    ghost equal_by_text = { encrypted_key_equal };
+}
+
+impl TryClone for EncryptedKeyBag {
+    fn try_clone(&self, alloc: Global) -> Result<Self, Error> {
+        let algorithm = self.algorithm.try_clone(alloc)?;
+        let encrypted_data = self.encrypted_data.try_clone(alloc)?;
+        Ok(EncryptedKeyBag {
+            algorithm,
+            encrypted_data,
+        })
+    }
+}

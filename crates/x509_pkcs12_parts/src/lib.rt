@@ -1,0 +1,14 @@
+//! What stands in the bags of PKCS #12: attributes, certificates, revocation lists, secrets and encrypted keys; and
+//! encrypted contents (RFC 7292, 4).
+#![tactic(auto)]
+
+pub mod attributes;
+pub mod bags;
+pub mod contents;
+pub mod oids;
+pub mod sets;
+
+pub use attributes::{Attributes, AttributesRef, Pkcs12Attribute};
+pub use bags::{CertificateBag, CrlBag, EncryptedKeyBag, KeyBag, SecretBag};
+pub use contents::EncryptedSafeContents;
+pub use sets::{SetOfOne, SetRef};

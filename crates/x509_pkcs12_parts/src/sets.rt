@@ -1,0 +1,96 @@
+//! Sets: of exactly one item, and of items that are only lent.
+
+ghost use Rattle.std.specs.Prelude.{List, map};
+ghost use Rattle.std.proofs.Common.{arith};
+ghost use Rattle.asn1_core_format.specs.Lists.{each};
+ghost use Rattle.asn1_core_format.specs.Rows.{within};
+ghost use Rattle.asn1_core_format.specs.RowLaws.{lawful_within};
+
+use asn1_core::{DerDeserialize, DerSerialize, Error, Reader};
+use asn1_core_format::{Alone, ReadRow, WriteRow, put_within, read_within};
+use asn1_core_writers::{WriteError, Writer};
+use std::alloc::Global;
+
+/// `SET (SIZE (1)) OF T`
+#[derive(Drop)]
+pub struct SetOfOne<T>(pub T);
+
+impl<T: DerSerialize> DerSerialize for SetOfOne<T> {
+    ghost Value = { T.Value };
+
+    ghost value = { λ x. T.value x.0 };
+
+    ghost format = { within 0x31 T.format };
+
+    fn put<W: Writer>(&self, w: &mut W) -> Result<(), WriteError> {
+        put_within(0x31, &Alone(&self.0), w)
+    }
+
+    fn well_formed_at(&self, limit: u8) -> bool {
+        self.0.well_formed_at(limit)
+    }
+}
+
+impl<T: DerDeserialize> DerDeserialize for SetOfOne<T> {
+    fn read(alloc: Global, r: &mut Reader<'_>, nest: u8) -> Result<Self, Error> {
+        let Only(value) = read_within::<Only<T>>(alloc, r, nest, 0x31)?;
+        Ok(SetOfOne(value))
+    }
+
+    ghost lawful = { lawful_within T.DerSerialize.format T.lawful.row 0x31 (Prim.omega arith) };
+}
+
+/// One text that fills the contents. None and two are invalid.
+#[derive(Drop)]
+struct Only<T>(T);
+
+impl<T: DerSerialize> WriteRow for Only<T> {
+    ghost Value = { T.Value };
+
+    ghost value = { λ x. T.value x.0 };
+
+    ghost format = { T.format };
+
+    fn put_row<W: Writer>(&self, w: &mut W) -> Result<(), WriteError> {
+        self.0.put(w)
+    }
+
+    fn row_well_formed_at(&self, limit: u8) -> bool {
+        self.0.well_formed_at(limit)
+    }
+}
+
+impl<T: DerDeserialize> ReadRow for Only<T> {
+    fn read_row(alloc: Global, r: &mut Reader<'_>, nest: u8) -> Result<Self, Error> {
+        if r.left() == 0 {
+            return Err(Error::Invalid);
+        }
+        let value = T::read(alloc, r, nest)?;
+        if r.left() > 0 {
+            return Err(Error::Invalid);
+        }
+        Ok(Only(value))
+    }
+
+    ghost lawful = { T.lawful.row };
+}
+
+/// `SET OF T`, of items that are only lent, which only writes.
+#[derive(Drop)]
+pub struct SetRef<'a, T>(pub &'a Vec<T>);
+
+impl<T: DerSerialize> DerSerialize for SetRef<'_, T> {
+    ghost Value = { List T.Value };
+
+    ghost value = { λ x. map T.value x.0.now.items };
+
+    ghost format = { within 0x31 (each T.format) };
+
+    fn put<W: Writer>(&self, w: &mut W) -> Result<(), WriteError> {
+        put_within(0x31, self.0, w)
+    }
+
+    fn well_formed_at(&self, limit: u8) -> bool {
+        self.0.row_well_formed_at(limit)
+    }
+}
