@@ -1,6 +1,5 @@
 //! Parts, tags, choices and whole inputs.
 
-use crate::checks::{is_sent, is_written, refusal};
 use asn1_core::{
     Asn1SequenceOf, ExplicitContextTag0, ExplicitContextTag1, OctetStringAsn1, limits_agree,
     no_accepted_input_begins_another, normal_texts_stay_normal, rewriting_reaches_an_end,
@@ -20,6 +19,7 @@ use asn1_core_writers::{Backward, Measure};
 use std::alloc::Global;
 use std::process::Abort;
 use std::test::Fail;
+use vector_checks::checks::{is_sent, is_written, refusal};
 
 /// Asks that the row in a SEQUENCE is the text, written from its front and from its end.
 fn is_sequence_of<R: WriteRow>(

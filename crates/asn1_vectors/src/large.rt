@@ -1,7 +1,5 @@
 //! Texts past one length octet, and requests for memory.
 
-use crate::checks::is_read;
-use crate::fakes::Shared;
 use asn1_core::{Asn1RawDer, Asn1SequenceOf, OctetStringAsn1};
 use asn1_core_element::Error;
 use asn1_core_format::{DerSerialize, to_vec};
@@ -9,6 +7,8 @@ use asn1_core_streams::ReadError;
 use std::alloc::AllocError;
 use std::rc::Rc;
 use std::test::Fail;
+use vector_checks::checks::{is_read, is_wrapper_read};
+use vector_checks::fakes::Shared;
 
 #[test]
 fn octet_strings_of_6000_octets(rt: HostRuntime) -> Result<(), Fail> {
@@ -27,7 +27,7 @@ fn lists_of_2000_items(rt: HostRuntime) -> Result<(), Fail> {
     for _ in 0..2000 {
         text.extend_from_slice(&[0x02, 0x01, 0x07])?;
     }
-    let numbers: Asn1SequenceOf<u8> = is_read(rt.alloc(), &text)?;
+    let numbers: Asn1SequenceOf<u8> = is_wrapper_read(rt.alloc(), &text)?;
     assert_eq!(rt; numbers.0.len(), 2000);
     assert!(rt; numbers.0.iter().all(|n| *n == 7));
     Ok(())

@@ -1,8 +1,8 @@
 //! Numbers that are not negative, and their elements (X.690, 8.3).
 
-use crate::checks::{are_invalid, is_kept_under_tags};
 use asn1_core_numbers::unsigned;
 use std::test::Fail;
+use vector_checks::checks::{are_invalid, is_kept_under_tags};
 
 /// Numbers and their elements with the tag of an INTEGER.
 pub const ELEMENTS: [(u32, &[u8]); 9] = [

@@ -1,8 +1,8 @@
 //! Sources and sinks that move one byte a call and fail, and std's own.
 
-use crate::fakes::{Broken, Full, Narrow, Trickle};
 use asn1_core_streams::{ReadError, Sink, Source, StdSink, StdSource, WriteFailed, read_all, send};
 use std::test::Fail;
+use vector_checks::fakes::{Broken, Full, Narrow, Trickle};
 
 const BYTES: [u8; 8] = [0x30, 0x06, 0x02, 0x01, 0x02, 0x02, 0x01, 0x01];
 

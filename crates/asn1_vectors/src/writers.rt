@@ -1,6 +1,5 @@
 //! Headers, elements and numbers over each writer, as X.690 spells them (8.1.3, 8.3 and 10.1).
 
-use crate::fakes::Narrow;
 use crate::numbers::ELEMENTS;
 use asn1_core_format::write_to;
 use asn1_core_streams::{Sink, StdSink};
@@ -8,6 +7,7 @@ use asn1_core_writers::{
     Backward, Compare, Measure, WriteError, Writer, put_element, put_head, put_unsigned,
 };
 use std::test::Fail;
+use vector_checks::fakes::Narrow;
 
 /// Lengths of contents and the headers of octet strings with these.
 const HEADERS: [(usize, &[u8]); 9] = [

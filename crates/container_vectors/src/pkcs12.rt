@@ -1,10 +1,10 @@
 //! Digests, MACs and the raw PFX: worked examples, and inputs that are refused.
 
-use crate::texts::{headers_of, hex, kept, octets, oid, refused};
 use asn1_core_format::FirstTags;
-use asn1_vectors::checks::{is_kept, is_rewritten, is_written};
 use std::alloc::Global;
 use std::test::Fail;
+use vector_checks::checks::{is_kept, is_rewritten, is_written};
+use vector_checks::texts::{headers_of, hex, kept, octets, oid, refused};
 use x509_containers::{
     Asn1RawDer, DerSerialize, Error, MacData, OctetStringAsn1, Pkcs12DigestAlgorithm,
     Pkcs12DigestInfo, RawAlgorithmIdentifier, RawAuthenticatedSafeContentInfo, RawPfx, TryClone,

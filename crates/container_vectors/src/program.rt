@@ -1,12 +1,12 @@
 //! The whole program: from the words of a command line and an input to its output, its complaint and its exit status.
 
-use crate::texts::hex;
 use asn1_core::{Sink, Source, StdSink, StdSource};
-use asn1_vectors::fakes::{Narrow, Trickle};
 use std::alloc::{AllocError, Global};
 use std::env::{Env, FillError};
 use std::io::{self, ErrorKind};
 use std::test::Fail;
+use vector_checks::fakes::{Narrow, Trickle};
+use vector_checks::texts::hex;
 use x509_containers::{Error, Kind, Mode, Outcome};
 use x509_containers_program::{Answer, WordsError, answer_words, words_of};
 
@@ -156,7 +156,7 @@ fn wrong_words(rt: HostRuntime) {
         &[b"derbox", b"check"],
         &[b"check", b"rawpfx"],
         &[b"derbox", b"check", b"rawpfx", b"rawpfx"],
-        &[b"derbox", b"check", b"pfx"],
+        &[b"derbox", b"check", b"p12"],
         &[b"derbox", b"check", b"RawPfx"],
         &[b"derbox", b"check", b""],
         &[b"derbox", b"Check", b"rawpfx"],

@@ -1,11 +1,11 @@
 //! Runs over inputs: what is written, with which outcome, from sources and into sinks that fail.
 
-use crate::texts::hex;
 use asn1_core::{Asn1SequenceOf, Sink, Source, StdSink, StdSource};
-use asn1_vectors::fakes::{Narrow, Trickle};
 use std::alloc::Global;
 use std::process::Abort;
 use std::test::Fail;
+use vector_checks::fakes::{Narrow, Trickle};
+use vector_checks::texts::hex;
 use x509_containers::{Error, Kind, Mode, Outcome, refusal, run};
 use x509_containers_engine::run_at;
 
@@ -275,11 +275,49 @@ fn runs_at_a_type_that_is_no_kind(rt: HostRuntime) -> Result<(), Fail> {
 #[test]
 fn words_of_modes_and_kinds(rt: HostRuntime) {
     for (word, kind) in [
+        (
+            "authenticatedsafecontentinfo",
+            Some(Kind::AuthenticatedSafeContentInfo),
+        ),
+        ("certificatebag", Some(Kind::CertificateBag)),
+        ("crlbag", Some(Kind::CrlBag)),
+        ("encryptedkeybag", Some(Kind::EncryptedKeyBag)),
+        ("encryptedsafecontents", Some(Kind::EncryptedSafeContents)),
         ("macdata", Some(Kind::MacData)),
+        (
+            "parsedauthenticatedsafedatarepr",
+            Some(Kind::ParsedAuthenticatedSafeDataRepr),
+        ),
+        ("pbes1params", Some(Kind::Pbes1Params)),
+        ("pbes2encryptionscheme", Some(Kind::Pbes2EncryptionScheme)),
+        ("pbes2keyderivationfunc", Some(Kind::Pbes2KeyDerivationFunc)),
+        ("pbes2params", Some(Kind::Pbes2Params)),
+        ("pbkdf2params", Some(Kind::Pbkdf2Params)),
+        ("pfx", Some(Kind::Pfx)),
+        ("pkcs12attribute", Some(Kind::Pkcs12Attribute)),
         ("pkcs12digestinfo", Some(Kind::Pkcs12DigestInfo)),
+        (
+            "pkcs12encryptionalgorithm",
+            Some(Kind::Pkcs12EncryptionAlgorithm),
+        ),
+        (
+            "rawauthenticatedsafecontentinfo",
+            Some(Kind::RawAuthenticatedSafeContentInfo),
+        ),
+        (
+            "rawauthenticatedsafedatarepr",
+            Some(Kind::RawAuthenticatedSafeDataRepr),
+        ),
         ("rawpfx", Some(Kind::RawPfx)),
+        ("safebag", Some(Kind::SafeBag)),
+        ("safecontents", Some(Kind::SafeContents)),
+        (
+            "safecontentscontentinfo",
+            Some(Kind::SafeContentsContentInfo),
+        ),
+        ("secretbag", Some(Kind::SecretBag)),
         ("RawPfx", None),
-        ("pfx", None),
+        ("p12", None),
         ("", None),
     ] {
         assert_eq!(rt; Kind::from_word(word), kind, "{word}");

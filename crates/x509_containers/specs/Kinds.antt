@@ -1,34 +1,70 @@
 -- The kinds of input that the program knows, by the words that name them.
 use Rattle.std.specs.Prelude.{ℕ, List, codes}
+use Rattle.asn1_core.specs.Raw.{raw}
 use Rattle.x509_containers_engine.specs.Engine.{Rewriting, rewriting_of}
 use Rattle.pkcs12_algs.specs.Digests.{digest_info, mac_data}
 use Rattle.pkcs12_algs.specs.Encryption.{encryption_algorithm}
 use Rattle.pkcs12_algs.specs.Pbes1.{pbes1_params}
 use Rattle.pkcs12_algs.specs.Pbes2.{kdf, scheme, pbes2_params}
 use Rattle.pkcs12_algs.specs.Pbkdf2.{pbkdf2_params}
-use Rattle.x509_containers.specs.Pfxs.{raw_pfx}
+use Rattle.x509_pkcs12_parts.specs.Attributes.{pkcs12_attribute}
+use Rattle.x509_pkcs12_parts.specs.Bags.{certificate_bag, crl_bag, secret_bag, encrypted_key_bag}
+use Rattle.x509_pkcs12_parts.specs.Contents.{encrypted_contents}
+use Rattle.x509_pkcs12_bags.specs.Bags.{safe_bag, safe_contents}
+use Rattle.x509_pkcs12.specs.AuthSafes.{auth_safe}
+use Rattle.x509_pkcs12.specs.Contents.{content_info}
+use Rattle.x509_pkcs12.specs.Parsed.{parsed}
+use Rattle.x509_pkcs12.specs.Pfxs.{pfx}
 use Rattle.x509_containers.specs.declared.kinds.Kind.{Kind}
-use Rattle.x509_containers.specs.declared.kinds.Kind.TheVariants.{MacData, Pbes1Params, Pbes2EncryptionScheme, Pbes2KeyDerivationFunc, Pbes2Params, Pbkdf2Params, Pkcs12DigestInfo, Pkcs12EncryptionAlgorithm, RawPfx}
+use Rattle.x509_containers.specs.declared.kinds.Kind.TheVariants.{AuthenticatedSafeContentInfo, CertificateBag, CrlBag, EncryptedKeyBag, EncryptedSafeContents, MacData, ParsedAuthenticatedSafeDataRepr, Pbes1Params, Pbes2EncryptionScheme, Pbes2KeyDerivationFunc, Pbes2Params, Pbkdf2Params, Pfx, Pkcs12Attribute, Pkcs12DigestInfo, Pkcs12EncryptionAlgorithm, RawAuthenticatedSafeContentInfo, RawAuthenticatedSafeDataRepr, RawPfx, SafeBag, SafeContents, SafeContentsContentInfo, SecretBag}
 
 abbrev pub word_of : Kind → List ℕ
+word_of AuthenticatedSafeContentInfo = codes "authenticatedsafecontentinfo"
+word_of CertificateBag = codes "certificatebag"
+word_of CrlBag = codes "crlbag"
+word_of EncryptedKeyBag = codes "encryptedkeybag"
+word_of EncryptedSafeContents = codes "encryptedsafecontents"
 word_of MacData = codes "macdata"
+word_of ParsedAuthenticatedSafeDataRepr = codes "parsedauthenticatedsafedatarepr"
 word_of Pbes1Params = codes "pbes1params"
 word_of Pbes2EncryptionScheme = codes "pbes2encryptionscheme"
 word_of Pbes2KeyDerivationFunc = codes "pbes2keyderivationfunc"
 word_of Pbes2Params = codes "pbes2params"
 word_of Pbkdf2Params = codes "pbkdf2params"
+word_of Pfx = codes "pfx"
+word_of Pkcs12Attribute = codes "pkcs12attribute"
 word_of Pkcs12DigestInfo = codes "pkcs12digestinfo"
 word_of Pkcs12EncryptionAlgorithm = codes "pkcs12encryptionalgorithm"
+word_of RawAuthenticatedSafeContentInfo = codes "rawauthenticatedsafecontentinfo"
+word_of RawAuthenticatedSafeDataRepr = codes "rawauthenticatedsafedatarepr"
 word_of RawPfx = codes "rawpfx"
+word_of SafeBag = codes "safebag"
+word_of SafeContents = codes "safecontents"
+word_of SafeContentsContentInfo = codes "safecontentscontentinfo"
+word_of SecretBag = codes "secretbag"
 
 -- what the texts of inputs of that kind are
 abbrev pub rewriting_as : Kind → Rewriting
+rewriting_as AuthenticatedSafeContentInfo = rewriting_of (auth_safe parsed)
+rewriting_as CertificateBag = rewriting_of certificate_bag
+rewriting_as CrlBag = rewriting_of crl_bag
+rewriting_as EncryptedKeyBag = rewriting_of encrypted_key_bag
+rewriting_as EncryptedSafeContents = rewriting_of encrypted_contents
 rewriting_as MacData = rewriting_of mac_data
+rewriting_as ParsedAuthenticatedSafeDataRepr = rewriting_of parsed
 rewriting_as Pbes1Params = rewriting_of pbes1_params
 rewriting_as Pbes2EncryptionScheme = rewriting_of scheme
 rewriting_as Pbes2KeyDerivationFunc = rewriting_of kdf
 rewriting_as Pbes2Params = rewriting_of pbes2_params
 rewriting_as Pbkdf2Params = rewriting_of pbkdf2_params
+rewriting_as Pfx = rewriting_of (pfx parsed)
+rewriting_as Pkcs12Attribute = rewriting_of pkcs12_attribute
 rewriting_as Pkcs12DigestInfo = rewriting_of digest_info
 rewriting_as Pkcs12EncryptionAlgorithm = rewriting_of encryption_algorithm
-rewriting_as RawPfx = rewriting_of raw_pfx
+rewriting_as RawAuthenticatedSafeContentInfo = rewriting_of (auth_safe raw)
+rewriting_as RawAuthenticatedSafeDataRepr = rewriting_of raw
+rewriting_as RawPfx = rewriting_of (pfx raw)
+rewriting_as SafeBag = rewriting_of safe_bag
+rewriting_as SafeContents = rewriting_of safe_contents
+rewriting_as SafeContentsContentInfo = rewriting_of content_info
+rewriting_as SecretBag = rewriting_of secret_bag

@@ -4,27 +4,43 @@ ghost use Rattle.std.specs.Prelude.{◌≡◌, ◌≢◌, ◌+◌, ◌<◌, Matc
 ghost use Rattle.x509_containers_engine.specs.Engine.{Runs, read_failures, write_failures};
 ghost use Rattle.x509_containers.specs.Kinds.{rewriting_as};
 
-use crate::pfxs::RawPfx;
 use asn1_core_streams::{Sink, Source};
-use pkcs12_algs::{
-    MacData, Pbes1Params, Pbes2EncryptionScheme, Pbes2KeyDerivationFunc, Pbes2Params, Pbkdf2Params,
-    Pkcs12DigestInfo, Pkcs12EncryptionAlgorithm,
-};
 use std::alloc::Global;
 use x509_containers_engine::{Mode, Outcome, run_at};
+use x509_pkcs12::{
+    AuthenticatedSafeContentInfo, CertificateBag, CrlBag, EncryptedKeyBag, EncryptedSafeContents,
+    MacData, ParsedAuthenticatedSafeDataRepr, Pbes1Params, Pbes2EncryptionScheme,
+    Pbes2KeyDerivationFunc, Pbes2Params, Pbkdf2Params, Pfx, Pkcs12Attribute, Pkcs12DigestInfo,
+    Pkcs12EncryptionAlgorithm, RawAuthenticatedSafeContentInfo, RawAuthenticatedSafeDataRepr,
+    RawPfx, SafeBag, SafeContents, SafeContentsContentInfo, SecretBag,
+};
 
 /// The type that an input is read as.
 #[derive(Clone, Copy, Debug, PartialEq, Eq)]
 pub enum Kind {
+    AuthenticatedSafeContentInfo,
+    CertificateBag,
+    CrlBag,
+    EncryptedKeyBag,
+    EncryptedSafeContents,
     MacData,
+    ParsedAuthenticatedSafeDataRepr,
     Pbes1Params,
     Pbes2EncryptionScheme,
     Pbes2KeyDerivationFunc,
     Pbes2Params,
     Pbkdf2Params,
+    Pfx,
+    Pkcs12Attribute,
     Pkcs12DigestInfo,
     Pkcs12EncryptionAlgorithm,
+    RawAuthenticatedSafeContentInfo,
+    RawAuthenticatedSafeDataRepr,
     RawPfx,
+    SafeBag,
+    SafeContents,
+    SafeContentsContentInfo,
+    SecretBag,
 }
 
 impl Kind {
@@ -35,15 +51,29 @@ impl Kind {
         ensures { MatchOption result ((kind : Kind) → word.now ≢ word_of kind) (λ kind. word.now ≡ word_of kind) }
     {
         match word {
+            "authenticatedsafecontentinfo" => Some(Kind::AuthenticatedSafeContentInfo),
+            "certificatebag" => Some(Kind::CertificateBag),
+            "crlbag" => Some(Kind::CrlBag),
+            "encryptedkeybag" => Some(Kind::EncryptedKeyBag),
+            "encryptedsafecontents" => Some(Kind::EncryptedSafeContents),
             "macdata" => Some(Kind::MacData),
+            "parsedauthenticatedsafedatarepr" => Some(Kind::ParsedAuthenticatedSafeDataRepr),
             "pbes1params" => Some(Kind::Pbes1Params),
             "pbes2encryptionscheme" => Some(Kind::Pbes2EncryptionScheme),
             "pbes2keyderivationfunc" => Some(Kind::Pbes2KeyDerivationFunc),
             "pbes2params" => Some(Kind::Pbes2Params),
             "pbkdf2params" => Some(Kind::Pbkdf2Params),
+            "pfx" => Some(Kind::Pfx),
+            "pkcs12attribute" => Some(Kind::Pkcs12Attribute),
             "pkcs12digestinfo" => Some(Kind::Pkcs12DigestInfo),
             "pkcs12encryptionalgorithm" => Some(Kind::Pkcs12EncryptionAlgorithm),
+            "rawauthenticatedsafecontentinfo" => Some(Kind::RawAuthenticatedSafeContentInfo),
+            "rawauthenticatedsafedatarepr" => Some(Kind::RawAuthenticatedSafeDataRepr),
             "rawpfx" => Some(Kind::RawPfx),
+            "safebag" => Some(Kind::SafeBag),
+            "safecontents" => Some(Kind::SafeContents),
+            "safecontentscontentinfo" => Some(Kind::SafeContentsContentInfo),
+            "secretbag" => Some(Kind::SecretBag),
             _ => None,
         }
     }
@@ -67,7 +97,21 @@ pub fn run<R: Source, W: Sink>(
     ensures writes { W.failed sink.new ≡ W.failed sink.old + write_failures result }
 {
     match kind {
+        Kind::AuthenticatedSafeContentInfo => run_at::<
+            AuthenticatedSafeContentInfo<ParsedAuthenticatedSafeDataRepr>,
+            R,
+            W,
+        >(alloc, source, sink, mode),
+        Kind::CertificateBag => run_at::<CertificateBag, R, W>(alloc, source, sink, mode),
+        Kind::CrlBag => run_at::<CrlBag, R, W>(alloc, source, sink, mode),
+        Kind::EncryptedKeyBag => run_at::<EncryptedKeyBag, R, W>(alloc, source, sink, mode),
+        Kind::EncryptedSafeContents => run_at::<EncryptedSafeContents, R, W>(
+            alloc, source, sink, mode,
+        ),
         Kind::MacData => run_at::<MacData, R, W>(alloc, source, sink, mode),
+        Kind::ParsedAuthenticatedSafeDataRepr => run_at::<ParsedAuthenticatedSafeDataRepr, R, W>(
+            alloc, source, sink, mode,
+        ),
         Kind::Pbes1Params => run_at::<Pbes1Params, R, W>(alloc, source, sink, mode),
         Kind::Pbes2EncryptionScheme => run_at::<Pbes2EncryptionScheme, R, W>(
             alloc, source, sink, mode,
@@ -77,10 +121,26 @@ pub fn run<R: Source, W: Sink>(
         ),
         Kind::Pbes2Params => run_at::<Pbes2Params, R, W>(alloc, source, sink, mode),
         Kind::Pbkdf2Params => run_at::<Pbkdf2Params, R, W>(alloc, source, sink, mode),
+        Kind::Pfx => run_at::<Pfx<ParsedAuthenticatedSafeDataRepr>, R, W>(
+            alloc, source, sink, mode,
+        ),
+        Kind::Pkcs12Attribute => run_at::<Pkcs12Attribute, R, W>(alloc, source, sink, mode),
         Kind::Pkcs12DigestInfo => run_at::<Pkcs12DigestInfo, R, W>(alloc, source, sink, mode),
         Kind::Pkcs12EncryptionAlgorithm => run_at::<Pkcs12EncryptionAlgorithm, R, W>(
             alloc, source, sink, mode,
         ),
+        Kind::RawAuthenticatedSafeContentInfo => run_at::<RawAuthenticatedSafeContentInfo, R, W>(
+            alloc, source, sink, mode,
+        ),
+        Kind::RawAuthenticatedSafeDataRepr => run_at::<RawAuthenticatedSafeDataRepr, R, W>(
+            alloc, source, sink, mode,
+        ),
         Kind::RawPfx => run_at::<RawPfx, R, W>(alloc, source, sink, mode),
+        Kind::SafeBag => run_at::<SafeBag, R, W>(alloc, source, sink, mode),
+        Kind::SafeContents => run_at::<SafeContents, R, W>(alloc, source, sink, mode),
+        Kind::SafeContentsContentInfo => run_at::<SafeContentsContentInfo, R, W>(
+            alloc, source, sink, mode,
+        ),
+        Kind::SecretBag => run_at::<SecretBag, R, W>(alloc, source, sink, mode),
     }
 }

@@ -1,37 +1,118 @@
-//! PKCS #12 (RFC 7292): the raw PFX; and what the program `derbox` makes of an input, with all that the crates below
-//! offer.
+//! What the program `derbox` makes of an input, and all that the crates below offer: PKCS #12 (RFC 7292), X.509 and
+//! Authenticode.
 #![tactic(auto)]
 
-mod auth_safes;
 mod kinds;
-mod oids;
-mod pfxs;
-mod versions;
 
-pub use asn1_core::{
-    Asn1RawDer, Asn1SequenceOf, Asn1SetOf, DerDeserialize, DerSerialize, DerTagged, EqualByText,
-    Error, ExplicitContextTag0, ExplicitContextTag1, ExplicitContextTag2, ImplicitContextTag0,
-    ImplicitContextTag1, KnownOid, MAX_NESTING, ObjectIdentifier, ObjectIdentifierAsn1,
-    OctetStringAsn1, OctetStringAsn1Container, OidRef, Optional, ReadError, Reader, Sink, Source,
-    StdSink, StdSource, TryClone, Viewed, WriteError, WriteFailed, Writer, from_bytes,
-    from_bytes_counted, from_bytes_limited, limits_agree, no_accepted_input_begins_another,
-    normal_texts_stay_normal, parts, read_all, rewriting_reaches_an_end, send, to_vec, write_to,
-};
-pub use asn1_leaves::{
-    BMPString, BMPStringAsn1, BitString, BitStringAsn1, BmpString, BmpStringAsn1, CharSetError,
-    GeneralizedTime, GeneralizedTimeAsn1, IA5String, IA5StringAsn1, IntegerAsn1, UTCTime,
-    UTCTimeAsn1, Utf8String, Utf8StringAsn1,
-};
-pub use auth_safes::RawAuthenticatedSafeContentInfo;
-pub use kinds::{Kind, run};
-pub use pfxs::RawPfx;
-pub use pkcs12_algs::{
-    MacData, Pbes1AlgorithmKind, Pbes1Params, Pbes2AesCbcEncryption, Pbes2EncryptionScheme,
-    Pbes2KeyDerivationFunc, Pbes2Params, Pbkdf2Params, Pbkdf2Prf, Pbkdf2SaltSource,
-    Pkcs12DigestAlgorithm, Pkcs12DigestInfo, Pkcs12EncryptionAlgorithm,
-};
-pub use x509_base::{
-    AlgorithmIdentifier, Attribute, DigestInfo, Extension, Extensions, Name, NameValue,
-    RawAlgorithmIdentifier, SubjectKeyIdentifier, Time, Version, spc,
-};
-pub use x509_containers_engine::{Mode, Outcome, refusal, run_at};
+pub use asn1_core::Asn1RawDer;
+pub use asn1_core::Asn1SequenceOf;
+pub use asn1_core::Asn1SetOf;
+pub use asn1_core::DerDeserialize;
+pub use asn1_core::DerSerialize;
+pub use asn1_core::DerTagged;
+pub use asn1_core::EqualByText;
+pub use asn1_core::Error;
+pub use asn1_core::ExplicitContextTag0;
+pub use asn1_core::ExplicitContextTag1;
+pub use asn1_core::ExplicitContextTag2;
+pub use asn1_core::ImplicitContextTag0;
+pub use asn1_core::ImplicitContextTag1;
+pub use asn1_core::KnownOid;
+pub use asn1_core::MAX_NESTING;
+pub use asn1_core::ObjectIdentifier;
+pub use asn1_core::ObjectIdentifierAsn1;
+pub use asn1_core::OctetStringAsn1;
+pub use asn1_core::OctetStringAsn1Container;
+pub use asn1_core::OidRef;
+pub use asn1_core::Optional;
+pub use asn1_core::ReadError;
+pub use asn1_core::Reader;
+pub use asn1_core::Sink;
+pub use asn1_core::Source;
+pub use asn1_core::StdSink;
+pub use asn1_core::StdSource;
+pub use asn1_core::TryClone;
+pub use asn1_core::Viewed;
+pub use asn1_core::WriteError;
+pub use asn1_core::WriteFailed;
+pub use asn1_core::Writer;
+pub use asn1_core::from_bytes;
+pub use asn1_core::from_bytes_counted;
+pub use asn1_core::from_bytes_limited;
+pub use asn1_core::limits_agree;
+pub use asn1_core::no_accepted_input_begins_another;
+pub use asn1_core::normal_texts_stay_normal;
+pub use asn1_core::parts;
+pub use asn1_core::read_all;
+pub use asn1_core::rewriting_reaches_an_end;
+pub use asn1_core::send;
+pub use asn1_core::to_vec;
+pub use asn1_core::write_to;
+pub use asn1_leaves::BMPString;
+pub use asn1_leaves::BMPStringAsn1;
+pub use asn1_leaves::BitString;
+pub use asn1_leaves::BitStringAsn1;
+pub use asn1_leaves::BmpString;
+pub use asn1_leaves::BmpStringAsn1;
+pub use asn1_leaves::CharSetError;
+pub use asn1_leaves::GeneralizedTime;
+pub use asn1_leaves::GeneralizedTimeAsn1;
+pub use asn1_leaves::IA5String;
+pub use asn1_leaves::IA5StringAsn1;
+pub use asn1_leaves::IntegerAsn1;
+pub use asn1_leaves::UTCTime;
+pub use asn1_leaves::UTCTimeAsn1;
+pub use asn1_leaves::Utf8String;
+pub use asn1_leaves::Utf8StringAsn1;
+pub use kinds::Kind;
+pub use kinds::run;
+pub use x509_base::AlgorithmIdentifier;
+pub use x509_base::Attribute;
+pub use x509_base::DigestInfo;
+pub use x509_base::Extension;
+pub use x509_base::Extensions;
+pub use x509_base::Name;
+pub use x509_base::NameValue;
+pub use x509_base::RawAlgorithmIdentifier;
+pub use x509_base::SubjectKeyIdentifier;
+pub use x509_base::Time;
+pub use x509_base::Version;
+pub use x509_base::spc;
+pub use x509_containers_engine::Mode;
+pub use x509_containers_engine::Outcome;
+pub use x509_containers_engine::refusal;
+pub use x509_containers_engine::run_at;
+pub use x509_pkcs12::AuthenticatedSafeContentInfo;
+pub use x509_pkcs12::AuthenticatedSafeDataRepr;
+pub use x509_pkcs12::CertificateBag;
+pub use x509_pkcs12::CrlBag;
+pub use x509_pkcs12::EncryptedKeyBag;
+pub use x509_pkcs12::EncryptedSafeContents;
+pub use x509_pkcs12::KeyBag;
+pub use x509_pkcs12::MacData;
+pub use x509_pkcs12::ParsedAuthenticatedSafeDataRepr;
+pub use x509_pkcs12::Pbes1AlgorithmKind;
+pub use x509_pkcs12::Pbes1Params;
+pub use x509_pkcs12::Pbes2AesCbcEncryption;
+pub use x509_pkcs12::Pbes2EncryptionScheme;
+pub use x509_pkcs12::Pbes2KeyDerivationFunc;
+pub use x509_pkcs12::Pbes2Params;
+pub use x509_pkcs12::Pbkdf2Params;
+pub use x509_pkcs12::Pbkdf2Prf;
+pub use x509_pkcs12::Pbkdf2SaltSource;
+pub use x509_pkcs12::Pfx;
+pub use x509_pkcs12::Pkcs12Attribute;
+pub use x509_pkcs12::Pkcs12DigestAlgorithm;
+pub use x509_pkcs12::Pkcs12DigestInfo;
+pub use x509_pkcs12::Pkcs12EncryptionAlgorithm;
+pub use x509_pkcs12::RawAuthenticatedSafeContentInfo;
+pub use x509_pkcs12::RawAuthenticatedSafeDataRepr;
+pub use x509_pkcs12::RawPfx;
+pub use x509_pkcs12::SafeBag;
+pub use x509_pkcs12::SafeBagKind;
+pub use x509_pkcs12::SafeContents;
+pub use x509_pkcs12::SafeContentsContentInfo;
+pub use x509_pkcs12::SecretBag;
+pub use x509_pkcs12::mac_octets_stand_in_the_text;
+pub use x509_pkcs12::mac_octets_survive_where_normal;
+pub use x509_pkcs12::reads_as_the_raw_one;

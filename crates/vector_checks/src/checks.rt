@@ -1,0 +1,174 @@
+//! What is asked of every type: that its texts are read, written and sent, and its values cloned, where `==` and clones
+//! see all that a text says (`EqualByText`). An answer names what didn't hold, and the text. A wrapper's `==` is that of
+//! its parts, so wrappers have checks of their own.
+
+use crate::fakes::Narrow;
+use asn1_core_element::{Error, Reader};
+use asn1_core_format::{
+    DerDeserialize, DerSerialize, DerTagged, EqualByText, FirstTags, MAX_NESTING, TryClone,
+    from_bytes, read_retagged, to_vec, write_to,
+};
+use asn1_core_streams::{Sink, StdSink};
+use asn1_core_writers::{Backward, Compare, Measure, WriteError};
+use std::alloc::Global;
+use std::test::Fail;
+
+fn expect(holds: bool, what: &'static str, text: &[u8]) -> Result<(), Fail> {
+    if holds {
+        Ok(())
+    } else {
+        Err(Fail::new(format_args!("{what}: {text:?}")))
+    }
+}
+
+/// Asks that each way to write the value into memory gives the text.
+pub fn is_written<T: DerSerialize>(alloc: Global, value: &T, text: &[u8]) -> Result<(), Fail> {
+    expect(value.encoded_len()? == text.len(), "encoded_len", text)?;
+    expect(to_vec(alloc, value)?.as_slice() == text, "to_vec", text)?;
+    let mut behind = Vec::from_slice(alloc, b"ab")?;
+    value.write(alloc, &mut behind)?;
+    let added = behind.as_slice().strip_prefix(b"ab");
+    expect(added == Some(text), "write", text)?;
+    let mut measure = Measure::new();
+    value.put(&mut measure)?;
+    expect(measure.total() == text.len(), "Measure", text)?;
+    let mut compare = Compare::new(text);
+    value.put(&mut compare)?;
+    expect(compare.is_same(), "Compare", text)?;
+    let mut backward = Backward::new(vec![in alloc; 0; text.len()]?);
+    value.put(&mut backward)?;
+    expect(backward.into_inner().as_slice() == text, "Backward", text)?;
+    let mut sink = StdSink::new(Vec::new(alloc));
+    write_to(value, &mut sink)?;
+    expect(sink.into_inner().as_slice() == text, "write_to", text)
+}
+
+/// Sends the value through a sink that takes so many bytes a call. The sink fails at each call in turn, with a beginning
+/// of the text, and takes all of it at last.
+pub fn is_sent<T: DerSerialize>(
+    alloc: Global,
+    value: &T,
+    text: &[u8],
+    width: usize,
+) -> Result<(), Fail> {
+    for writes_left in 0..=text.len() {
+        let mut sink = Narrow::new(alloc, width, writes_left);
+        let outcome = write_to(value, &mut sink);
+        if outcome.is_ok() {
+            expect(sink.failures() == 0, "no failure", text)?;
+            return expect(sink.taken.as_slice() == text, "what was sent", text);
+        }
+        expect(outcome == Err(WriteError::Failed), "Failed", text)?;
+        expect(sink.failures() == 1, "one failure", text)?;
+        let is_beginning = text.starts_with(&sink.taken) && sink.taken.len() < text.len();
+        expect(is_beginning, "what was sent before a failure", text)?;
+    }
+    Err(Fail::new("the value was never sent"))
+}
+
+/// The value of the input, of which is asked that it is well-formed, is written as the text and equals its clone.
+fn rewritten<T: DerDeserialize + TryClone>(
+    alloc: Global,
+    input: &[u8],
+    text: &[u8],
+) -> Result<T, Fail> {
+    let value: T = from_bytes(alloc, input)?;
+    expect(value.well_formed(), "well-formed", text)?;
+    is_written(alloc, &value, text)?;
+    let clone = value.try_clone(alloc)?;
+    expect(clone == value, "the clone", text)?;
+    expect(
+        to_vec(alloc, &clone)?.as_slice() == text,
+        "the clone's text",
+        text,
+    )?;
+    Ok(value)
+}
+
+/// The value of the input, of which is asked that it is well-formed, is written as the text and equals its clone.
+pub fn is_rewritten<T: DerDeserialize + EqualByText + TryClone>(
+    alloc: Global,
+    input: &[u8],
+    text: &[u8],
+) -> Result<T, Fail> {
+    rewritten(alloc, input, text)
+}
+
+/// The value of the text, of which is asked that it is well-formed, is written back and equals its clone.
+pub fn is_read<T: DerDeserialize + EqualByText + TryClone>(
+    alloc: Global,
+    text: &[u8],
+) -> Result<T, Fail> {
+    rewritten(alloc, text, text)
+}
+
+/// Asks of a wrapper what `is_read` does of a type.
+pub fn is_wrapper_read<T: DerDeserialize + TryClone>(
+    alloc: Global,
+    text: &[u8],
+) -> Result<T, Fail> {
+    rewritten(alloc, text, text)
+}
+
+/// The value of the text, of which is also asked that sinks get it, whatever they take a call.
+pub fn is_kept<T: DerDeserialize + EqualByText + TryClone>(
+    alloc: Global,
+    text: &[u8],
+) -> Result<T, Fail> {
+    is_wrapper_kept(alloc, text)
+}
+
+/// Asks of a wrapper what `is_kept` does of a type.
+pub fn is_wrapper_kept<T: DerDeserialize + TryClone>(
+    alloc: Global,
+    text: &[u8],
+) -> Result<T, Fail> {
+    let value: T = rewritten(alloc, text, text)?;
+    is_sent(alloc, &value, text, 1)?;
+    is_sent(alloc, &value, text, usize::MAX)?;
+    Ok(value)
+}
+
+/// Asks of a type with one tag what `is_kept` does, and that under the tag `[0]` the text is the same but for its first
+/// byte, and is read as the same value.
+pub fn is_kept_under_tags<T: DerTagged + EqualByText + TryClone>(
+    alloc: Global,
+    text: &[u8],
+) -> Result<T, Fail> {
+    is_wrapper_kept_under_tags(alloc, text)
+}
+
+/// Asks of a wrapper with one tag what `is_kept_under_tags` does of a type.
+pub fn is_wrapper_kept_under_tags<T: DerTagged + TryClone>(
+    alloc: Global,
+    text: &[u8],
+) -> Result<T, Fail> {
+    let value: T = is_wrapper_kept(alloc, text)?;
+    expect(T::begins(T::TAG) && !T::begins(0x80), "begins", text)?;
+    let mut sink = StdSink::new(Vec::new(alloc));
+    value.emit_as(0x80, &mut sink)?;
+    let tagged = sink.into_inner();
+    expect(tagged.first() == Some(&0x80), "the first byte", text)?;
+    expect(tagged.get(1..) == text.get(1..), "emit_as", text)?;
+    let again: T = read_retagged(alloc, &mut Reader::new(&tagged), MAX_NESTING, 0x80)?;
+    expect(again == value, "read_retagged", text)?;
+    Ok(value)
+}
+
+/// Why the text is refused.
+pub fn refusal<T: DerDeserialize>(alloc: Global, text: &[u8]) -> Option<Error> {
+    let outcome: Result<T, Error> = from_bytes(alloc, text);
+    outcome.err()
+}
+
+/// Asks of each text that it is refused as invalid.
+pub fn are_invalid<T: DerDeserialize>(alloc: Global, texts: &[&[u8]]) -> Result<(), Fail> {
+    for text in texts {
+        expect(
+            refusal::<T>(alloc, text) == Some(Error::Invalid),
+            "invalid",
+            text,
+        )?;
+    }
+    Ok(())
+}
