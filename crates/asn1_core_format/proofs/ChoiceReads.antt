@@ -25,18 +25,18 @@ pub record GaveUpArm {V : Type 0} (C : Choice V) (k : ℕ) (key : List ℕ) (old
 
 module _ (IsOid : List ℕ → Type 0) where
   -- what was left began with the object identifier
-  key_left : {k : ℕ} {old mid : Position} {key : List ℕ} → Took (leaf 6 (kept IsOid)) k old mid key → old.left ≡ element 6 key ++ mid.left
+  key_left : {k : ℕ} {old mid : Position} {key : List ℕ} → Took (leaf 0x06 (kept IsOid)) k old mid key → old.left ≡ element 0x06 key ++ mid.left
   key_left {k} {old} {mid} t = t.split ∙ ap (λ a. a ++ mid.left) t.reads.0
 
-  behind : {k : ℕ} {old mid : Position} {key : List ℕ} (o c : List ℕ) → Took (leaf 6 (kept IsOid)) k old mid key → old.left ≡ element 6 o ++ c → mid.left ≡ c
-  behind {k} {old} {mid} {key} o c t e = (element_cut 6 6 key o mid.left c (sym (key_left t) ∙ e)).2
+  behind : {k : ℕ} {old mid : Position} {key : List ℕ} (o c : List ℕ) → Took (leaf 0x06 (kept IsOid)) k old mid key → old.left ≡ element 0x06 o ++ c → mid.left ≡ c
+  behind {k} {old} {mid} {key} o c t e = (element_cut 0x06 0x06 key o mid.left c (sym (key_left t) ∙ e)).2
 
   -- the arm whose object identifier was read
   module _ {V W : Type 0} (o : List ℕ) (R : Format V) (C : Choice W) where
-    pub here : {k : ℕ} {old mid new : Position} {key : List ℕ} {v : V} → Took (leaf 6 (kept IsOid)) k old mid key → key ≡ o → TookRow R k mid new v → TookArm (known o R C) k key old new (inl v)
+    pub here : {k : ℕ} {old mid new : Position} {key : List ℕ} {v : V} → Took (leaf 0x06 (kept IsOid)) k old mid key → key ≡ o → TookRow R k mid new v → TookArm (known o R C) k key old new (inl v)
     here {k} {old} {mid} {new} {key} {v} t h g = record {
       row = record {
-        reads = (mid.left, key_left t ∙ ap (λ a. element 6 a ++ mid.left) h, g.reads);
+        reads = (mid.left, key_left t ∙ ap (λ a. element 0x06 a ++ mid.left) h, g.reads);
         done = g.done;
         beyond = g.beyond ∙ t.beyond;
         end = g.end ∙ t.end;
@@ -47,11 +47,11 @@ module _ (IsOid : List ℕ → Type 0) where
       oid = sym h;
     }
 
-    none_here : {k : ℕ} {old mid : Position} {key : List ℕ} {e : Error} → Took (leaf 6 (kept IsOid)) k old mid key → key ≡ o → (e ≢ Memory → (v : V) → R.Reads k mid.left v → ⊥) → e ≢ Memory → (v : V ⊎ W) → (known o R C).row.Reads k old.left v → (known o R C).oid_of v ≡ key → ⊥
+    none_here : {k : ℕ} {old mid : Position} {key : List ℕ} {e : Error} → Took (leaf 0x06 (kept IsOid)) k old mid key → key ≡ o → (e ≢ Memory → (v : V) → R.Reads k mid.left v → ⊥) → e ≢ Memory → (v : V ⊎ W) → (known o R C).row.Reads k old.left v → (known o R C).oid_of v ≡ key → ⊥
     none_here {k} t h g m (inl v) s i = g m v (subst (λ c. R.Reads k c v) (sym (behind o s.0 t s.1)) s.2)
     none_here t h g m (inr w) s i = s.1 (i ∙ h)
 
-    pub here_refused : {k : ℕ} {old mid new : Position} {key : List ℕ} {e : Error} → Took (leaf 6 (kept IsOid)) k old mid key → key ≡ o → GaveUpRow R k mid new e → GaveUpArm (known o R C) k key old new e
+    pub here_refused : {k : ℕ} {old mid new : Position} {key : List ℕ} {e : Error} → Took (leaf 0x06 (kept IsOid)) k old mid key → key ≡ o → GaveUpRow R k mid new e → GaveUpArm (known o R C) k key old new e
     here_refused {k} {old} {mid} {new} {key} {e} t h g = record {
       kind = g.kind;
       none = none_here {e = e} t h g.none;
@@ -61,7 +61,7 @@ module _ (IsOid : List ℕ → Type 0) where
 
   -- any object identifier, at the chain's end
   module _ {V : Type 0} (R : Format V) where
-    pub other : {k : ℕ} {old mid new : Position} {key : List ℕ} {v : V} → Took (leaf 6 (kept IsOid)) k old mid key → TookRow R k mid new v → TookArm (otherwise IsOid R) k key old new (key, v)
+    pub other : {k : ℕ} {old mid new : Position} {key : List ℕ} {v : V} → Took (leaf 0x06 (kept IsOid)) k old mid key → TookRow R k mid new v → TookArm (otherwise IsOid R) k key old new (key, v)
     other {k} {old} {mid} {new} {key} {v} t g = record {
       row = record {
         reads = (t.taken, mid.left, t.split, t.reads, g.reads);
@@ -75,7 +75,7 @@ module _ (IsOid : List ℕ → Type 0) where
       oid = refl;
     }
 
-    pub other_refused : {k : ℕ} {old mid new : Position} {key : List ℕ} {e : Error} → Took (leaf 6 (kept IsOid)) k old mid key → GaveUpRow R k mid new e → GaveUpArm (otherwise IsOid R) k key old new e
+    pub other_refused : {k : ℕ} {old mid new : Position} {key : List ℕ} {e : Error} → Took (leaf 0x06 (kept IsOid)) k old mid key → GaveUpRow R k mid new e → GaveUpArm (otherwise IsOid R) k key old new e
     other_refused {k} {old} {mid} {new} {key} t g = record {
       kind = g.kind;
       none = λ m v s i. g.none m v.1 (subst (λ c. R.Reads k c v.1) (sym (behind v.0 s.1 t (s.2 ∙ ap (λ a. a ++ s.1) s.3.0))) s.4);
@@ -122,17 +122,17 @@ known_oids IsOid o R C i h = record { valid = valid_known IsOid o R C i h }
 
 -- the whole choice, of which no object identifier was read, or an arm was refused
 module _ {V : Type 0} (IsOid : List ℕ → Type 0) (C : Choice V) (c : IsLawfulChoice C) where
-  pub oid_refused : {k : ℕ} {old new : Position} {e : Error} → HasOids IsOid C → GaveUp (leaf 6 (kept IsOid)) k old new e → GaveUpRow C.row k old new e
+  pub oid_refused : {k : ℕ} {old new : Position} {e : Error} → HasOids IsOid C → GaveUp (leaf 0x06 (kept IsOid)) k old new e → GaveUpRow C.row k old new e
   oid_refused {k} {old} i g = record {
     kind = g.kind;
     none = λ m v s.
         let h = c.heads k old.left v s in
-        g.none m (element 6 (C.oid_of v)) h.0 (C.oid_of v) h.1 (refl, i.valid k old.left v s);
+        g.none m (element 0x06 (C.oid_of v)) h.0 (C.oid_of v) h.1 (refl, i.valid k old.left v s);
     counts = g.counts;
     at_most = g.at_most;
   }
 
-  pub arm_refused : {k : ℕ} {old mid new : Position} {key : List ℕ} {e : Error} → Took (leaf 6 (kept IsOid)) k old mid key → GaveUpArm C k key old new e → GaveUpRow C.row k old new e
+  pub arm_refused : {k : ℕ} {old mid new : Position} {key : List ℕ} {e : Error} → Took (leaf 0x06 (kept IsOid)) k old mid key → GaveUpArm C k key old new e → GaveUpRow C.row k old new e
   arm_refused {k} {old} {mid} {new} {key} t g = record {
     kind = g.kind;
     none = λ m v s. g.none m v s (same_head (C.oid_of v) key old.left (c.heads k old.left v s) (mid.left, key_left IsOid t));

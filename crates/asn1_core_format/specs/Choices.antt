@@ -18,22 +18,22 @@ pub record Choice (V : Type 0) : Type 1 where
 
 -- the bytes begin with this object identifier
 abbrev pub Heads : List ℕ → List ℕ → Type 0
-Heads o b = (c : List ℕ) × (b ≡ element 6 o ++ c)
+Heads o b = (c : List ℕ) × (b ≡ element 0x06 o ++ c)
 
 -- the last arm: every object identifier that stands in no arm before
 abbrev pub otherwise : {V : Type 0} → (List ℕ → Type 0) → Format V → Choice (List ℕ × V)
-otherwise IsOid R = record { row = part (leaf 6 (kept IsOid)) R; oid_of = λ v. v.0 }
+otherwise IsOid R = record { row = part (leaf 0x06 (kept IsOid)) R; oid_of = λ v. v.0 }
 
 -- the arm of one object identifier, and the arms of the others
 abbrev pub known : {V W : Type 0} → List ℕ → Format V → Choice W → Choice (V ⊎ W)
 known {V} {W} o R C = record {
   row = record {
-    text = from_one (λ v. element 6 o ++ R.text v) C.row.text;
+    text = from_one (λ v. element 0x06 o ++ R.text v) C.row.text;
     IsWellFormed = λ k. OneOf (R.IsWellFormed k) (λ w. C.row.IsWellFormed k w × (C.oid_of w ≢ o));
-    Reads = λ k b. OneOf (λ v. (c : List ℕ) × (b ≡ element 6 o ++ c) × R.Reads k c v) (λ w. C.row.Reads k b w × (C.oid_of w ≢ o));
-    IsNormal = λ k b. ((c : List ℕ) × (b ≡ element 6 o ++ c) × R.IsNormal k c) ⊎ (C.row.IsNormal k b × (Heads o b → ⊥));
+    Reads = λ k b. OneOf (λ v. (c : List ℕ) × (b ≡ element 0x06 o ++ c) × R.Reads k c v) (λ w. C.row.Reads k b w × (C.oid_of w ≢ o));
+    IsNormal = λ k b. ((c : List ℕ) × (b ≡ element 0x06 o ++ c) × R.IsNormal k c) ⊎ (C.row.IsNormal k b × (Heads o b → ⊥));
     normal = map_one R.normal C.row.normal;
-    IsTag = λ t. t ≡ 6;
+    IsTag = λ t. t ≡ 0x06;
     least = from_one (λ v. 1 + R.least v) C.row.least;
   };
   oid_of = from_one (λ _. o) C.oid_of;
@@ -45,21 +45,21 @@ pub record IsLawfulChoice {V : Type 0} (C : Choice V) : Type 0 where
   pub same_oid : (v : V) → C.oid_of (C.row.normal v) ≡ C.oid_of v
 
 pub same_head : (o p : List ℕ) (b : List ℕ) → Heads o b → Heads p b → o ≡ p
-same_head o p b h i = (element_cut 6 6 o p h.0 i.0 (sym h.1 ∙ i.1)).1
+same_head o p b h i = (element_cut 0x06 0x06 o p h.0 i.0 (sym h.1 ∙ i.1)).1
 
-pub heads_begin : (o b : List ℕ) → Heads o b → BeginsBy (λ t. t ≡ 6) b
-heads_begin o b h = inr (element 6 o, h.0, h.1, record { tag = 6; contents = o; is_tag = omega arith; is = refl; allowed = refl })
+pub heads_begin : (o b : List ℕ) → Heads o b → BeginsBy (λ t. t ≡ 0x06) b
+heads_begin o b h = inr (element 0x06 o, h.0, h.1, record { tag = 0x06; contents = o; is_tag = omega arith; is = refl; allowed = refl })
 
 pub lawful_otherwise : {V : Type 0} (IsOid : List ℕ → Type 0) (R : Format V) → IsLawfulRow R → IsLawfulChoice (otherwise IsOid R)
 lawful_otherwise IsOid R r = record {
-  row = lawful_part (leaf 6 (kept IsOid)) R (lawful_leaf 6 (omega arith) (kept IsOid) (lawful_kept IsOid)) r;
+  row = lawful_part (leaf 0x06 (kept IsOid)) R (lawful_leaf 0x06 (omega arith) (kept IsOid) (lawful_kept IsOid)) r;
   heads = λ k b v s. (s.1, s.2 ∙ ap (λ a. a ++ s.1) s.3.0);
   same_oid = λ v. refl;
 }
 
 module _ {V W : Type 0} (o : List ℕ) (R : Format V) (C : Choice W) (r : IsLawfulRow R) (c : IsLawfulChoice C) where
-  cut : (b x y : List ℕ) → b ≡ element 6 o ++ x → b ≡ element 6 o ++ y → x ≡ y
-  cut b x y p q = (element_cut 6 6 o o x y (sym p ∙ q)).2
+  cut : (b x y : List ℕ) → b ≡ element 0x06 o ++ x → b ≡ element 0x06 o ++ y → x ≡ y
+  cut b x y p q = (element_cut 0x06 0x06 o o x y (sym p ∙ q)).2
 
   known_heads : (k : ℕ) (b : List ℕ) (v : V ⊎ W) → (known o R C).row.Reads k b v → Heads ((known o R C).oid_of v) b
   known_heads k b (inl v) s = (s.0, s.1)
@@ -94,7 +94,7 @@ module _ {V W : Type 0} (o : List ℕ) (R : Format V) (C : Choice W) (r : IsLawf
   known_keeps k b (inr w) s e = inr ((c.row.fixed k b w s.0).0 e, other_head k b w s.0 s.1)
 
   known_kept : (k : ℕ) (b : List ℕ) (v : V ⊎ W) → (known o R C).row.Reads k b v → (known o R C).row.IsNormal k b → (known o R C).row.text v ≡ b
-  known_kept k b (inl v) s (inl n) = ap (λ x. element 6 o ++ x) ((r.fixed k s.0 v s.2).1 (subst (R.IsNormal k) (cut b n.0 s.0 n.1 s.1) n.2)) ∙ sym s.1
+  known_kept k b (inl v) s (inl n) = ap (λ x. element 0x06 o ++ x) ((r.fixed k s.0 v s.2).1 (subst (R.IsNormal k) (cut b n.0 s.0 n.1 s.1) n.2)) ∙ sym s.1
   known_kept k b (inl v) s (inr n) = absurd (n.1 (s.0, s.1))
   known_kept k b (inr w) s (inl n) = absurd (other_head k b w s.0 s.1 (n.0, n.1))
   known_kept k b (inr w) s (inr n) = (c.row.fixed k b w s.0).1 n.0

@@ -11,7 +11,7 @@ abbrev pub numbers_below : ℕ → Spelling ℕ
 numbers_below bound = record { spell = integer_octets; IsValid = λ n. n < bound; IsContents = IsNumeral bound }
 
 abbrev pub number_below : ℕ → Format ℕ
-number_below bound = leaf 2 (numbers_below bound)
+number_below bound = leaf 0x02 (numbers_below bound)
 
 lawful_numbers : (bound : ℕ) → IsLawfulSpelling (numbers_below bound)
 lawful_numbers bound = record {
@@ -21,4 +21,4 @@ lawful_numbers bound = record {
 }
 
 pub lawful_number : (bound : ℕ) → IsLawful (number_below bound)
-lawful_number bound = lawful_leaf 2 (omega arith) (numbers_below bound) (lawful_numbers bound)
+lawful_number bound = lawful_leaf 0x02 (omega arith) (numbers_below bound) (lawful_numbers bound)

@@ -9,7 +9,7 @@ use asn1_core_writers::{WriteError, Writer};
 use std::alloc::Global;
 
 /// A value that takes a level of nesting, so that there is none where no level is left.
-#[derive(Debug, Drop, PartialEq, Eq)]
+#[derive(Debug, Drop)]
 pub struct Less<T>(pub T);
 
 impl<T: DerSerialize> DerSerialize for Less<T> {
