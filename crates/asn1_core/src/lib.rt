@@ -10,11 +10,12 @@ pub mod objects;
 pub mod octets;
 pub mod parts;
 pub mod raw;
+pub mod seen;
 
 pub use asn1_core_element::{Error, Reader};
 pub use asn1_core_format::laws::{
-    limits_agree, no_accepted_input_begins_another, normal_texts_stay_normal,
-    rewriting_reaches_an_end,
+    limits_agree, nested_lists_are_lawful, no_accepted_input_begins_another,
+    normal_texts_stay_normal, rewriting_reaches_an_end,
 };
 pub use asn1_core_format::{
     DerDeserialize, DerSerialize, DerTagged, EqualByText, MAX_NESTING, TryClone, Viewed,
@@ -32,3 +33,4 @@ pub use lists::{Asn1SequenceOf, Asn1SetOf};
 pub use objects::{KnownOid, ObjectIdentifierAsn1, OidRef};
 pub use octets::OctetStringAsn1;
 pub use raw::Asn1RawDer;
+pub use seen::SeenByText;

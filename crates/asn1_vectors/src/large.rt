@@ -7,7 +7,7 @@ use asn1_core_streams::ReadError;
 use std::alloc::AllocError;
 use std::rc::Rc;
 use std::test::Fail;
-use vector_checks::checks::{is_read, is_wrapper_read};
+use vector_checks::checks::is_read;
 use vector_checks::fakes::Shared;
 
 #[test]
@@ -27,7 +27,7 @@ fn lists_of_2000_items(rt: HostRuntime) -> Result<(), Fail> {
     for _ in 0..2000 {
         text.extend_from_slice(&[0x02, 0x01, 0x07])?;
     }
-    let numbers: Asn1SequenceOf<u8> = is_wrapper_read(rt.alloc(), &text)?;
+    let numbers: Asn1SequenceOf<u8> = is_read(rt.alloc(), &text)?;
     assert_eq!(rt; numbers.0.len(), 2000);
     assert!(rt; numbers.0.iter().all(|n| *n == 7));
     Ok(())
@@ -58,7 +58,8 @@ fn a_text_that_no_process_has(rt: HostRuntime) -> Result<(), Fail> {
     Ok(())
 }
 
-/// Where there is room, none is asked for; where there is none, it is asked for once.
+/// Where there is room, the buffer isn't grown; a new one has exactly the room of the text. How often memory is asked for
+/// is shown by `rt try --fail-alloc` (docs/PROVING.md).
 #[test]
 fn room_is_used(rt: HostRuntime) -> Result<(), Fail> {
     let list = Asn1SequenceOf(vec![in rt.alloc(); 7u8; 100]?);

@@ -1,5 +1,5 @@
-//! Tests of the lower layers by their public calls: elements, numbers, streams, writers and formats. Expected values are
-//! those of the standards, or of other tools.
+//! Tests of the lower layers by their public calls: elements, numbers, streams, writers and formats; and of the example of
+//! a caller's own type. Expected values are those of the standards, or of other tools.
 #![tactic(auto)]
 
 #[cfg(test)]
@@ -10,6 +10,8 @@ mod formats;
 mod large;
 #[cfg(test)]
 mod numbers;
+#[cfg(test)]
+mod stamps;
 #[cfg(test)]
 mod streams;
 #[cfg(test)]

@@ -1,6 +1,7 @@
 //! Leaves of worked examples, read and written.
 
-use asn1_core_format::{DerSerialize, DerTagged, Either, EqualByText, TryClone, from_bytes};
+use asn1_core::SeenByText;
+use asn1_core_format::{DerSerialize, DerTagged, Either, TryClone, from_bytes};
 use asn1_leaves::{
     BMPStringAsn1, BitString, BitStringAsn1, BmpStringAsn1, GeneralizedTime, GeneralizedTimeAsn1,
     IA5StringAsn1, IntegerAsn1, UTCTime, UTCTimeAsn1, Utf8StringAsn1,
@@ -10,7 +11,7 @@ use std::test::Fail;
 use vector_checks::checks::{are_invalid, is_kept_under_tags, is_written};
 
 /// Asks of each text what `is_kept_under_tags` does.
-fn are_kept<T: DerTagged + EqualByText + TryClone>(
+fn are_kept<T: DerTagged + SeenByText + TryClone>(
     alloc: Global,
     texts: &[&[u8]],
 ) -> Result<(), Fail> {

@@ -9,9 +9,7 @@ use asn1_core_element::Error;
 use asn1_core_format::{DerSerialize, FirstTags, TryClone, from_bytes, from_bytes_counted, to_vec};
 use std::alloc::{AllocError, Global};
 use std::test::Fail;
-use vector_checks::checks::{
-    is_kept, is_kept_under_tags, is_wrapper_kept, is_wrapper_kept_under_tags, is_written, refusal,
-};
+use vector_checks::checks::{is_kept, is_kept_under_tags, is_written, refusal};
 
 /// The header, and then so many zeros.
 fn with_zeros(alloc: Global, header: &[u8], zeros: u8) -> Result<Vec<u8>, AllocError> {
@@ -66,7 +64,7 @@ fn raw_elements(rt: HostRuntime) -> Result<(), Fail> {
 #[test]
 fn lists_keep_their_order(rt: HostRuntime) -> Result<(), Fail> {
     let falling = [0x31, 0x06, 0x02, 0x01, 0x02, 0x02, 0x01, 0x01];
-    let numbers: Asn1SetOf<u8> = is_wrapper_kept_under_tags(rt.alloc(), &falling)?;
+    let numbers: Asn1SetOf<u8> = is_kept_under_tags(rt.alloc(), &falling)?;
     assert_eq!(rt; numbers.0.as_slice(), &[2, 1][..]);
     // two elements, of which the second has one inside that is not looked into
     let elements = [0x30, 0x06, 0x05, 0x00, 0x30, 0x02, 0x05, 0x00];
@@ -76,9 +74,9 @@ fn lists_keep_their_order(rt: HostRuntime) -> Result<(), Fail> {
     );
     assert_eq!(rt; outcome?.0.len(), 2);
     assert_eq!(rt; headers, 3);
-    let list: Asn1SequenceOf<Asn1RawDer> = is_wrapper_kept_under_tags(rt.alloc(), &elements)?;
+    let list: Asn1SequenceOf<Asn1RawDer> = is_kept_under_tags(rt.alloc(), &elements)?;
     assert_eq!(rt; list.0.len(), 2);
-    let empty: Asn1SequenceOf<u8> = is_wrapper_kept_under_tags(rt.alloc(), &[0x30, 0x00])?;
+    let empty: Asn1SequenceOf<u8> = is_kept_under_tags(rt.alloc(), &[0x30, 0x00])?;
     assert!(rt; empty.0.is_empty());
     Ok(())
 }
@@ -97,8 +95,9 @@ fn lists_in_tags_in_lists(rt: HostRuntime) -> Result<(), Fail> {
         ExplicitContextTag0(Asn1SetOf(strings)),
         ExplicitContextTag0(Asn1SetOf(Vec::new(alloc))),
     ]?);
-    let read: Asn1SequenceOf<ExplicitContextTag0<Asn1SetOf<OctetStringAsn1>>> =
-        is_wrapper_kept_under_tags(alloc, &text)?;
+    let read: Asn1SequenceOf<ExplicitContextTag0<Asn1SetOf<OctetStringAsn1>>> = is_kept_under_tags(
+        alloc, &text,
+    )?;
     assert_eq!(rt; built, read);
     is_written(alloc, &built, &text)
 }
@@ -106,11 +105,11 @@ fn lists_in_tags_in_lists(rt: HostRuntime) -> Result<(), Fail> {
 #[test]
 fn explicit_tags(rt: HostRuntime) -> Result<(), Fail> {
     let text = [0xA1, 0x03, 0x02, 0x01, 0x07];
-    let seven: ExplicitContextTag1<u8> = is_wrapper_kept(rt.alloc(), &text)?;
+    let seven: ExplicitContextTag1<u8> = is_kept(rt.alloc(), &text)?;
     assert_eq!(rt; seven, ExplicitContextTag1(7));
-    let first: ExplicitContextTag0<u8> = is_wrapper_kept(rt.alloc(), b"\xA0\x03\x02\x01\x07")?;
+    let first: ExplicitContextTag0<u8> = is_kept(rt.alloc(), b"\xA0\x03\x02\x01\x07")?;
     assert_eq!(rt; first, ExplicitContextTag0(7));
-    let third: ExplicitContextTag2<u8> = is_wrapper_kept(rt.alloc(), b"\xA2\x03\x02\x01\x07")?;
+    let third: ExplicitContextTag2<u8> = is_kept(rt.alloc(), b"\xA2\x03\x02\x01\x07")?;
     assert_eq!(rt; third, ExplicitContextTag2(7));
     assert!(rt; ExplicitContextTag0::<u8>::begins(0xA0));
     assert!(rt; ExplicitContextTag1::<u8>::begins(0xA1));
@@ -132,21 +131,15 @@ fn explicit_tags(rt: HostRuntime) -> Result<(), Fail> {
 
 #[test]
 fn implicit_tags(rt: HostRuntime) -> Result<(), Fail> {
-    let octets: ImplicitContextTag1<OctetStringAsn1> = is_wrapper_kept(
-        rt.alloc(),
-        &[0x81, 0x01, 0x41],
-    )?;
+    let octets: ImplicitContextTag1<OctetStringAsn1> = is_kept(rt.alloc(), &[0x81, 0x01, 0x41])?;
     assert_eq!(rt; octets.0.0.as_slice(), &b"A"[..]);
-    let arcs: ImplicitContextTag0<ObjectIdentifierAsn1> = is_wrapper_kept(
-        rt.alloc(),
-        &[0x80, 0x01, 0x2A],
-    )?;
+    let arcs: ImplicitContextTag0<ObjectIdentifierAsn1> = is_kept(rt.alloc(), &[0x80, 0x01, 0x2A])?;
     assert_eq!(rt; arcs.0.0.octets(), &[0x2A][..]);
     let greatest = [0x80, 0x05, 0x00, 0xFF, 0xFF, 0xFF, 0xFF];
-    let number: ImplicitContextTag0<u32> = is_wrapper_kept(rt.alloc(), &greatest)?;
+    let number: ImplicitContextTag0<u32> = is_kept(rt.alloc(), &greatest)?;
     assert_eq!(rt; number, ImplicitContextTag0(u32::MAX));
     let items = [0xA1, 0x03, 0x02, 0x01, 0x01];
-    let set: ImplicitContextTag1<Asn1SetOf<u8>> = is_wrapper_kept(rt.alloc(), &items)?;
+    let set: ImplicitContextTag1<Asn1SetOf<u8>> = is_kept(rt.alloc(), &items)?;
     assert_eq!(rt; set.0.0.as_slice(), &[1][..]);
     Ok(())
 }
@@ -154,7 +147,7 @@ fn implicit_tags(rt: HostRuntime) -> Result<(), Fail> {
 #[test]
 fn implicit_tags_keep_the_constructed_bit(rt: HostRuntime) -> Result<(), Fail> {
     let constructed = [0xA0, 0x03, 0x02, 0x01, 0x01];
-    let list: ImplicitContextTag0<Asn1SequenceOf<u8>> = is_wrapper_kept(rt.alloc(), &constructed)?;
+    let list: ImplicitContextTag0<Asn1SequenceOf<u8>> = is_kept(rt.alloc(), &constructed)?;
     assert_eq!(rt; list.0.0.as_slice(), &[1][..]);
     let primitive = [0x80, 0x03, 0x02, 0x01, 0x01];
     let why = refusal::<ImplicitContextTag0<Asn1SequenceOf<u8>>>(rt.alloc(), &primitive);
@@ -169,7 +162,7 @@ fn implicit_tags_keep_the_constructed_bit(rt: HostRuntime) -> Result<(), Fail> {
 #[test]
 fn containers(rt: HostRuntime) -> Result<(), Fail> {
     let text = [0x04, 0x03, 0x02, 0x01, 0x07];
-    let seven: OctetStringAsn1Container<u8> = is_wrapper_kept(rt.alloc(), &text)?;
+    let seven: OctetStringAsn1Container<u8> = is_kept(rt.alloc(), &text)?;
     assert_eq!(rt; seven, OctetStringAsn1Container(7));
     assert!(rt; OctetStringAsn1Container::<u8>::begins(0x04));
     let why = refusal::<OctetStringAsn1Container<u8>>(rt.alloc(), &[0x04, 0x00]);

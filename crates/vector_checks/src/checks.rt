@@ -1,12 +1,12 @@
 //! What is asked of every type: that its texts are read, written and sent, and its values cloned, where `==` and clones
-//! see all that a text says (`EqualByText`). An answer names what didn't hold, and the text. A wrapper's `==` is that of
-//! its parts, so wrappers have checks of their own.
+//! see all that a text says (`SeenByText`). An answer names what didn't hold, and the text.
 
 use crate::fakes::Narrow;
+use asn1_core::SeenByText;
 use asn1_core_element::{Error, Reader};
 use asn1_core_format::{
-    DerDeserialize, DerSerialize, DerTagged, EqualByText, FirstTags, MAX_NESTING, TryClone,
-    from_bytes, read_retagged, to_vec, write_to,
+    DerDeserialize, DerSerialize, DerTagged, FirstTags, MAX_NESTING, TryClone, from_bytes,
+    read_retagged, to_vec, write_to,
 };
 use asn1_core_streams::{Sink, StdSink};
 use asn1_core_writers::{Backward, Compare, Measure, WriteError};
@@ -67,7 +67,7 @@ pub fn is_sent<T: DerSerialize>(
 }
 
 /// The value of the input, of which is asked that it is well-formed, is written as the text and equals its clone.
-fn rewritten<T: DerDeserialize + TryClone>(
+pub fn is_rewritten<T: DerDeserialize + SeenByText + TryClone>(
     alloc: Global,
     input: &[u8],
     text: &[u8],
@@ -85,45 +85,20 @@ fn rewritten<T: DerDeserialize + TryClone>(
     Ok(value)
 }
 
-/// The value of the input, of which is asked that it is well-formed, is written as the text and equals its clone.
-pub fn is_rewritten<T: DerDeserialize + EqualByText + TryClone>(
-    alloc: Global,
-    input: &[u8],
-    text: &[u8],
-) -> Result<T, Fail> {
-    rewritten(alloc, input, text)
-}
-
 /// The value of the text, of which is asked that it is well-formed, is written back and equals its clone.
-pub fn is_read<T: DerDeserialize + EqualByText + TryClone>(
+pub fn is_read<T: DerDeserialize + SeenByText + TryClone>(
     alloc: Global,
     text: &[u8],
 ) -> Result<T, Fail> {
-    rewritten(alloc, text, text)
-}
-
-/// Asks of a wrapper what `is_read` does of a type.
-pub fn is_wrapper_read<T: DerDeserialize + TryClone>(
-    alloc: Global,
-    text: &[u8],
-) -> Result<T, Fail> {
-    rewritten(alloc, text, text)
+    is_rewritten(alloc, text, text)
 }
 
 /// The value of the text, of which is also asked that sinks get it, whatever they take a call.
-pub fn is_kept<T: DerDeserialize + EqualByText + TryClone>(
+pub fn is_kept<T: DerDeserialize + SeenByText + TryClone>(
     alloc: Global,
     text: &[u8],
 ) -> Result<T, Fail> {
-    is_wrapper_kept(alloc, text)
-}
-
-/// Asks of a wrapper what `is_kept` does of a type.
-pub fn is_wrapper_kept<T: DerDeserialize + TryClone>(
-    alloc: Global,
-    text: &[u8],
-) -> Result<T, Fail> {
-    let value: T = rewritten(alloc, text, text)?;
+    let value: T = is_read(alloc, text)?;
     is_sent(alloc, &value, text, 1)?;
     is_sent(alloc, &value, text, usize::MAX)?;
     Ok(value)
@@ -131,19 +106,11 @@ pub fn is_wrapper_kept<T: DerDeserialize + TryClone>(
 
 /// Asks of a type with one tag what `is_kept` does, and that under the tag `[0]` the text is the same but for its first
 /// byte, and is read as the same value.
-pub fn is_kept_under_tags<T: DerTagged + EqualByText + TryClone>(
+pub fn is_kept_under_tags<T: DerTagged + SeenByText + TryClone>(
     alloc: Global,
     text: &[u8],
 ) -> Result<T, Fail> {
-    is_wrapper_kept_under_tags(alloc, text)
-}
-
-/// Asks of a wrapper with one tag what `is_kept_under_tags` does of a type.
-pub fn is_wrapper_kept_under_tags<T: DerTagged + TryClone>(
-    alloc: Global,
-    text: &[u8],
-) -> Result<T, Fail> {
-    let value: T = is_wrapper_kept(alloc, text)?;
+    let value: T = is_kept(alloc, text)?;
     expect(T::begins(T::TAG) && !T::begins(0x80), "begins", text)?;
     let mut sink = StdSink::new(Vec::new(alloc));
     value.emit_as(0x80, &mut sink)?;

@@ -2,7 +2,7 @@
 
 use crate::checks::{is_kept, refusal};
 use asn1_core::{
-    DerDeserialize, EqualByText, Error, ObjectIdentifier, ObjectIdentifierAsn1, OctetStringAsn1,
+    DerDeserialize, Error, ObjectIdentifier, ObjectIdentifierAsn1, OctetStringAsn1, SeenByText,
     TryClone, from_bytes_counted,
 };
 use std::alloc::Global;
@@ -20,7 +20,7 @@ pub fn hex(alloc: Global, texts: &[&str]) -> Result<Vec<u8>, Fail> {
 }
 
 /// The value of the octets, of which is asked what `is_kept` does.
-pub fn kept<T: DerDeserialize + EqualByText + TryClone>(
+pub fn kept<T: DerDeserialize + SeenByText + TryClone>(
     alloc: Global,
     texts: &[&str],
 ) -> Result<T, Fail> {

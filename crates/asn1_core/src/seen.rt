@@ -1,0 +1,51 @@
+//! Types whose `==` and clones see all that a text says, and no more.
+
+ghost use Rattle.asn1_core.specs.Seen.{SeesSame, lists_see_same};
+
+use crate::containers::OctetStringAsn1Container;
+use crate::explicit::{ExplicitContextTag0, ExplicitContextTag1, ExplicitContextTag2};
+use crate::implicit::{ImplicitContextTag0, ImplicitContextTag1};
+use crate::lists::{Asn1SequenceOf, Asn1SetOf};
+use asn1_core_format::{DerSerialize, DerTagged, EqualByText, Viewed};
+
+/// A type with a text, of which `==` and clones tell apart exactly the values that texts do. A type has it by
+/// `EqualByText`, a wrapper where its part has it.
+pub trait SeenByText: DerSerialize + Viewed {
+    ghost seen: { SeesSame Self.Viewed.view Self.DerSerialize.value };
+}
+
+impl<T: EqualByText> SeenByText for T {
+    ghost seen = { λ x y. (λ e. e, λ e. e) };
+}
+
+impl<T: SeenByText> SeenByText for Asn1SequenceOf<T> {
+    ghost seen = { λ x y. lists_see_same T.Viewed.view T.DerSerialize.value T.seen x.0.items y.0.items };
+}
+
+impl<T: SeenByText> SeenByText for Asn1SetOf<T> {
+    ghost seen = { λ x y. lists_see_same T.Viewed.view T.DerSerialize.value T.seen x.0.items y.0.items };
+}
+
+impl<T: SeenByText> SeenByText for ExplicitContextTag0<T> {
+    ghost seen = { λ x y. T.seen x.0 y.0 };
+}
+
+impl<T: SeenByText> SeenByText for ExplicitContextTag1<T> {
+    ghost seen = { λ x y. T.seen x.0 y.0 };
+}
+
+impl<T: SeenByText> SeenByText for ExplicitContextTag2<T> {
+    ghost seen = { λ x y. T.seen x.0 y.0 };
+}
+
+impl<T: SeenByText + DerTagged> SeenByText for ImplicitContextTag0<T> {
+    ghost seen = { λ x y. T.seen x.0 y.0 };
+}
+
+impl<T: SeenByText + DerTagged> SeenByText for ImplicitContextTag1<T> {
+    ghost seen = { λ x y. T.seen x.0 y.0 };
+}
+
+impl<T: SeenByText> SeenByText for OctetStringAsn1Container<T> {
+    ghost seen = { λ x y. T.seen x.0 y.0 };
+}
