@@ -9,7 +9,7 @@ use asn1_core::{Error, StdSink, StdSource};
 use std::alloc::Global;
 use std::test::Fail;
 use vector_checks::texts::hex;
-use x509_containers::{Kind, Mode, Outcome, run};
+use x509_containers::{Kind, Mode, Outcome, refusal, run};
 
 /// Digests as OpenSSL and as Microsoft write them.
 const SHA256_INFO: &str =
@@ -190,7 +190,8 @@ fn runs_over_algorithms(rt: HostRuntime) -> Result<(), Fail> {
     Ok(())
 }
 
-const REFUSALS: [(&str, &[&str], Error); 9] = [
+/// An input that a word's kind refuses, put together from texts, and why.
+const REFUSALS: [(&str, &[&str], Error); 14] = [
     (
         "macdata",
         &["30 44", SHA256_INFO, MAC_SALT, "02 05 01 00 00 00 00"],
@@ -207,6 +208,19 @@ const REFUSALS: [(&str, &[&str], Error); 9] = [
         Error::Malformed,
     ),
     ("pbkdf2params", &["30 06 02 01 01 02 01 01"], Error::Invalid),
+    (
+        "pbkdf2params",
+        &["30 0F 04 00 02 01 01 30 05 06 03 2A 03 04 02 01 20"],
+        Error::Malformed,
+    ),
+    ("pbkdf2params", &["30 04 04 00 02 00"], Error::Invalid),
+    ("pbkdf2params", &["30 05 04 00 02 01 80"], Error::Invalid),
+    ("pbkdf2params", &["30 06 04 00 02 02 00 01"], Error::Invalid),
+    (
+        "pbkdf2params",
+        &["30 09 04 00 02 05 01 00 00 00 00"],
+        Error::Invalid,
+    ),
     ("pbes1params", &["30 04 04 00 02 00"], Error::Invalid),
     (
         "pbes2encryptionscheme",
@@ -230,6 +244,7 @@ const REFUSALS: [(&str, &[&str], Error); 9] = [
     ),
 ];
 
+/// A check says why, and a rewriting writes nothing.
 #[test]
 fn runs_that_refuse_algorithms(rt: HostRuntime) -> Result<(), Fail> {
     let alloc = rt.alloc();
@@ -237,8 +252,13 @@ fn runs_that_refuse_algorithms(rt: HostRuntime) -> Result<(), Fail> {
         let kind = Kind::from_word(word).ok_or("no kind")?;
         let input = hex(alloc, texts)?;
         for mode in [Mode::Check, Mode::Rewrite] {
-            let (outcome, _) = ran(alloc, kind, &input, mode);
+            let (outcome, written) = ran(alloc, kind, &input, mode);
             assert_eq!(rt; outcome, Outcome::Refused(error), "{word}");
+            assert_eq!(rt;
+                written.as_slice(),
+                refusal(mode, error).as_bytes(),
+                "{word}"
+            );
         }
     }
     Ok(())

@@ -1,7 +1,7 @@
 //! The algorithms of encryption by passwords (RFC 8018; RFC 7292, C): worked examples, every arm, and inputs that are
 //! refused.
 
-use asn1_core::{Asn1RawDer, DerSerialize, Error, TryClone, from_bytes};
+use asn1_core::{Asn1RawDer, DerSerialize, Error, OctetStringAsn1, TryClone, from_bytes};
 use pkcs12_algs::{
     MacData, Pbes1AlgorithmKind, Pbes1Params, Pbes2AesCbcEncryption, Pbes2EncryptionScheme,
     Pbes2KeyDerivationFunc, Pbes2Params, Pbkdf2Params, Pbkdf2Prf, Pbkdf2SaltSource,
@@ -48,22 +48,27 @@ pub const OTHER_SALT: &str = "30 0A 30 05 06 03 2A 03 04 02 01 01";
 
 pub const OTHER_SALT_WITH_NULL: &str = "30 0C 30 07 06 03 2A 03 04 05 00 02 01 01";
 
-/// Of files that `openssl pkcs12 -export` made for these tests, with its default options and with `-legacy`: what they
-/// are encrypted by, and their MAC data.
+/// Of the file that `openssl pkcs12 -export` made, `OPENSSL_DEFAULT` in `store_vectors/src/files.rt`, which has 1024
+/// bytes: from byte 75 on, counted from 0, what its encrypted data is encrypted by.
 pub const FILE_ENCRYPTION: &str =
-    "30 57 06 09 2A 86 48 86 F7 0D 01 05 0D 30 4A 30 29 06 09 2A 86 48 86 F7 0D 01 05 0C 30 1C 04 08 E7 83 7C D8 20 06 33 92 02 02 08 00 30 0C 06 08 2A 86 48 86 F7 0D 02 09 05 00 30 1D 06 09 60 86 48 01 65 03 04 01 2A 04 10 39 28 1F 32 7A 80 79 36 AD 30 B1 2A 21 9B 83 FB";
+    "30 57 06 09 2A 86 48 86 F7 0D 01 05 0D 30 4A 30 29 06 09 2A 86 48 86 F7 0D 01 05 0C 30 1C 04 08 D1 E7 BA 55 5B D9 D0 C9 02 02 08 00 30 0C 06 08 2A 86 48 86 F7 0D 02 09 05 00 30 1D 06 09 60 86 48 01 65 03 04 01 2A 04 10 13 0D 07 C9 54 CF 5B 8E DF 7A 8B 80 64 2A 03 A2";
 
+/// From byte 957 to the end of the same file: its MAC data.
 pub const FILE_MAC: &str =
-    "30 41 30 31 30 0D 06 09 60 86 48 01 65 03 04 02 01 05 00 04 20 E2 05 B6 5A 95 57 F5 91 2B F8 BA F8 17 D1 12 A0 5B A1 CB 68 7E 08 76 FA 7A FA F3 FB D8 2A EE DD 04 08 01 C2 DF 24 23 14 74 E6 02 02 08 00";
+    "30 41 30 31 30 0D 06 09 60 86 48 01 65 03 04 02 01 05 00 04 20 5A CF F9 11 5A 1F 44 71 F2 34 D2 79 66 2F 84 A7 DF B6 7F 90 3A 6B 3C 05 30 49 91 C5 E5 25 E8 12 04 08 F2 ED 27 B9 6D CF 3E EF 02 02 08 00";
 
+/// Of the file that the same made with `-legacy`, `OPENSSL_LEGACY` there, which has 886 bytes: from byte 75 on, what its
+/// encrypted data is encrypted by.
 pub const LEGACY_ENCRYPTION: &str =
-    "30 1C 06 0A 2A 86 48 86 F7 0D 01 0C 01 06 30 0E 04 08 94 7E 68 C0 69 33 49 73 02 02 08 00";
+    "30 1C 06 0A 2A 86 48 86 F7 0D 01 0C 01 06 30 0E 04 08 01 0B 2C 2A 21 E4 05 25 02 02 08 00";
 
+/// From byte 619 on in the same file: what its key is encrypted by.
 pub const LEGACY_KEY_ENCRYPTION: &str =
-    "30 1C 06 0A 2A 86 48 86 F7 0D 01 0C 01 03 30 0E 04 08 26 65 47 A0 4F E0 B1 A6 02 02 08 00";
+    "30 1C 06 0A 2A 86 48 86 F7 0D 01 0C 01 03 30 0E 04 08 95 0F FF 67 9E 05 92 55 02 02 08 00";
 
+/// From byte 835 to the end of the same file: its MAC data.
 pub const LEGACY_MAC: &str =
-    "30 31 30 21 30 09 06 05 2B 0E 03 02 1A 05 00 04 14 FA A1 B6 94 B5 65 7E 8C 90 95 A0 84 34 A1 DE E2 0D E2 8B DD 04 08 BF E6 BA 25 E0 56 2D E4 02 02 08 00";
+    "30 31 30 21 30 09 06 05 2B 0E 03 02 1A 05 00 04 14 81 48 2A DE EB 10 68 08 46 E3 23 44 D7 61 6A F0 35 50 6D 88 04 08 A0 05 14 1B D8 E5 C4 C6 02 02 08 00";
 
 /// The parameters of PBKDF2, one round over an empty salt, with such a PRF.
 fn with_prf(alloc: Global, prf: Option<Pbkdf2Prf>) -> Result<Pbkdf2Params, Error> {
@@ -608,19 +613,57 @@ fn headers_of_algorithms(rt: HostRuntime) -> Result<(), Fail> {
 fn algorithms_of_files(rt: HostRuntime) -> Result<(), Fail> {
     let alloc = rt.alloc();
     let newer: Pkcs12EncryptionAlgorithm = kept(alloc, &[FILE_ENCRYPTION])?;
-    assert!(rt; matches!(&newer, Pkcs12EncryptionAlgorithm::Pbes2(_)));
-    let bags: Pkcs12EncryptionAlgorithm = kept(alloc, &[LEGACY_ENCRYPTION])?;
-    assert!(rt;
-        matches!(&bags, Pkcs12EncryptionAlgorithm::Pbes1 { kind: Pbes1AlgorithmKind::ShaAnd40BitRc2Cbc, params } if params.iterations == 2048)
-    );
-    let key: Pkcs12EncryptionAlgorithm = kept(alloc, &[LEGACY_KEY_ENCRYPTION])?;
-    assert!(rt;
-        matches!(&key, Pkcs12EncryptionAlgorithm::Pbes1 { kind: Pbes1AlgorithmKind::ShaAnd3Key3DesCbc, params } if params.iterations == 2048)
-    );
+    let salt = octets(alloc, &[0xD1, 0xE7, 0xBA, 0x55, 0x5B, 0xD9, 0xD0, 0xC9])?;
+    let iv = OctetStringAsn1(hex(alloc, &["13 0D 07 C9 54 CF 5B 8E DF 7A 8B 80 64 2A 03 A2"])?);
+    let params = Pbes2Params {
+        key_derivation_func: Pbes2KeyDerivationFunc::Pbkdf2(Pbkdf2Params {
+            salt: Pbkdf2SaltSource::Specified(salt),
+            iteration_count: 2048,
+            key_length: None,
+            prf: Some(Pbkdf2Prf::HmacWithSha256),
+        }),
+        encryption_scheme: Pbes2EncryptionScheme::AesCbc {
+            kind: Pbes2AesCbcEncryption::Aes256,
+            iv,
+        },
+    };
+    assert_eq!(rt; newer, Pkcs12EncryptionAlgorithm::Pbes2(params));
+    for (text, kind, salt) in [
+        (
+            LEGACY_ENCRYPTION,
+            Pbes1AlgorithmKind::ShaAnd40BitRc2Cbc,
+            "01 0B 2C 2A 21 E4 05 25",
+        ),
+        (
+            LEGACY_KEY_ENCRYPTION,
+            Pbes1AlgorithmKind::ShaAnd3Key3DesCbc,
+            "95 0F FF 67 9E 05 92 55",
+        ),
+    ] {
+        let older: Pkcs12EncryptionAlgorithm = kept(alloc, &[text])?;
+        let params = Pbes1Params {
+            salt: OctetStringAsn1(hex(alloc, &[salt])?),
+            iterations: 2048,
+        };
+        assert_eq!(rt;
+            older,
+            Pkcs12EncryptionAlgorithm::Pbes1 { kind, params },
+            "{text}"
+        );
+    }
     let mac: MacData = kept(alloc, &[FILE_MAC])?;
     assert_eq!(rt; mac.mac.digest_algorithm, Pkcs12DigestAlgorithm::Sha256);
+    assert_eq!(rt;
+        mac.salt,
+        octets(alloc, &[0xF2, 0xED, 0x27, 0xB9, 0x6D, 0xCF, 0x3E, 0xEF])?
+    );
+    assert_eq!(rt; mac.iterations, Some(2048));
     let legacy: MacData = kept(alloc, &[LEGACY_MAC])?;
     assert_eq!(rt; legacy.mac.digest_algorithm, Pkcs12DigestAlgorithm::Sha1);
+    assert_eq!(rt;
+        legacy.salt,
+        octets(alloc, &[0xA0, 0x05, 0x14, 0x1B, 0xD8, 0xE5, 0xC4, 0xC6])?
+    );
     assert_eq!(rt; legacy.iterations, Some(2048));
     Ok(())
 }

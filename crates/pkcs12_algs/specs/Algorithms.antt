@@ -23,6 +23,10 @@ raw_value a = algorithm_value (parts_of a)
 abbrev pub from_raw : (oids : List (List ℕ)) → AlgorithmValue → KnownOrRaw oids
 from_raw oids v = arm_read ((listing oids).arm_of v.0) v
 
+-- what an object identifier without parameters stands for
+abbrev pub from_oid : (oids : List (List ℕ)) → List ℕ → KnownOrRaw oids
+from_oid oids o = from_raw oids (o, (None, tt))
+
 -- the algorithm identifier of a known algorithm has no parameters
 abbrev pub into_raw : (oids : List (List ℕ)) → KnownOrRaw oids → AlgorithmValue
 into_raw oids = from_one (λ a. (a.0, (None, tt))) (λ v. v)

@@ -6,9 +6,9 @@
 -- MacData ::= SEQUENCE { mac DigestInfo, macSalt OCTET STRING, iterations INTEGER DEFAULT 1 } (RFC 7292, 4)
 use Rattle.std.specs.Prelude.{◌^◌, ℕ, List, [], ◌∷◌, Option, map}
 use Rattle.asn1_core.specs.Der.{Format, IsLawful, sequence, part, optional, nothing, octet_string, number_below, option_value, lawful_sequence, followed_by, perhaps, lawful_nothing, lawful_octet_string, lawful_number}
-use Rattle.std.proofs.Common.{refl, inl, inr}
+use Rattle.std.proofs.Common.{inr}
 use Rattle.x509_base.specs.AlgorithmChoiceLaws.{lawful_algorithm_choice}
-use Rattle.pkcs12_algs.specs.Algorithms.{KnownOrRaw, known_or_raw, raw_value}
+use Rattle.pkcs12_algs.specs.Algorithms.{KnownOrRaw, known_or_raw, raw_value, from_oid}
 use Rattle.pkcs12_algs.specs.Tables.{listing}
 use Rattle.pkcs12_algs.specs.TableLaws.{listing_is_table}
 use Rattle.pkcs12_algs.specs.declared.digests.Pkcs12DigestAlgorithm.{Pkcs12DigestAlgorithm}
@@ -32,12 +32,8 @@ abbrev pub DigestValue : Type 0
 DigestValue = KnownOrRaw digest_oids
 
 abbrev pub digest_value : Pkcs12DigestAlgorithm → DigestValue
-digest_value Sha1 = inl (digest_oid Sha1, refl)
-digest_value Sha224 = inl (digest_oid Sha224, refl)
-digest_value Sha256 = inl (digest_oid Sha256, refl)
-digest_value Sha384 = inl (digest_oid Sha384, refl)
-digest_value Sha512 = inl (digest_oid Sha512, refl)
 digest_value (Unknown a) = inr (raw_value a)
+digest_value known = from_oid digest_oids (digest_oid known)
 
 abbrev pub digest_algorithm : Format DigestValue
 digest_algorithm = known_or_raw digest_oids

@@ -3,7 +3,7 @@
 -- pkcs-12PbeParams ::= SEQUENCE { salt OCTET STRING, iterations INTEGER }
 use Rattle.std.specs.Prelude.{◌≡◌, ◌^◌, ℕ, List, [], ◌∷◌, Some}
 use Rattle.asn1_core.specs.Der.{Format, IsLawful, sequence, part, nothing, octet_string, number_below, lawful_sequence, followed_by, lawful_nothing, lawful_octet_string, lawful_number}
-use Rattle.std.proofs.Common.{refl}
+use Rattle.std.proofs.Common.{refl, rules}
 use Rattle.asn1_core_oid.specs.Oid.{IsOid}
 use Rattle.x509_base.specs.AlgorithmChoices.{Table, IsTable}
 use Rattle.pkcs12_algs.specs.Tables.{table, arm_with}
@@ -24,8 +24,7 @@ abbrev pub pbe_table : Table Pbes1AlgorithmKind
 pbe_table = table pbe_oid pbe_kinds
 
 found_pbe : (a : Pbes1AlgorithmKind) → arm_with pbe_oid pbe_kinds (pbe_oid a) ≡ Some a
-found_pbe ShaAnd40BitRc2Cbc = refl
-found_pbe ShaAnd3Key3DesCbc = refl
+found_pbe a = search rules
 
 pub pbe_is_table : IsTable pbe_table
 pbe_is_table = is_table pbe_oid pbe_kinds found_pbe

@@ -8,7 +8,7 @@
 -- The parameters of AES in CBC mode are its initialization vector, an OCTET STRING (RFC 8018, appendix B.2.5).
 use Rattle.std.specs.Prelude.{◌≡◌, ◌⊎◌, ℕ, List, [], ◌∷◌, Some}
 use Rattle.asn1_core.specs.Der.{Format, IsLawful, sequence, part, nothing, octet_string, lawful_sequence, followed_by, lawful_nothing, lawful_octet_string}
-use Rattle.std.proofs.Common.{refl, inl, inr}
+use Rattle.std.proofs.Common.{refl, inl, inr, rules}
 use Rattle.asn1_core_format.specs.Choices.{Choice, known}
 use Rattle.asn1_core_oid.specs.Oid.{IsOid}
 use Rattle.asn1_core_oid.specs.OidTestLaws.{oid_from_test}
@@ -42,9 +42,7 @@ abbrev pub aes_table : Table Pbes2AesCbcEncryption
 aes_table = table aes_oid aes_kinds
 
 found_aes : (a : Pbes2AesCbcEncryption) → arm_with aes_oid aes_kinds (aes_oid a) ≡ Some a
-found_aes Aes128 = refl
-found_aes Aes192 = refl
-found_aes Aes256 = refl
+found_aes a = search rules
 
 pub aes_is_table : IsTable aes_table
 aes_is_table = is_table aes_oid aes_kinds found_aes

@@ -9,12 +9,12 @@
 -- Counts and lengths of 0 are read, up to 2^32 - 1. A PRF that is left out and one that is HMAC with SHA-1 are told apart.
 use Rattle.std.specs.Prelude.{◌≡◌, ◌⊎◌, ◌^◌, ℕ, List, [], ◌∷◌, Option, map}
 use Rattle.asn1_core.specs.Der.{Format, IsLawful, sequence, part, optional, nothing, octet_string, number_below, option_value, lawful_sequence, followed_by, perhaps, lawful_nothing, lawful_octet_string, lawful_number}
-use Rattle.std.proofs.Common.{refl, inl, inr, ⊎_elim, arith}
+use Rattle.std.proofs.Common.{inl, inr, ⊎_elim, arith}
 use Rattle.asn1_core_format.specs.Eithers.{either, lawful_either}
 use Rattle.x509_base.specs.Algorithms.{AlgorithmValue, raw_algorithm_identifier}
 use Rattle.x509_base.specs.AlgorithmLaws.{lawful_raw_algorithm_identifier}
 use Rattle.x509_base.specs.AlgorithmChoiceLaws.{lawful_algorithm_choice}
-use Rattle.pkcs12_algs.specs.Algorithms.{KnownOrRaw, known_or_raw, raw_value}
+use Rattle.pkcs12_algs.specs.Algorithms.{KnownOrRaw, known_or_raw, raw_value, from_oid}
 use Rattle.pkcs12_algs.specs.Tables.{listing}
 use Rattle.pkcs12_algs.specs.TableLaws.{listing_is_table}
 use Rattle.pkcs12_algs.specs.declared.pbkdf2.Pbkdf2Params.{Pbkdf2Params}
@@ -39,12 +39,8 @@ abbrev pub PrfValue : Type 0
 PrfValue = KnownOrRaw prf_oids
 
 abbrev pub prf_value : Pbkdf2Prf → PrfValue
-prf_value HmacWithSha1 = inl (prf_oid HmacWithSha1, refl)
-prf_value HmacWithSha224 = inl (prf_oid HmacWithSha224, refl)
-prf_value HmacWithSha256 = inl (prf_oid HmacWithSha256, refl)
-prf_value HmacWithSha384 = inl (prf_oid HmacWithSha384, refl)
-prf_value HmacWithSha512 = inl (prf_oid HmacWithSha512, refl)
 prf_value (Unknown a) = inr (raw_value a)
+prf_value known = from_oid prf_oids (prf_oid known)
 
 abbrev pub prf : Format PrfValue
 prf = known_or_raw prf_oids

@@ -10,6 +10,7 @@ ghost use Rattle.pkcs12_algs.specs.Equal.{digest_equal, digest_info_equal};
 use crate::algorithms::{
     Algorithm, AlgorithmPart, AlgorithmRef, algorithm_from_raw, clone_algorithm, raw_of_algorithm,
 };
+use crate::rows::{arm_by_rows, parts_by_rows};
 use asn1_core::parts::{End, FirstTags, Part, WriteRow, put_within, read_within};
 use asn1_core::{
     DerDeserialize, DerSerialize, EqualByText, Error, OctetStringAsn1, Reader, TryClone, Viewed,
@@ -23,23 +24,33 @@ use x509_base::RawAlgorithmIdentifier;
 /// other. An `Unknown` with the object identifier of a known one isn't well-formed: its text is read as the known one.
 #[derive(Debug, Drop, PartialEq, Eq)]
 pub enum Pkcs12DigestAlgorithm {
+    /// `id-sha1` (RFC 8017, appendix B.1)
     Sha1,
+    /// `id-sha224` (the same)
     Sha224,
+    /// `id-sha256` (the same)
     Sha256,
+    /// `id-sha384` (the same)
     Sha384,
+    /// `id-sha512` (the same)
     Sha512,
+    /// Any other, with its parameters.
     Unknown(RawAlgorithmIdentifier),
 }
 
-const SHA1: &[u8] = &[0x2B, 0x0E, 0x03, 0x02, 0x1A];
-
-const SHA224: &[u8] = &[0x60, 0x86, 0x48, 0x01, 0x65, 0x03, 0x04, 0x02, 0x04];
-
-const SHA256: &[u8] = &[0x60, 0x86, 0x48, 0x01, 0x65, 0x03, 0x04, 0x02, 0x01];
-
-const SHA384: &[u8] = &[0x60, 0x86, 0x48, 0x01, 0x65, 0x03, 0x04, 0x02, 0x02];
-
-const SHA512: &[u8] = &[0x60, 0x86, 0x48, 0x01, 0x65, 0x03, 0x04, 0x02, 0x03];
+/// The known digests, by the contents octets of their object identifiers: one row an arm.
+macro_rules! known_digests {
+    ($by:ident($value:expr)) => {
+        $by! {
+            $value,
+            Sha1 = [0x2B, 0x0E, 0x03, 0x02, 0x1A],
+            Sha224 = [0x60, 0x86, 0x48, 0x01, 0x65, 0x03, 0x04, 0x02, 0x04],
+            Sha256 = [0x60, 0x86, 0x48, 0x01, 0x65, 0x03, 0x04, 0x02, 0x01],
+            Sha384 = [0x60, 0x86, 0x48, 0x01, 0x65, 0x03, 0x04, 0x02, 0x02],
+            Sha512 = [0x60, 0x86, 0x48, 0x01, 0x65, 0x03, 0x04, 0x02, 0x03],
+        }
+    };
+}
 
 impl Algorithm for Pkcs12DigestAlgorithm {
     ghost OIDS = { digest_oids };
@@ -47,25 +58,11 @@ impl Algorithm for Pkcs12DigestAlgorithm {
     ghost value = { digest_value };
 
     fn parts(&self) -> Result<&'static [u8], &RawAlgorithmIdentifier> {
-        match self {
-            Self::Sha1 => Ok(SHA1),
-            Self::Sha224 => Ok(SHA224),
-            Self::Sha256 => Ok(SHA256),
-            Self::Sha384 => Ok(SHA384),
-            Self::Sha512 => Ok(SHA512),
-            Self::Unknown(raw) => Err(raw),
-        }
+        known_digests!(parts_by_rows(self))
     }
 
     fn known(octets: &[u8]) -> Option<Self> {
-        match octets {
-            SHA1 => Some(Self::Sha1),
-            SHA224 => Some(Self::Sha224),
-            SHA256 => Some(Self::Sha256),
-            SHA384 => Some(Self::Sha384),
-            SHA512 => Some(Self::Sha512),
-            _ => None,
-        }
+        known_digests!(arm_by_rows(octets))
     }
 
     fn other(raw: RawAlgorithmIdentifier) -> Self {
@@ -112,7 +109,9 @@ impl TryClone for Pkcs12DigestAlgorithm {
 /// RFC 2315, 9.4, with `Digest ::= OCTET STRING`. A known algorithm is written with NULL as its parameters.
 #[derive(Debug, Drop, PartialEq, Eq)]
 pub struct Pkcs12DigestInfo {
+    /// `digestAlgorithm`: by which the digest was made (RFC 2315, 9.4).
     pub digest_algorithm: Pkcs12DigestAlgorithm,
+    /// `digest`, of any length (RFC 2315, 9.4).
     pub digest: OctetStringAsn1,
 }
 

@@ -19,11 +19,16 @@ use x509_base::RawAlgorithmIdentifier;
 /// calls PBES1. A known object identifier with other parameters, or with none, is refused and not `Unknown`.
 #[derive(Debug, Drop, PartialEq, Eq)]
 pub enum Pkcs12EncryptionAlgorithm {
+    /// One of `pkcs-12PbeIds` (RFC 7292, appendix C)
     Pbes1 {
+        /// Which one.
         kind: Pbes1AlgorithmKind,
+        /// `pkcs-12PbeParams`, which all of them have.
         params: Pbes1Params,
     },
+    /// `id-PBES2` with its parameters (RFC 8018, 6.2 and appendix A.4)
     Pbes2(Pbes2Params),
+    /// Any other, with its parameters. With the object identifier of a known one it isn't well-formed.
     Unknown(RawAlgorithmIdentifier),
 }
 

@@ -13,6 +13,7 @@ mod pbes1;
 mod pbes2;
 mod pbkdf2;
 mod prfs;
+mod rows;
 
 pub use digests::{Pkcs12DigestAlgorithm, Pkcs12DigestInfo};
 pub use encryptions::Pkcs12EncryptionAlgorithm;

@@ -19,6 +19,7 @@ use std::alloc::Global;
 pub struct MacData {
     /// The MAC, as a digest.
     pub mac: Pkcs12DigestInfo,
+    /// `macSalt`: what the key of the MAC is made from beside the password, of any length (RFC 7292, 4).
     pub salt: OctetStringAsn1,
     /// How often the key derivation hashes; 1 where it is left out.
     pub iterations: Option<u32>,

@@ -8,6 +8,7 @@ ghost use Rattle.pkcs12_algs.specs.Pbes1.{pbe_oid, pbe_table, pbe_is_table, pbe_
 ghost use Rattle.pkcs12_algs.specs.declared.pbes1.Pbes1AlgorithmKind.{Pbes1AlgorithmKind};
 
 use crate::kinds::{Kind, oid_of_kind};
+use crate::rows::{arm_by_rows, octets_by_rows};
 use asn1_core::parts::{End, Part, WriteRow, put_within, read_within};
 use asn1_core::{
     DerDeserialize, DerSerialize, EqualByText, Error, ObjectIdentifier, OctetStringAsn1, Reader,
@@ -24,26 +25,26 @@ pub enum Pbes1AlgorithmKind {
     ShaAnd3Key3DesCbc,
 }
 
-const RC2: &[u8] = &[0x2A, 0x86, 0x48, 0x86, 0xF7, 0x0D, 0x01, 0x0C, 0x01, 0x06];
-
-const TRIPLE_DES: &[u8] = &[0x2A, 0x86, 0x48, 0x86, 0xF7, 0x0D, 0x01, 0x0C, 0x01, 0x03];
+/// The kinds, by the contents octets of their object identifiers: one row an arm.
+macro_rules! pbe_kinds {
+    ($by:ident($value:expr)) => {
+        $by! {
+            $value,
+            ShaAnd40BitRc2Cbc = [0x2A, 0x86, 0x48, 0x86, 0xF7, 0x0D, 0x01, 0x0C, 0x01, 0x06],
+            ShaAnd3Key3DesCbc = [0x2A, 0x86, 0x48, 0x86, 0xF7, 0x0D, 0x01, 0x0C, 0x01, 0x03],
+        }
+    };
+}
 
 impl Kind for Pbes1AlgorithmKind {
     ghost table = { pbe_table };
 
     fn octets(self) -> &'static [u8] {
-        match self {
-            Self::ShaAnd40BitRc2Cbc => RC2,
-            Self::ShaAnd3Key3DesCbc => TRIPLE_DES,
-        }
+        pbe_kinds!(octets_by_rows(self))
     }
 
     fn with_octets(octets: &[u8]) -> Option<Self> {
-        match octets {
-            RC2 => Some(Self::ShaAnd40BitRc2Cbc),
-            TRIPLE_DES => Some(Self::ShaAnd3Key3DesCbc),
-            _ => None,
-        }
+        pbe_kinds!(arm_by_rows(octets))
     }
 
     ghost is_table = { pbe_is_table };
@@ -78,7 +79,9 @@ impl TryClone for Pbes1AlgorithmKind {
 /// read, and one past 32 bits is refused.
 #[derive(Debug, Drop, PartialEq, Eq)]
 pub struct Pbes1Params {
+    /// What the key is made from beside the password, of any length (RFC 7292, appendix C).
     pub salt: OctetStringAsn1,
+    /// How often the key derivation hashes (RFC 7292, appendix C).
     pub iterations: u32,
 }
 

@@ -13,6 +13,7 @@ ghost use Rattle.pkcs12_algs.specs.Equal.{kdf_equal, pbes2_equal};
 use crate::choices::{Among, Parameters, WriteChoice, read_choice};
 use crate::kinds::{Kind, oid_of_kind};
 use crate::pbkdf2::Pbkdf2Params;
+use crate::rows::{arm_by_rows, octets_by_rows};
 use asn1_core::parts::{Either, End, Part, WriteRow, put_within, read_within};
 use asn1_core::{
     DerDeserialize, DerSerialize, EqualByText, Error, ObjectIdentifier, OctetStringAsn1, Reader,
@@ -25,7 +26,9 @@ use x509_base::RawAlgorithmIdentifier;
 /// and not `Unknown`.
 #[derive(Debug, Drop, PartialEq, Eq)]
 pub enum Pbes2KeyDerivationFunc {
+    /// `id-PBKDF2` with its parameters (RFC 8018, 5.2 and appendix A.2)
     Pbkdf2(Pbkdf2Params),
+    /// Any other, with its parameters. With the object identifier of PBKDF2 it isn't well-formed.
     Unknown(RawAlgorithmIdentifier),
 }
 
@@ -86,35 +89,35 @@ impl TryClone for Pbes2KeyDerivationFunc {
 /// AES in CBC mode with padding (RFC 8018, appendix B.2.5), by the length of its key in bits.
 #[derive(Clone, Copy, Debug, PartialEq, Eq)]
 pub enum Pbes2AesCbcEncryption {
+    /// `aes128-CBC-PAD`
     Aes128,
+    /// `aes192-CBC-PAD`
     Aes192,
+    /// `aes256-CBC-PAD`
     Aes256,
 }
 
-const AES128: &[u8] = &[0x60, 0x86, 0x48, 0x01, 0x65, 0x03, 0x04, 0x01, 0x02];
-
-const AES192: &[u8] = &[0x60, 0x86, 0x48, 0x01, 0x65, 0x03, 0x04, 0x01, 0x16];
-
-const AES256: &[u8] = &[0x60, 0x86, 0x48, 0x01, 0x65, 0x03, 0x04, 0x01, 0x2A];
+/// The kinds, by the contents octets of their object identifiers: one row an arm.
+macro_rules! aes_kinds {
+    ($by:ident($value:expr)) => {
+        $by! {
+            $value,
+            Aes128 = [0x60, 0x86, 0x48, 0x01, 0x65, 0x03, 0x04, 0x01, 0x02],
+            Aes192 = [0x60, 0x86, 0x48, 0x01, 0x65, 0x03, 0x04, 0x01, 0x16],
+            Aes256 = [0x60, 0x86, 0x48, 0x01, 0x65, 0x03, 0x04, 0x01, 0x2A],
+        }
+    };
+}
 
 impl Kind for Pbes2AesCbcEncryption {
     ghost table = { aes_table };
 
     fn octets(self) -> &'static [u8] {
-        match self {
-            Self::Aes128 => AES128,
-            Self::Aes192 => AES192,
-            Self::Aes256 => AES256,
-        }
+        aes_kinds!(octets_by_rows(self))
     }
 
     fn with_octets(octets: &[u8]) -> Option<Self> {
-        match octets {
-            AES128 => Some(Self::Aes128),
-            AES192 => Some(Self::Aes192),
-            AES256 => Some(Self::Aes256),
-            _ => None,
-        }
+        aes_kinds!(arm_by_rows(octets))
     }
 
     ghost is_table = { aes_is_table };
@@ -149,11 +152,14 @@ impl TryClone for Pbes2AesCbcEncryption {
 /// and not `Unknown`.
 #[derive(Debug, Drop, PartialEq, Eq)]
 pub enum Pbes2EncryptionScheme {
+    /// AES in CBC mode (RFC 8018, appendix B.2.5)
     AesCbc {
+        /// Which one, by the length of its key.
         kind: Pbes2AesCbcEncryption,
         /// The initialization vector, of 16 octets where the standard is kept; its length is not looked at.
         iv: OctetStringAsn1,
     },
+    /// Any other, with its parameters. With the object identifier of a kind of AES it isn't well-formed.
     Unknown(RawAlgorithmIdentifier),
 }
 
@@ -220,7 +226,9 @@ impl TryClone for Pbes2EncryptionScheme {
 /// {{PBES2-Encs}} }` (RFC 8018, appendix A.4)
 #[derive(Debug, Drop, PartialEq, Eq)]
 pub struct Pbes2Params {
+    /// `keyDerivationFunc`: how the key is made from the password (RFC 8018, appendix A.4).
     pub key_derivation_func: Pbes2KeyDerivationFunc,
+    /// `encryptionScheme`: what the key encrypts by (RFC 8018, appendix A.4).
     pub encryption_scheme: Pbes2EncryptionScheme,
 }
 

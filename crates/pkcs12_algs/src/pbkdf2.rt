@@ -23,7 +23,9 @@ use x509_base::RawAlgorithmIdentifier;
 /// appendix A.2). The standard knows no other source, so one is kept as it is.
 #[derive(Debug, Drop, PartialEq, Eq)]
 pub enum Pbkdf2SaltSource {
+    /// `specified`: the salt itself, of any length (RFC 8018, 4.1)
     Specified(OctetStringAsn1),
+    /// `otherSource`: where it comes from, with any parameters (RFC 8018, appendix A.2)
     OtherSource(RawAlgorithmIdentifier),
 }
 
@@ -109,10 +111,13 @@ impl TryClone for Pbkdf2SaltSource {
 /// and written as they were read.
 #[derive(Debug, Drop, PartialEq, Eq)]
 pub struct Pbkdf2Params {
+    /// `salt`, or where it comes from (RFC 8018, 4.1).
     pub salt: Pbkdf2SaltSource,
+    /// `iterationCount`: how often the PRF is applied for each block of the key (RFC 8018, 4.2 and 5.2).
     pub iteration_count: u32,
-    /// In octets.
+    /// `keyLength`, in octets (RFC 8018, appendix A.2).
     pub key_length: Option<u32>,
+    /// `prf`; HMAC with SHA-1 where it is left out (RFC 8018, appendix A.2).
     pub prf: Option<Pbkdf2Prf>,
 }
 

@@ -9,6 +9,7 @@ ghost use Rattle.pkcs12_algs.specs.declared.prfs.Pbkdf2Prf.TheVariants.{HmacWith
 ghost use Rattle.pkcs12_algs.specs.Equal.{prf_equal};
 
 use crate::algorithms::{Algorithm, algorithm_from_raw, clone_algorithm, raw_of_algorithm};
+use crate::rows::{arm_by_rows, parts_by_rows};
 use asn1_core::{Error, TryClone, Viewed};
 use std::alloc::Global;
 use x509_base::RawAlgorithmIdentifier;
@@ -18,23 +19,33 @@ use x509_base::RawAlgorithmIdentifier;
 /// written with NULL as its parameters.
 #[derive(Debug, Drop, PartialEq, Eq)]
 pub enum Pbkdf2Prf {
+    /// `id-hmacWithSHA1` (RFC 8018, appendix B.1.1)
     HmacWithSha1,
+    /// `id-hmacWithSHA224` (RFC 8018, appendix B.1.2)
     HmacWithSha224,
+    /// `id-hmacWithSHA256` (the same)
     HmacWithSha256,
+    /// `id-hmacWithSHA384` (the same)
     HmacWithSha384,
+    /// `id-hmacWithSHA512` (the same)
     HmacWithSha512,
+    /// Any other, with its parameters. With the object identifier of a known one it isn't well-formed.
     Unknown(RawAlgorithmIdentifier),
 }
 
-const HMAC_WITH_SHA1: &[u8] = &[0x2A, 0x86, 0x48, 0x86, 0xF7, 0x0D, 0x02, 0x07];
-
-const HMAC_WITH_SHA224: &[u8] = &[0x2A, 0x86, 0x48, 0x86, 0xF7, 0x0D, 0x02, 0x08];
-
-const HMAC_WITH_SHA256: &[u8] = &[0x2A, 0x86, 0x48, 0x86, 0xF7, 0x0D, 0x02, 0x09];
-
-const HMAC_WITH_SHA384: &[u8] = &[0x2A, 0x86, 0x48, 0x86, 0xF7, 0x0D, 0x02, 0x0A];
-
-const HMAC_WITH_SHA512: &[u8] = &[0x2A, 0x86, 0x48, 0x86, 0xF7, 0x0D, 0x02, 0x0B];
+/// The known functions, by the contents octets of their object identifiers: one row an arm.
+macro_rules! known_functions {
+    ($by:ident($value:expr)) => {
+        $by! {
+            $value,
+            HmacWithSha1 = [0x2A, 0x86, 0x48, 0x86, 0xF7, 0x0D, 0x02, 0x07],
+            HmacWithSha224 = [0x2A, 0x86, 0x48, 0x86, 0xF7, 0x0D, 0x02, 0x08],
+            HmacWithSha256 = [0x2A, 0x86, 0x48, 0x86, 0xF7, 0x0D, 0x02, 0x09],
+            HmacWithSha384 = [0x2A, 0x86, 0x48, 0x86, 0xF7, 0x0D, 0x02, 0x0A],
+            HmacWithSha512 = [0x2A, 0x86, 0x48, 0x86, 0xF7, 0x0D, 0x02, 0x0B],
+        }
+    };
+}
 
 impl Default for Pbkdf2Prf {
     /// `algid-hmacWithSHA1`, which a PRF that is left out stands for.
@@ -51,25 +62,11 @@ impl Algorithm for Pbkdf2Prf {
     ghost value = { prf_value };
 
     fn parts(&self) -> Result<&'static [u8], &RawAlgorithmIdentifier> {
-        match self {
-            Self::HmacWithSha1 => Ok(HMAC_WITH_SHA1),
-            Self::HmacWithSha224 => Ok(HMAC_WITH_SHA224),
-            Self::HmacWithSha256 => Ok(HMAC_WITH_SHA256),
-            Self::HmacWithSha384 => Ok(HMAC_WITH_SHA384),
-            Self::HmacWithSha512 => Ok(HMAC_WITH_SHA512),
-            Self::Unknown(raw) => Err(raw),
-        }
+        known_functions!(parts_by_rows(self))
     }
 
     fn known(octets: &[u8]) -> Option<Self> {
-        match octets {
-            HMAC_WITH_SHA1 => Some(Self::HmacWithSha1),
-            HMAC_WITH_SHA224 => Some(Self::HmacWithSha224),
-            HMAC_WITH_SHA256 => Some(Self::HmacWithSha256),
-            HMAC_WITH_SHA384 => Some(Self::HmacWithSha384),
-            HMAC_WITH_SHA512 => Some(Self::HmacWithSha512),
-            _ => None,
-        }
+        known_functions!(arm_by_rows(octets))
     }
 
     fn other(raw: RawAlgorithmIdentifier) -> Self {
