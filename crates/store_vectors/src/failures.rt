@@ -1,6 +1,6 @@
 //! Runs over sources and into sinks that fail, of types that hold what other types do.
 
-use crate::lines::{line_of, rewritten};
+use crate::lines::{line_of, outcome_of, rewritten};
 use asn1_core::{Sink, Source, StdSink, StdSource};
 use std::alloc::Global;
 use std::process::Abort;
@@ -18,19 +18,21 @@ const LOOSE_PFX: &[u8] = b"\
 #[test]
 fn each_read_of_a_store_fails_in_turn(rt: HostRuntime) -> Result<(), Fail> {
     for kind in [Kind::Pfx, Kind::RawPfx] {
-        for reads_left in 0..=LOOSE_PFX.len() {
-            let mut source = Trickle::new(LOOSE_PFX, reads_left);
+        for mode in [Mode::Check, Mode::Rewrite] {
+            for reads_left in 0..=LOOSE_PFX.len() {
+                let mut source = Trickle::new(LOOSE_PFX, reads_left);
+                let mut sink = StdSink::new(Vec::new(rt.alloc()));
+                let outcome = run(rt.alloc(), &mut source, &mut sink, mode, kind);
+                assert_eq!(rt; outcome, Outcome::ReadFailed);
+                assert_eq!(rt; source.failures(), 1);
+                assert!(rt; sink.into_inner().is_empty());
+            }
+            let mut source = Trickle::new(LOOSE_PFX, LOOSE_PFX.len() + 1);
             let mut sink = StdSink::new(Vec::new(rt.alloc()));
-            let outcome = run(rt.alloc(), &mut source, &mut sink, Mode::Rewrite, kind);
-            assert_eq!(rt; outcome, Outcome::ReadFailed);
-            assert_eq!(rt; source.failures(), 1);
-            assert!(rt; sink.into_inner().is_empty());
+            let outcome = run(rt.alloc(), &mut source, &mut sink, mode, kind);
+            let by_bytes = (outcome, sink.into_inner());
+            assert_eq!(rt; by_bytes, outcome_of(rt.alloc(), LOOSE_PFX, mode, kind));
         }
-        let mut source = Trickle::new(LOOSE_PFX, LOOSE_PFX.len() + 1);
-        let mut sink = StdSink::new(Vec::new(rt.alloc()));
-        let outcome = run(rt.alloc(), &mut source, &mut sink, Mode::Rewrite, kind);
-        let ran = (outcome, sink.into_inner());
-        assert_eq!(rt; ran, rewritten(rt.alloc(), LOOSE_PFX, kind));
     }
     Ok(())
 }

@@ -460,16 +460,20 @@ const KEYTOOL: &[u8] = b"\
     \x59\xA8\x67\x86\xC7\x96\x60\xEB\x04\x14\x32\x51\xC0\xF4\x1C\x31\x8F\x3E\xBC\xF5\x6E\x2F\xE6\xB2\
     \x01\x98\xB9\x35\x58\x69\x02\x02\x27\x10";
 
-/// Whether the bag has the friendly name of the file.
-fn is_named_key(bag: &SafeBag) -> bool {
+/// The friendly names Schlüssel and Ärger.
+const KEY_NAME: &[u8] = b"\
+    \x00\x53\x00\x63\x00\x68\x00\x6C\x00\xFC\x00\x73\x00\x73\x00\x65\x00\x6C";
+
+const SECOND_NAME: &[u8] = b"\x00\xC4\x00\x72\x00\x67\x00\x65\x00\x72";
+
+/// Whether the bag has that friendly name.
+fn is_named(bag: &SafeBag, octets: &[u8]) -> bool {
     let Some(attributes) = &bag.attributes else {
         return false;
     };
     for attribute in attributes {
         if let Pkcs12Attribute::FriendlyName(name) = attribute {
-            if name.as_bytes()
-                == b"\x00\x53\x00\x63\x00\x68\x00\x6C\x00\xFC\x00\x73\x00\x73\x00\x65\x00\x6C".as_slice()
-            {
+            if name.as_bytes() == octets {
                 return true;
             }
         }
@@ -528,18 +532,23 @@ fn a_file_of_keytool_is_normal(rt: HostRuntime) -> Result<(), Fail> {
 fn a_name_in_a_file_of_openssl(rt: HostRuntime) -> Result<(), Fail> {
     let pfx: ParsedPfx = from_bytes(rt.alloc(), OPENSSL_PLAIN)?;
     let mut named = false;
+    let mut second_named = false;
     if let AuthenticatedSafeContentInfo::Data(contents) = &pfx.auth_safe {
         for info in contents {
             if let SafeContentsContentInfo::Data(bags) = info {
                 for bag in &bags.0 {
-                    if is_named_key(bag) {
+                    if is_named(bag, KEY_NAME) {
                         named = true;
+                    }
+                    if is_named(bag, SECOND_NAME) {
+                        second_named = true;
                     }
                 }
             }
         }
     }
     assert!(rt; named);
+    assert!(rt; second_named);
     assert!(rt; pfx.try_clone(rt.alloc())? == pfx);
     Ok(())
 }

@@ -309,5 +309,6 @@ fn stores_are_kept(rt: HostRuntime) -> Result<(), Fail> {
     let _rewritten: ParsedPfx = is_rewritten(rt.alloc(), LOOSE_PFX, NORMAL_PFX)?;
     let _named: ParsedPfx = is_kept(rt.alloc(), NAME_AB_PFX)?;
     let _signed: ParsedPfx = is_kept(rt.alloc(), SIGNED_PFX)?;
+    let _empty: ParsedPfx = is_kept(rt.alloc(), EMPTY_PFX)?;
     Ok(())
 }

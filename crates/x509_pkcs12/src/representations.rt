@@ -1,17 +1,15 @@
 //! How the data of an authenticated safe is kept.
 
-ghost use Rattle.std.specs.Prelude.{◌≡◌, ◌↔◌, ◌-◌, ◌<◌, ◌≤◌, ◌++◌, IsTrue, length, take, vec_capacity};
+ghost use Rattle.std.specs.Prelude.{◌≡◌, ◌↔◌, ◌<◌, ◌≤◌, IsTrue, vec_capacity};
 ghost use Rattle.asn1_core_writers.specs.Sinks.{Emits};
 ghost use Rattle.asn1_core_writers.specs.Texts.{Measures, Writes};
 
 use asn1_core::{DerDeserialize, DerSerialize, Error, Sink, TryClone, WriteError, Writer};
-use asn1_core_writers::{Backward, Measure};
 use std::alloc::Global;
-use std::mem;
 
 /// A representation of the data of `authSafe`: what is read from the element in its OCTET STRING, and written as that
 /// element. Callers see it as a `Repr`, which corresponds to it one to one.
-pub trait AuthenticatedSafeDataRepr: DerDeserialize {
+pub trait AuthenticatedSafeDataRepr: DerDeserialize + Sized {
     /// What `Pfx` and `AuthenticatedSafeContentInfo` hold.
     type Repr: Eq + TryClone + Drop;
 
@@ -38,11 +36,7 @@ pub trait AuthenticatedSafeDataRepr: DerDeserialize {
     final fn repr_len(repr: &Self::Repr) -> Result<usize, Error>
         ensures { Measures (Self.format.text (Self.value (from repr.now))) result }
     {
-        let mut w = Measure::new();
-        match Self::put_repr(repr, &mut w) {
-            Ok(()) => Ok(w.total()),
-            Err(_) => Err(Error::TooLong),
-        }
+        ReprRef::<Self>(repr).encoded_len()
     }
 
     /// Appends the text of `from_repr(repr)`. Asks for memory once at most, and not where there is room. A refusal
@@ -51,12 +45,7 @@ pub trait AuthenticatedSafeDataRepr: DerDeserialize {
         ensures text { Writes (Self.format.text (Self.value (from repr.now))) out.old.items (vec_capacity out.old) out.new.items result }
         ensures capacity { vec_capacity out.old ≤ vec_capacity out.new }
     {
-        let size = Self::repr_len(repr)?;
-        let len = out.len();
-        out.reserve(size)?;
-        out.resize(len + size, 0)?;
-        fill::<Self>(repr, alloc, out);
-        Ok(())
+        ReprRef::<Self>(repr).write(alloc, out)
     }
 
     /// Sends the text of `from_repr(repr)`. Takes no memory. A text that is too long is not begun.
@@ -64,10 +53,7 @@ pub trait AuthenticatedSafeDataRepr: DerDeserialize {
         requires { S.failed sink.old < u64.MAX }
         ensures { Emits (Self.format.text (Self.value (from repr.now))) sink.old sink.new (S.held sink.old) (S.held sink.new) (S.failed sink.old) (S.failed sink.new) result }
     {
-        if Self::repr_len(repr).is_err() {
-            return Err(WriteError::TooLong);
-        }
-        Self::put_repr(repr, sink)
+        ReprRef::<Self>(repr).emit(sink)
     }
 
     ghost there: { (x : Self.Repr) → into (from x) ≡ x };
@@ -76,20 +62,6 @@ pub trait AuthenticatedSafeDataRepr: DerDeserialize {
 
     ghost seen: { (x y : Self.Repr) → (Self.Repr.view x ≡ Self.Repr.view y)
         ↔ (Self.DerSerialize.value (from x) ≡ Self.DerSerialize.value (from y)) };
-}
-
-/// Writes the text over the end of the buffer.
-fn fill<R: AuthenticatedSafeDataRepr>(repr: &R::Repr, alloc: Global, out: &mut Vec<u8>)
-    requires { length (R.format.text (R.value (R.from repr.now))) ≤ length out.old.items }
-    ensures text { out.new.items ≡ take (length out.old.items - length (R.format.text (R.value (R.from repr.now)))) out.old.items ++ R.format.text (R.value (R.from repr.now)) }
-    ensures capacity { vec_capacity out.new ≡ vec_capacity out.old }
-{
-    let mut w = Backward::new(mem::replace(out, Vec::new(alloc)));
-    match R::put_repr(repr, &mut w) {
-        Ok(()) => {}
-        Err(_) => unreachable!(),
-    }
-    *out = w.into_inner();
 }
 
 /// The data of a representation, which is only lent and only writes.

@@ -28,8 +28,8 @@ use x509_pkcs12_parts::oids::{
     CERTIFICATE_BAG, CRL_BAG, KEY_BAG, SAFE_CONTENTS_BAG, SECRET_BAG, SHROUDED_KEY_BAG, is_oid_of,
 };
 use x509_pkcs12_parts::{
-    Attributes, AttributesRef, CertificateBag, CrlBag, EncryptedKeyBag, KeyBag, Pkcs12Attribute,
-    SecretBag,
+    BagAttributes, BagAttributesRef, CertificateBag, CrlBag, EncryptedKeyBag, KeyBag,
+    Pkcs12Attribute, SecretBag,
 };
 
 /// `SafeBag ::= SEQUENCE { bagId BAG-TYPE.&id, bagValue [0] EXPLICIT BAG-TYPE.&Type, bagAttributes SET OF
@@ -89,7 +89,7 @@ impl WriteRow for SafeBag {
 
     #[cycle(put)]
     fn put_row<W: Writer>(&self, w: &mut W) -> Result<(), WriteError> {
-        let attributes = AttributesRef(&self.attributes);
+        let attributes = BagAttributesRef(&self.attributes);
         match &self.kind {
             SafeBagKind::Key(bag) => {
                 Part(
@@ -195,7 +195,7 @@ fn contents_formed_at(contents: &SafeContents, limit: u8) -> bool
 fn bag_formed_at(bag: &SafeBag, limit: u8) -> bool
     ensures { IsTrue result ↔ safe_bag.IsWellFormed limit (bag_value bag.now) }
 {
-    if !AttributesRef(&bag.attributes).row_well_formed_at(limit) {
+    if !BagAttributesRef(&bag.attributes).row_well_formed_at(limit) {
         return false;
     }
     match &bag.kind {
@@ -290,7 +290,7 @@ fn read_bag_row(
     let ObjectIdentifierAsn1(type_id) = ObjectIdentifierAsn1::read(alloc, r, nest)?;
     if is_oid_of(&type_id, &SAFE_CONTENTS_BAG) {
         let held = read_held(alloc, r, nest)?;
-        let Attributes(attributes) = Attributes::read_row(alloc, r, nest)?;
+        let BagAttributes(attributes) = BagAttributes::read_row(alloc, r, nest)?;
         return Ok((SafeBagKind::SafeContents(held), attributes));
     }
     if is_oid_of(&type_id, &KEY_BAG) {
@@ -329,8 +329,8 @@ fn read_value<T: DerDeserialize>(
     requires { r.old.refused ≡ false }
     ensures { GivesRow (λ p. (T.value p.0, attributes_value p.1)) (bag_arm T.format) nest r.old r.new result }
 {
-    let row = Part::<ExplicitContextTag0<T>, Attributes>::read_row(alloc, r, nest)?;
-    let Part(ExplicitContextTag0(value), Attributes(attributes)) = row;
+    let row = Part::<ExplicitContextTag0<T>, BagAttributes>::read_row(alloc, r, nest)?;
+    let Part(ExplicitContextTag0(value), BagAttributes(attributes)) = row;
     Ok((value, attributes))
 }
 

@@ -158,9 +158,9 @@ impl TryClone for Pkcs12Attribute {
 
 /// `bagAttributes SET OF PKCS12Attribute OPTIONAL`, at the end of a bag.
 #[derive(Drop)]
-pub struct Attributes(pub Option<Vec<Pkcs12Attribute>>);
+pub struct BagAttributes(pub Option<Vec<Pkcs12Attribute>>);
 
-impl WriteRow for Attributes {
+impl WriteRow for BagAttributes {
     ghost Value = { AttributesValue };
 
     ghost value = { λ x. attributes_value x.0 };
@@ -168,20 +168,20 @@ impl WriteRow for Attributes {
     ghost format = { attributes };
 
     fn put_row<W: Writer>(&self, w: &mut W) -> Result<(), WriteError> {
-        AttributesRef(&self.0).put_row(w)
+        BagAttributesRef(&self.0).put_row(w)
     }
 
     fn row_well_formed_at(&self, limit: u8) -> bool {
-        AttributesRef(&self.0).row_well_formed_at(limit)
+        BagAttributesRef(&self.0).row_well_formed_at(limit)
     }
 }
 
-impl ReadRow for Attributes {
+impl ReadRow for BagAttributes {
     fn read_row(alloc: Global, r: &mut Reader<'_>, nest: u8) -> Result<Self, Error> {
         let Maybe(set, End) = Maybe::<Asn1SetOf<Pkcs12Attribute>, End>::read_row(alloc, r, nest)?;
         match set {
-            Some(Asn1SetOf(items)) => Ok(Attributes(Some(items))),
-            None => Ok(Attributes(None)),
+            Some(Asn1SetOf(items)) => Ok(BagAttributes(Some(items))),
+            None => Ok(BagAttributes(None)),
         }
     }
 
@@ -190,9 +190,9 @@ impl ReadRow for Attributes {
 
 /// The attributes of a bag that are only lent, which only write.
 #[derive(Drop)]
-pub struct AttributesRef<'a>(pub &'a Option<Vec<Pkcs12Attribute>>);
+pub struct BagAttributesRef<'a>(pub &'a Option<Vec<Pkcs12Attribute>>);
 
-impl WriteRow for AttributesRef<'_> {
+impl WriteRow for BagAttributesRef<'_> {
     ghost Value = { AttributesValue };
 
     ghost value = { λ x. attributes_value x.0.now };

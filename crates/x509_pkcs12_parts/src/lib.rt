@@ -8,7 +8,7 @@ pub mod contents;
 pub mod oids;
 pub mod sets;
 
-pub use attributes::{Attributes, AttributesRef, Pkcs12Attribute};
+pub use attributes::{BagAttributes, BagAttributesRef, Pkcs12Attribute};
 pub use bags::{CertificateBag, CrlBag, EncryptedKeyBag, KeyBag, SecretBag};
 pub use contents::EncryptedSafeContents;
 pub use sets::{SetOfOne, SetRef};
