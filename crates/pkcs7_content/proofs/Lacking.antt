@@ -1,0 +1,14 @@
+-- Memory that was refused once all was read.
+use Rattle.std.proofs.Common.{◌≡◌, ℕ, length, sym, ap, ◌∙◌, arith, length-append}
+use Rattle.asn1_core_element.specs.Position.{Position}
+use Rattle.asn1_core_element.specs.declared.error.Error.{Error}
+use Rattle.asn1_core_element.specs.declared.error.Error.TheVariants.{Memory}
+use Rattle.asn1_core_format.specs.Format.{Format, Took, GaveUp}
+
+pub lacked : {A V : Type 0} (P : Format A) (F : Format V) {k : ℕ} {old new : Position} {a : A} {e : Error} → Took P k old new a → e ≡ Memory → GaveUp F k old new e
+lacked P F {k} {old} {new} t m = record {
+  kind = λ x. (let h = sym m ∙ x in cc);
+  none = λ n taken rest v s r. n m;
+  counts = omega (arith, t.at_least);
+  at_most = omega (arith, t.at_most, ap length t.split, length-append t.taken new.left);
+}

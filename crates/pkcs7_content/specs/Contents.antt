@@ -1,0 +1,93 @@
+-- EncapsulatedContentInfo ::= SEQUENCE { eContentType ContentType, eContent [0] EXPLICIT OCTET STRING OPTIONAL }
+-- (RFC 5652, 5.2; ContentType ::= OBJECT IDENTIFIER). In signatures of Authenticode and in signed trust lists the content
+-- is no octet string, but an SpcIndirectDataContent or a CertificateTrustList (RFC 2315, 7: ANY DEFINED BY contentType).
+use Rattle.std.specs.Prelude.{◌⊎◌, ℕ, List, Option, Some, if◌then◌else◌}
+use Rattle.asn1_core.specs.Der.{Format, sequence, part, optional, nothing, within, octet_string, option_value}
+use Rattle.std.specs.Str.{bytes_eq}
+use Rattle.std.proofs.Common.{inl, inr}
+use Rattle.asn1_core_format.specs.Eithers.{either}
+use Rattle.asn1_picked.specs.Picks.{Pick, picked, Arm, arm, by_itself, only_written}
+use Rattle.pkcs7_content.specs.IndirectData.{IndirectDataValue, indirect_data}
+use Rattle.pkcs7_content.specs.Oids.{data_oid, indirect_data_oid, trust_list_oid}
+use Rattle.pkcs7_content.specs.declared.contents.Kind.{Kind}
+use Rattle.pkcs7_content.specs.declared.contents.Kind.TheVariants.{IndirectData, TrustList, PlainData, Foreign}
+use Rattle.pkcs7_content_ctl.specs.TrustLists.{CtlValue, ctl}
+
+-- what is signed indirectly, octets, data, or a trust list
+abbrev pub ContentValues : Type 0
+ContentValues = IndirectDataValue ⊎ (List ℕ ⊎ (List ℕ ⊎ CtlValue))
+
+abbrev pub content_values : Format ContentValues
+content_values = only_written (either indirect_data (either octet_string (either octet_string ctl)))
+
+abbrev pub ContentRow : Type 0
+ContentRow = Option ContentValues × Unit {0}
+
+abbrev pub written_content : Format ContentRow
+written_content = optional (within 0xA0 content_values) nothing
+
+abbrev pub kind_of : List ℕ → Kind
+kind_of o =
+    if bytes_eq o indirect_data_oid then IndirectData
+    else if bytes_eq o trust_list_oid then TrustList
+    else if bytes_eq o data_oid then PlainData
+    else Foreign
+
+-- the content is plain octets, or none
+abbrev pub IsPlain : Kind → Type 0
+IsPlain IndirectData = ⊥
+IsPlain TrustList = ⊥
+IsPlain PlainData = Unit {0}
+IsPlain Foreign = Unit {0}
+
+-- octets under the arm of data, and under that of octets
+abbrev pub as_data : ContentValues → ContentValues
+as_data (inl x) = inl x
+as_data (inr (inl x)) = inr (inr (inl x))
+as_data (inr (inr x)) = inr (inr x)
+
+abbrev pub as_octets : ContentValues → ContentValues
+as_octets (inl x) = inl x
+as_octets (inr (inl x)) = inr (inl x)
+as_octets (inr (inr (inl x))) = inr (inl x)
+as_octets (inr (inr (inr x))) = inr (inr (inr x))
+
+-- plain octets, or none
+abbrev pub OctetsRow : Type 0
+OctetsRow = Option (List ℕ) × Unit {0}
+
+abbrev pub octets_row : Format OctetsRow
+octets_row = optional (within 0xA0 octet_string) nothing
+
+-- Octets are written alike under both arms. They are read under that of data behind its object identifier, and under
+-- that of octets behind a foreign one.
+abbrev pub to_data : Arm (List ℕ) ContentValues
+to_data = record { put = λ x. inr (inr (inl x)); brought = as_data }
+
+abbrev pub to_octets : Arm (List ℕ) ContentValues
+to_octets = record { put = λ x. inr (inl x); brought = as_octets }
+
+-- the same with the content that may be absent
+abbrev pub perhaps_in : Arm (List ℕ) ContentValues → Arm OctetsRow ContentRow
+perhaps_in m = record { put = λ p. (option_value m.put p.0, p.1); brought = λ c. (option_value m.brought c.0, c.1) }
+
+abbrev pub data_arm : Arm OctetsRow ContentRow
+data_arm = perhaps_in to_data
+
+abbrev pub octets_arm : Arm OctetsRow ContentRow
+octets_arm = perhaps_in to_octets
+
+abbrev pub content_row : Kind → Format ContentRow
+content_row IndirectData = arm written_content (by_itself (λ p. (Some (inl p.0), p.1))) (part (within 0xA0 indirect_data) nothing)
+content_row TrustList = arm written_content (by_itself (λ p. (Some (inr (inr (inr p.0))), p.1))) (part (within 0xA0 ctl) nothing)
+content_row PlainData = arm written_content data_arm octets_row
+content_row Foreign = arm written_content octets_arm octets_row
+
+abbrev pub content_pick : Pick ContentRow
+content_pick = record { text = written_content.text; row = λ o. content_row (kind_of o) }
+
+abbrev pub EncapsulatedValue : Type 0
+EncapsulatedValue = List ℕ × ContentRow
+
+abbrev pub encapsulated : Format EncapsulatedValue
+encapsulated = sequence (picked content_pick)

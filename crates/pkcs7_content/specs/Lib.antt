@@ -1,0 +1,11 @@
+pub mod Oids
+pub mod Versions
+pub mod PeImages
+pub mod PeImageLaws
+pub mod SipInfos
+pub mod IndirectData
+pub mod IndirectDataLaws
+pub mod Contents
+pub mod ContentLaws
+pub mod Values
+pub mod Equal

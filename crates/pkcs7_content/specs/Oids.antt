@@ -1,0 +1,22 @@
+-- The contents octets of the object identifiers that are known.
+use Rattle.std.specs.Prelude.{ℕ, List, [], ◌∷◌}
+
+-- id-data (RFC 5652, 4), 1.2.840.113549.1.7.1
+abbrev pub data_oid : List ℕ
+data_oid = 0x2A ∷ 0x86 ∷ 0x48 ∷ 0x86 ∷ 0xF7 ∷ 0x0D ∷ 0x01 ∷ 0x07 ∷ 0x01 ∷ []
+
+-- SPC_INDIRECT_DATA_OBJID, 1.3.6.1.4.1.311.2.1.4
+abbrev pub indirect_data_oid : List ℕ
+indirect_data_oid = 0x2B ∷ 0x06 ∷ 0x01 ∷ 0x04 ∷ 0x01 ∷ 0x82 ∷ 0x37 ∷ 0x02 ∷ 0x01 ∷ 0x04 ∷ []
+
+-- SPC_PE_IMAGE_DATA_OBJID, 1.3.6.1.4.1.311.2.1.15
+abbrev pub pe_image_oid : List ℕ
+pe_image_oid = 0x2B ∷ 0x06 ∷ 0x01 ∷ 0x04 ∷ 0x01 ∷ 0x82 ∷ 0x37 ∷ 0x02 ∷ 0x01 ∷ 0x0F ∷ []
+
+-- SPC_SIPINFO_OBJID, 1.3.6.1.4.1.311.2.1.30
+abbrev pub sip_info_oid : List ℕ
+sip_info_oid = 0x2B ∷ 0x06 ∷ 0x01 ∷ 0x04 ∷ 0x01 ∷ 0x82 ∷ 0x37 ∷ 0x02 ∷ 0x01 ∷ 0x1E ∷ []
+
+-- szOID_CTL, 1.3.6.1.4.1.311.10.1
+abbrev pub trust_list_oid : List ℕ
+trust_list_oid = 0x2B ∷ 0x06 ∷ 0x01 ∷ 0x04 ∷ 0x01 ∷ 0x82 ∷ 0x37 ∷ 0x0A ∷ 0x01 ∷ []

@@ -1,0 +1,70 @@
+-- The laws of what Authenticode says of a PE image.
+use Rattle.std.specs.Prelude.{◌≡◌, ◌↔◌, ℕ, ◌+◌, ◌≤◌, Bool, List, Option, Some, None, true, false}
+use Rattle.std.proofs.Common.{arith, refl, sym, ap, ◌∙◌, subst}
+use Rattle.asn1_core.specs.Der.{IsLawful, IsLawfulRow, lawful_sequence, followed_by, perhaps, lawful_nothing, lawful_within}
+use Rattle.std.specs.Str.{bytes_eq}
+use Rattle.std.proofs.lemmas.Slice.Eq.{bytes_eq-Decides}
+use Rattle.asn1_core_element.specs.ElementLaws.{element_same}
+use Rattle.asn1_core_format.specs.Laws.{begins_next, next_apart}
+use Rattle.asn1_core_format.specs.Loosened.{IsLoosening, lawful_loosened}
+use Rattle.asn1_core_format.specs.Omitted.{least_unless}
+use Rattle.asn1_leaves.specs.Strings.{lawful_bit_string}
+use Rattle.asn1_leaves_strings.specs.Bits.{IsBits}
+use Rattle.x509_base_spc.specs.Links.{LinkValue, spc_link, lawful_spc_link}
+use Rattle.pkcs7_content.specs.PeImages.{default_flags, PeImageValue, file_row, pe_image_spelled, HasFlags, flags_written, pe_image_data}
+
+lawful_file_row : IsLawfulRow file_row
+lawful_file_row = followed_by (lawful_within spc_link lawful_spc_link.row 0xA0 (omega arith)) lawful_nothing
+
+pub lawful_pe_image_spelled : IsLawful pe_image_spelled
+lawful_pe_image_spelled = lawful_sequence (perhaps lawful_bit_string (λ t h e. omega arith) lawful_file_row)
+
+pub default_is_bits : IsBits default_flags
+default_is_bits = (omega arith, λ e. cc)
+
+flags_kept : (k : ℕ) (a : Option (List ℕ) × (LinkValue × Unit {0})) → pe_image_spelled.IsWellFormed k a → pe_image_spelled.IsWellFormed k (flags_written.written (flags_written.read a))
+flags_kept k (Some f, l) h = h
+flags_kept k (None, l) h = (default_is_bits, h.1)
+
+flags_chosen : (k : ℕ) (b : List ℕ) (a : Option (List ℕ) × (LinkValue × Unit {0})) → pe_image_spelled.Reads k b a → (HasFlags b ↔ (flags_written.written (flags_written.read a) ≡ a))
+flags_chosen k b (Some f, l) s = (
+  λ w. refl,
+  λ e. (s.0, s.1, begins_next (λ t. t ≡ 0x03) s.2.0 s.2.1 s.0 (lawful_bit_string.element k s.2.0 f s.2.3) s.2.2),
+)
+flags_chosen k b (None, l) s = (
+  λ w.
+      let c = (element_same 0x30 0x30 w.0 s.0 (sym w.1 ∙ s.1)).1 in
+      absurd (next_apart (λ t. t ≡ 0x03) (λ t. t ≡ 0xA0) w.0 (λ t h e. omega arith) w.2 (lawful_file_row.begins k w.0 l (subst (λ x. file_row.Reads k x l) (sym c) s.2))),
+  λ e. (let h : Some default_flags ≡ None = ap (λ x. x.0) e in cc),
+)
+
+one_unless : (t : Bool) → least_unless t 1 ≤ 1
+one_unless true = omega arith
+one_unless false = omega arith
+
+flags_fewer : (a : Option (List ℕ) × (LinkValue × Unit {0})) → flags_written.least (flags_written.read a) ≤ pe_image_spelled.least a
+flags_fewer (None, l) = omega arith
+flags_fewer (Some f, l) = omega (arith, one_unless (bytes_eq f default_flags))
+
+-- the default flags by the spelling without them, others by their own
+flags_reached : (t : Bool) (k : ℕ) (v : PeImageValue) → bytes_eq v.0 default_flags ≡ t → pe_image_spelled.IsWellFormed k (flags_written.written v) → (a : Option (List ℕ) × (LinkValue × Unit {0})) × pe_image_spelled.IsWellFormed k a × (flags_written.read a ≡ v) × (pe_image_spelled.least a ≡ flags_written.least v)
+flags_reached true k v e h = (
+  (None, v.1),
+  (tt, h.1),
+  ap (λ f. (f, v.1)) (sym ((bytes_eq-Decides v.0 default_flags).0 e)),
+  ap (λ t. 1 + (least_unless t 1 + file_row.least v.1)) (sym e),
+)
+flags_reached false k v e h = (flags_written.written v, h, refl, ap (λ t. 1 + (least_unless t 1 + file_row.least v.1)) (sym e))
+
+pub flags_loosening : IsLoosening pe_image_spelled flags_written
+flags_loosening = record {
+  proper = λ a. tt;
+  kept = flags_kept;
+  chosen = flags_chosen;
+  settled = λ k v h i. refl;
+  fewer = flags_fewer;
+  reached = λ k v h i. flags_reached (bytes_eq v.0 default_flags) k v refl h;
+}
+
+pub lawful_pe_image_data : IsLawful pe_image_data
+lawful_pe_image_data = lawful_loosened pe_image_spelled lawful_pe_image_spelled flags_written flags_loosening

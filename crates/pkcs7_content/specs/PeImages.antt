@@ -1,0 +1,47 @@
+-- What Authenticode says of a PE image.
+-- SpcPeImageFlags ::= BIT STRING { includeResources (0), includeDebugInfo (1), includeImportAddressTable (2) }
+-- SpcPeImageData ::= SEQUENCE { flags SpcPeImageFlags DEFAULT { includeResources }, file [0] EXPLICIT SpcLink }
+-- Absent flags are read as their default. Flags are always written, the default too.
+use Rattle.std.specs.Prelude.{◌≡◌, ℕ, ◌+◌, List, [], ◌∷◌, Option, Some, None}
+use Rattle.asn1_core.specs.Der.{Format, sequence, part, optional, nothing, within}
+use Rattle.std.specs.Str.{bytes_eq}
+use Rattle.asn1_core_element.specs.Element.{element}
+use Rattle.asn1_core_format.specs.Laws.{NextIs}
+use Rattle.asn1_core_format.specs.Loosened.{Loosening, loosened}
+use Rattle.asn1_core_format.specs.Omitted.{least_unless}
+use Rattle.asn1_leaves.specs.Strings.{bit_string}
+use Rattle.x509_base_spc.specs.Links.{LinkValue, spc_link}
+
+-- the bits 1 0 0
+abbrev pub default_flags : List ℕ
+default_flags = 5 ∷ 0x80 ∷ []
+
+abbrev pub PeImageValue : Type 0
+PeImageValue = List ℕ × (LinkValue × Unit {0})
+
+abbrev pub file_row : Format (LinkValue × Unit {0})
+file_row = part (within 0xA0 spc_link) nothing
+
+-- with the flags as they are spelled, there or not
+abbrev pub pe_image_spelled : Format (Option (List ℕ) × (LinkValue × Unit {0}))
+pe_image_spelled = sequence (optional bit_string file_row)
+
+abbrev pub flags_or_default : Option (List ℕ) → List ℕ
+flags_or_default (Some flags) = flags
+flags_or_default None = default_flags
+
+-- the contents of the SEQUENCE begin with the tag of flags
+abbrev pub HasFlags : List ℕ → Type 0
+HasFlags b = (c : List ℕ) × (b ≡ element 0x30 c) × NextIs (λ t. t ≡ 0x03) c
+
+abbrev pub flags_written : Loosening (Option (List ℕ) × (LinkValue × Unit {0})) PeImageValue
+flags_written = record {
+  read = λ a. (flags_or_default a.0, a.1);
+  written = λ v. (Some v.0, v.1);
+  IsProper = λ _. Unit {0};
+  IsWritten = HasFlags;
+  least = λ v. 1 + (least_unless (bytes_eq v.0 default_flags) 1 + file_row.least v.1);
+}
+
+abbrev pub pe_image_data : Format PeImageValue
+pe_image_data = loosened pe_image_spelled flags_written

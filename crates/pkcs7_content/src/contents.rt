@@ -1,0 +1,289 @@
+//! Encapsulated content (RFC 5652, 5.2).
+
+ghost use Rattle.std.specs.Prelude.{◌≡◌, ◌↔◌, Some, false, IsTrue, MatchResult};
+ghost use Rattle.asn1_core.specs.Der.{option_value, octets_of};
+ghost use Rattle.std.proofs.Common.{inl, inr};
+ghost use Rattle.asn1_core_element.specs.declared.error.Error.TheVariants.{Memory};
+ghost use Rattle.asn1_core_format.specs.Rows.{GivesRow};
+ghost use Rattle.pkcs7_content.specs.Contents.{ContentValues, content_values, ContentRow, kind_of, IsPlain, octets_row, content_row, content_pick, EncapsulatedValue, encapsulated};
+ghost use Rattle.pkcs7_content.specs.ContentLaws.{content_is_picked, lawful_encapsulated};
+ghost use Rattle.pkcs7_content.specs.Equal.{content_value_equal, encapsulated_equal};
+ghost use Rattle.pkcs7_content.specs.Oids.{data_oid};
+ghost use Rattle.pkcs7_content.specs.Values.{content_value_of, content_of, encapsulated_of};
+
+use crate::indirect_data::SpcIndirectDataContent;
+use crate::oids::{DATA, INDIRECT_DATA, TRUST_LIST};
+use asn1_core::parts::{End, Maybe, Part, ReadRow, WriteError, Writer, put_within};
+use asn1_core::{
+    DerDeserialize, DerSerialize, EqualByText, Error, ExplicitContextTag0, ObjectIdentifier,
+    ObjectIdentifierAsn1, OctetStringAsn1, Reader, TryClone,
+};
+use asn1_picked::{OidAnd, Picked, read_picked_sequence};
+use pkcs7_content_ctl::Ctl;
+use std::alloc::Global;
+
+/// What a content type says the content is.
+#[derive(Clone, Copy, Debug, PartialEq, Eq)]
+enum Kind {
+    IndirectData,
+    TrustList,
+    PlainData,
+    Foreign,
+}
+
+impl Kind {
+    fn with_oid(oid: &[u8]) -> Kind
+        ensures { result ≡ kind_of oid.now }
+    {
+        if oid == INDIRECT_DATA.as_slice() {
+            Kind::IndirectData
+        } else if oid == TRUST_LIST.as_slice() {
+            Kind::TrustList
+        } else if oid == DATA.as_slice() {
+            Kind::PlainData
+        } else {
+            Kind::Foreign
+        }
+    }
+
+    /// Whether the content is plain octets, or none.
+    fn is_plain(self) -> bool
+        ensures { IsTrue result ↔ IsPlain self }
+    {
+        matches!(self, Kind::PlainData | Kind::Foreign)
+    }
+}
+
+/// The content, as the content type in front of it says. This only writes.
+#[derive(Debug, Drop, PartialEq, Eq)]
+pub enum ContentValue {
+    SpcIndirectDataContent(SpcIndirectDataContent),
+    /// Plain octets under a content type that isn't known.
+    OctetString(OctetStringAsn1),
+    /// Plain octets under `id-data`.
+    Data(OctetStringAsn1),
+    CertificateTrustList(Ctl),
+}
+
+impl ContentValue {
+    /// Whether this is well-formed where the content type says that it is of that kind.
+    fn fits(&self, kind: Kind, limit: u8) -> bool
+        ensures { IsTrue result ↔ (content_row kind).IsWellFormed limit (Some (content_value_of self.now), tt) }
+    {
+        match self {
+            ContentValue::SpcIndirectDataContent(content) => {
+                kind == Kind::IndirectData && content.well_formed_at(limit)
+            }
+            ContentValue::OctetString(_) => kind.is_plain(),
+            ContentValue::Data(_) => kind.is_plain(),
+            ContentValue::CertificateTrustList(list) => {
+                kind == Kind::TrustList && list.well_formed_at(limit)
+            }
+        }
+    }
+}
+
+impl DerSerialize for ContentValue {
+    ghost Value = { ContentValues };
+
+    ghost value = { content_value_of };
+
+    ghost format = { content_values };
+
+    fn put<W: Writer>(&self, w: &mut W) -> Result<(), WriteError> {
+        match self {
+            ContentValue::SpcIndirectDataContent(content) => content.put(w),
+            ContentValue::OctetString(octets) => octets.put(w),
+            ContentValue::Data(octets) => octets.put(w),
+            ContentValue::CertificateTrustList(list) => list.put(w),
+        }
+    }
+
+    fn well_formed_at(&self, limit: u8) -> bool {
+        match self {
+            ContentValue::SpcIndirectDataContent(content) => content.well_formed_at(limit),
+            ContentValue::OctetString(octets) => octets.well_formed_at(limit),
+            ContentValue::Data(octets) => octets.well_formed_at(limit),
+            ContentValue::CertificateTrustList(list) => list.well_formed_at(limit),
+        }
+    }
+}
+
+impl EqualByText for ContentValue {
+    ghost equal_by_text = { content_value_equal };
+}
+
+impl TryClone for ContentValue {
+    fn try_clone(&self, alloc: Global) -> Result<Self, Error> {
+        match self {
+            ContentValue::SpcIndirectDataContent(content) => {
+                Ok(ContentValue::SpcIndirectDataContent(content.try_clone(alloc)?))
+            }
+            ContentValue::OctetString(octets) => {
+                Ok(ContentValue::OctetString(octets.try_clone(alloc)?))
+            }
+            ContentValue::Data(octets) => Ok(ContentValue::Data(octets.try_clone(alloc)?)),
+            ContentValue::CertificateTrustList(list) => {
+                Ok(ContentValue::CertificateTrustList(list.try_clone(alloc)?))
+            }
+        }
+    }
+}
+
+type Tagged = ExplicitContextTag0<ContentValue>;
+
+/// Content, or none.
+#[derive(Drop)]
+struct Content(Option<Tagged>);
+
+impl Picked for Content {
+    ghost Value = { ContentRow };
+
+    ghost value = { λ c. content_of c.0 };
+
+    ghost pick = { content_pick };
+
+    fn read_picked(alloc: Global, oid: &[u8], r: &mut Reader<'_>, nest: u8) -> Result<Self, Error> {
+        match Kind::with_oid(oid) {
+            Kind::IndirectData => {
+                let Part(ExplicitContextTag0(content), End) = Part::<
+                    ExplicitContextTag0<SpcIndirectDataContent>,
+                    End,
+                >::read_row(alloc, r, nest)?;
+                let value = ContentValue::SpcIndirectDataContent(content);
+                Ok(Content(Some(ExplicitContextTag0(value))))
+            }
+            Kind::TrustList => {
+                let Part(ExplicitContextTag0(list), End) = Part::<
+                    ExplicitContextTag0<Ctl>,
+                    End,
+                >::read_row(alloc, r, nest)?;
+                let value = ContentValue::CertificateTrustList(list);
+                Ok(Content(Some(ExplicitContextTag0(value))))
+            }
+            Kind::PlainData => match read_octets(alloc, r, nest)? {
+                Some(octets) => Ok(Content(Some(ExplicitContextTag0(ContentValue::Data(octets))))),
+                None => Ok(Content(None)),
+            },
+            Kind::Foreign => match read_octets(alloc, r, nest)? {
+                Some(octets) => Ok(Content(Some(ExplicitContextTag0(ContentValue::OctetString(
+                    octets,
+                ))))),
+                None => Ok(Content(None)),
+            },
+        }
+    }
+
+    ghost lawful = { content_is_picked };
+}
+
+/// Reads octets, or none, to the end of the open contents.
+fn read_octets(
+    alloc: Global,
+    r: &mut Reader<'_>,
+    nest: u8,
+) -> Result<Option<OctetStringAsn1>, Error>
+    requires { r.old.refused ≡ false }
+    ensures { GivesRow (λ x. (option_value (λ o. o.0.items) x, tt)) octets_row nest r.old r.new result }
+{
+    let Maybe(tagged, End) = Maybe::<ExplicitContextTag0<OctetStringAsn1>, End>::read_row(
+        alloc, r, nest,
+    )?;
+    match tagged {
+        Some(ExplicitContextTag0(octets)) => Ok(Some(octets)),
+        None => Ok(None),
+    }
+}
+
+/// Whether the content, or its absence, is well-formed behind a content type with these contents octets.
+fn fits(content: &Option<Tagged>, oid: &[u8], limit: u8) -> bool
+    ensures { IsTrue result ↔ (content_pick.row oid.now).IsWellFormed limit (content_of content.now) }
+{
+    let kind = Kind::with_oid(oid);
+    match content {
+        Some(tagged) => tagged.0.fits(kind, limit),
+        None => kind.is_plain(),
+    }
+}
+
+/// `EncapsulatedContentInfo ::= SEQUENCE { eContentType ContentType, eContent [0] EXPLICIT OCTET STRING OPTIONAL }`
+/// (RFC 5652, 5.2). Where the content type is that of Authenticode's indirect data or of trust lists, the content is there,
+/// and is no octet string but that type itself.
+#[derive(Debug, Drop, PartialEq, Eq)]
+pub struct EncapsulatedContentInfo {
+    pub content_type: ObjectIdentifierAsn1,
+    pub content: Option<ExplicitContextTag0<ContentValue>>,
+}
+
+impl EncapsulatedContentInfo {
+    /// Octets of that content type, or none. They stand in the arm `Data`, whatever the content type is, and are read back
+    /// in the arm that the content type picks. Takes no memory.
+    pub fn new(content_type: ObjectIdentifier, content: Option<Vec<u8>>) -> Self
+        ensures content_type { result.content_type.0 ≡ content_type }
+        ensures content { content_of result.content ≡ (option_value (λ octets. inr (inr (inl octets.items))) content, tt) }
+    {
+        let content = match content {
+            Some(octets) => Some(ExplicitContextTag0(ContentValue::Data(OctetStringAsn1(octets)))),
+            None => None,
+        };
+        EncapsulatedContentInfo {
+            content_type: ObjectIdentifierAsn1(content_type),
+            content,
+        }
+    }
+
+    /// Data (`id-data`), or none. Refuses by `Memory` alone.
+    #[tactic(auto, using(crate::specs::ContentLaws::data_oid_is))]
+    pub fn new_pkcs7_data(alloc: Global, content: Option<Vec<u8>>) -> Result<Self, Error>
+        ensures { MatchResult result
+            (λ x. encapsulated_of x ≡ (data_oid, (option_value (λ octets. inr (inr (inl octets.items))) content, tt)))
+            (λ e. e ≡ Memory) }
+    {
+        let octets = Vec::from_slice(alloc, &DATA)?;
+        Ok(EncapsulatedContentInfo::new(ObjectIdentifier::from_checked(octets), content))
+    }
+}
+
+impl DerSerialize for EncapsulatedContentInfo {
+    ghost Value = { EncapsulatedValue };
+
+    ghost value = { encapsulated_of };
+
+    ghost format = { encapsulated };
+
+    fn put<W: Writer>(&self, w: &mut W) -> Result<(), WriteError> {
+        let content = Maybe(self.content.as_ref(), End);
+        put_within(0x30, &Part(&self.content_type, content), w)
+    }
+
+    fn well_formed_at(&self, limit: u8) -> bool {
+        fits(&self.content, self.content_type.0.octets(), limit)
+    }
+}
+
+impl DerDeserialize for EncapsulatedContentInfo {
+    fn read(alloc: Global, r: &mut Reader<'_>, nest: u8) -> Result<Self, Error> {
+        let OidAnd(content_type, Content(content)) = read_picked_sequence(alloc, r, nest)?;
+        Ok(EncapsulatedContentInfo {
+            content_type,
+            content,
+        })
+    }
+
+    ghost lawful = { lawful_encapsulated };
+}
+
+impl EqualByText for EncapsulatedContentInfo {
+    ghost equal_by_text = { encapsulated_equal };
+}
+
+impl TryClone for EncapsulatedContentInfo {
+    fn try_clone(&self, alloc: Global) -> Result<Self, Error> {
+        let content_type = self.content_type.try_clone(alloc)?;
+        let content = self.content.try_clone(alloc)?;
+        Ok(EncapsulatedContentInfo {
+            content_type,
+            content,
+        })
+    }
+}

@@ -1,0 +1,233 @@
+//! What Authenticode signs.
+
+ghost use Rattle.std.specs.Prelude.{◌≡◌, ◌↔◌, IsTrue};
+ghost use Rattle.pkcs7_content.specs.Equal.{spc_value_equal, spc_attribute_equal, indirect_data_equal};
+ghost use Rattle.pkcs7_content.specs.IndirectData.{SpcValue, spc_values, subject_of, spc_pick, SpcAttributeValue, spc_attribute, IndirectDataValue, indirect_data};
+ghost use Rattle.pkcs7_content.specs.IndirectDataLaws.{spc_is_picked, lawful_spc_attribute, lawful_indirect_data};
+ghost use Rattle.pkcs7_content.specs.Values.{spc_value_of, spc_attribute_of, indirect_data_of};
+
+use crate::oids::{PE_IMAGE, SIP_INFO};
+use crate::pe_images::SpcPeImageData;
+use crate::sip_infos::SpcSipInfo;
+use asn1_core::parts::{
+    Alone, End, Part, ReadRow, WriteError, WriteRow, Writer, put_within, read_within,
+};
+use asn1_core::{
+    DerDeserialize, DerSerialize, EqualByText, Error, ObjectIdentifierAsn1, Reader, TryClone,
+};
+use asn1_picked::{OidAnd, Picked, read_picked_sequence};
+use std::alloc::Global;
+use x509_base::DigestInfo;
+
+/// What an object identifier says is signed.
+#[derive(Clone, Copy, Debug, PartialEq, Eq)]
+enum Subject {
+    PeImage,
+    SipInfo,
+    /// None that is read.
+    Foreign,
+}
+
+impl Subject {
+    fn with_oid(oid: &[u8]) -> Subject
+        ensures { result ≡ subject_of oid.now }
+    {
+        if oid == PE_IMAGE.as_slice() {
+            Subject::PeImage
+        } else if oid == SIP_INFO.as_slice() {
+            Subject::SipInfo
+        } else {
+            Subject::Foreign
+        }
+    }
+}
+
+/// What is signed, as the object identifier in front of it says. This only writes.
+#[derive(Debug, Drop, PartialEq, Eq)]
+pub enum SpcAttributeAndOptionalValueValue {
+    SpcPeImageData(SpcPeImageData),
+    SpcSipInfo(SpcSipInfo),
+}
+
+impl SpcAttributeAndOptionalValueValue {
+    /// Whether this is well-formed behind an object identifier with these contents octets.
+    fn fits(&self, oid: &[u8], limit: u8) -> bool
+        ensures { IsTrue result ↔ (spc_pick.row oid.now).IsWellFormed limit (spc_value_of self.now) }
+    {
+        let subject = Subject::with_oid(oid);
+        match self {
+            SpcAttributeAndOptionalValueValue::SpcPeImageData(image) => {
+                subject == Subject::PeImage && image.well_formed_at(limit)
+            }
+            SpcAttributeAndOptionalValueValue::SpcSipInfo(info) => {
+                subject == Subject::SipInfo && info.well_formed_at(limit)
+            }
+        }
+    }
+}
+
+impl DerSerialize for SpcAttributeAndOptionalValueValue {
+    ghost Value = { SpcValue };
+
+    ghost value = { spc_value_of };
+
+    ghost format = { spc_values };
+
+    fn put<W: Writer>(&self, w: &mut W) -> Result<(), WriteError> {
+        match self {
+            SpcAttributeAndOptionalValueValue::SpcPeImageData(image) => image.put(w),
+            SpcAttributeAndOptionalValueValue::SpcSipInfo(info) => info.put(w),
+        }
+    }
+
+    fn well_formed_at(&self, limit: u8) -> bool {
+        match self {
+            SpcAttributeAndOptionalValueValue::SpcPeImageData(image) => image.well_formed_at(limit),
+            SpcAttributeAndOptionalValueValue::SpcSipInfo(info) => info.well_formed_at(limit),
+        }
+    }
+}
+
+impl Picked for SpcAttributeAndOptionalValueValue {
+    ghost Value = { SpcValue };
+
+    ghost value = { spc_value_of };
+
+    ghost pick = { spc_pick };
+
+    fn read_picked(alloc: Global, oid: &[u8], r: &mut Reader<'_>, nest: u8) -> Result<Self, Error> {
+        match Subject::with_oid(oid) {
+            Subject::PeImage => {
+                let Alone(image) = Alone::read_row(alloc, r, nest)?;
+                Ok(SpcAttributeAndOptionalValueValue::SpcPeImageData(image))
+            }
+            Subject::SipInfo => {
+                let Alone(info) = Alone::read_row(alloc, r, nest)?;
+                Ok(SpcAttributeAndOptionalValueValue::SpcSipInfo(info))
+            }
+            Subject::Foreign => Err(Error::Invalid),
+        }
+    }
+
+    ghost lawful = { spc_is_picked };
+}
+
+impl EqualByText for SpcAttributeAndOptionalValueValue {
+    ghost equal_by_text = { spc_value_equal };
+}
+
+impl TryClone for SpcAttributeAndOptionalValueValue {
+    fn try_clone(&self, alloc: Global) -> Result<Self, Error> {
+        match self {
+            SpcAttributeAndOptionalValueValue::SpcPeImageData(image) => Ok(
+                SpcAttributeAndOptionalValueValue::SpcPeImageData(image.try_clone(alloc)?),
+            ),
+            SpcAttributeAndOptionalValueValue::SpcSipInfo(info) => Ok(
+                SpcAttributeAndOptionalValueValue::SpcSipInfo(info.try_clone(alloc)?),
+            ),
+        }
+    }
+}
+
+/// `SpcAttributeTypeAndOptionalValue ::= SEQUENCE { type OBJECT IDENTIFIER, value [0] EXPLICIT ANY DEFINED BY type OPTIONAL }`
+/// in Microsoft's words. Signatures have the value plain, without the tag [0], and it is always there; so it is here.
+#[derive(Debug, Drop, PartialEq, Eq)]
+pub struct SpcAttributeAndOptionalValue {
+    pub ty: ObjectIdentifierAsn1,
+    pub value: SpcAttributeAndOptionalValueValue,
+}
+
+impl DerSerialize for SpcAttributeAndOptionalValue {
+    ghost Value = { SpcAttributeValue };
+
+    ghost value = { spc_attribute_of };
+
+    ghost format = { spc_attribute };
+
+    fn put<W: Writer>(&self, w: &mut W) -> Result<(), WriteError> {
+        put_within(0x30, &Part(&self.ty, Alone(&self.value)), w)
+    }
+
+    fn well_formed_at(&self, limit: u8) -> bool {
+        self.value.fits(self.ty.0.octets(), limit)
+    }
+}
+
+impl DerDeserialize for SpcAttributeAndOptionalValue {
+    fn read(alloc: Global, r: &mut Reader<'_>, nest: u8) -> Result<Self, Error> {
+        let OidAnd(ty, value) = read_picked_sequence(alloc, r, nest)?;
+        Ok(SpcAttributeAndOptionalValue { ty, value })
+    }
+
+    ghost lawful = { lawful_spc_attribute };
+}
+
+impl EqualByText for SpcAttributeAndOptionalValue {
+    ghost equal_by_text = { spc_attribute_equal };
+}
+
+impl TryClone for SpcAttributeAndOptionalValue {
+    fn try_clone(&self, alloc: Global) -> Result<Self, Error> {
+        let ty = self.ty.try_clone(alloc)?;
+        let value = self.value.try_clone(alloc)?;
+        Ok(SpcAttributeAndOptionalValue { ty, value })
+    }
+}
+
+/// `SpcIndirectDataContent ::= SEQUENCE { data SpcAttributeTypeAndOptionalValue, messageDigest DigestInfo }`
+#[derive(Debug, Drop, PartialEq, Eq)]
+pub struct SpcIndirectDataContent {
+    /// `data`
+    pub spc_data: SpcAttributeAndOptionalValue,
+    pub message_digest: DigestInfo,
+}
+
+type IndirectDataRow = Part<SpcAttributeAndOptionalValue, Part<DigestInfo, End>>;
+
+impl DerSerialize for SpcIndirectDataContent {
+    ghost Value = { IndirectDataValue };
+
+    ghost value = { indirect_data_of };
+
+    ghost format = { indirect_data };
+
+    fn put<W: Writer>(&self, w: &mut W) -> Result<(), WriteError> {
+        put_within(
+            0x30,
+            &Part(&self.spc_data, Part(&self.message_digest, End)),
+            w,
+        )
+    }
+
+    fn well_formed_at(&self, limit: u8) -> bool {
+        Part(&self.spc_data, Part(&self.message_digest, End)).row_well_formed_at(limit)
+    }
+}
+
+impl DerDeserialize for SpcIndirectDataContent {
+    fn read(alloc: Global, r: &mut Reader<'_>, nest: u8) -> Result<Self, Error> {
+        let row: IndirectDataRow = read_within(alloc, r, nest, 0x30)?;
+        let Part(spc_data, Part(message_digest, End)) = row;
+        Ok(SpcIndirectDataContent {
+            spc_data,
+            message_digest,
+        })
+    }
+
+    ghost lawful = { lawful_indirect_data };
+}
+
+impl EqualByText for SpcIndirectDataContent {
+    ghost equal_by_text = { indirect_data_equal };
+}
+
+impl TryClone for SpcIndirectDataContent {
+    fn try_clone(&self, alloc: Global) -> Result<Self, Error> {
+        let spc_data = self.spc_data.try_clone(alloc)?;
+        let message_digest = self.message_digest.try_clone(alloc)?;
+        Ok(SpcIndirectDataContent {
+            spc_data,
+            message_digest,
+        })
+    }
+}

@@ -1,0 +1,134 @@
+//! What Authenticode says of a PE image.
+
+ghost use Rattle.std.specs.Prelude.{◌≡◌, MatchResult};
+ghost use Rattle.std.proofs.Common.{rules, arith};
+ghost use Rattle.asn1_core_element.specs.declared.error.Error.TheVariants.{Memory};
+ghost use Rattle.asn1_leaves.specs.Strings.{bit_string, lawful_bit_string};
+ghost use Rattle.asn1_leaves_strings.specs.Octets.{contents_of};
+ghost use Rattle.pkcs7_content.specs.Equal.{pe_image_equal};
+ghost use Rattle.pkcs7_content.specs.PeImages.{default_flags, PeImageValue, pe_image_data};
+ghost use Rattle.pkcs7_content.specs.PeImageLaws.{lawful_pe_image_data};
+ghost use Rattle.pkcs7_content.specs.Values.{pe_image_of};
+
+use asn1_core::parts::{
+    ApartFrom, End, FirstTags, Maybe, Part, WriteError, WriteRow, Writer, put_within, read_within,
+};
+use asn1_core::{
+    DerDeserialize, DerSerialize, EqualByText, Error, ExplicitContextTag0, Reader, TryClone,
+};
+use asn1_leaves::{BitString, BitStringAsn1};
+use std::alloc::Global;
+use x509_base::spc::SpcLink;
+
+/// `SpcPeImageFlags ::= BIT STRING { includeResources (0), includeDebugInfo (1), includeImportAddressTable (2) }`
+#[derive(Debug, Drop, PartialEq, Eq)]
+pub struct SpcPeImageFlags(pub BitStringAsn1);
+
+impl SpcPeImageFlags {
+    /// The bits 1 0 0, for resources alone. Refuses by `Memory` alone.
+    pub fn default_in(alloc: Global) -> Result<Self, Error>
+        ensures { MatchResult result (λ f. contents_of f.0.0 ≡ default_flags) (λ e. e ≡ Memory) }
+    {
+        let bytes = Vec::from_slice(alloc, &[0x80])?;
+        let bits = BitString::from_parts(5, bytes).unwrap();
+        Ok(SpcPeImageFlags(BitStringAsn1(bits)))
+    }
+}
+
+impl DerSerialize for SpcPeImageFlags {
+    ghost Value = { ⟦<BitStringAsn1 as DerSerialize>⟧.Value };
+
+    ghost value = { λ x. ⟦<BitStringAsn1 as DerSerialize>⟧.value x.0 };
+
+    ghost format = { bit_string };
+
+    fn put<W: Writer>(&self, w: &mut W) -> Result<(), WriteError> {
+        self.0.put(w)
+    }
+
+    fn well_formed_at(&self, limit: u8) -> bool {
+        self.0.well_formed_at(limit)
+    }
+}
+
+impl DerDeserialize for SpcPeImageFlags {
+    fn read(alloc: Global, r: &mut Reader<'_>, nest: u8) -> Result<Self, Error> {
+        Ok(SpcPeImageFlags(BitStringAsn1::read(alloc, r, nest)?))
+    }
+
+    ghost lawful = { lawful_bit_string };
+}
+
+impl FirstTags for SpcPeImageFlags {
+    fn begins(tag: u8) -> bool {
+        tag == 0x03
+    }
+}
+
+impl ApartFrom<ExplicitContextTag0<SpcLink>> for SpcPeImageFlags {
+    ghost no_common_tag = { λ t h e. Prim.omega arith };
+}
+
+impl EqualByText for SpcPeImageFlags {
+    ghost equal_by_text = { Prim.search rules };
+}
+
+impl TryClone for SpcPeImageFlags {
+    fn try_clone(&self, alloc: Global) -> Result<Self, Error> {
+        Ok(SpcPeImageFlags(self.0.try_clone(alloc)?))
+    }
+}
+
+/// `SpcPeImageData ::= SEQUENCE { flags SpcPeImageFlags DEFAULT { includeResources }, file [0] EXPLICIT SpcLink }`. Absent
+/// flags are read as their default. Flags are always written, the default too.
+#[derive(Debug, Drop, PartialEq, Eq)]
+pub struct SpcPeImageData {
+    pub flags: SpcPeImageFlags,
+    pub file: ExplicitContextTag0<SpcLink>,
+}
+
+type PeImageRow = Maybe<SpcPeImageFlags, Part<ExplicitContextTag0<SpcLink>, End>>;
+
+impl DerSerialize for SpcPeImageData {
+    ghost Value = { PeImageValue };
+
+    ghost value = { pe_image_of };
+
+    ghost format = { pe_image_data };
+
+    fn put<W: Writer>(&self, w: &mut W) -> Result<(), WriteError> {
+        put_within(0x30, &Part(&self.flags, Part(&self.file, End)), w)
+    }
+
+    fn well_formed_at(&self, limit: u8) -> bool {
+        Part(&self.flags, Part(&self.file, End)).row_well_formed_at(limit)
+    }
+}
+
+impl DerDeserialize for SpcPeImageData {
+    fn read(alloc: Global, r: &mut Reader<'_>, nest: u8) -> Result<Self, Error> {
+        let row: PeImageRow = read_within(alloc, r, nest, 0x30)?;
+        let Maybe(spelled, Part(file, End)) = row;
+        match spelled {
+            Some(flags) => Ok(SpcPeImageData { flags, file }),
+            None => {
+                let flags = SpcPeImageFlags::default_in(alloc)?;
+                Ok(SpcPeImageData { flags, file })
+            }
+        }
+    }
+
+    ghost lawful = { lawful_pe_image_data };
+}
+
+impl EqualByText for SpcPeImageData {
+    ghost equal_by_text = { pe_image_equal };
+}
+
+impl TryClone for SpcPeImageData {
+    fn try_clone(&self, alloc: Global) -> Result<Self, Error> {
+        let flags = self.flags.try_clone(alloc)?;
+        let file = self.file.try_clone(alloc)?;
+        Ok(SpcPeImageData { flags, file })
+    }
+}

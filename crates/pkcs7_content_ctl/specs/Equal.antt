@@ -1,0 +1,94 @@
+-- `==` is equality of what the values contain.
+use Rattle.std.specs.Prelude.{◌≡◌, ◌↔◌, ◌⊎◌, ℕ, Bool, true}
+use Rattle.std.proofs.Common.{arith, rules, ap, inl, inr}
+use Rattle.asn1_core.specs.Der.{octets_of, list_equal, two_equal}
+use Rattle.std.proofs.lemmas.Slice.Eq.{bytes_eq-Decides}
+use Rattle.asn1_core.specs.Equal.{octets_equal, raw_equal}
+use Rattle.asn1_core.specs.contracts.objects.ObjectIdentifierAsn1PartialEq.TheImpl as Oid
+use Rattle.asn1_core_format.specs.Views.{SeesEqual}
+use Rattle.asn1_core_oid.specs.OidValueLaws.{equal_octets}
+use Rattle.asn1_leaves.specs.contracts.integers.IntegerAsn1PartialEq.TheImpl as Integer
+use Rattle.asn1_leaves_times.specs.TimesLaws.{equal_utc}
+use Rattle.x509_base.specs.AlgorithmParts.{algorithm_value}
+use Rattle.x509_base.specs.contracts.algorithms.AlgorithmIdentifierPartialEq.TheImpl as Algorithm
+use Rattle.pkcs7_content_ctl.specs.AttributeValues.{AttributeValues}
+use Rattle.pkcs7_content_ctl.specs.Values.{chain_policy_of, qualifier_of, cert_policy_of, values_of, entry_attribute_of, entry_of, ctl_of}
+use Rattle.pkcs7_content_ctl.specs.declared.values.CTLEntryAttributeValues.TheVariants.{CertAuthRootSha256HashPropId, CertDisallowedFileTimePropId, CertFriendlyName, CertKeyIdentifierPropId, CertSubjectNameMd5HashPropId, UnknownReservedPropId126, DisallowedEnhkeyUsage, CertEnhkeyUsagePropId, UnknownReservedPropId127, CertRootProgramChainPolicy, CertRootProgramCertPoliciesPropId, Unknown}
+use Rattle.pkcs7_content_ctl.specs.contracts.policies.RootProgramChainPolicyPartialEq.TheImpl as ChainPolicy
+use Rattle.pkcs7_content_ctl.specs.contracts.policies.PolicyQualifierPartialEq.TheImpl as Qualifier
+use Rattle.pkcs7_content_ctl.specs.contracts.policies.CertPolicyPartialEq.TheImpl as Policy
+use Rattle.pkcs7_content_ctl.specs.contracts.values.CTLEntryAttributeValuesPartialEq.TheImpl as Values
+use Rattle.pkcs7_content_ctl.specs.contracts.attributes.CTLEntryAttributePartialEq.TheImpl as Attribute
+use Rattle.pkcs7_content_ctl.specs.contracts.entries.CTLEntryPartialEq.TheImpl as Entry
+use Rattle.pkcs7_content_ctl.specs.contracts.entries.CtlPartialEq.TheImpl as TrustList
+
+pub chain_policy_equal : SeesEqual ChainPolicy.ghosts.eq chain_policy_of
+chain_policy_equal x y = search rules
+
+pub qualifier_equal : SeesEqual Qualifier.ghosts.eq qualifier_of
+qualifier_equal x y = search rules
+
+pub cert_policy_equal : SeesEqual Policy.ghosts.eq cert_policy_of
+cert_policy_equal x y =
+    let q = list_equal _ _ qualifier_equal x.qualifier.0.items y.qualifier.0.items in
+    search rules
+
+-- a test of what an arm holds, and of what stands beside a number, is one of the whole
+pub same_left : {A B : Type 0} {p : Bool} {a c : A} → (p ≡ true) ↔ (a ≡ c) → (p ≡ true) ↔ (◌≡◌ {A = A ⊎ B} (inl a) (inl c))
+same_left {A} {B} {p} {a} {c} f = (λ e. ap inl (f.0 e), λ e. (let h : a ≡ c = cc in f.1 h))
+
+pub same_right : {A B : Type 0} {p : Bool} {a c : B} → (p ≡ true) ↔ (a ≡ c) → (p ≡ true) ↔ (◌≡◌ {A = A ⊎ B} (inr a) (inr c))
+same_right {A} {B} {p} {a} {c} f = (λ e. ap inr (f.0 e), λ e. (let h : a ≡ c = cc in f.1 h))
+
+same_number : {B : Type 0} {n : ℕ} {p : Bool} {a c : B} → (p ≡ true) ↔ (a ≡ c) → (p ≡ true) ↔ (◌≡◌ {A = ℕ × B} (n, a) (n, c))
+same_number {B} {n} f = (λ e. ap (λ x. (n, x)) (f.0 e), λ e. f.1 (ap (λ x. x.1) e))
+
+pub oid_equal : SeesEqual Oid.ghosts.eq (λ x. octets_of x.0)
+oid_equal x y = equal_octets x.0 y.0
+
+-- the arms by different numbers: those without a property's by some that are no octets
+abbrev number_at : AttributeValues → ℕ
+number_at (inl p) = p.0
+number_at (inr (inl p)) = p.0
+number_at (inr (inr (inl x))) = 256
+number_at (inr (inr (inr (inl x)))) = 257
+number_at (inr (inr (inr (inr x)))) = 258
+
+pub values_equal : SeesEqual Values.ghosts.eq values_of
+values_equal (CertAuthRootSha256HashPropId s) (CertAuthRootSha256HashPropId t) = same_left (same_number (list_equal _ _ octets_equal s.0.items t.0.items))
+values_equal (CertDisallowedFileTimePropId s) (CertDisallowedFileTimePropId t) = same_left (same_number (list_equal _ _ octets_equal s.0.items t.0.items))
+values_equal (CertFriendlyName s) (CertFriendlyName t) = same_left (same_number (list_equal _ _ octets_equal s.0.items t.0.items))
+values_equal (CertKeyIdentifierPropId s) (CertKeyIdentifierPropId t) = same_left (same_number (list_equal _ _ octets_equal s.0.items t.0.items))
+values_equal (CertSubjectNameMd5HashPropId s) (CertSubjectNameMd5HashPropId t) = same_left (same_number (list_equal _ _ octets_equal s.0.items t.0.items))
+values_equal (UnknownReservedPropId126 s) (UnknownReservedPropId126 t) = same_left (same_number (list_equal _ _ octets_equal s.0.items t.0.items))
+values_equal (DisallowedEnhkeyUsage s) (DisallowedEnhkeyUsage t) = same_right (same_left (same_number (list_equal _ _ (λ a b. list_equal _ _ oid_equal a.0.0.items b.0.0.items) s.0.items t.0.items)))
+values_equal (CertEnhkeyUsagePropId s) (CertEnhkeyUsagePropId t) = same_right (same_left (same_number (list_equal _ _ (λ a b. list_equal _ _ oid_equal a.0.0.items b.0.0.items) s.0.items t.0.items)))
+values_equal (UnknownReservedPropId127 s) (UnknownReservedPropId127 t) = same_right (same_left (same_number (list_equal _ _ (λ a b. list_equal _ _ oid_equal a.0.0.items b.0.0.items) s.0.items t.0.items)))
+values_equal (CertRootProgramChainPolicy s) (CertRootProgramChainPolicy t) = same_right (same_right (same_left (list_equal _ _ (λ a b. chain_policy_equal a.0 b.0) s.0.items t.0.items)))
+values_equal (CertRootProgramCertPoliciesPropId s) (CertRootProgramCertPoliciesPropId t) = same_right (same_right (same_right (same_left (list_equal _ _ (λ a b. list_equal _ _ cert_policy_equal a.0.0.items b.0.0.items) s.0.items t.0.items))))
+values_equal (Unknown s) (Unknown t) = same_right (same_right (same_right (same_right (list_equal _ _ raw_equal s.0.items t.0.items))))
+values_equal x y = (λ e. cc, λ e. absurd (omega (arith, ap number_at e)))
+
+pub attribute_equal : SeesEqual Attribute.ghosts.eq entry_attribute_of
+attribute_equal x y = two_equal (oid_equal x.oid y.oid) (values_equal x.value y.value)
+
+-- a field with the end of the parts behind it
+pub with_end : {A : Type 0} {p : Bool} {a c : A} → (p ≡ true) ↔ (a ≡ c) → (p ≡ true) ↔ (◌≡◌ {A = A × Unit {0}} (a, tt) (c, tt))
+with_end f = (λ e. ap (λ x. (x, tt)) (f.0 e), λ e. f.1 (ap (λ x. x.0) e))
+
+pub entry_equal : SeesEqual Entry.ghosts.eq entry_of
+entry_equal x y = two_equal (octets_equal x.cert_fingerprint y.cert_fingerprint) (with_end (list_equal _ _ attribute_equal x.attributes.0.items y.attributes.0.items))
+
+pub integer_equal : SeesEqual Integer.ghosts.eq (λ x. x.0.items)
+integer_equal x y = bytes_eq-Decides x.0.items y.0.items
+
+algorithm_equal : SeesEqual Algorithm.ghosts.eq algorithm_value
+algorithm_equal x y = search rules
+
+pub ctl_equal : SeesEqual TrustList.ghosts.eq ctl_of
+ctl_equal x y =
+    two_equal (list_equal _ _ oid_equal x.signers.0.items y.signers.0.items)
+    (two_equal (integer_equal x.sequence_number y.sequence_number)
+    (two_equal (equal_utc x.effective_date.0 y.effective_date.0)
+    (two_equal (algorithm_equal x.digest_algorithm y.digest_algorithm)
+    (with_end (list_equal _ _ entry_equal x.crl_entries.0.items y.crl_entries.0.items)))))

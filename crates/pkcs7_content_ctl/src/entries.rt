@@ -1,0 +1,173 @@
+//! Trust lists and their entries.
+
+ghost use Rattle.std.specs.Prelude.{◌≡◌};
+ghost use Rattle.pkcs7_content_ctl.specs.Equal.{entry_equal, ctl_equal};
+ghost use Rattle.pkcs7_content_ctl.specs.TrustLists.{EntryValue, entry, lawful_entry, CtlValue, ctl, lawful_ctl};
+ghost use Rattle.pkcs7_content_ctl.specs.Values.{entry_of, ctl_of};
+
+use crate::attributes::CTLEntryAttribute;
+use asn1_core::parts::{End, Part, WriteError, WriteRow, Writer, put_within, read_within};
+use asn1_core::{
+    Asn1SequenceOf, Asn1SetOf, DerDeserialize, DerSerialize, EqualByText, Error,
+    ObjectIdentifierAsn1, OctetStringAsn1, Reader, TryClone,
+};
+use asn1_leaves::{IntegerAsn1, UTCTimeAsn1};
+use std::alloc::Global;
+use x509_base::AlgorithmIdentifier;
+
+/// `TrustedSubject ::= SEQUENCE { subjectIdentifier OCTET STRING, subjectAttributes SET OF Attribute }`
+#[derive(Debug, Drop, PartialEq, Eq)]
+pub struct CTLEntry {
+    pub cert_fingerprint: OctetStringAsn1,
+    pub attributes: Asn1SetOf<CTLEntryAttribute>,
+}
+
+type EntryRow = Part<OctetStringAsn1, Part<Asn1SetOf<CTLEntryAttribute>, End>>;
+
+impl DerSerialize for CTLEntry {
+    ghost Value = { EntryValue };
+
+    ghost value = { entry_of };
+
+    ghost format = { entry };
+
+    fn put<W: Writer>(&self, w: &mut W) -> Result<(), WriteError> {
+        put_within(
+            0x30,
+            &Part(&self.cert_fingerprint, Part(&self.attributes, End)),
+            w,
+        )
+    }
+
+    fn well_formed_at(&self, limit: u8) -> bool {
+        Part(&self.cert_fingerprint, Part(&self.attributes, End)).row_well_formed_at(limit)
+    }
+}
+
+impl DerDeserialize for CTLEntry {
+    fn read(alloc: Global, r: &mut Reader<'_>, nest: u8) -> Result<Self, Error> {
+        let row: EntryRow = read_within(alloc, r, nest, 0x30)?;
+        let Part(cert_fingerprint, Part(attributes, End)) = row;
+        Ok(CTLEntry {
+            cert_fingerprint,
+            attributes,
+        })
+    }
+
+    ghost lawful = { lawful_entry };
+}
+
+impl EqualByText for CTLEntry {
+    ghost equal_by_text = { entry_equal };
+}
+
+impl TryClone for CTLEntry {
+    fn try_clone(&self, alloc: Global) -> Result<Self, Error> {
+        let cert_fingerprint = self.cert_fingerprint.try_clone(alloc)?;
+        let attributes = self.attributes.try_clone(alloc)?;
+        Ok(CTLEntry {
+            cert_fingerprint,
+            attributes,
+        })
+    }
+}
+
+/// `CertificateTrustList ::= SEQUENCE { version DEFAULT v1, subjectUsage, listIdentifier OPTIONAL, sequenceNumber OPTIONAL,
+/// ctlThisUpdate, ctlNextUpdate OPTIONAL, subjectAlgorithm, trustedSubjects OPTIONAL, ctlExtensions OPTIONAL }`, of which
+/// those are read that have a sequence number, a UTCTime and subjects, and no version, list identifier, next update or
+/// extensions.
+#[derive(Debug, Drop, PartialEq, Eq)]
+pub struct Ctl {
+    /// `subjectUsage`
+    pub signers: Asn1SequenceOf<ObjectIdentifierAsn1>,
+    pub sequence_number: IntegerAsn1,
+    /// `ctlThisUpdate`
+    pub effective_date: UTCTimeAsn1,
+    /// `subjectAlgorithm`
+    pub digest_algorithm: AlgorithmIdentifier,
+    /// `trustedSubjects`
+    pub crl_entries: Asn1SequenceOf<CTLEntry>,
+}
+
+type CtlRow = Part<
+    Asn1SequenceOf<ObjectIdentifierAsn1>,
+    Part<
+        IntegerAsn1,
+        Part<UTCTimeAsn1, Part<AlgorithmIdentifier, Part<Asn1SequenceOf<CTLEntry>, End>>>,
+    >,
+>;
+
+type CtlRef<'a> = Part<
+    &'a Asn1SequenceOf<ObjectIdentifierAsn1>,
+    Part<
+        &'a IntegerAsn1,
+        Part<
+            &'a UTCTimeAsn1,
+            Part<&'a AlgorithmIdentifier, Part<&'a Asn1SequenceOf<CTLEntry>, End>>,
+        >,
+    >,
+>;
+
+impl Ctl {
+    fn row(&self) -> CtlRef<'_>
+        ensures { ⟦<CtlRef<'static> as WriteRow>⟧.value result ≡ ctl_of self.now }
+    {
+        let subjects = Part(&self.digest_algorithm, Part(&self.crl_entries, End));
+        let dated = Part(&self.sequence_number, Part(&self.effective_date, subjects));
+        Part(&self.signers, dated)
+    }
+}
+
+impl DerSerialize for Ctl {
+    ghost Value = { CtlValue };
+
+    ghost value = { ctl_of };
+
+    ghost format = { ctl };
+
+    fn put<W: Writer>(&self, w: &mut W) -> Result<(), WriteError> {
+        put_within(0x30, &self.row(), w)
+    }
+
+    fn well_formed_at(&self, limit: u8) -> bool {
+        self.row().row_well_formed_at(limit)
+    }
+}
+
+impl DerDeserialize for Ctl {
+    fn read(alloc: Global, r: &mut Reader<'_>, nest: u8) -> Result<Self, Error> {
+        let row: CtlRow = read_within(alloc, r, nest, 0x30)?;
+        let Part(signers, Part(sequence_number, Part(effective_date, subjects))) = row;
+        let Part(digest_algorithm, Part(crl_entries, End)) = subjects;
+        Ok(Ctl {
+            signers,
+            sequence_number,
+            effective_date,
+            digest_algorithm,
+            crl_entries,
+        })
+    }
+
+    ghost lawful = { lawful_ctl };
+}
+
+impl EqualByText for Ctl {
+    ghost equal_by_text = { ctl_equal };
+}
+
+impl TryClone for Ctl {
+    fn try_clone(&self, alloc: Global) -> Result<Self, Error> {
+        let signers = self.signers.try_clone(alloc)?;
+        let sequence_number = self.sequence_number.try_clone(alloc)?;
+        let effective_date = self.effective_date.try_clone(alloc)?;
+        let digest_algorithm = self.digest_algorithm.try_clone(alloc)?;
+        let crl_entries = self.crl_entries.try_clone(alloc)?;
+        Ok(Ctl {
+            signers,
+            sequence_number,
+            effective_date,
+            digest_algorithm,
+            crl_entries,
+        })
+    }
+}

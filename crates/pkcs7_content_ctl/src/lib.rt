@@ -1,0 +1,13 @@
+//! Microsoft's certificate trust lists, typed down to the properties that their attributes give.
+#![tactic(auto)]
+
+pub mod attributes;
+pub mod entries;
+pub mod policies;
+mod properties;
+pub mod values;
+
+pub use attributes::CTLEntryAttribute;
+pub use entries::{CTLEntry, Ctl};
+pub use policies::{CertPolicy, PolicyQualifier, RootProgramChainPolicy};
+pub use values::CTLEntryAttributeValues;

@@ -1,0 +1,148 @@
+//! Policies, as attributes of trust lists hold them.
+
+ghost use Rattle.pkcs7_content_ctl.specs.Equal.{chain_policy_equal, qualifier_equal, cert_policy_equal};
+ghost use Rattle.pkcs7_content_ctl.specs.Policies.{ChainPolicyValue, chain_policy, lawful_chain_policy, QualifierValue, policy_qualifier, lawful_policy_qualifier, CertPolicyValue, cert_policy, lawful_cert_policy};
+ghost use Rattle.pkcs7_content_ctl.specs.Values.{chain_policy_of, qualifier_of, cert_policy_of};
+
+use asn1_core::parts::{End, Part, WriteError, WriteRow, Writer, put_within, read_within};
+use asn1_core::{
+    Asn1SequenceOf, DerDeserialize, DerSerialize, EqualByText, Error, ObjectIdentifierAsn1, Reader,
+    TryClone,
+};
+use asn1_leaves::BitStringAsn1;
+use std::alloc::Global;
+
+/// `RootProgramChainPolicy ::= SEQUENCE { oid OBJECT IDENTIFIER }`
+#[derive(Debug, Drop, PartialEq, Eq)]
+pub struct RootProgramChainPolicy {
+    pub oid: ObjectIdentifierAsn1,
+}
+
+impl DerSerialize for RootProgramChainPolicy {
+    ghost Value = { ChainPolicyValue };
+
+    ghost value = { chain_policy_of };
+
+    ghost format = { chain_policy };
+
+    fn put<W: Writer>(&self, w: &mut W) -> Result<(), WriteError> {
+        put_within(0x30, &Part(&self.oid, End), w)
+    }
+
+    fn well_formed_at(&self, limit: u8) -> bool {
+        self.oid.well_formed_at(limit)
+    }
+}
+
+impl DerDeserialize for RootProgramChainPolicy {
+    fn read(alloc: Global, r: &mut Reader<'_>, nest: u8) -> Result<Self, Error> {
+        let Part(oid, End) = read_within::<Part<ObjectIdentifierAsn1, End>>(alloc, r, nest, 0x30)?;
+        Ok(RootProgramChainPolicy { oid })
+    }
+
+    ghost lawful = { lawful_chain_policy };
+}
+
+impl EqualByText for RootProgramChainPolicy {
+    ghost equal_by_text = { chain_policy_equal };
+}
+
+impl TryClone for RootProgramChainPolicy {
+    fn try_clone(&self, alloc: Global) -> Result<Self, Error> {
+        Ok(RootProgramChainPolicy {
+            oid: self.oid.try_clone(alloc)?,
+        })
+    }
+}
+
+/// `PolicyQualifier ::= SEQUENCE { oid OBJECT IDENTIFIER, bits BIT STRING }`
+#[derive(Debug, Drop, PartialEq, Eq)]
+pub struct PolicyQualifier {
+    pub oid: ObjectIdentifierAsn1,
+    pub bits: BitStringAsn1,
+}
+
+type QualifierRow = Part<ObjectIdentifierAsn1, Part<BitStringAsn1, End>>;
+
+impl DerSerialize for PolicyQualifier {
+    ghost Value = { QualifierValue };
+
+    ghost value = { qualifier_of };
+
+    ghost format = { policy_qualifier };
+
+    fn put<W: Writer>(&self, w: &mut W) -> Result<(), WriteError> {
+        put_within(0x30, &Part(&self.oid, Part(&self.bits, End)), w)
+    }
+
+    fn well_formed_at(&self, limit: u8) -> bool {
+        Part(&self.oid, Part(&self.bits, End)).row_well_formed_at(limit)
+    }
+}
+
+impl DerDeserialize for PolicyQualifier {
+    fn read(alloc: Global, r: &mut Reader<'_>, nest: u8) -> Result<Self, Error> {
+        let Part(oid, Part(bits, End)) = read_within::<QualifierRow>(alloc, r, nest, 0x30)?;
+        Ok(PolicyQualifier { oid, bits })
+    }
+
+    ghost lawful = { lawful_policy_qualifier };
+}
+
+impl EqualByText for PolicyQualifier {
+    ghost equal_by_text = { qualifier_equal };
+}
+
+impl TryClone for PolicyQualifier {
+    fn try_clone(&self, alloc: Global) -> Result<Self, Error> {
+        let oid = self.oid.try_clone(alloc)?;
+        let bits = self.bits.try_clone(alloc)?;
+        Ok(PolicyQualifier { oid, bits })
+    }
+}
+
+/// `CertPolicy ::= SEQUENCE { oid OBJECT IDENTIFIER, qualifier SEQUENCE OF PolicyQualifier }`
+#[derive(Debug, Drop, PartialEq, Eq)]
+pub struct CertPolicy {
+    pub oid: ObjectIdentifierAsn1,
+    pub qualifier: Asn1SequenceOf<PolicyQualifier>,
+}
+
+type CertPolicyRow = Part<ObjectIdentifierAsn1, Part<Asn1SequenceOf<PolicyQualifier>, End>>;
+
+impl DerSerialize for CertPolicy {
+    ghost Value = { CertPolicyValue };
+
+    ghost value = { cert_policy_of };
+
+    ghost format = { cert_policy };
+
+    fn put<W: Writer>(&self, w: &mut W) -> Result<(), WriteError> {
+        put_within(0x30, &Part(&self.oid, Part(&self.qualifier, End)), w)
+    }
+
+    fn well_formed_at(&self, limit: u8) -> bool {
+        Part(&self.oid, Part(&self.qualifier, End)).row_well_formed_at(limit)
+    }
+}
+
+impl DerDeserialize for CertPolicy {
+    fn read(alloc: Global, r: &mut Reader<'_>, nest: u8) -> Result<Self, Error> {
+        let Part(oid, Part(qualifier, End)) = read_within::<CertPolicyRow>(alloc, r, nest, 0x30)?;
+        Ok(CertPolicy { oid, qualifier })
+    }
+
+    ghost lawful = { lawful_cert_policy };
+}
+
+impl EqualByText for CertPolicy {
+    ghost equal_by_text = { cert_policy_equal };
+}
+
+impl TryClone for CertPolicy {
+    fn try_clone(&self, alloc: Global) -> Result<Self, Error> {
+        let oid = self.oid.try_clone(alloc)?;
+        let qualifier = self.qualifier.try_clone(alloc)?;
+        Ok(CertPolicy { oid, qualifier })
+    }
+}

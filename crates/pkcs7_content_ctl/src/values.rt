@@ -1,0 +1,234 @@
+//! The values of attributes.
+
+ghost use Rattle.std.specs.Prelude.{◌≡◌, ◌↔◌, IsTrue};
+ghost use Rattle.std.proofs.Common.{rules, inl, inr};
+ghost use Rattle.asn1_core_format.specs.Rows.{GivesRow};
+ghost use Rattle.pkcs7_content_ctl.specs.Equal.{values_equal};
+ghost use Rattle.pkcs7_content_ctl.specs.AttributeValues.{AttributeValues, attribute_values, values_pick};
+ghost use Rattle.pkcs7_content_ctl.specs.AttributeValueLaws.{values_are_picked};
+ghost use Rattle.pkcs7_content_ctl.specs.Properties.{shape_of};
+ghost use Rattle.pkcs7_content_ctl.specs.Lent.{values_lent, IsLent};
+ghost use Rattle.pkcs7_content_ctl.specs.Values.{octets_in, usages_in, values_of};
+ghost use Rattle.pkcs7_content_ctl.specs.declared.properties.Shape.TheVariants.{Octets, Usages};
+
+use crate::policies::{CertPolicy, RootProgramChainPolicy};
+use crate::properties::{
+    DISALLOWED_KEY_USAGES, DISALLOWED_TIME, FRIENDLY_NAME, KEY_IDENTIFIER, KEY_USAGES,
+    RESERVED_126, RESERVED_127, ROOT_SHA256, SUBJECT_NAME_MD5, Shape, property_number,
+};
+use asn1_core::parts::{Alone, ReadRow, WriteError, Writer};
+use asn1_core::{
+    Asn1RawDer, Asn1SequenceOf, Asn1SetOf, DerSerialize, EqualByText, Error, ObjectIdentifierAsn1,
+    OctetStringAsn1, OctetStringAsn1Container, Reader, TryClone,
+};
+use asn1_picked::Picked;
+use std::alloc::Global;
+
+type OctetsSet = Asn1SetOf<OctetStringAsn1>;
+
+type UsagesSet = Asn1SetOf<OctetStringAsn1Container<Asn1SequenceOf<ObjectIdentifierAsn1>>>;
+
+type ChainPoliciesSet = Asn1SetOf<OctetStringAsn1Container<RootProgramChainPolicy>>;
+
+type CertPoliciesSet = Asn1SetOf<OctetStringAsn1Container<Asn1SequenceOf<CertPolicy>>>;
+
+type RawsSet = Asn1SetOf<Asn1RawDer>;
+
+/// The values of a trust list's attribute. Its object identifier picks the arm: a known property of certificates, or
+/// any other. This only writes.
+#[derive(Debug, Drop, PartialEq, Eq)]
+pub enum CTLEntryAttributeValues {
+    CertAuthRootSha256HashPropId(Asn1SetOf<OctetStringAsn1>),
+    CertDisallowedFileTimePropId(Asn1SetOf<OctetStringAsn1>),
+    CertFriendlyName(Asn1SetOf<OctetStringAsn1>),
+    CertKeyIdentifierPropId(Asn1SetOf<OctetStringAsn1>),
+    CertSubjectNameMd5HashPropId(Asn1SetOf<OctetStringAsn1>),
+    UnknownReservedPropId126(Asn1SetOf<OctetStringAsn1>),
+    DisallowedEnhkeyUsage(
+        Asn1SetOf<OctetStringAsn1Container<Asn1SequenceOf<ObjectIdentifierAsn1>>>,
+    ),
+    CertEnhkeyUsagePropId(
+        Asn1SetOf<OctetStringAsn1Container<Asn1SequenceOf<ObjectIdentifierAsn1>>>,
+    ),
+    UnknownReservedPropId127(
+        Asn1SetOf<OctetStringAsn1Container<Asn1SequenceOf<ObjectIdentifierAsn1>>>,
+    ),
+    CertRootProgramChainPolicy(Asn1SetOf<OctetStringAsn1Container<RootProgramChainPolicy>>),
+    CertRootProgramCertPoliciesPropId(
+        Asn1SetOf<OctetStringAsn1Container<Asn1SequenceOf<CertPolicy>>>,
+    ),
+    /// The values of an attribute that is none of these properties.
+    Unknown(Asn1SetOf<Asn1RawDer>),
+}
+
+/// Values that are only lent, by what they are. With octets and usages stands the number of the property.
+#[derive(Clone, Copy)]
+enum Lent<'a> {
+    Octets(u8, &'a OctetsSet),
+    Usages(u8, &'a UsagesSet),
+    ChainPolicies(&'a ChainPoliciesSet),
+    CertPolicies(&'a CertPoliciesSet),
+    Raws(&'a RawsSet),
+}
+
+/// The octets of the property with that number.
+fn octets_of_property(number: u8, values: OctetsSet) -> CTLEntryAttributeValues
+    requires { shape_of number ≡ Octets }
+    ensures { values_of result ≡ inl (number, octets_in values) }
+{
+    match number {
+        ROOT_SHA256 => CTLEntryAttributeValues::CertAuthRootSha256HashPropId(values),
+        DISALLOWED_TIME => CTLEntryAttributeValues::CertDisallowedFileTimePropId(values),
+        FRIENDLY_NAME => CTLEntryAttributeValues::CertFriendlyName(values),
+        KEY_IDENTIFIER => CTLEntryAttributeValues::CertKeyIdentifierPropId(values),
+        SUBJECT_NAME_MD5 => CTLEntryAttributeValues::CertSubjectNameMd5HashPropId(values),
+        _ => CTLEntryAttributeValues::UnknownReservedPropId126(values),
+    }
+}
+
+/// The usages of the property with that number.
+fn usages_of_property(number: u8, values: UsagesSet) -> CTLEntryAttributeValues
+    requires { shape_of number ≡ Usages }
+    ensures { values_of result ≡ inr (inl (number, usages_in values)) }
+{
+    match number {
+        DISALLOWED_KEY_USAGES => CTLEntryAttributeValues::DisallowedEnhkeyUsage(values),
+        KEY_USAGES => CTLEntryAttributeValues::CertEnhkeyUsagePropId(values),
+        _ => CTLEntryAttributeValues::UnknownReservedPropId127(values),
+    }
+}
+
+impl CTLEntryAttributeValues {
+    fn lent(&self) -> Lent<'_>
+        ensures same { values_lent result ≡ values_of self.now }
+        ensures is { IsLent result }
+    {
+        match self {
+            Self::CertAuthRootSha256HashPropId(values) => Lent::Octets(ROOT_SHA256, values),
+            Self::CertDisallowedFileTimePropId(values) => Lent::Octets(DISALLOWED_TIME, values),
+            Self::CertFriendlyName(values) => Lent::Octets(FRIENDLY_NAME, values),
+            Self::CertKeyIdentifierPropId(values) => Lent::Octets(KEY_IDENTIFIER, values),
+            Self::CertSubjectNameMd5HashPropId(values) => Lent::Octets(SUBJECT_NAME_MD5, values),
+            Self::UnknownReservedPropId126(values) => Lent::Octets(RESERVED_126, values),
+            Self::DisallowedEnhkeyUsage(values) => Lent::Usages(DISALLOWED_KEY_USAGES, values),
+            Self::CertEnhkeyUsagePropId(values) => Lent::Usages(KEY_USAGES, values),
+            Self::UnknownReservedPropId127(values) => Lent::Usages(RESERVED_127, values),
+            Self::CertRootProgramChainPolicy(values) => Lent::ChainPolicies(values),
+            Self::CertRootProgramCertPoliciesPropId(values) => { Lent::CertPolicies(values) }
+            Self::Unknown(values) => Lent::Raws(values),
+        }
+    }
+
+    /// Whether these are well-formed values of an attribute whose object identifier has these contents octets.
+    pub(crate) fn fits(&self, oid: &[u8], limit: u8) -> bool
+        ensures { IsTrue result ↔ (values_pick.row oid.now).IsWellFormed limit (values_of self.now) }
+    {
+        let number = property_number(oid);
+        let shape = Shape::of_property(number);
+        match self.lent() {
+            Lent::Octets(own, values) => {
+                shape == Shape::Octets && own == number && values.well_formed_at(limit)
+            }
+            Lent::Usages(own, values) => {
+                shape == Shape::Usages && own == number && values.well_formed_at(limit)
+            }
+            Lent::ChainPolicies(values) => {
+                shape == Shape::ChainPolicies && values.well_formed_at(limit)
+            }
+            Lent::CertPolicies(values) => {
+                shape == Shape::CertPolicies && values.well_formed_at(limit)
+            }
+            Lent::Raws(values) => shape == Shape::Raws && values.well_formed_at(limit),
+        }
+    }
+}
+
+impl DerSerialize for CTLEntryAttributeValues {
+    ghost Value = { AttributeValues };
+
+    ghost value = { values_of };
+
+    ghost format = { attribute_values };
+
+    fn put<W: Writer>(&self, w: &mut W) -> Result<(), WriteError> {
+        match self.lent() {
+            Lent::Octets(_, values) => values.put(w),
+            Lent::Usages(_, values) => values.put(w),
+            Lent::ChainPolicies(values) => values.put(w),
+            Lent::CertPolicies(values) => values.put(w),
+            Lent::Raws(values) => values.put(w),
+        }
+    }
+
+    fn well_formed_at(&self, limit: u8) -> bool {
+        match self.lent() {
+            Lent::Octets(_, values) => values.well_formed_at(limit),
+            Lent::Usages(_, values) => values.well_formed_at(limit),
+            Lent::ChainPolicies(values) => values.well_formed_at(limit),
+            Lent::CertPolicies(values) => values.well_formed_at(limit),
+            Lent::Raws(values) => values.well_formed_at(limit),
+        }
+    }
+}
+
+impl Picked for CTLEntryAttributeValues {
+    ghost Value = { AttributeValues };
+
+    ghost value = { values_of };
+
+    ghost pick = { values_pick };
+
+    fn read_picked(alloc: Global, oid: &[u8], r: &mut Reader<'_>, nest: u8) -> Result<Self, Error> {
+        let number = property_number(oid);
+        match Shape::of_property(number) {
+            Shape::Octets => {
+                let Alone(values) = Alone::read_row(alloc, r, nest)?;
+                Ok(octets_of_property(number, values))
+            }
+            Shape::Usages => {
+                let Alone(values) = Alone::read_row(alloc, r, nest)?;
+                Ok(usages_of_property(number, values))
+            }
+            Shape::ChainPolicies => {
+                let Alone(values) = Alone::read_row(alloc, r, nest)?;
+                Ok(CTLEntryAttributeValues::CertRootProgramChainPolicy(values))
+            }
+            Shape::CertPolicies => {
+                let Alone(values) = Alone::read_row(alloc, r, nest)?;
+                Ok(CTLEntryAttributeValues::CertRootProgramCertPoliciesPropId(values))
+            }
+            Shape::Raws => {
+                let Alone(values) = Alone::read_row(alloc, r, nest)?;
+                Ok(CTLEntryAttributeValues::Unknown(values))
+            }
+        }
+    }
+
+    ghost lawful = { values_are_picked };
+}
+
+impl EqualByText for CTLEntryAttributeValues {
+    ghost equal_by_text = { values_equal };
+}
+
+impl TryClone for CTLEntryAttributeValues {
+    fn try_clone(&self, alloc: Global) -> Result<Self, Error> {
+        match self.lent() {
+            Lent::Octets(number, values) => {
+                Ok(octets_of_property(number, values.try_clone(alloc)?))
+            }
+            Lent::Usages(number, values) => {
+                Ok(usages_of_property(number, values.try_clone(alloc)?))
+            }
+            Lent::ChainPolicies(values) => Ok(CTLEntryAttributeValues::CertRootProgramChainPolicy(
+                values.try_clone(alloc)?,
+            )),
+            Lent::CertPolicies(values) => Ok(
+                CTLEntryAttributeValues::CertRootProgramCertPoliciesPropId(values.try_clone(
+                    alloc,
+                )?),
+            ),
+            Lent::Raws(values) => Ok(CTLEntryAttributeValues::Unknown(values.try_clone(alloc)?)),
+        }
+    }
+}
