@@ -106,7 +106,11 @@ fn an_unknown_digest_algorithm(rt: HostRuntime) -> Result<(), Fail> {
     let alloc = rt.alloc();
     let info: Pkcs12DigestInfo = kept(alloc, &["30 10", MD5, "04 00"])?;
     let raw: RawAlgorithmIdentifier = kept(alloc, &[MD5])?;
-    let unknown = Pkcs12DigestAlgorithm::Unknown(raw.try_clone(alloc)?);
+    let unknown = Pkcs12DigestAlgorithm::from_raw(raw.try_clone(alloc)?);
+    assert_eq!(rt;
+        unknown,
+        Pkcs12DigestAlgorithm::Unknown(raw.try_clone(alloc)?)
+    );
     assert_eq!(rt; info.digest_algorithm, unknown);
     assert_eq!(rt; unknown.try_clone(alloc)?, unknown);
     assert_eq!(rt; unknown.into_raw(alloc)?, raw);

@@ -5,6 +5,12 @@ ghost use Rattle.x509_containers_engine.specs.Engine.{Runs, read_failures, write
 ghost use Rattle.x509_containers.specs.Kinds.{rewriting_as};
 
 use asn1_core_streams::{Sink, Source};
+use pkcs7_content::{
+    CTLEntry, CTLEntryAttribute, CertPolicy, CmsVersion, Ctl, EncapsulatedContentInfo, File,
+    Moniker, PolicyQualifier, RootProgramChainPolicy, SpcAttributeAndOptionalValue,
+    SpcIndirectDataContent, SpcLink, SpcPeImageData, SpcPeImageFlags, SpcSerializedObject,
+    SpcSipInfo, SpcSpOpusInfo, SpcString, SpcUuid, Url,
+};
 use std::alloc::Global;
 use x509_containers_engine::{Mode, Outcome, run_at};
 use x509_pkcs12::{
@@ -20,10 +26,18 @@ use x509_pkcs12::{
 pub enum Kind {
     AuthenticatedSafeContentInfo,
     CertificateBag,
+    CertPolicy,
+    CmsVersion,
     CrlBag,
+    Ctl,
+    CTLEntry,
+    CTLEntryAttribute,
+    EncapsulatedContentInfo,
     EncryptedKeyBag,
     EncryptedSafeContents,
+    File,
     MacData,
+    Moniker,
     ParsedAuthenticatedSafeDataRepr,
     Pbes1Params,
     Pbes2EncryptionScheme,
@@ -34,13 +48,26 @@ pub enum Kind {
     Pkcs12Attribute,
     Pkcs12DigestInfo,
     Pkcs12EncryptionAlgorithm,
+    PolicyQualifier,
     RawAuthenticatedSafeContentInfo,
     RawAuthenticatedSafeDataRepr,
     RawPfx,
+    RootProgramChainPolicy,
     SafeBag,
     SafeContents,
     SafeContentsContentInfo,
     SecretBag,
+    SpcAttributeAndOptionalValue,
+    SpcIndirectDataContent,
+    SpcLink,
+    SpcPeImageData,
+    SpcPeImageFlags,
+    SpcSerializedObject,
+    SpcSipInfo,
+    SpcSpOpusInfo,
+    SpcString,
+    SpcUuid,
+    Url,
 }
 
 impl Kind {
@@ -53,10 +80,18 @@ impl Kind {
         match word {
             "authenticatedsafecontentinfo" => Some(Kind::AuthenticatedSafeContentInfo),
             "certificatebag" => Some(Kind::CertificateBag),
+            "certpolicy" => Some(Kind::CertPolicy),
+            "cmsversion" => Some(Kind::CmsVersion),
             "crlbag" => Some(Kind::CrlBag),
+            "ctl" => Some(Kind::Ctl),
+            "ctlentry" => Some(Kind::CTLEntry),
+            "ctlentryattribute" => Some(Kind::CTLEntryAttribute),
+            "encapsulatedcontentinfo" => Some(Kind::EncapsulatedContentInfo),
             "encryptedkeybag" => Some(Kind::EncryptedKeyBag),
             "encryptedsafecontents" => Some(Kind::EncryptedSafeContents),
+            "file" => Some(Kind::File),
             "macdata" => Some(Kind::MacData),
+            "moniker" => Some(Kind::Moniker),
             "parsedauthenticatedsafedatarepr" => Some(Kind::ParsedAuthenticatedSafeDataRepr),
             "pbes1params" => Some(Kind::Pbes1Params),
             "pbes2encryptionscheme" => Some(Kind::Pbes2EncryptionScheme),
@@ -67,13 +102,26 @@ impl Kind {
             "pkcs12attribute" => Some(Kind::Pkcs12Attribute),
             "pkcs12digestinfo" => Some(Kind::Pkcs12DigestInfo),
             "pkcs12encryptionalgorithm" => Some(Kind::Pkcs12EncryptionAlgorithm),
+            "policyqualifier" => Some(Kind::PolicyQualifier),
             "rawauthenticatedsafecontentinfo" => Some(Kind::RawAuthenticatedSafeContentInfo),
             "rawauthenticatedsafedatarepr" => Some(Kind::RawAuthenticatedSafeDataRepr),
             "rawpfx" => Some(Kind::RawPfx),
+            "rootprogramchainpolicy" => Some(Kind::RootProgramChainPolicy),
             "safebag" => Some(Kind::SafeBag),
             "safecontents" => Some(Kind::SafeContents),
             "safecontentscontentinfo" => Some(Kind::SafeContentsContentInfo),
             "secretbag" => Some(Kind::SecretBag),
+            "spcattributeandoptionalvalue" => Some(Kind::SpcAttributeAndOptionalValue),
+            "spcindirectdatacontent" => Some(Kind::SpcIndirectDataContent),
+            "spclink" => Some(Kind::SpcLink),
+            "spcpeimagedata" => Some(Kind::SpcPeImageData),
+            "spcpeimageflags" => Some(Kind::SpcPeImageFlags),
+            "spcserializedobject" => Some(Kind::SpcSerializedObject),
+            "spcsipinfo" => Some(Kind::SpcSipInfo),
+            "spcspopusinfo" => Some(Kind::SpcSpOpusInfo),
+            "spcstring" => Some(Kind::SpcString),
+            "spcuuid" => Some(Kind::SpcUuid),
+            "url" => Some(Kind::Url),
             _ => None,
         }
     }
@@ -103,12 +151,22 @@ pub fn run<R: Source, W: Sink>(
             W,
         >(alloc, source, sink, mode),
         Kind::CertificateBag => run_at::<CertificateBag, R, W>(alloc, source, sink, mode),
+        Kind::CertPolicy => run_at::<CertPolicy, R, W>(alloc, source, sink, mode),
+        Kind::CmsVersion => run_at::<CmsVersion, R, W>(alloc, source, sink, mode),
         Kind::CrlBag => run_at::<CrlBag, R, W>(alloc, source, sink, mode),
+        Kind::Ctl => run_at::<Ctl, R, W>(alloc, source, sink, mode),
+        Kind::CTLEntry => run_at::<CTLEntry, R, W>(alloc, source, sink, mode),
+        Kind::CTLEntryAttribute => run_at::<CTLEntryAttribute, R, W>(alloc, source, sink, mode),
+        Kind::EncapsulatedContentInfo => run_at::<EncapsulatedContentInfo, R, W>(
+            alloc, source, sink, mode,
+        ),
         Kind::EncryptedKeyBag => run_at::<EncryptedKeyBag, R, W>(alloc, source, sink, mode),
         Kind::EncryptedSafeContents => run_at::<EncryptedSafeContents, R, W>(
             alloc, source, sink, mode,
         ),
+        Kind::File => run_at::<File, R, W>(alloc, source, sink, mode),
         Kind::MacData => run_at::<MacData, R, W>(alloc, source, sink, mode),
+        Kind::Moniker => run_at::<Moniker, R, W>(alloc, source, sink, mode),
         Kind::ParsedAuthenticatedSafeDataRepr => run_at::<ParsedAuthenticatedSafeDataRepr, R, W>(
             alloc, source, sink, mode,
         ),
@@ -129,6 +187,7 @@ pub fn run<R: Source, W: Sink>(
         Kind::Pkcs12EncryptionAlgorithm => run_at::<Pkcs12EncryptionAlgorithm, R, W>(
             alloc, source, sink, mode,
         ),
+        Kind::PolicyQualifier => run_at::<PolicyQualifier, R, W>(alloc, source, sink, mode),
         Kind::RawAuthenticatedSafeContentInfo => run_at::<RawAuthenticatedSafeContentInfo, R, W>(
             alloc, source, sink, mode,
         ),
@@ -136,11 +195,29 @@ pub fn run<R: Source, W: Sink>(
             alloc, source, sink, mode,
         ),
         Kind::RawPfx => run_at::<RawPfx, R, W>(alloc, source, sink, mode),
+        Kind::RootProgramChainPolicy => run_at::<RootProgramChainPolicy, R, W>(
+            alloc, source, sink, mode,
+        ),
         Kind::SafeBag => run_at::<SafeBag, R, W>(alloc, source, sink, mode),
         Kind::SafeContents => run_at::<SafeContents, R, W>(alloc, source, sink, mode),
         Kind::SafeContentsContentInfo => run_at::<SafeContentsContentInfo, R, W>(
             alloc, source, sink, mode,
         ),
         Kind::SecretBag => run_at::<SecretBag, R, W>(alloc, source, sink, mode),
+        Kind::SpcAttributeAndOptionalValue => run_at::<SpcAttributeAndOptionalValue, R, W>(
+            alloc, source, sink, mode,
+        ),
+        Kind::SpcIndirectDataContent => run_at::<SpcIndirectDataContent, R, W>(
+            alloc, source, sink, mode,
+        ),
+        Kind::SpcLink => run_at::<SpcLink, R, W>(alloc, source, sink, mode),
+        Kind::SpcPeImageData => run_at::<SpcPeImageData, R, W>(alloc, source, sink, mode),
+        Kind::SpcPeImageFlags => run_at::<SpcPeImageFlags, R, W>(alloc, source, sink, mode),
+        Kind::SpcSerializedObject => run_at::<SpcSerializedObject, R, W>(alloc, source, sink, mode),
+        Kind::SpcSipInfo => run_at::<SpcSipInfo, R, W>(alloc, source, sink, mode),
+        Kind::SpcSpOpusInfo => run_at::<SpcSpOpusInfo, R, W>(alloc, source, sink, mode),
+        Kind::SpcString => run_at::<SpcString, R, W>(alloc, source, sink, mode),
+        Kind::SpcUuid => run_at::<SpcUuid, R, W>(alloc, source, sink, mode),
+        Kind::Url => run_at::<Url, R, W>(alloc, source, sink, mode),
     }
 }

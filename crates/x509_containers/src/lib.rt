@@ -1,5 +1,5 @@
-//! What the program `derbox` makes of an input, and all that the crates below offer: PKCS #12 (RFC 7292), X.509 and
-//! Authenticode.
+//! What the program `derbox` makes of an input, and what the crates below offer: PKCS #12 (RFC 7292), contents of
+//! PKCS #7 (RFC 2315, RFC 5652), trust lists, X.509 and Authenticode.
 #![tactic(auto)]
 
 mod kinds;
@@ -27,6 +27,7 @@ pub use asn1_core::OidRef;
 pub use asn1_core::Optional;
 pub use asn1_core::ReadError;
 pub use asn1_core::Reader;
+pub use asn1_core::SeenByText;
 pub use asn1_core::Sink;
 pub use asn1_core::Source;
 pub use asn1_core::StdSink;
@@ -64,8 +65,37 @@ pub use asn1_leaves::UTCTime;
 pub use asn1_leaves::UTCTimeAsn1;
 pub use asn1_leaves::Utf8String;
 pub use asn1_leaves::Utf8StringAsn1;
+pub use asn1_picked::OidAnd;
+pub use asn1_picked::Picked;
+pub use asn1_picked::picked_sequences_are_lawful;
+pub use asn1_picked::read_picked_sequence;
 pub use kinds::Kind;
 pub use kinds::run;
+pub use pkcs7_content::CTLEntry;
+pub use pkcs7_content::CTLEntryAttribute;
+pub use pkcs7_content::CTLEntryAttributeValues;
+pub use pkcs7_content::CertPolicy;
+pub use pkcs7_content::CmsVersion;
+pub use pkcs7_content::ContentValue;
+pub use pkcs7_content::Ctl;
+pub use pkcs7_content::EncapsulatedContentInfo;
+pub use pkcs7_content::File;
+pub use pkcs7_content::Moniker;
+pub use pkcs7_content::PolicyQualifier;
+pub use pkcs7_content::RootProgramChainPolicy;
+pub use pkcs7_content::SpcAttributeAndOptionalValue;
+pub use pkcs7_content::SpcAttributeAndOptionalValueValue;
+pub use pkcs7_content::SpcIndirectDataContent;
+pub use pkcs7_content::SpcLink;
+pub use pkcs7_content::SpcPeImageData;
+pub use pkcs7_content::SpcPeImageFlags;
+pub use pkcs7_content::SpcSerializedObject;
+pub use pkcs7_content::SpcSipInfo;
+pub use pkcs7_content::SpcSpOpusInfo;
+pub use pkcs7_content::SpcString;
+pub use pkcs7_content::SpcUuid;
+pub use pkcs7_content::StringError;
+pub use pkcs7_content::Url;
 pub use x509_base::AlgorithmIdentifier;
 pub use x509_base::Attribute;
 pub use x509_base::DigestInfo;
