@@ -2,11 +2,14 @@
 //! without a word on its command line.
 #![tactic(auto)]
 
+ghost use Rattle.std.specs.Prelude.{None};
+
 use asn1_core::{
     Asn1RawDer, Asn1SequenceOf, Asn1SetOf, DerDeserialize, DerSerialize, Error,
-    ExplicitContextTag0, ObjectIdentifier, ObjectIdentifierAsn1, OctetStringAsn1, StdSink,
-    TryClone, from_bytes, to_vec,
+    ExplicitContextTag0, ObjectIdentifier, ObjectIdentifierAsn1, OctetStringAsn1, Sink, TryClone,
+    from_bytes, to_vec,
 };
+use asn1_leaves::{BmpString, BmpStringAsn1, CharSetError, IA5String, IA5StringAsn1};
 use std::alloc::Global;
 use std::time::Instant;
 use std::{env, io};
@@ -23,8 +26,10 @@ enum Failure {
     #[error("{0}")]
     Der(#[from] Error),
     #[error("{0}")]
+    Text(#[from] CharSetError),
+    #[error("{0}")]
     Clock(#[from] io::Error),
-    #[error("sending failed")]
+    #[error("not all of a text was sent")]
     Sending,
 }
 
@@ -44,6 +49,27 @@ impl Shortest {
     /// The time in hundredths of another.
     fn percent(&self, of: &Shortest) -> u64 {
         (u128::from(self.0) * 100 / u128::from(of.0.max(1))).min(1_000_000_000) as u64
+    }
+}
+
+/// Takes all that it is given, and adds up the lengths.
+#[derive(Drop)]
+struct Counter {
+    taken: usize,
+}
+
+impl Sink for Counter {
+    ghost held = { λ _. None };
+
+    ghost failed = { λ _. 0 };
+
+    fn write(&mut self, buf: &[u8]) -> io::Result<usize> {
+        self.taken = self.taken.saturating_add(buf.len());
+        Ok(buf.len())
+    }
+
+    fn failures(&self) -> u64 {
+        0
     }
 }
 
@@ -77,15 +103,23 @@ fn length_time<T: DerSerialize>(rt: &HostRuntime, value: &T) -> Result<Shortest,
     Ok(best)
 }
 
-fn send_time<T: DerSerialize>(rt: &HostRuntime, value: &T) -> Result<Shortest, Failure> {
+/// The time of sending a value whose text has that many bytes.
+fn send_time<T: DerSerialize>(
+    rt: &HostRuntime,
+    value: &T,
+    size: usize,
+) -> Result<Shortest, Failure> {
     let mut best = Shortest(u64::MAX);
     for _ in 0..ROUNDS {
-        let mut sink = StdSink::new(io::sink());
+        let mut sink = Counter { taken: 0 };
         let start = Instant::now(rt)?;
         let Ok(()) = value.emit(&mut sink) else {
             return Err(Failure::Sending);
         };
         best.take(rt, &start)?;
+        if sink.taken != size {
+            return Err(Failure::Sending);
+        }
     }
     Ok(best)
 }
@@ -124,7 +158,7 @@ fn measure<T: DerDeserialize + TryClone>(
     let nanos = copy.0;
     let written = write_time(rt, &value)?.percent(&copy);
     let measured = length_time(rt, &value)?.percent(&copy);
-    let sent = send_time(rt, &value)?.percent(&copy);
+    let sent = send_time(rt, &value, size)?.percent(&copy);
     let read = read.percent(&copy);
     let cloned = clone_time(rt, &value)?.percent(&copy);
     println!(rt;
@@ -186,7 +220,7 @@ fn four<T>(value: T) -> Four<T> {
     ExplicitContextTag0(ExplicitContextTag0(ExplicitContextTag0(ExplicitContextTag0(value))))
 }
 
-/// The same octets under no tag, under four and under eight: writing is linear in the bytes at every depth.
+/// The same octets under no tag, under four and under eight.
 fn measure_depths(rt: &HostRuntime) -> Result<(), Failure> {
     let alloc = rt.alloc();
     measure(
@@ -206,12 +240,79 @@ fn measure_depths(rt: &HostRuntime) -> Result<(), Failure> {
     )
 }
 
+fn numbers(alloc: Global, count: usize) -> Result<Asn1SequenceOf<u32>, Error> {
+    let mut items = Vec::new(alloc);
+    items.resize(count, 7u32)?;
+    Ok(Asn1SequenceOf(items))
+}
+
+/// Prints one line: the times of writing and of sending a value, each in hundredths of another such time.
+fn measure_writing<T: DerSerialize>(
+    rt: &HostRuntime,
+    name: &str,
+    value: &T,
+    writing: &Shortest,
+    sending: &Shortest,
+) -> Result<(), Failure> {
+    let size = value.encoded_len()?;
+    let written = write_time(rt, value)?.percent(writing);
+    let sent = send_time(rt, value, size)?.percent(sending);
+    println!(rt;
+        "{name}: {size} bytes; in % of the times of 10000 numbers at depth 1: to_vec {written}, emit {sent}"
+    )?;
+    Ok(())
+}
+
+/// Many small items under no tag, under four and under eight, and then four times as many.
+fn measure_numbers(rt: &HostRuntime) -> Result<(), Failure> {
+    let alloc = rt.alloc();
+    let few = numbers(alloc, 10_000)?;
+    let size = few.encoded_len()?;
+    let written = write_time(rt, &few)?;
+    let sent = send_time(rt, &few, size)?;
+    for count in [10_000, 40_000] {
+        measure_writing(
+            rt,
+            "numbers, depth 1",
+            &numbers(alloc, count)?,
+            &written,
+            &sent,
+        )?;
+        measure_writing(
+            rt,
+            "numbers, depth 5",
+            &four(numbers(alloc, count)?),
+            &written,
+            &sent,
+        )?;
+        measure_writing(
+            rt,
+            "numbers, depth 9",
+            &four(four(numbers(alloc, count)?)),
+            &written,
+            &sent,
+        )?;
+    }
+    Ok(())
+}
+
+/// Strings whose octets are checked as they are read.
+fn measure_strings(rt: &HostRuntime) -> Result<(), Failure> {
+    let alloc = rt.alloc();
+    let letters = IA5String::new(octets(alloc, 100_000)?)?;
+    measure(rt, "IA5 string, 100000", &IA5StringAsn1(letters))?;
+    let units = BmpString::new(octets(alloc, 100_000)?)?;
+    measure(rt, "BMP string, 100000", &BmpStringAsn1(units))
+}
+
 fn measure_all(rt: &HostRuntime) -> Result<(), Failure> {
     let alloc = rt.alloc();
     measure(rt, "extensions, 20000", &extensions(alloc, 20_000)?)?;
     measure(rt, "name, 2000 parts", &name(alloc, 2_000)?)?;
     measure(rt, "raw pfx, 1 MB", &pfx(alloc, 1_000_000)?)?;
-    measure_depths(rt)
+    measure_strings(rt)?;
+    measure_depths(rt)?;
+    measure_numbers(rt)
 }
 
 fn main(rt: HostRuntime) {
