@@ -1,34 +1,24 @@
 -- One element, read as it is.
-use Rattle.std.proofs.Common.{◌≡◌, ◌↔◌, ℕ, ◌+◌, List, [], ◌++◌, length, drop, refl, sym, ap, ◌∙◌, arith, append_assoc, length-append, length-take, length-drop}
-use Rattle.std.proofs.lemmas.List.{take-append-drop, append-nil}
+use Rattle.std.proofs.Common.{◌≡◌, ◌↔◌, ℕ, ◌+◌, List, [], ◌++◌, length, drop, sym, ap, ◌∙◌, arith, length-append, length-drop}
+use Rattle.std.proofs.lemmas.List.{append-nil}
 use Rattle.asn1_core_element.specs.Element.{element, head, IsElement, IsTagByte, IsFront, HasNoFront}
 use Rattle.asn1_core_element.specs.ElementLaws.{head_cut, element_long}
 use Rattle.asn1_core_element.specs.Position.{Position}
 use Rattle.asn1_core_format.specs.Format.{Took}
-use Rattle.asn1_core_element.specs.Reading.{TookHeader, TookContents}
+use Rattle.asn1_core_element.specs.Reading.{TookWholeElement}
 use Rattle.asn1_core.specs.Raw.{raw}
 
-module _ {old mid new : Position} {tag n : ℕ} {c : List ℕ} (h : TookHeader old mid tag n) (t : TookContents mid new n c) where
-  took_length : length c ≡ n
-  took_length = ap length t.contents_are ∙ length-take n mid.left ∙ omega (arith, h.fits)
-
-  raw_split : old.left ≡ element tag c ++ new.left
-  raw_split =
-      h.split ∙ ap (λ i. head tag i ++ mid.left) (sym took_length)
-      ∙ ap (λ x. head tag (length c) ++ x) (sym (take-append-drop n mid.left) ∙ ap (λ x. x ++ drop n mid.left) (sym t.contents_are) ∙ ap (λ x. c ++ x) (sym t.left))
-      ∙ sym (append_assoc (head tag (length c)) c new.left)
-
-  pub raw_took : (k : ℕ) {text : List ℕ} → text ≡ element tag c → Took raw k old new text
-  raw_took k {text} e = record {
-    taken = element tag c;
-    split = raw_split;
-    reads = (sym e, record { tag = tag; contents = c; is_tag = h.is_tag; is = refl; allowed = h.is_tag });
-    beyond = t.beyond ∙ h.beyond;
-    end = t.end ∙ h.end;
-    refused = t.refused ∙ h.refused;
-    at_least = omega (arith, t.headers, h.headers);
-    at_most = omega (arith, t.headers, h.headers, element_long tag c);
-  }
+pub raw_took : (k : ℕ) {old new : Position} {bytes text : List ℕ} → TookWholeElement old new bytes → text ≡ bytes → Took raw k old new text
+raw_took k {old} {new} {bytes} {text} w e = record {
+  taken = bytes;
+  split = w.split;
+  reads = (sym e, w.is_element);
+  beyond = w.beyond;
+  end = w.end;
+  refused = w.refused;
+  at_least = omega (arith, w.headers);
+  at_most = omega (arith, w.headers, ap length w.is_element.is, element_long w.is_element.tag w.is_element.contents);
+}
 
 pub whole_front : {b : List ℕ} {tag n size : ℕ} → IsFront b tag n size → (size + n ≡ length b) ↔ IsElement IsTagByte b
 whole_front {b} {tag} {n} {size} f = (

@@ -1,7 +1,7 @@
 -- Any one element, kept as it is.
 use Rattle.std.specs.Prelude.{◌≡◌, ℕ, List}
 use Rattle.std.proofs.Common.{refl, sym, ◌∙◌, subst}
-use Rattle.asn1_core_element.specs.Element.{element, IsElement, IsTagByte}
+use Rattle.asn1_core_element.specs.Element.{IsElement, IsTagByte}
 use Rattle.asn1_core_format.specs.Format.{Format, IsLawful}
 use Rattle.asn1_core_format.specs.Laws.{begins_alone}
 
@@ -29,16 +29,4 @@ lawful_raw = record {
     deeper = λ k b v r. r;
   };
   element = λ k b v r. r.1;
-}
-
--- a tag and the contents, as an element that only writes
-abbrev pub plain : Format (ℕ × List ℕ)
-plain = record {
-  text = λ p. element p.0 p.1;
-  IsWellFormed = λ _ _. Unit {0};
-  Reads = λ _ _ _. ⊥;
-  IsNormal = λ _ _. ⊥;
-  normal = λ p. p;
-  IsTag = λ _. ⊥;
-  least = λ _. 1;
 }

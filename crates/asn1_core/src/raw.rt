@@ -2,12 +2,12 @@
 
 ghost use Rattle.std.specs.Prelude.{ℕ, List};
 ghost use Rattle.asn1_core.specs.Equal.{raw_equal};
-ghost use Rattle.asn1_core.specs.Raw.{raw, lawful_raw, plain};
+ghost use Rattle.asn1_core.specs.Raw.{raw, lawful_raw};
 
 use asn1_core_element::front::front;
 use asn1_core_element::{Error, Reader};
 use asn1_core_format::{DerDeserialize, DerSerialize, EqualByText, FirstTags, TryClone};
-use asn1_core_writers::{WriteError, Writer, put_element};
+use asn1_core_writers::{WriteError, Writer};
 use std::alloc::Global;
 
 /// Any one element, kept as it is. Its contents aren't looked into.
@@ -35,12 +35,8 @@ impl DerSerialize for Asn1RawDer {
 
 impl DerDeserialize for Asn1RawDer {
     fn read(alloc: Global, r: &mut Reader<'_>, _nest: u8) -> Result<Self, Error> {
-        let left = r.left();
-        let (tag, len) = r.header()?;
-        let contents = r.contents(len);
-        let mut text = Vec::with_capacity(alloc, left - r.left())?;
-        Plain(tag, contents).write(alloc, &mut text)?;
-        Ok(Asn1RawDer(text))
+        let element = r.whole_element()?;
+        Ok(Asn1RawDer(Vec::from_slice(alloc, element)?))
     }
 
     ghost lawful = { lawful_raw };
@@ -59,25 +55,5 @@ impl EqualByText for Asn1RawDer {
 impl TryClone for Asn1RawDer {
     fn try_clone(&self, alloc: Global) -> Result<Self, Error> {
         Ok(Asn1RawDer(Vec::from_slice(alloc, self.0.as_slice())?))
-    }
-}
-
-/// An element as it stands, a tag and the contents, which only writes.
-#[derive(Drop)]
-struct Plain<'a>(u8, &'a [u8]);
-
-impl DerSerialize for Plain<'_> {
-    ghost Value = { ℕ × List ℕ };
-
-    ghost value = { λ x. (x.0, x.1.now) };
-
-    ghost format = { plain };
-
-    fn put<W: Writer>(&self, w: &mut W) -> Result<(), WriteError> {
-        put_element(self.0, self.1, w)
-    }
-
-    fn well_formed_at(&self, _limit: u8) -> bool {
-        true
     }
 }

@@ -4,7 +4,7 @@ use Rattle.std.specs.Int.Digits.{digits_of, AllBelowBase, number_from_digits, nu
 use Rattle.std.proofs.lemmas.List.{append-nil}
 use Rattle.std.proofs.lemmas.Nat.{div-mul-add, mod-mul-add}
 use Rattle.std.proofs.Math.Nat.{pow-le-pow_right}
-use Rattle.std.proofs.lemmas.Int.Digits.{number_lt, number_more, digits_of_step, length-digits_of_step, length-digits_of-le}
+use Rattle.std.proofs.lemmas.Int.Digits.{number_lt, number_more, digits_of_step}
 
 -- each byte is below 256
 pub all_bytes : (ds : List ℕ) → ((i : ℕ) → get_or ds i 0 < 256) → AllBelowBase 256 ds

@@ -1,10 +1,11 @@
 -- Reading one element.
-use Rattle.std.proofs.Common.{◌≡◌, ℕ, ◌++◌, length, drop, sym, ap, subst, ◌∙◌, arith, append_assoc, length-take, length-drop}
-use Rattle.asn1_core_element.specs.Element.{head, IsTagByte}
+use Rattle.std.proofs.Common.{◌≡◌, ℕ, ◌-◌, ◌≤◌, List, ◌++◌, length, take, drop, sym, ap, subst, ◌∙◌, arith, append_assoc, length-append, length-take, length-drop}
+use Rattle.asn1_core_element.specs.Element.{head, element, IsTagByte}
 use Rattle.asn1_core_element.specs.ElementLaws.{head_cut}
 use Rattle.asn1_core_element.specs.Position.{Position}
-use Rattle.asn1_core_element.specs.Reading.{TookHeader, RefusedHeader, Opened, RefusedElement, OpenedElement}
-use Rattle.std.proofs.lemmas.List.{take-append-drop}
+use Rattle.asn1_core_element.specs.Reading.{TookHeader, RefusedHeader, TookContents, TookWholeElement, Opened, RefusedElement, OpenedElement}
+use Rattle.std.proofs.lemmas.List.{take-append-drop, length-take-le}
+use Rattle.std.proofs.Math.Seq.{take-append_seam}
 use Rattle.asn1_core_element.specs.declared.error.Error.{Error}
 use Rattle.asn1_core_element.specs.declared.error.Error.TheVariants.{Invalid}
 
@@ -21,6 +22,33 @@ other_tag {tag} {old} {new} {found} {n} h d = record {
 
 pub same_tag : {tag : ℕ} {old new : Position} {found n : ℕ} → TookHeader old new found n → found ≡ tag → TookHeader old new tag n
 same_tag {tag} {old} {new} {found} {n} h e = subst (λ t. TookHeader old new t n) e h
+
+module _ {old mid new : Position} {tag n : ℕ} {c : List ℕ} (h : TookHeader old mid tag n) (t : TookContents mid new n c) where
+  contents_length : length c ≡ n
+  contents_length = ap length t.contents_are ∙ length-take n mid.left ∙ omega (arith, h.fits)
+
+  whole_split : old.left ≡ element tag c ++ new.left
+  whole_split =
+      h.split ∙ ap (λ i. head tag i ++ mid.left) (sym contents_length)
+      ∙ ap (λ x. head tag (length c) ++ x) (sym (take-append-drop n mid.left) ∙ ap (λ x. x ++ drop n mid.left) (sym t.contents_are) ∙ ap (λ x. c ++ x) (sym t.left))
+      ∙ sym (append_assoc (head tag (length c)) c new.left)
+
+  -- the element is what lies between where its header begins and where its contents end
+  pub whole : (rest : List ℕ) (room left : ℕ) → take room rest ≡ old.left → room ≤ length rest → length new.left ≡ left → TookWholeElement old new (take (room - left) rest)
+  whole rest room left is_old within is_new =
+      let e : room - left ≡ length (element tag c) = omega (arith, ap length whole_split, length-append (element tag c) new.left, ap length is_old, length-take-le room rest within, is_new) in
+      let taken : take (room - left) rest ≡ element tag c =
+      ap (λ i. take i rest) e
+      ∙ ap (take (length (element tag c))) (sym (take-append-drop room rest) ∙ ap (λ x. x ++ drop room rest) (is_old ∙ whole_split) ∙ append_assoc (element tag c) new.left (drop room rest))
+      ∙ take-append_seam (element tag c) (new.left ++ drop room rest) in
+      record {
+        is_element = record { tag = tag; contents = c; is_tag = h.is_tag; is = taken; allowed = h.is_tag };
+        split = whole_split ∙ ap (λ x. x ++ new.left) (sym taken);
+        beyond = t.beyond ∙ h.beyond;
+        end = t.end ∙ h.end;
+        headers = t.headers ∙ h.headers;
+        refused = t.refused ∙ h.refused;
+      }
 
 pub opened : (tag : ℕ) {old mid new : Position} {found n outer : ℕ} → TookHeader old mid found n → Opened mid new n outer → found ≡ tag → OpenedElement tag old new outer
 opened tag {old} {mid} {new} {found} {n} {outer} h o e =

@@ -1,6 +1,6 @@
 -- What a reader's calls leave, and the reading of one element.
 use Rattle.std.specs.Prelude.{◌≡◌, ◌≢◌, ℕ, ◌+◌, ◌-◌, ◌≤◌, false, true, List, [], ◌++◌, length, Result, MatchResult, take, drop}
-use Rattle.asn1_core_element.specs.Element.{head, element, IsTagByte, HasNoFront}
+use Rattle.asn1_core_element.specs.Element.{head, element, IsElement, IsTagByte, HasNoFront}
 use Rattle.asn1_core_element.specs.Position.{Position}
 use Rattle.asn1_core_element.specs.declared.error.Error.{Error}
 use Rattle.asn1_core_element.specs.declared.error.Error.TheVariants.{TooLong, Memory}
@@ -34,6 +34,18 @@ pub record TookContents (old new : Position) (n : ℕ) (contents : List ℕ) : T
   pub end : new.end ≡ old.end
   pub headers : new.headers ≡ old.headers
   pub refused : new.refused ≡ old.refused
+
+-- an element was taken off the front, and these are its bytes
+pub record TookWholeElement (old new : Position) (bytes : List ℕ) : Type 0 where
+  pub is_element : IsElement IsTagByte bytes
+  pub split : old.left ≡ bytes ++ new.left
+  pub beyond : new.beyond ≡ old.beyond
+  pub end : new.end ≡ old.end
+  pub headers : new.headers ≡ old.headers + 1
+  pub refused : new.refused ≡ false
+
+abbrev pub WholeElementGives : {T : Type 0} → (T → List ℕ) → Position → Position → Result T Error → Type 0
+WholeElementGives bytes old new r = MatchResult r (λ b. TookWholeElement old new (bytes b)) (λ e. RefusedHeader old new e)
 
 -- the first n bytes are the open contents
 pub record Opened (old new : Position) (n outer : ℕ) : Type 0 where

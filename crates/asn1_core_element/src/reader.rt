@@ -1,7 +1,7 @@
 //! A reader, which goes over the elements of an input.
 
 ghost use Rattle.std.specs.Prelude.{◌≡◌, ◌+◌, ◌≤◌, ◌<◌, [], ◌++◌, length, take, drop, false, true, slice_get};
-ghost use Rattle.asn1_core_element.specs.Reading.{HeaderGives, TookContents, Opened, EndGives};
+ghost use Rattle.asn1_core_element.specs.Reading.{HeaderGives, TookContents, WholeElementGives, Opened, EndGives};
 
 use crate::error::Error;
 use crate::front::front;
@@ -91,6 +91,18 @@ impl<'a> Reader<'a> {
         self.rest = rest;
         self.room -= len;
         contents
+    }
+
+    /// Takes an element, whatever it is, and answers all of its bytes.
+    pub fn whole_element(&mut self) -> Result<&'a [u8], Error>
+        requires { self.old.refused ≡ false }
+        ensures { WholeElementGives (λ b. b.now) self.old self.new result }
+    {
+        let bytes = self.rest;
+        let left = self.room;
+        let (_tag, len) = self.header()?;
+        self.contents(len);
+        Ok(&bytes[..left - self.room])
     }
 
     /// Goes into the next bytes, and answers where the contents end that were open before.
