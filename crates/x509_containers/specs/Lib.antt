@@ -1,1 +1,6 @@
+pub mod AlgorithmKinds
+pub mod AuthenticodeKinds
+pub mod ContentKinds
+pub mod StoreKinds
+pub mod TrustListKinds
 pub mod Kinds
