@@ -14,8 +14,8 @@ pub mod seen;
 
 pub use asn1_core_element::{Error, Reader};
 pub use asn1_core_format::laws::{
-    limits_agree, nested_lists_are_lawful, no_accepted_input_begins_another,
-    normal_texts_stay_normal, rewriting_reaches_an_end,
+    limits_agree, no_accepted_input_begins_another, normal_texts_stay_normal,
+    rewriting_reaches_an_end,
 };
 pub use asn1_core_format::{
     DerDeserialize, DerSerialize, DerTagged, EqualByText, MAX_NESTING, TryClone, Viewed,

@@ -15,7 +15,7 @@ pub record Format (V : Type 0) : Type 1 where
   pub Reads : ℕ → List ℕ → V → Type 0
   -- the normal grammar, over bytes alone
   pub IsNormal : ℕ → List ℕ → Type 0
-  -- the value that is read from the text
+  -- what the text of a well-formed value is read as
   pub normal : V → V
   -- the first tags: the bytes that texts begin with
   pub IsTag : ℕ → Type 0

@@ -18,6 +18,5 @@ pub mod Levels
 pub mod LevelLaws
 pub mod Rolled
 pub mod Same
-pub mod Boxes
 pub mod Views
 pub mod Numbers

@@ -4,11 +4,12 @@ use Rattle.std.proofs.Common.{refl, sym, ap, ◌∙◌, subst}
 use Rattle.asn1_core_format.specs.Format.{Format, IsLawfulRow, IsLawful}
 
 -- The values V of what P spells as A: `read` says what a spelling stands for, `written` how a value is spelled,
--- IsProper which values are spelled so that they are read again, and IsWritten, over bytes alone, which texts are
--- spelled as `written` spells.
+-- `normal` what it is read again as, IsProper which values are so read, and IsWritten, over bytes alone, which texts
+-- are spelled as `written` spells.
 pub record Loosening (A V : Type 0) : Type 1 where
   pub read : A → V
   pub written : V → A
+  pub normal : V → V
   pub IsProper : V → Type 0
   pub IsWritten : List ℕ → Type 0
   pub least : V → ℕ
@@ -18,6 +19,7 @@ pub record IsLoosening {A V : Type 0} (P : Format A) (L : Loosening A V) : Type 
   pub kept : (k : ℕ) (a : A) → P.IsWellFormed k a → P.IsWellFormed k (L.written (L.read a))
   pub chosen : (k : ℕ) (b : List ℕ) (a : A) → P.Reads k b a → (L.IsWritten b ↔ (L.written (L.read a) ≡ a))
   pub settled : (k : ℕ) (v : V) → P.IsWellFormed k (L.written v) → L.IsProper v → L.written (L.read (P.normal (L.written v))) ≡ P.normal (L.written v)
+  pub reread : (k : ℕ) (v : V) → P.IsWellFormed k (L.written v) → L.IsProper v → L.read (P.normal (L.written v)) ≡ L.normal v
   -- no spelling of a value has fewer elements than its least, and one has so many
   pub fewer : (a : A) → L.least (L.read a) ≤ P.least a
   pub reached : (k : ℕ) (v : V) → P.IsWellFormed k (L.written v) → L.IsProper v → (a : A) × P.IsWellFormed k a × (L.read a ≡ v) × (P.least a ≡ L.least v)
@@ -28,7 +30,7 @@ loosened {A} {V} P L = record {
   IsWellFormed = λ k v. P.IsWellFormed k (L.written v) × L.IsProper v;
   Reads = λ k b v. (a : A) × P.Reads k b a × (L.read a ≡ v);
   IsNormal = λ k b. P.IsNormal k b × L.IsWritten b;
-  normal = λ v. L.read (P.normal (L.written v));
+  normal = L.normal;
   IsTag = P.IsTag;
   least = L.least;
 }
@@ -57,7 +59,7 @@ module _ {A V : Type 0} (P : Format A) (p : IsLawfulRow P) (L : Loosening A V) (
   lawful_loosened_row = record {
     begins = λ k b v h. p.begins k b h.0 h.1;
     one_value = λ k b v w h i. sym h.2 ∙ ap L.read (p.one_value k b h.0 i.0 h.1 i.1) ∙ i.2;
-    text_reads = λ k v h. (P.normal (L.written v), p.text_reads k (L.written v) h.0, refl);
+    text_reads = λ k v h. (P.normal (L.written v), p.text_reads k (L.written v) h.0, l.reread k v h.0 h.1);
     text_normal = λ k v h. (p.text_normal k (L.written v) h.0, text_is_written k v h.0 h.1);
     normal_reads = λ k b n. let a = p.normal_reads k b n.0 in (L.read a.0, (a.0, a.1, refl));
     fixed = loosened_fixed;

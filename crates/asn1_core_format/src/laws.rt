@@ -1,8 +1,6 @@
 //! What holds of every type that reads and writes.
 
 ghost use Rattle.std.specs.Prelude.{◌≡◌, ◌+◌, ◌≤◌, ℕ, List, [], ◌++◌};
-ghost use Rattle.asn1_core_format.specs.Boxes.{box, lawful_box};
-ghost use Rattle.asn1_core_format.specs.Format.{IsLawful};
 ghost use Rattle.asn1_core_format.specs.Laws.{IsSameAt};
 
 use crate::traits::DerDeserialize;
@@ -28,9 +26,4 @@ pub fn normal_texts_stay_normal<T: DerDeserialize>()
 /// exactly where it is normal at that limit.
 pub fn limits_agree<T: DerDeserialize>()
     ensures { (k j : ℕ) (b : List ℕ) (v : T.Value) → k ≤ j → T.format.Reads k b v → IsSameAt T.format k j b v }
-{}
-
-/// The least type that holds itself keeps the laws. Each of its nestings takes a level.
-pub fn nested_lists_are_lawful()
-    ensures { IsLawful box }
 {}

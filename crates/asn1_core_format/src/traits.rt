@@ -51,8 +51,8 @@ pub trait DerSerialize {
         }
     }
 
-    /// Appends the text. Asks for memory once at most, and not where there is room. A refusal leaves the buffer's
-    /// contents as they were.
+    /// Appends the text, without a refusal where there is room for it. A refusal leaves the buffer's contents as they
+    /// were. It is made to ask for memory once at most; no clause says so.
     final fn write(&self, alloc: Global, out: &mut Vec<u8>) -> Result<(), Error>
         ensures text { Writes (format.text (value self.now)) out.old.items (vec_capacity out.old) out.new.items result }
         ensures capacity { vec_capacity out.old ≤ vec_capacity out.new }

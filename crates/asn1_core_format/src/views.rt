@@ -20,7 +20,7 @@ pub trait Viewed: PartialEq {
 }
 
 /// A type with a text whose `==` is equality of the values that texts are of. So `==` and clones can't keep less than
-/// the text says.
+/// the text says. No trait that reads or writes asks for it.
 pub trait EqualByText: DerSerialize + PartialEq {
     ghost equal_by_text: { SeesEqual Self.PartialEq.eq Self.DerSerialize.value };
 }

@@ -7,7 +7,7 @@ ghost use Rattle.asn1_core_writers.specs.Writers.{Filling, FillingTakes, filling
 use crate::writer::{WriteError, Writer};
 use std::marker::Model;
 
-/// A buffer that is filled from its end.
+/// A buffer that is filled from its end. After a refusal nothing is promised of what it holds, nor where it stands.
 #[derive(Drop)]
 pub struct Backward {
     out: Vec<u8>,

@@ -7,7 +7,7 @@ ghost use Rattle.asn1_core_writers.specs.Comparing.{Comparison, ComparesTo, IsBe
 use crate::writer::{WriteError, Writer};
 use std::marker::Model;
 
-/// Holds an input against what it takes, from the end of both.
+/// Holds an input against what it takes, from the end of both. After a refusal nothing is promised of where it stands.
 #[derive(Drop)]
 pub struct Compare<'a> {
     /// What stands in the input before the bytes that were taken; `None` once these are no end of the input.

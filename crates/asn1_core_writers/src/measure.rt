@@ -6,7 +6,7 @@ ghost use Rattle.asn1_core_writers.specs.Writers.{MeasureTakes, measure_backward
 
 use crate::writer::{WriteError, Writer};
 
-/// Counts what it takes.
+/// Counts what it takes. After a refusal nothing is promised of its count.
 #[derive(Drop)]
 pub struct Measure {
     total: usize,

@@ -18,7 +18,7 @@ pub enum WriteError {
 }
 
 /// What takes a text piece by piece: each piece behind those that it took, or, where it takes texts from their end,
-/// before them.
+/// before them. A sink that refuses has taken a beginning; of where the others stand then, nothing is promised.
 pub trait Writer {
     /// The text, the writer before and after, and the answer: what taking a text comes to.
     ghost Takes: { List ℕ → Self → Self → Result (Unit {0}) WriteError → Type 0 };

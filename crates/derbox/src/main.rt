@@ -1,12 +1,13 @@
 //! `derbox check KIND` says of DER on standard input whether it is normal; `derbox rewrite KIND` writes it anew.
 #![tactic(auto)]
 
+use std::env;
 use std::process::ExitCode;
 use x509_containers::{StdSink, StdSource};
 use x509_containers_program::{answer_words, words_of};
 
 fn main(rt: HostRuntime) -> ExitCode {
-    let words = words_of(&rt, rt.alloc());
+    let words = words_of(env::args(&rt), rt.alloc());
     let mut source = StdSource::new(rt.stdin());
     let mut output = StdSink::new(rt.stdout());
     let mut complaints = StdSink::new(rt.stderr());

@@ -121,6 +121,7 @@ behind_loosening = record {
   kept = null_loosening.kept;
   chosen = behind_chosen;
   settled = null_loosening.settled;
+  reread = null_loosening.reread;
   fewer = λ a. omega arith;
   reached = λ k v h i. let x = null_loosening.reached k v h i in (x.0, x.1, x.2, omega (arith, x.3));
 }

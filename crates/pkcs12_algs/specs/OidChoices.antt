@@ -40,6 +40,7 @@ abbrev pub null_behind : Loosening AlgorithmValue AlgorithmValue
 null_behind = record {
   read = λ a. a;
   written = null_written.written;
+  normal = null_written.normal;
   IsProper = λ _. Unit {0};
   IsWritten = HasParametersBehind;
   least = algorithm_parts.least;

@@ -62,6 +62,7 @@ flags_loosening = record {
   kept = flags_kept;
   chosen = flags_chosen;
   settled = λ k v h i. refl;
+  reread = λ k v h i. refl;
   fewer = flags_fewer;
   reached = λ k v h i. flags_reached (bytes_eq v.0 default_flags) k v refl h;
 }

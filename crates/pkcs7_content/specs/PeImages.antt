@@ -38,6 +38,7 @@ abbrev pub flags_written : Loosening (Option (List ℕ) × (LinkValue × Unit {0
 flags_written = record {
   read = λ a. (flags_or_default a.0, a.1);
   written = λ v. (Some v.0, v.1);
+  normal = λ v. (v.0, file_row.normal v.1);
   IsProper = λ _. Unit {0};
   IsWritten = HasFlags;
   least = λ v. 1 + (least_unless (bytes_eq v.0 default_flags) 1 + file_row.least v.1);

@@ -6,7 +6,7 @@ use Rattle.asn1_core_format.specs.Format.{IsLawful}
 use Rattle.asn1_core_format.specs.Loosened.{IsLoosening, lawful_loosened}
 use Rattle.asn1_core_oid.specs.Oid.{IsOid}
 use Rattle.x509_base.specs.Algorithms.{AlgorithmValue, algorithm_identifier, null, null_written}
-use Rattle.x509_base.specs.AlgorithmLaws.{lawful_algorithm_identifier, null_is_element, parts_of, same_parts, some_parameters, element_is_some, or_null_formed}
+use Rattle.x509_base.specs.AlgorithmLaws.{lawful_algorithm_identifier, null_is_element, parts_of, same_parts, some_parameters, element_is_some, or_null_formed, null_reread}
 use Rattle.x509_base.specs.AlgorithmChoices.{Table, IsTable, arm_read, HasArmParameters, arm_written, algorithm_choice}
 
 some_same : {A : Type 0} {x y : A} → Some x ≡ Some y → x ≡ y
@@ -76,12 +76,19 @@ module _ {A : Type 0} (T : Table A) (t : IsTable T) where
   settled (inr v) h =
       ap (λ r. (arm_written T).written (arm_read r (algorithm_identifier.normal (null_written.written v)))) h ∙ unknown_settled v.0 v.1.0
 
+  -- a known arm reads as itself, and so does an unknown one, with its parameters
+  reread_at : (v : A ⊎ AlgorithmValue) → (arm_written T).IsProper v → (arm_written T).read (algorithm_identifier.normal ((arm_written T).written v)) ≡ (arm_written T).normal v
+  reread_at (inl a) h = ap (λ r. arm_read r (T.oid_of a, (Some null, tt))) (t.there a)
+  reread_at (inr v) h =
+      ap (λ r. arm_read r (algorithm_identifier.normal (null_written.written v))) h ∙ ap (arm_read None) (null_reread v.0 v.1.0)
+
   pub arm_loosening : IsLoosening algorithm_identifier (arm_written T)
   arm_loosening = record {
     proper = λ v. proper_at (T.arm_of v.0) v refl;
     kept = λ k v h. kept_at k (T.arm_of v.0) v refl h;
     chosen = λ k b v s. chosen_at k b (T.arm_of v.0) v refl s;
     settled = λ k v h i. settled v i;
+    reread = λ k v h i. reread_at v i;
     fewer = λ v. fewer_at (T.arm_of v.0) v;
     reached = reached_at;
   }

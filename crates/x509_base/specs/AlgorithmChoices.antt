@@ -4,7 +4,7 @@ use Rattle.std.specs.Prelude.{◌≡◌, ◌≢◌, ◌⊎◌, ℕ, List, [], �
 use Rattle.std.proofs.Common.{inl, inr}
 use Rattle.asn1_core_element.specs.Element.{element}
 use Rattle.asn1_core_format.specs.Format.{Format}
-use Rattle.asn1_core_format.specs.Eithers.{OneOf, from_one}
+use Rattle.asn1_core_format.specs.Eithers.{OneOf, from_one, map_one}
 use Rattle.asn1_core_format.specs.Loosened.{Loosening, loosened}
 use Rattle.x509_base.specs.Algorithms.{AlgorithmValue, algorithm_identifier, null, null_written}
 
@@ -31,6 +31,7 @@ abbrev pub arm_written : {A : Type 0} → Table A → Loosening AlgorithmValue (
 arm_written T = record {
   read = λ v. arm_read (T.arm_of v.0) v;
   written = from_one (λ a. (T.oid_of a, (Some null, tt))) null_written.written;
+  normal = map_one (λ a. a) null_written.normal;
   IsProper = OneOf (λ _. Unit {0}) (λ v. T.arm_of v.0 ≡ None);
   IsWritten = HasArmParameters T;
   least = from_one (λ _. 2) algorithm_identifier.least;

@@ -61,12 +61,17 @@ null_settled : (o : List ℕ) (p : Option (List ℕ)) → null_written.written (
 null_settled o None = refl
 null_settled o (Some x) = refl
 
+pub null_reread : (o : List ℕ) (p : Option (List ℕ)) → algorithm_identifier.normal (null_written.written (o, (p, tt))) ≡ null_written.normal (o, (p, tt))
+null_reread o None = refl
+null_reread o (Some x) = refl
+
 pub null_loosening : IsLoosening algorithm_identifier null_written
 null_loosening = record {
   proper = λ a. tt;
   kept = λ k a h. (h.0, (or_null_formed k a.1.0).0 h.1);
   chosen = null_chosen;
   settled = λ k v h i. null_settled v.0 v.1.0;
+  reread = λ k v h i. null_reread v.0 v.1.0;
   fewer = λ a. omega arith;
   reached = λ k v h i. (v, (h.0, (or_null_formed k v.1.0).1 h.1), refl, refl);
 }

@@ -40,11 +40,16 @@ or_null (Some p) = Some p
 abbrev pub HasParameters : List ℕ → Type 0
 HasParameters b = (o : List ℕ) × (p : List ℕ) × (b ≡ element 0x30 (element 0x06 o ++ p)) × (p ≢ [])
 
+-- with NULL for absent parameters
+abbrev pub with_null : AlgorithmValue → AlgorithmValue
+with_null v = (v.0, (or_null v.1.0, tt))
+
 -- absent parameters are read as absent, and written as NULL: old producers leave them out
 abbrev pub null_written : Loosening AlgorithmValue AlgorithmValue
 null_written = record {
   read = λ a. a;
-  written = λ v. (v.0, (or_null v.1.0, tt));
+  written = with_null;
+  normal = with_null;
   IsProper = λ _. Unit {0};
   IsWritten = HasParameters;
   least = algorithm_identifier.least;

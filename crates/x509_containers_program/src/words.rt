@@ -1,15 +1,16 @@
 //! What the words of a command line ask for.
 
-ghost use Rattle.std.specs.Prelude.{◌≡◌, ◌≢◌, ◌↔◌, map, string_bytes, MatchOption};
+ghost use Rattle.std.specs.Prelude.{◌≡◌, ◌≢◌, ◌↔◌, map, string_bytes, IfOk, MatchOption};
 ghost use Rattle.std.specs.IoError.{error_kind};
+ghost use Rattle.std.specs.Vec.Iter.{into_iter_items};
 ghost use Rattle.std.specs.declared.io.ErrorKind.TheVariants.{OutOfMemory};
 ghost use Rattle.x509_containers.specs.Kinds.{word_of};
 ghost use Rattle.x509_containers_engine.specs.Modes.{word_of_mode};
-ghost use Rattle.x509_containers_program.specs.Words.{Asks};
+ghost use Rattle.x509_containers_program.specs.Words.{Asks, GivesWords};
 ghost use Rattle.x509_containers_program.specs.declared.words.WordsError.TheVariants.{Memory};
 
 use std::alloc::{AllocError, Global};
-use std::env::{self, Env};
+use std::env::Args;
 use std::io::{self, ErrorKind};
 use thiserror::Error;
 use x509_containers::{Kind, Mode};
@@ -44,10 +45,18 @@ impl From<AllocError> for WordsError {
     }
 }
 
-/// The words of the command line, the program's name first.
-pub fn words_of<E: Env>(env: &E, alloc: Global) -> Result<Vec<String>, WordsError> {
-    let words = env::args(&(env, alloc))?;
-    Ok(words.collect(alloc)?)
+/// The words in their order.
+fn collected(words: Args, alloc: Global) -> Result<Vec<String>, AllocError>
+    ensures { IfOk result (λ v. v.items ≡ into_iter_items words) }
+{
+    words.collect(alloc)
+}
+
+/// The words of the command line, the program's name first, as `env::args` gives them.
+pub fn words_of(given: io::Result<Args>, alloc: Global) -> Result<Vec<String>, WordsError>
+    ensures { GivesWords into_iter_items (λ v. v.items) given result }
+{
+    Ok(collected(given?, alloc)?)
 }
 
 /// What is asked for by two words.

@@ -11,13 +11,13 @@ use Rattle.x509_pkcs12_parts.specs.ContentsLaws.{lawful_encrypted_contents}
 use Rattle.x509_pkcs12_parts.specs.Oids.{data_oid, encrypted_data_oid}
 use Rattle.x509_pkcs12_parts.specs.OidsLaws.{data_oid_valid, encrypted_data_oid_valid}
 use Rattle.x509_pkcs12.specs.Contents.{data_content, encrypted_content, any_content, unknown_content, encrypted_or_unknown, content_choice, content_info}
-use Rattle.x509_pkcs12.specs.Versions.{lawful_version}
+use Rattle.x509_pkcs12.specs.Versions.{lawful_version_0}
 
 pub lawful_data_content : {V : Type 0} (F : Format V) → IsLawful F → IsLawful (data_content F)
 lawful_data_content F f = lawful_within (within 0x04 F) (lawful_within F f.row 0x04 (omega arith)).row 0xA0 (omega arith)
 
 lawful_encrypted_content : IsLawful encrypted_content
-lawful_encrypted_content = lawful_within _ (lawful_sequence (followed_by (lawful_version 0) (followed_by lawful_encrypted_contents lawful_nothing))).row 0xA0 (omega arith)
+lawful_encrypted_content = lawful_within _ (lawful_sequence (followed_by lawful_version_0 (followed_by lawful_encrypted_contents lawful_nothing))).row 0xA0 (omega arith)
 
 pub lawful_any_content : IsLawfulRow any_content
 lawful_any_content = perhaps (lawful_within raw lawful_raw.row 0xA0 (omega arith)) (λ t h e. e) lawful_nothing

@@ -3,7 +3,7 @@ use Rattle.std.specs.Prelude.{ℕ, Option}
 use Rattle.asn1_core.specs.Der.{Format, IsLawful, sequence, part, optional, nothing, followed_by, perhaps, lawful_nothing, lawful_sequence}
 use Rattle.pkcs12_algs.specs.Digests.{MacValue, mac_data, lawful_mac_data}
 use Rattle.x509_pkcs12.specs.AuthSafes.{AuthSafeValue, auth_safe, lawful_auth_safe}
-use Rattle.x509_pkcs12.specs.Versions.{version, lawful_version}
+use Rattle.x509_pkcs12.specs.Versions.{version, lawful_version_3}
 
 -- the version, what is authenticated, and the MAC
 abbrev pub PfxValue : Type 0 → Type 0
@@ -13,4 +13,4 @@ abbrev pub pfx : {V : Type 0} → Format V → Format (PfxValue V)
 pfx F = sequence (part (version 3) (part (auth_safe F) (optional mac_data nothing)))
 
 pub lawful_pfx : {V : Type 0} (F : Format V) → IsLawful F → IsLawful (pfx F)
-lawful_pfx F f = lawful_sequence (followed_by (lawful_version 3) (followed_by (lawful_auth_safe F f) (perhaps lawful_mac_data (λ t h e. e) lawful_nothing)))
+lawful_pfx F f = lawful_sequence (followed_by lawful_version_3 (followed_by (lawful_auth_safe F f) (perhaps lawful_mac_data (λ t h e. e) lawful_nothing)))

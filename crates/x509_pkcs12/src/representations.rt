@@ -39,8 +39,8 @@ pub trait AuthenticatedSafeDataRepr: DerDeserialize + Sized {
         ReprRef::<Self>(repr).encoded_len()
     }
 
-    /// Appends the text of `from_repr(repr)`. Asks for memory once at most, and not where there is room. A refusal
-    /// leaves the buffer's contents as they were.
+    /// Appends the text of `from_repr(repr)`, without a refusal where there is room for it. A refusal leaves the
+    /// buffer's contents as they were. It is made to ask for memory once at most; no clause says so.
     final fn write_repr(alloc: Global, repr: &Self::Repr, out: &mut Vec<u8>) -> Result<(), Error>
         ensures text { Writes (Self.format.text (Self.value (from repr.now))) out.old.items (vec_capacity out.old) out.new.items result }
         ensures capacity { vec_capacity out.old ≤ vec_capacity out.new }

@@ -1,7 +1,7 @@
 //! Versions.
 
 ghost use Rattle.std.specs.Prelude.{ℕ};
-ghost use Rattle.x509_pkcs12.specs.Versions.{only, version, lawful_version};
+ghost use Rattle.x509_pkcs12.specs.Versions.{only, version, lawful_version_0, lawful_version_3};
 
 use asn1_core::{DerDeserialize, DerSerialize, Error, Reader};
 use asn1_core_format::{Leaf, read_leaf};
@@ -46,10 +46,18 @@ impl<const N: u8> DerSerialize for FixedVersion<N> {
     }
 }
 
-impl<const N: u8> DerDeserialize for FixedVersion<N> {
+impl DerDeserialize for FixedVersion<0> {
     fn read(alloc: Global, r: &mut Reader<'_>, nest: u8) -> Result<Self, Error> {
         read_leaf(alloc, r, nest, 0x02)
     }
 
-    ghost lawful = { lawful_version N };
+    ghost lawful = { lawful_version_0 };
+}
+
+impl DerDeserialize for FixedVersion<3> {
+    fn read(alloc: Global, r: &mut Reader<'_>, nest: u8) -> Result<Self, Error> {
+        read_leaf(alloc, r, nest, 0x02)
+    }
+
+    ghost lawful = { lawful_version_3 };
 }

@@ -259,6 +259,10 @@ fn read_bags(alloc: Global, r: &mut Reader<'_>, nest: u8) -> Result<Vec<SafeBag>
     ensures { GivesRow (λ v. map bag_value v.items) (each safe_bag) nest r.old r.new result }
 {
     let mut bags = Vec::new(alloc);
+    // as a list does: a vector that grows by itself begins with room for more
+    if r.left() > 0 {
+        bags.reserve_exact(1)?;
+    }
     'bags: while r.left() > 0 {
         let bag = read_bag(alloc, r, nest)?;
         bags.push(bag)?;
