@@ -1,4 +1,4 @@
-//! Parts, tags, choices and whole inputs.
+//! Parts, tags, choices and levels of nesting.
 
 use asn1_core::{
     Asn1SequenceOf, ExplicitContextTag0, ExplicitContextTag1, OctetStringAsn1, limits_agree,
@@ -10,12 +10,12 @@ use asn1_core_format::tagged::context_tag_of;
 use asn1_core_format::views::is_same;
 use asn1_core_format::{
     Alone, DerDeserialize, DerSerialize, DerTagged, Either, End, FirstTags, Leaf, Less,
-    MAX_NESTING, Maybe, Part, TryClone, WriteRow, from_bytes, from_bytes_counted,
-    from_bytes_limited, put_both, put_within, read_leaf, read_leaf_contents, read_retagged,
-    read_row_contents, read_within,
+    MAX_NESTING, Maybe, Part, TryClone, WriteRow, from_bytes, from_bytes_limited, put_both,
+    put_within, read_leaf, read_leaf_contents, read_retagged, read_row_contents, read_within,
 };
 use asn1_core_streams::StdSink;
 use asn1_core_writers::{Backward, Measure};
+use asn1_leaves::{GeneralizedTimeAsn1, UTCTimeAsn1};
 use std::alloc::Global;
 use std::process::Abort;
 use std::test::Fail;
@@ -39,7 +39,7 @@ fn is_sequence_of<R: WriteRow>(
 }
 
 #[test]
-fn lists_fill_a_sequence(rt: HostRuntime) -> Result<(), Fail> {
+fn rows_fill_a_sequence(rt: HostRuntime) -> Result<(), Fail> {
     let bytes = [0x30, 0x07, 0x02, 0x01, 0x07, 0x02, 0x02, 0x00, 0x80];
     let mut r = Reader::new(&bytes);
     let items: Vec<u8> = read_within(rt.alloc(), &mut r, MAX_NESTING, 0x30)?;
@@ -51,11 +51,6 @@ fn lists_fill_a_sequence(rt: HostRuntime) -> Result<(), Fail> {
     let mut inside = Reader::new(&bytes[2..]);
     let again: Vec<u8> = read_row_contents(rt.alloc(), &mut inside, MAX_NESTING, 0x30)?;
     assert!(rt; is_same(&again, &items));
-    Ok(())
-}
-
-#[test]
-fn parts_may_be_absent(rt: HostRuntime) -> Result<(), Fail> {
     for (text, last) in [
         (
             &[0x30, 0x06, 0x02, 0x01, 0x01, 0x02, 0x01, 0x02][..],
@@ -74,11 +69,6 @@ fn parts_may_be_absent(rt: HostRuntime) -> Result<(), Fail> {
         assert_eq!(rt; (first, second), (1, last), "{text:?}");
         assert_eq!(rt; second.try_clone(rt.alloc())?, last, "{text:?}");
     }
-    Ok(())
-}
-
-#[test]
-fn rows_stand_side_by_side(rt: HostRuntime) -> Result<(), Fail> {
     let mut sink = StdSink::new(Vec::new(rt.alloc()));
     put_both(&Part(1u8, End), &Alone(2u32), &mut sink)?;
     let expected = [0x02, 0x01, 0x01, 0x02, 0x01, 0x02];
@@ -105,24 +95,22 @@ fn tags_stand_in_place_of_others(rt: HostRuntime) -> Result<(), Fail> {
     let Alone(inner) = read_within::<Alone<u8>>(rt.alloc(), &mut r, MAX_NESTING, 0xA1)?;
     assert_eq!(rt; inner, 5);
     assert_eq!(rt; context_tag_of::<Asn1SequenceOf<u8>>(3), 0xA3);
-    Ok(())
-}
-
-#[test]
-fn leaves_are_spelled_in_contents(rt: HostRuntime) -> Result<(), Fail> {
+    // the contents of a leaf by themselves
     assert_eq!(rt; <u8 as Leaf>::from_contents(rt.alloc(), &[0x05])?, 5);
-    let text = [0x02, 0x01, 0x05];
-    let leaf: u8 = read_leaf(rt.alloc(), &mut Reader::new(&text), MAX_NESTING, 0x02)?;
+    let five = [0x02, 0x01, 0x05];
+    let leaf: u8 = read_leaf(rt.alloc(), &mut Reader::new(&five), MAX_NESTING, 0x02)?;
     assert_eq!(rt; leaf, 5);
-    let mut contents = Reader::new(&text[2..]);
+    let mut contents = Reader::new(&five[2..]);
     let again: u8 = read_leaf_contents(rt.alloc(), &mut contents, MAX_NESTING, 0x02)?;
     assert_eq!(rt; again, 5);
-    let mut open = Reader::new(&text[2..]);
+    let mut open = Reader::new(&five[2..]);
     assert_eq!(rt; u32::read_contents(rt.alloc(), &mut open, MAX_NESTING)?, 5);
     Ok(())
 }
 
 type Choice = Either<ExplicitContextTag0<u8>, ExplicitContextTag1<OctetStringAsn1>>;
+
+type Times = Either<UTCTimeAsn1, GeneralizedTimeAsn1>;
 
 #[test]
 fn choices_are_told_apart_by_tags(rt: HostRuntime) -> Result<(), Fail> {
@@ -148,95 +136,14 @@ fn choices_are_told_apart_by_tags(rt: HostRuntime) -> Result<(), Fail> {
     );
     assert!(rt; next_is::<Choice>(&Reader::new(&octets)));
     assert!(rt; !next_is::<Choice>(&Reader::new(&[])));
-    Ok(())
-}
-
-#[test]
-fn inputs_are_read_whole(rt: HostRuntime) {
-    let five = from_bytes_counted::<u8>(rt.alloc(), &[0x02, 0x01, 0x05]);
-    assert_eq!(rt; five, (Ok(5), 1));
-    let trailing = from_bytes_counted::<u8>(rt.alloc(), &[0x02, 0x01, 0x05, 0x00]);
-    assert_eq!(rt; trailing, (Err(Error::Malformed), 1));
-    let empty = from_bytes_counted::<u8>(rt.alloc(), &[]);
-    assert_eq!(rt; empty, (Err(Error::Missing), 1));
-}
-
-/// Each header counts that is begun: the one of the list, and those of its items and of what is in them.
-#[test]
-fn refusals_count_headers(rt: HostRuntime) {
-    let refused: [(&[u8], Error, usize); 7] = [
-        (&[0x30, 0x03, 0xA1, 0x01, 0x02], Error::Malformed, 3),
-        (&[0x30, 0x02, 0xA1, 0x00], Error::Missing, 3),
-        (
-            &[0x30, 0x07, 0xA1, 0x03, 0x02, 0x01, 0x05, 0x05, 0x00],
-            Error::Invalid,
-            4,
-        ),
-        (
-            &[0x30, 0x07, 0xA1, 0x03, 0x02, 0x01, 0x05, 0xA1, 0x01],
-            Error::Malformed,
-            4,
-        ),
-        (
-            &[
-                0x30, 0x0A, 0xA1, 0x03, 0x02, 0x01, 0x05, 0xA1, 0x03, 0x02, 0x01, 0x80,
-            ],
-            Error::Invalid,
-            5,
-        ),
-        (
-            &[
-                0x30, 0x0A, 0xA1, 0x03, 0x02, 0x01, 0x05, 0xA1, 0x03, 0x02, 0x00, 0x05,
-            ],
-            Error::Invalid,
-            5,
-        ),
-        (
-            &[0x30, 0x05, 0xA1, 0x03, 0x02, 0x01, 0x05, 0x00],
-            Error::Malformed,
-            3,
-        ),
-    ];
-    for (text, why, count) in refused {
-        let (outcome, headers) = from_bytes_counted::<Asn1SequenceOf<ExplicitContextTag1<u8>>>(
-            rt.alloc(),
-            text,
-        );
-        assert_eq!(rt; outcome.err(), Some(why), "{text:?}");
-        assert_eq!(rt; headers, count, "{text:?}");
-    }
-    let (outcome, headers) = from_bytes_counted::<Asn1SequenceOf<u8>>(
-        rt.alloc(),
-        &[0x30, 0x03, 0x02, 0x01, 0x05, 0x00],
-    );
-    assert_eq!(rt; (outcome.err(), headers), (Some(Error::Malformed), 2));
-}
-
-/// None of these types counts a level, so the limit makes no difference.
-#[test]
-fn limits_of_nesting(rt: HostRuntime) -> Result<(), Fail> {
-    let text = [0x30, 0x05, 0xA1, 0x03, 0x02, 0x01, 0x05];
-    let value: Asn1SequenceOf<ExplicitContextTag1<u8>> = from_bytes(rt.alloc(), &text)?;
-    for limit in [0, 63, 64] {
-        let limited: Asn1SequenceOf<ExplicitContextTag1<u8>> = from_bytes_limited(
-            rt.alloc(),
-            limit,
-            &text,
-        )?;
-        assert!(rt; limited == value, "at {limit}");
-        assert!(rt; value.well_formed_at(limit), "at {limit}");
-        let refused: Result<Asn1SequenceOf<u8>, Error> = from_bytes_limited(
-            rt.alloc(),
-            limit,
-            &text,
-        );
-        assert_eq!(rt; refused.err(), Some(Error::Invalid), "at {limit}");
-    }
-    limits_agree::<Asn1SequenceOf<u8>>();
-    no_accepted_input_begins_another::<Asn1SequenceOf<u8>>();
-    normal_texts_stay_normal::<Asn1SequenceOf<u8>>();
-    rewriting_reaches_an_end::<Asn1SequenceOf<u8>>();
-    Ok(())
+    let utc = b"\x17\x0D210420065224Z";
+    let time: Times = from_bytes(rt.alloc(), utc)?;
+    assert!(rt; matches!(&time, Either::First(_)));
+    is_written(rt.alloc(), &time, utc)?;
+    let general = b"\x18\x0F20240229235959Z";
+    let other: Times = from_bytes(rt.alloc(), general)?;
+    assert!(rt; matches!(&other, Either::Second(_)));
+    is_written(rt.alloc(), &other, general)
 }
 
 /// A type that takes a level of nesting is refused where none is left.
@@ -257,13 +164,10 @@ fn levels_of_nesting(rt: HostRuntime) -> Result<(), Fail> {
             "at {limit}"
         );
     }
-    is_written(rt.alloc(), &Less(Less(5u8)), &text)
-}
-
-#[test]
-fn readers_stand_behind_what_was_read(rt: HostRuntime) -> Result<(), Fail> {
-    let mut r = Reader::new(&[0x02, 0x01, 0x05, 0x05, 0x00]);
-    assert_eq!(rt; u8::read(rt.alloc(), &mut r, MAX_NESTING)?, 5);
-    assert_eq!(rt; (r.left(), r.peek()), (2, Some(0x05)));
+    is_written(rt.alloc(), &Less(Less(5u8)), &text)?;
+    limits_agree::<Asn1SequenceOf<u8>>();
+    no_accepted_input_begins_another::<Asn1SequenceOf<u8>>();
+    normal_texts_stay_normal::<Asn1SequenceOf<u8>>();
+    rewriting_reaches_an_end::<Asn1SequenceOf<u8>>();
     Ok(())
 }

@@ -1,48 +1,19 @@
-//! Texts past one length octet, and requests for memory.
+//! Large texts, and requests for memory.
 
-use asn1_core::{Asn1RawDer, Asn1SequenceOf, OctetStringAsn1};
+use asn1_core::{Asn1RawDer, Asn1SequenceOf};
 use asn1_core_element::Error;
 use asn1_core_format::{DerSerialize, to_vec};
 use asn1_core_streams::ReadError;
 use std::alloc::AllocError;
 use std::rc::Rc;
 use std::test::Fail;
-use vector_checks::checks::is_read;
 use vector_checks::fakes::Shared;
-
-#[test]
-fn octet_strings_of_6000_octets(rt: HostRuntime) -> Result<(), Fail> {
-    let mut text = Vec::from_slice(rt.alloc(), &[0x04, 0x82, 0x17, 0x70])?;
-    text.resize(6004, 0x5A)?;
-    let octets: OctetStringAsn1 = is_read(rt.alloc(), &text)?;
-    assert_eq!(rt; octets.0.len(), 6000);
-    let raw: Asn1RawDer = is_read(rt.alloc(), &text)?;
-    assert_eq!(rt; raw.0.as_slice(), text.as_slice());
-    Ok(())
-}
-
-#[test]
-fn lists_of_2000_items(rt: HostRuntime) -> Result<(), Fail> {
-    let mut text = Vec::from_slice(rt.alloc(), &[0x30, 0x82, 0x17, 0x70])?;
-    for _ in 0..2000 {
-        text.extend_from_slice(&[0x02, 0x01, 0x07])?;
-    }
-    let numbers: Asn1SequenceOf<u8> = is_read(rt.alloc(), &text)?;
-    assert_eq!(rt; numbers.0.len(), 2000);
-    assert!(rt; numbers.0.iter().all(|n| *n == 7));
-    Ok(())
-}
-
-#[test]
-fn memory_that_no_process_has(rt: HostRuntime) -> Result<(), Fail> {
-    let refused: Result<Vec<u8>, AllocError> = Vec::with_capacity(rt.alloc(), 1 << 47);
-    assert_eq!(rt; refused.err().map(ReadError::from), Some(ReadError::Memory));
-    Ok(())
-}
 
 /// A list whose text takes 2^47 bytes and more, which no process may have: 2^24 bytes, 2^23 times.
 #[test]
 fn a_text_that_no_process_has(rt: HostRuntime) -> Result<(), Fail> {
+    let refused: Result<Vec<u8>, AllocError> = Vec::with_capacity(rt.alloc(), 1 << 47);
+    assert_eq!(rt; refused.err().map(ReadError::from), Some(ReadError::Memory));
     let raw = Rc::new(rt.alloc(), Asn1RawDer(vec![in rt.alloc(); 0; 1 << 24]?))?;
     let mut items = Vec::with_capacity(rt.alloc(), 1 << 23)?;
     for _ in 0..1 << 23 {

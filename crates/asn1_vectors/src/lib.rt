@@ -1,18 +1,28 @@
-//! Tests of the lower layers by their public calls: elements, numbers, streams, writers and formats; and of the example of
-//! a caller's own type. Expected values are those of the standards, or of other tools.
+//! Tests of the lower layers by their public calls, which no row of an input can say: readers, writers, streams and formats
+//! by themselves, values that are built, and large ones. Expected values are those of the standards, or of other tools.
 #![tactic(auto)]
 
 #[cfg(test)]
+mod authenticode;
+#[cfg(test)]
 mod elements;
+#[cfg(test)]
+mod errors;
 #[cfg(test)]
 mod formats;
 #[cfg(test)]
 mod large;
 #[cfg(test)]
-mod numbers;
-#[cfg(test)]
-mod stamps;
+mod objects;
 #[cfg(test)]
 mod streams;
 #[cfg(test)]
+mod strings;
+#[cfg(test)]
+mod times;
+#[cfg(test)]
+mod values;
+#[cfg(test)]
 mod writers;
+#[cfg(test)]
+mod x509;

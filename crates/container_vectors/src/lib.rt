@@ -1,9 +1,6 @@
-//! Tests of digests, MACs, the raw PFX, runs and the program by their public calls. Expected values are those of the
-//! standards, or of other tools.
+//! Tests of runs over inputs, and of the program over any words, sources and sinks.
 #![tactic(auto)]
 
-#[cfg(test)]
-mod pkcs12;
 #[cfg(test)]
 mod program;
 #[cfg(test)]

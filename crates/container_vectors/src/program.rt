@@ -2,23 +2,31 @@
 
 use asn1_core::{Sink, Source, StdSink, StdSource};
 use std::alloc::{AllocError, Global};
-use std::env::{Env, FillError};
+use std::env::{self, Env, FillError};
 use std::io::{self, ErrorKind};
 use std::test::Fail;
 use vector_checks::fakes::{Narrow, Trickle};
-use vector_checks::texts::hex;
 use x509_containers::{Error, Kind, Mode, Outcome};
 use x509_containers_program::{Answer, WordsError, answer_words, words_of};
 
 /// A PFX around an empty SEQUENCE.
-const EMPTY_PFX: &str = "30 16 02 01 03 30 11 06 09 2A 86 48 86 F7 0D 01 07 01 A0 04 04 02 30 00";
+const EMPTY_PFX: &[u8] =
+    b"\x30\x16\x02\x01\x03\x30\x11\x06\x09\x2A\x86\x48\x86\xF7\x0D\x01\x07\x01\xA0\x04\x04\x02\x30\x00";
 
 /// A digest as Microsoft writes it, without parameters, and the same with NULL.
-const WITHOUT_NULL: &str =
-    "30 1F 30 07 06 05 2B 0E 03 02 1A 04 14 9B 9F 55 86 D8 5A 38 61 A2 2D 40 2F E7 89 66 9C 64 02 76 81";
+const WITHOUT_NULL: &[u8] = b"\
+    \x30\x1F\x30\x07\x06\x05\x2B\x0E\x03\x02\x1A\x04\x14\x9B\x9F\x55\x86\xD8\x5A\x38\x61\xA2\x2D\x40\
+    \x2F\xE7\x89\x66\x9C\x64\x02\x76\x81";
 
-const WITH_NULL: &str =
-    "30 21 30 09 06 05 2B 0E 03 02 1A 05 00 04 14 9B 9F 55 86 D8 5A 38 61 A2 2D 40 2F E7 89 66 9C 64 02 76 81";
+const WITH_NULL: &[u8] = b"\
+    \x30\x21\x30\x09\x06\x05\x2B\x0E\x03\x02\x1A\x05\x00\x04\x14\x9B\x9F\x55\x86\xD8\x5A\x38\x61\xA2\
+    \x2D\x40\x2F\xE7\x89\x66\x9C\x64\x02\x76\x81";
+
+/// A version, of a PFX that has no more.
+const VERSION_ALONE: &[u8] = b"\x30\x03\x02\x01\x03";
+
+/// A header of no definite length.
+const BER: &[u8] = b"\x30\x80\x00\x00";
 
 const USAGE: &str = "usage: derbox check|rewrite KIND\n";
 
@@ -47,13 +55,16 @@ impl Env for CommandLine<'_> {
     }
 }
 
+fn read_words(alloc: Global, words: &[&[u8]]) -> Result<Vec<String>, WordsError> {
+    words_of(env::args(&(CommandLine(words), alloc)), alloc)
+}
+
 /// What comes of words and an input: the exit status, what is left of the input, the output, and the complaint.
-fn answered<'a>(
+fn answered(
     alloc: Global,
-    words: &[&[u8]],
-    input: &'a [u8],
-) -> (u8, &'a [u8], Vec<u8>, Vec<u8>) {
-    let words = words_of(&CommandLine(words), alloc);
+    words: Result<Vec<String>, WordsError>,
+    input: &[u8],
+) -> (u8, &[u8], Vec<u8>, Vec<u8>) {
     let mut source = StdSource::new(input);
     let mut output = StdSink::new(Vec::new(alloc));
     let mut complaints = StdSink::new(Vec::new(alloc));
@@ -66,88 +77,65 @@ fn answered<'a>(
     )
 }
 
-#[test]
-fn texts_are_written_anew(rt: HostRuntime) -> Result<(), Fail> {
-    for (kind, input, text) in [
-        (b"rawpfx".as_slice(), EMPTY_PFX, EMPTY_PFX),
-        (b"pkcs12digestinfo", WITHOUT_NULL, WITH_NULL),
-    ] {
-        let input = hex(rt.alloc(), &[input])?;
-        let words = [b"derbox".as_slice(), b"rewrite", kind];
-        let (status, left, output, complaint) = answered(rt.alloc(), &words, &input);
-        assert_eq!(rt; status, 0, "{kind:?}");
-        assert!(rt; left.is_empty(), "{kind:?}");
-        assert_eq!(rt; output, hex(rt.alloc(), &[text])?);
-        assert!(rt; complaint.is_empty(), "{kind:?}");
-    }
-    Ok(())
-}
-
-/// Each kind of outcome with its exit status, on standard output in checking, and a refusal in rewriting on standard
+/// Each kind of outcome with its exit status: texts and lines on standard output, and a refusal in rewriting on standard
 /// error.
 #[test]
-fn lines_and_statuses(rt: HostRuntime) -> Result<(), Fail> {
+fn texts_lines_and_statuses(rt: HostRuntime) {
     for (mode, kind, input, status, output, complaint) in [
         (
             b"check".as_slice(),
             b"rawpfx".as_slice(),
             EMPTY_PFX,
             0,
-            "normal 24\n",
-            "",
+            b"normal 24\n".as_slice(),
+            b"".as_slice(),
         ),
         (
             b"check",
             b"pkcs12digestinfo",
             WITHOUT_NULL,
             3,
-            "loose 33 -> 35\n",
-            "",
+            b"loose 33 -> 35\n",
+            b"",
         ),
         (
             b"check",
             b"rawpfx",
-            "30 03 02 01 03",
+            VERSION_ALONE,
             1,
-            "refused: missing\n",
-            "",
+            b"refused: missing\n",
+            b"",
+        ),
+        (b"check", b"macdata", BER, 1, b"refused: malformed\n", b""),
+        (b"rewrite", b"rawpfx", EMPTY_PFX, 0, EMPTY_PFX, b""),
+        (
+            b"rewrite",
+            b"pkcs12digestinfo",
+            WITHOUT_NULL,
+            0,
+            WITH_NULL,
+            b"",
         ),
         (
             b"rewrite",
             b"rawpfx",
-            "30 03 02 01 03",
+            VERSION_ALONE,
             1,
-            "",
-            "refused: missing\n",
+            b"",
+            b"refused: missing\n",
         ),
-        (
-            b"check",
-            b"macdata",
-            "30 80 00 00",
-            1,
-            "refused: malformed\n",
-            "",
-        ),
-        (
-            b"rewrite",
-            b"macdata",
-            "30 80 00 00",
-            1,
-            "",
-            "refused: malformed\n",
-        ),
+        (b"rewrite", b"macdata", BER, 1, b"", b"refused: malformed\n"),
     ] {
-        let input = hex(rt.alloc(), &[input])?;
-        let words = [b"derbox".as_slice(), mode, kind];
-        let answer = answered(rt.alloc(), &words, &input);
+        let words = read_words(rt.alloc(), &[b"derbox", mode, kind]);
+        let answer = answered(rt.alloc(), words, input);
         assert_eq!(rt; answer.0, status, "{mode:?} {kind:?}");
-        assert_eq!(rt; answer.2.as_slice(), output.as_bytes());
-        assert_eq!(rt; answer.3.as_slice(), complaint.as_bytes());
+        assert!(rt; answer.1.is_empty(), "{mode:?} {kind:?}");
+        assert_eq!(rt; answer.2.as_slice(), output);
+        assert_eq!(rt; answer.3.as_slice(), complaint);
     }
-    Ok(())
 }
 
-/// Wrong words are answered before a byte is read.
+/// Wrong words, and words for which there is no memory, are answered before a byte is read.
 #[test]
 fn wrong_words(rt: HostRuntime) {
     let wrong: [&[&[u8]]; 11] = [
@@ -164,25 +152,17 @@ fn wrong_words(rt: HostRuntime) {
         &[b"derbox", b"check", b"rawpfx\xFF"],
     ];
     for words in wrong {
-        let (status, left, output, complaint) = answered(rt.alloc(), words, b"ab");
+        let known = read_words(rt.alloc(), words);
+        let (status, left, output, complaint) = answered(rt.alloc(), known, b"ab");
         assert_eq!(rt; status, 2, "{words:?}");
         assert_eq!(rt; left, b"ab".as_slice());
         assert!(rt; output.is_empty(), "{words:?}");
         assert_eq!(rt; complaint.as_slice(), USAGE.as_bytes());
     }
-}
-
-#[test]
-fn memory_for_words(rt: HostRuntime) {
-    let mut source = StdSource::new(b"ab".as_slice());
-    let mut output = StdSink::new(Vec::new(rt.alloc()));
-    let mut complaints = StdSink::new(Vec::new(rt.alloc()));
-    let words = Err(WordsError::Memory);
-    let status = answer_words(rt.alloc(), words, &mut source, &mut output, &mut complaints);
+    let (status, left, output, complaint) = answered(rt.alloc(), Err(WordsError::Memory), b"ab");
     assert_eq!(rt; status, 1);
-    assert_eq!(rt; source.into_inner(), b"ab".as_slice());
-    assert!(rt; output.into_inner().is_empty());
-    let complaint = complaints.into_inner();
+    assert_eq!(rt; left, b"ab".as_slice());
+    assert!(rt; output.is_empty());
     assert_eq!(rt; complaint.as_slice(), b"refused: no memory\n".as_slice());
 }
 
@@ -197,10 +177,9 @@ fn words_for(alloc: Global, mode: &str) -> Result<Vec<String>, AllocError> {
 /// Each of the 24 bytes takes a read, and one more says that no more are to come.
 #[test]
 fn each_read_fails_in_turn(rt: HostRuntime) -> Result<(), Fail> {
-    let input = hex(rt.alloc(), &[EMPTY_PFX])?;
     for mode in ["check", "rewrite"] {
         for reads_left in 0..=24 {
-            let mut source = Trickle::new(&input, reads_left);
+            let mut source = Trickle::new(EMPTY_PFX, reads_left);
             let mut output = StdSink::new(Vec::new(rt.alloc()));
             let mut complaints = StdSink::new(Vec::new(rt.alloc()));
             let words = Ok(words_for(rt.alloc(), mode)?);
@@ -217,10 +196,9 @@ fn each_read_fails_in_turn(rt: HostRuntime) -> Result<(), Fail> {
 
 #[test]
 fn each_write_fails_in_turn(rt: HostRuntime) -> Result<(), Fail> {
-    let input = hex(rt.alloc(), &[EMPTY_PFX])?;
-    for (mode, written) in [("check", b"normal 24\n".as_slice()), ("rewrite", &input)] {
+    for (mode, written) in [("check", b"normal 24\n".as_slice()), ("rewrite", EMPTY_PFX)] {
         for writes_left in 0..written.len() {
-            let mut source = StdSource::new(input.as_slice());
+            let mut source = StdSource::new(EMPTY_PFX);
             let mut output = Narrow::new(rt.alloc(), 1, writes_left);
             let mut complaints = StdSink::new(Vec::new(rt.alloc()));
             let words = Ok(words_for(rt.alloc(), mode)?);
@@ -256,7 +234,8 @@ fn each_write_of_a_complaint_fails_in_turn(rt: HostRuntime) -> Result<(), Fail> 
 }
 
 #[test]
-fn statuses_and_complaints(rt: HostRuntime) {
+fn statuses_and_complaints(rt: HostRuntime) -> Result<(), Fail> {
+    let kind = Kind::from_word("rawpfx").ok_or("no kind")?;
     let invalid = Outcome::Refused(Error::Invalid);
     for (mode, outcome, status, complaint) in [
         (Mode::Check, Outcome::Normal, 0, ""),
@@ -284,7 +263,6 @@ fn statuses_and_complaints(rt: HostRuntime) {
             "derbox: write failed\n",
         ),
     ] {
-        let kind = Kind::RawPfx;
         let answer = Answer::Ran {
             mode,
             kind,
@@ -297,35 +275,35 @@ fn statuses_and_complaints(rt: HostRuntime) {
     assert_eq!(rt; Answer::WrongWords.complaint(), USAGE);
     assert_eq!(rt; Answer::NoMemory.status(), 1);
     assert_eq!(rt; Answer::NoMemory.complaint(), "refused: no memory\n");
+    Ok(())
 }
 
+/// The words, each with a bar behind it.
+fn barred(alloc: Global, words: &[String]) -> Result<String, AllocError> {
+    let mut all = String::new(alloc);
+    for word in words {
+        all.push_str(word.as_str())?;
+        all.push('|')?;
+    }
+    Ok(all)
+}
+
+/// Words are read whole, empty ones and none at all too.
 #[test]
-fn words_are_read_whole(rt: HostRuntime) -> Result<(), Fail> {
-    let words = words_of(
-        &CommandLine(&[b"derbox", b"", b"check", b"\xC3\xA9"]),
-        rt.alloc(),
-    )?;
-    assert_eq!(rt; words.len(), 4);
-    assert_eq!(rt; words.last().map(|word| word.as_str()), Some("\u{E9}"));
-    let not_utf8 = words_of(&CommandLine(&[b"derbox", b"\xC3\x28"]), rt.alloc());
+fn words_of_a_command_line(rt: HostRuntime) -> Result<(), Fail> {
+    let none = read_words(rt.alloc(), &[])?;
+    assert!(rt; none.is_empty());
+    let words = read_words(rt.alloc(), &[b"derbox", b"", b"check", b"\xC3\xA9"])?;
+    let all = barred(rt.alloc(), &words)?;
+    assert_eq!(rt; all.as_str(), "derbox||check|\u{E9}|");
+    let not_utf8 = read_words(rt.alloc(), &[b"derbox", b"\xC3\x28"]);
     assert_eq!(rt; not_utf8.err(), Some(WordsError::NotUtf8));
-    Ok(())
-}
-
-#[test]
-fn a_command_line_of_no_words(rt: HostRuntime) -> Result<(), Fail> {
-    let words = words_of(&CommandLine(&[]), rt.alloc())?;
-    assert!(rt; words.is_empty());
-    Ok(())
-}
-
-#[test]
-fn errors_of_words(rt: HostRuntime) -> Result<(), Fail> {
-    let memory = WordsError::from(io::Error::from(ErrorKind::OutOfMemory));
-    assert_eq!(rt; memory, WordsError::Memory);
-    let not_utf8 = WordsError::from(io::Error::from(ErrorKind::InvalidData));
-    assert_eq!(rt; not_utf8, WordsError::NotUtf8);
-    let text = format!(in rt.alloc(); "{memory}, {not_utf8}")?;
-    assert_eq!(rt; text.as_str(), "no memory, not UTF-8");
+    for (kind, error, text) in [
+        (ErrorKind::OutOfMemory, WordsError::Memory, "no memory"),
+        (ErrorKind::InvalidData, WordsError::NotUtf8, "not UTF-8"),
+    ] {
+        assert_eq!(rt; WordsError::from(io::Error::from(kind)), error);
+        assert_eq!(rt; format!(in rt.alloc(); "{error}")?.as_str(), text);
+    }
     Ok(())
 }

@@ -1,61 +1,69 @@
 //! Trust lists, their entries and attributes.
 
-use crate::built::made;
-use crate::lines::line_of;
-use asn1_core::{Asn1RawDer, Asn1SequenceOf, Asn1SetOf, Error};
+use crate::built::{Again, made, made_and_read};
+use asn1_core::{
+    Asn1RawDer, Asn1SequenceOf, Asn1SetOf, ObjectIdentifier, ObjectIdentifierAsn1,
+    OctetStringAsn1Container, TryClone, from_bytes,
+};
 use std::alloc::Global;
 use std::test::Fail;
-use vector_checks::checks::is_kept;
-use vector_checks::texts::{are_refused, kept, octets, oid};
+use vector_checks::texts::{hex, kept, octets, oid};
 use x509_containers::{
     AlgorithmIdentifier, CTLEntry, CTLEntryAttribute, CTLEntryAttributeValues, Ctl, IntegerAsn1,
-    Kind, UTCTime, UTCTimeAsn1,
+    RootProgramChainPolicy, UTCTime, UTCTimeAsn1,
 };
 
 /// A trust list that OpenSSL wrote (`asn1parse -genconf`), with an attribute of each property that is known and one of
 /// property 1, which isn't, and an entry without attributes.
-const TRUST_LIST: &[u8] = b"\
-    \x30\x82\x02\x0A\x30\x0C\x06\x0A\x2B\x06\x01\x04\x01\x82\x37\x0A\x03\x09\x02\x09\x01\x23\x45\x67\
-    \x89\xAB\xCD\xEF\x01\x17\x0D\x32\x31\x30\x34\x32\x30\x30\x36\x35\x32\x32\x34\x5A\x30\x09\x06\x05\
-    \x2B\x0E\x03\x02\x1A\x05\x00\x30\x82\x01\xD3\x30\x82\x01\xB5\x04\x14\xCD\xD4\xEE\xAE\x60\x00\xAC\
-    \x7F\x40\xC3\x80\x2C\x17\x1E\x30\x14\x80\x30\xC0\x72\x31\x82\x01\x9B\x30\x12\x06\x0A\x2B\x06\x01\
-    \x04\x01\x82\x37\x0A\x0B\x7F\x31\x04\x04\x02\x30\x00\x30\x13\x06\x0A\x2B\x06\x01\x04\x01\x82\x37\
-    \x0A\x0B\x01\x31\x05\x02\x01\x05\x05\x00\x30\x18\x06\x0A\x2B\x06\x01\x04\x01\x82\x37\x0A\x0B\x68\
-    \x31\x0A\x04\x08\x00\x80\xE4\xA2\xD9\xF1\xD5\x01\x30\x18\x06\x0A\x2B\x06\x01\x04\x01\x82\x37\x0A\
-    \x0B\x7E\x31\x0A\x04\x08\x00\x80\xE4\xA2\xD9\xF1\xD5\x01\x30\x1C\x06\x0A\x2B\x06\x01\x04\x01\x82\
-    \x37\x0A\x0B\x0B\x31\x0E\x04\x0C\x4D\x00\x79\x00\x20\x00\x43\x00\x41\x00\x00\x00\x30\x1C\x06\x0A\
-    \x2B\x06\x01\x04\x01\x82\x37\x0A\x0B\x7A\x31\x0E\x04\x0C\x30\x0A\x06\x08\x2B\x06\x01\x05\x05\x07\
-    \x03\x01\x30\x1E\x06\x0A\x2B\x06\x01\x04\x01\x82\x37\x0A\x0B\x69\x31\x10\x04\x0E\x30\x0C\x06\x0A\
-    \x2B\x06\x01\x04\x01\x82\x37\x3C\x03\x02\x30\x20\x06\x0A\x2B\x06\x01\x04\x01\x82\x37\x0A\x0B\x1D\
-    \x31\x12\x04\x10\xF0\xC4\x02\xF0\x40\x4E\xA9\xAD\xBF\x25\xA0\x3D\xDF\x2C\xA6\xFA\x30\x24\x06\x0A\
-    \x2B\x06\x01\x04\x01\x82\x37\x0A\x0B\x14\x31\x16\x04\x14\x0E\xAC\x82\x60\x40\x56\x27\x97\xE5\x25\
-    \x13\xFC\x2A\xE1\x0A\x53\x95\x59\xE4\xA4\x30\x26\x06\x0A\x2B\x06\x01\x04\x01\x82\x37\x0A\x0B\x09\
-    \x31\x18\x04\x16\x30\x14\x06\x08\x2B\x06\x01\x05\x05\x07\x03\x04\x06\x08\x2B\x06\x01\x05\x05\x07\
-    \x03\x03\x30\x30\x06\x0A\x2B\x06\x01\x04\x01\x82\x37\x0A\x0B\x62\x31\x22\x04\x20\xE3\xB0\xC4\x42\
-    \x98\xFC\x1C\x14\x9A\xFB\xF4\xC8\x99\x6F\xB9\x24\x27\xAE\x41\xE4\x64\x9B\x93\x4C\xA4\x95\x99\x1B\
-    \x78\x52\xB8\x55\x30\x3E\x06\x0A\x2B\x06\x01\x04\x01\x82\x37\x0A\x0B\x53\x31\x30\x04\x2E\x30\x2C\
-    \x30\x1F\x06\x09\x60\x86\x48\x01\x86\xFD\x6C\x02\x01\x30\x12\x30\x10\x06\x0A\x2B\x06\x01\x04\x01\
-    \x82\x37\x3C\x01\x01\x03\x02\x00\xC0\x30\x09\x06\x05\x67\x81\x0C\x01\x01\x30\x00\x30\x18\x04\x14\
-    \x05\x63\xB8\x63\x0D\x62\xD7\x5A\xBB\xC8\xAB\x1E\x4B\xDF\xB5\xA8\x99\xB2\x4D\x43\x31\x00";
+const TRUST_LIST: &str = "\
+    30 82 02 0A 30 0C 06 0A 2B 06 01 04 01 82 37 0A 03 09 02 09 01 23 45 67 89 AB CD EF 01 17 0D 32 \
+    31 30 34 32 30 30 36 35 32 32 34 5A 30 09 06 05 2B 0E 03 02 1A 05 00 30 82 01 D3 30 82 01 B5 04 \
+    14 CD D4 EE AE 60 00 AC 7F 40 C3 80 2C 17 1E 30 14 80 30 C0 72 31 82 01 9B 30 12 06 0A 2B 06 01 \
+    04 01 82 37 0A 0B 7F 31 04 04 02 30 00 30 13 06 0A 2B 06 01 04 01 82 37 0A 0B 01 31 05 02 01 05 \
+    05 00 30 18 06 0A 2B 06 01 04 01 82 37 0A 0B 68 31 0A 04 08 00 80 E4 A2 D9 F1 D5 01 30 18 06 0A \
+    2B 06 01 04 01 82 37 0A 0B 7E 31 0A 04 08 00 80 E4 A2 D9 F1 D5 01 30 1C 06 0A 2B 06 01 04 01 82 \
+    37 0A 0B 0B 31 0E 04 0C 4D 00 79 00 20 00 43 00 41 00 00 00 30 1C 06 0A 2B 06 01 04 01 82 37 0A \
+    0B 7A 31 0E 04 0C 30 0A 06 08 2B 06 01 05 05 07 03 01 30 1E 06 0A 2B 06 01 04 01 82 37 0A 0B 69 \
+    31 10 04 0E 30 0C 06 0A 2B 06 01 04 01 82 37 3C 03 02 30 20 06 0A 2B 06 01 04 01 82 37 0A 0B 1D \
+    31 12 04 10 F0 C4 02 F0 40 4E A9 AD BF 25 A0 3D DF 2C A6 FA 30 24 06 0A 2B 06 01 04 01 82 37 0A \
+    0B 14 31 16 04 14 0E AC 82 60 40 56 27 97 E5 25 13 FC 2A E1 0A 53 95 59 E4 A4 30 26 06 0A 2B 06 \
+    01 04 01 82 37 0A 0B 09 31 18 04 16 30 14 06 08 2B 06 01 05 05 07 03 04 06 08 2B 06 01 05 05 07 \
+    03 03 30 30 06 0A 2B 06 01 04 01 82 37 0A 0B 62 31 22 04 20 E3 B0 C4 42 98 FC 1C 14 9A FB F4 C8 \
+    99 6F B9 24 27 AE 41 E4 64 9B 93 4C A4 95 99 1B 78 52 B8 55 30 3E 06 0A 2B 06 01 04 01 82 37 0A \
+    0B 53 31 30 04 2E 30 2C 30 1F 06 09 60 86 48 01 86 FD 6C 02 01 30 12 30 10 06 0A 2B 06 01 04 01 \
+    82 37 3C 01 01 03 02 00 C0 30 09 06 05 67 81 0C 01 01 30 00 30 18 04 14 05 63 B8 63 0D 62 D7 5A \
+    BB C8 AB 1E 4B DF B5 A8 99 B2 4D 43 31 00";
 
-/// A trust list of no entries.
-pub const EMPTY: &str =
+/// Trust lists of no entries: with the sequence number 1, and with one of no octets.
+const EMPTY: &str =
     "30 1D 30 00 02 01 01 17 0D 32 31 30 34 32 30 30 36 35 32 32 34 5A 30 05 06 03 2A 03 04 30 00";
 
-/// Attributes: no friendly names, usages of one object identifier, a chain policy, and usages of two.
-pub const NO_NAMES: &str = "30 0E 06 0A 2B 06 01 04 01 82 37 0A 0B 0B 31 00";
+const NO_NUMBER: &str =
+    "30 1C 30 00 02 00 17 0D 32 31 30 34 32 30 30 36 35 32 32 34 5A 30 05 06 03 2A 03 04 30 00";
 
-pub const USAGES: &str =
-    "30 17 06 0A 2B 06 01 04 01 82 37 0A 0B 09 31 09 04 07 30 05 06 03 2A 03 04";
+/// Attributes: no friendly names, usages of one object identifier, a chain policy, usages of two, and key identifiers
+/// of one octet, the greater first.
+const NO_NAMES: &str = "30 0E 06 0A 2B 06 01 04 01 82 37 0A 0B 0B 31 00";
 
-pub const CHAIN_POLICY: &str =
+const USAGES: &str = "30 17 06 0A 2B 06 01 04 01 82 37 0A 0B 09 31 09 04 07 30 05 06 03 2A 03 04";
+
+const CHAIN_POLICY: &str =
     "30 17 06 0A 2B 06 01 04 01 82 37 0A 0B 69 31 09 04 07 30 05 06 03 2A 03 04";
 
-pub const TWO_USAGES: &str =
+const TWO_USAGES: &str =
     "30 1C 06 0A 2B 06 01 04 01 82 37 0A 0B 09 31 0E 04 0C 30 0A 06 03 2A 03 04 06 03 2A 03 04";
 
-/// Key identifiers of one octet, the greater first.
 const TWO_KEYS: &str = "30 14 06 0A 2B 06 01 04 01 82 37 0A 0B 14 31 06 04 01 02 04 01 01";
+
+const ID_NAMES: &str = "1.3.6.1.4.1.311.10.11.11";
+
+const ID_KEYS: &str = "1.3.6.1.4.1.311.10.11.20";
+
+const ID_USAGES: &str = "1.3.6.1.4.1.311.10.11.9";
+
+const ID_CHAIN_POLICY: &str = "1.3.6.1.4.1.311.10.11.105";
+
+const ID_OTHER: &str = "1.2.3.4";
 
 /// The number of the property that the arm is for, and 0 for the one that is for others.
 fn property(values: &CTLEntryAttributeValues) -> u8 {
@@ -75,34 +83,49 @@ fn property(values: &CTLEntryAttributeValues) -> u8 {
     }
 }
 
-/// An attribute of no raw values, made by its fields.
-fn unknown(alloc: Global, text: &str) -> Result<CTLEntryAttribute, Error> {
-    Ok(CTLEntryAttribute {
-        oid: oid(alloc, text)?,
-        value: CTLEntryAttributeValues::Unknown(Asn1SetOf(Vec::new(alloc))),
+/// A trust list of 20 April 2021, 6:52:24, made by its fields.
+fn dated(
+    signers: Vec<ObjectIdentifierAsn1>,
+    number: Vec<u8>,
+    digest_algorithm: AlgorithmIdentifier,
+    crl_entries: Asn1SequenceOf<CTLEntry>,
+) -> Result<Ctl, Fail> {
+    let date = UTCTime::new(2021, 4, 20, 6, 52, 24).ok_or("20 April 2021")?;
+    Ok(Ctl {
+        signers: Asn1SequenceOf(signers),
+        sequence_number: IntegerAsn1(number),
+        effective_date: UTCTimeAsn1(date),
+        digest_algorithm,
+        crl_entries,
     })
 }
 
+/// A trust list of no entries, with that number.
+fn empty(alloc: Global, number: &[u8]) -> Result<Ctl, Fail> {
+    let other = ObjectIdentifier::from_text(alloc, ID_OTHER)?;
+    let algorithm = AlgorithmIdentifier::from_parts(other, None);
+    let number = Vec::from_slice(alloc, number)?;
+    let entries = Asn1SequenceOf(Vec::new(alloc));
+    dated(Vec::new(alloc), number, algorithm, entries)
+}
+
 #[test]
-fn a_trust_list(rt: HostRuntime) -> Result<(), Fail> {
+fn lists_that_are_made(rt: HostRuntime) -> Result<(), Fail> {
     let alloc = rt.alloc();
-    let list: Ctl = is_kept(alloc, TRUST_LIST)?;
-    let line = line_of(alloc, TRUST_LIST, Kind::Ctl);
-    assert_eq!(rt; line.as_slice(), b"normal 526\n".as_slice());
+    for (number, text, well_formed, again) in [
+        (b"\x01".as_slice(), EMPTY, true, Again::Same),
+        (b"".as_slice(), NO_NUMBER, false, Again::Refused),
+    ] {
+        made_and_read(alloc, &empty(alloc, number)?, well_formed, text, again)?;
+    }
+    let read: Ctl = from_bytes(alloc, &hex(alloc, &[TRUST_LIST])?)?;
     let usage = oid(alloc, "1.3.6.1.4.1.311.10.3.9")?;
-    assert_eq!(rt; list.signers, Asn1SequenceOf(vec![in alloc; usage]?));
-    let number = b"\x01\x23\x45\x67\x89\xAB\xCD\xEF\x01";
-    assert_eq!(rt;
-        list.sequence_number,
-        IntegerAsn1(Vec::from_slice(alloc, number)?)
-    );
-    let date = UTCTime::new(2021, 4, 20, 6, 52, 24).ok_or("20 April 2021")?;
-    assert_eq!(rt; list.effective_date, UTCTimeAsn1(date));
-    assert_eq!(rt;
-        list.digest_algorithm,
-        kept::<AlgorithmIdentifier>(alloc, &["30 09 06 05 2B 0E 03 02 1A 05 00"])?
-    );
-    let [known, bare] = list.crl_entries.0.as_slice() else {
+    let number = Vec::from_slice(alloc, b"\x01\x23\x45\x67\x89\xAB\xCD\xEF\x01")?;
+    let algorithm: AlgorithmIdentifier = kept(alloc, &["30 09 06 05 2B 0E 03 02 1A 05 00"])?;
+    let entries = read.crl_entries.try_clone(alloc)?;
+    let list = dated(vec![in alloc; usage]?, number, algorithm, entries)?;
+    made_and_read(alloc, &list, true, TRUST_LIST, Again::Same)?;
+    let [known, bare] = read.crl_entries.0.as_slice() else {
         return Err(Fail::new("two entries"));
     };
     assert!(rt; bare.attributes.0.is_empty());
@@ -117,172 +140,132 @@ fn a_trust_list(rt: HostRuntime) -> Result<(), Fail> {
     Ok(())
 }
 
-#[test]
-fn trust_lists(rt: HostRuntime) -> Result<(), Fail> {
-    let alloc = rt.alloc();
-    let list: Ctl = kept(alloc, &[EMPTY])?;
-    assert!(rt; list.crl_entries.0.is_empty());
-    are_refused::<Ctl>(
-        alloc,
-        &[
-            (
-                "30 20 02 01 00 30 00 02 01 01 17 0D 32 31 30 34 32 30 30 36 35 32 32 34 5A 30 05 06 03 2A 03 04 30 00",
-                Error::Invalid,
-            ),
-            (
-                "30 20 30 00 04 01 01 02 01 01 17 0D 32 31 30 34 32 30 30 36 35 32 32 34 5A 30 05 06 03 2A 03 04 30 00",
-                Error::Invalid,
-            ),
-            (
-                "30 1B 30 00 02 01 01 17 0D 32 31 30 34 32 30 30 36 35 32 32 34 5A 30 05 06 03 2A 03 04",
-                Error::Missing,
-            ),
-            (
-                "30 1F 30 00 02 01 01 18 0F 32 30 32 31 30 34 32 30 30 36 35 32 32 34 5A 30 05 06 03 2A 03 04 30 00",
-                Error::Invalid,
-            ),
-        ],
-    )
+/// Values that are made.
+#[derive(Clone, Copy)]
+enum Values {
+    NoNames,
+    TwoKeys,
+    Usages,
+    TwoUsages,
+    ChainPolicy,
+    NoRaws,
+    Null,
 }
 
-#[test]
-fn a_sequence_number_of_no_octets_is_ill_formed(rt: HostRuntime) -> Result<(), Fail> {
-    let alloc = rt.alloc();
-    let mut list: Ctl = kept(alloc, &[EMPTY])?;
-    list.sequence_number = IntegerAsn1(Vec::new(alloc));
-    made(
-        alloc,
-        &list,
+/// An object identifier, the values behind it, the text of both, whether that attribute is well-formed, and
+/// what its text is read as.
+type Attribute<'a> = (&'a str, Values, &'a str, bool, Again);
+
+const ATTRIBUTES: [Attribute<'static>; 12] = [
+    (ID_NAMES, Values::NoNames, NO_NAMES, true, Again::Same),
+    (ID_KEYS, Values::TwoKeys, TWO_KEYS, true, Again::Same),
+    (ID_USAGES, Values::Usages, USAGES, true, Again::Same),
+    (ID_USAGES, Values::TwoUsages, TWO_USAGES, true, Again::Same),
+    (
+        ID_CHAIN_POLICY,
+        Values::ChainPolicy,
+        CHAIN_POLICY,
+        true,
+        Again::Same,
+    ),
+    (
+        ID_USAGES,
+        Values::ChainPolicy,
+        USAGES,
         false,
-        &[
-            "30 1C 30 00 02 00 17 0D 32 31 30 34 32 30 30 36 35 32 32 34 5A 30 05 06 03 2A 03 04 30 00",
-        ],
-    )
-}
+        Again::Another,
+    ),
+    (ID_NAMES, Values::NoRaws, NO_NAMES, false, Again::Another),
+    (
+        ID_OTHER,
+        Values::NoRaws,
+        "30 07 06 03 2A 03 04 31 00",
+        true,
+        Again::Same,
+    ),
+    (
+        ID_OTHER,
+        Values::Null,
+        "30 09 06 03 2A 03 04 31 02 05 00",
+        true,
+        Again::Same,
+    ),
+    (
+        "1.3.6.1.4.1.311.10.11.1",
+        Values::NoRaws,
+        "30 0E 06 0A 2B 06 01 04 01 82 37 0A 0B 01 31 00",
+        true,
+        Again::Same,
+    ),
+    (
+        "1.3.6.1.4.1.311.10.11.11.1",
+        Values::NoRaws,
+        "30 0F 06 0B 2B 06 01 04 01 82 37 0A 0B 0B 01 31 00",
+        true,
+        Again::Same,
+    ),
+    (
+        "1.3.6.1.4.1.311.10.10.11",
+        Values::NoRaws,
+        "30 0E 06 0A 2B 06 01 04 01 82 37 0A 0A 0B 31 00",
+        true,
+        Again::Same,
+    ),
+];
 
-#[test]
-fn entries(rt: HostRuntime) -> Result<(), Fail> {
-    let alloc = rt.alloc();
-    let entry: CTLEntry = kept(alloc, &["30 15 04 01 07 31 10", NO_NAMES])?;
-    assert_eq!(rt; entry.cert_fingerprint, octets(alloc, &[0x07])?);
-    let attribute: CTLEntryAttribute = kept(alloc, &[NO_NAMES])?;
-    assert_eq!(rt; entry.attributes, Asn1SetOf(vec![in alloc; attribute]?));
-    are_refused::<CTLEntry>(
-        alloc,
-        &[
-            ("30 02 04 00", Error::Missing),
-            ("30 04 04 00 30 00", Error::Invalid),
-            ("30 06 04 00 31 02 05 00", Error::Invalid),
-        ],
-    )
-}
-
-#[test]
-fn attributes(rt: HostRuntime) -> Result<(), Fail> {
-    let alloc = rt.alloc();
-    for (text, number) in [
-        (NO_NAMES, 11),
-        (USAGES, 9),
-        (CHAIN_POLICY, 105),
-        (TWO_USAGES, 9),
-        (TWO_KEYS, 20),
-        ("30 07 06 03 2A 03 04 31 00", 0),
-        ("30 09 06 03 2A 03 04 31 02 05 00", 0),
-        ("30 0E 06 0A 2B 06 01 04 01 82 37 0A 0B 01 31 00", 0),
-        ("30 0F 06 0B 2B 06 01 04 01 82 37 0A 0B 0B 01 31 00", 0),
-        ("30 0E 06 0A 2B 06 01 04 01 82 37 0A 0A 0B 31 00", 0),
-    ] {
-        let attribute: CTLEntryAttribute = kept(alloc, &[text])?;
-        assert_eq!(rt; property(&attribute.value), number, "{text}");
+/// A set of one octet string round so many usages.
+fn usages(alloc: Global, count: usize) -> Result<CTLEntryAttributeValues, Fail> {
+    let mut list = Vec::new(alloc);
+    for _ in 0..count {
+        list.push(oid(alloc, ID_OTHER)?)?;
     }
-    Ok(())
+    let octets = OctetStringAsn1Container(Asn1SequenceOf(list));
+    let set = Asn1SetOf(vec![in alloc; octets]?);
+    Ok(CTLEntryAttributeValues::CertEnhkeyUsagePropId(set))
+}
+
+/// The arm that the values are.
+fn arm(alloc: Global, values: Values) -> Result<CTLEntryAttributeValues, Fail> {
+    Ok(match values {
+        Values::NoNames => CTLEntryAttributeValues::CertFriendlyName(Asn1SetOf(Vec::new(alloc))),
+        Values::TwoKeys => {
+            let second = octets(alloc, &[0x02])?;
+            let first = octets(alloc, &[0x01])?;
+            let keys = Asn1SetOf(vec![in alloc; second, first]?);
+            CTLEntryAttributeValues::CertKeyIdentifierPropId(keys)
+        }
+        Values::Usages => return usages(alloc, 1),
+        Values::TwoUsages => return usages(alloc, 2),
+        Values::ChainPolicy => {
+            let oid = oid(alloc, ID_OTHER)?;
+            let policy = OctetStringAsn1Container(RootProgramChainPolicy { oid });
+            let policies = Asn1SetOf(vec![in alloc; policy]?);
+            CTLEntryAttributeValues::CertRootProgramChainPolicy(policies)
+        }
+        Values::NoRaws => CTLEntryAttributeValues::Unknown(Asn1SetOf(Vec::new(alloc))),
+        Values::Null => {
+            let null = Asn1RawDer(Vec::from_slice(alloc, &[0x05, 0x00])?);
+            CTLEntryAttributeValues::Unknown(Asn1SetOf(vec![in alloc; null]?))
+        }
+    })
 }
 
 #[test]
-fn values_of_attributes(rt: HostRuntime) -> Result<(), Fail> {
+fn attributes_that_are_made(rt: HostRuntime) -> Result<(), Fail> {
     let alloc = rt.alloc();
-    let names = Asn1SetOf(Vec::new(alloc));
-    assert_eq!(rt;
-        kept::<CTLEntryAttribute>(alloc, &[NO_NAMES])?.value,
-        CTLEntryAttributeValues::CertFriendlyName(names)
-    );
-    let second = octets(alloc, &[0x02])?;
-    let first = octets(alloc, &[0x01])?;
-    let keys = Asn1SetOf(vec![in alloc; second, first]?);
-    assert_eq!(rt;
-        kept::<CTLEntryAttribute>(alloc, &[TWO_KEYS])?.value,
-        CTLEntryAttributeValues::CertKeyIdentifierPropId(keys)
-    );
-    let raw = Asn1RawDer(Vec::from_slice(alloc, &[0x05, 0x00])?);
-    let attribute: CTLEntryAttribute = kept(alloc, &["30 09 06 03 2A 03 04 31 02 05 00"])?;
-    let values = Asn1SetOf(vec![in alloc; raw]?);
-    assert_eq!(rt; attribute.value, CTLEntryAttributeValues::Unknown(values));
-    assert_eq!(rt;
-        kept::<CTLEntryAttribute>(alloc, &["30 07 06 03 2A 03 04 31 00"])?,
-        unknown(alloc, "1.2.3.4")?
-    );
-    assert_eq!(rt;
-        kept::<CTLEntryAttribute>(alloc, &["30 0E 06 0A 2B 06 01 04 01 82 37 0A 0B 01 31 00"])?,
-        unknown(alloc, "1.3.6.1.4.1.311.10.11.1")?
-    );
-    Ok(())
-}
-
-#[test]
-fn values_of_another_property_are_refused(rt: HostRuntime) -> Result<(), Fail> {
-    are_refused::<CTLEntryAttribute>(
-        rt.alloc(),
-        &[
-            (
-                "30 10 06 0A 2B 06 01 04 01 82 37 0A 0B 0B 31 02 05 00",
-                Error::Invalid,
-            ),
-            (
-                "30 10 06 0A 2B 06 01 04 01 82 37 0A 0B 09 31 02 04 00",
-                Error::Missing,
-            ),
-            (
-                "30 15 06 0A 2B 06 01 04 01 82 37 0A 0B 09 31 07 30 05 06 03 2A 03 04",
-                Error::Invalid,
-            ),
-            (
-                "30 17 06 0A 2B 06 01 04 01 82 37 0A 0B 53 31 09 04 07 30 05 06 03 2A 03 04",
-                Error::Invalid,
-            ),
-            (
-                "30 0E 06 0A 2B 06 01 04 01 82 37 0A 0B 0B 30 00",
-                Error::Invalid,
-            ),
-            ("30 0C 06 0A 2B 06 01 04 01 82 37 0A 0B 0B", Error::Missing),
-            (
-                "30 10 06 0A 2B 06 01 04 01 82 37 0A 0B 0B 31 00 31 00",
-                Error::Malformed,
-            ),
-        ],
-    )
-}
-
-#[test]
-fn values_under_another_identifier_are_ill_formed(rt: HostRuntime) -> Result<(), Fail> {
-    let alloc = rt.alloc();
-    let names = "1.3.6.1.4.1.311.10.11.11";
-    made(alloc, &unknown(alloc, names)?, false, &[NO_NAMES])?;
-    made(
-        alloc,
-        &unknown(alloc, "1.2.3.4")?,
-        true,
-        &["30 07 06 03 2A 03 04 31 00"],
-    )?;
-    let mut attribute: CTLEntryAttribute = kept(alloc, &[CHAIN_POLICY])?;
-    attribute.oid = oid(alloc, "1.3.6.1.4.1.311.10.11.9")?;
-    made(alloc, &attribute, false, &[USAGES])?;
-    assert!(rt; attribute != kept::<CTLEntryAttribute>(alloc, &[USAGES])?);
-    made(
-        alloc,
-        &attribute.value,
-        true,
-        &["31 09 04 07 30 05 06 03 2A 03 04"],
-    )?;
-    attribute.oid = oid(alloc, "1.3.6.1.4.1.311.10.11.105")?;
-    made(alloc, &attribute, true, &[CHAIN_POLICY])
+    for (id, values, text, well_formed, again) in ATTRIBUTES {
+        let oid = oid(alloc, id)?;
+        let value = arm(alloc, values)?;
+        let attribute = CTLEntryAttribute { oid, value };
+        made_and_read(alloc, &attribute, well_formed, text, again)?;
+    }
+    let policy = arm(alloc, Values::ChainPolicy)?;
+    made(alloc, &policy, true, "31 09 04 07 30 05 06 03 2A 03 04")?;
+    let names: CTLEntryAttribute = kept(alloc, &[NO_NAMES])?;
+    let entry = CTLEntry {
+        cert_fingerprint: octets(alloc, &[0x07])?,
+        attributes: Asn1SetOf(vec![in alloc; names]?),
+    };
+    let text = "30 15 04 01 07 31 10 30 0E 06 0A 2B 06 01 04 01 82 37 0A 0B 0B 31 00";
+    made_and_read(alloc, &entry, true, text, Again::Same)
 }

@@ -1,12 +1,11 @@
 //! Runs over sources and into sinks that fail, of types that hold what other types do.
 
-use crate::lines::{line_of, outcome_of, rewritten};
 use asn1_core::{Sink, Source, StdSink, StdSource};
 use std::alloc::Global;
 use std::process::Abort;
 use std::test::Fail;
 use vector_checks::fakes::{Narrow, Trickle};
-use x509_containers::{Kind, Mode, Outcome, run};
+use x509_containers::{Kind, Mode, Outcome, StoreKind, run};
 
 /// A PFX with encrypted data whose algorithm has no parameters.
 const LOOSE_PFX: &[u8] = b"\
@@ -14,26 +13,36 @@ const LOOSE_PFX: &[u8] = b"\
     \x30\x26\x06\x09\x2A\x86\x48\x86\xF7\x0D\x01\x07\x06\xA0\x19\x30\x17\x02\x01\x00\x30\x12\x06\x09\
     \x2A\x86\x48\x86\xF7\x0D\x01\x07\x01\x30\x05\x06\x03\x2A\x03\x04";
 
-/// Each read fails in turn, and nothing is written; a source that gives a byte a read makes no difference.
-#[test]
-fn each_read_of_a_store_fails_in_turn(rt: HostRuntime) -> Result<(), Fail> {
-    for kind in [Kind::Pfx, Kind::RawPfx] {
-        for mode in [Mode::Check, Mode::Rewrite] {
-            for reads_left in 0..=LOOSE_PFX.len() {
-                let mut source = Trickle::new(LOOSE_PFX, reads_left);
-                let mut sink = StdSink::new(Vec::new(rt.alloc()));
-                let outcome = run(rt.alloc(), &mut source, &mut sink, mode, kind);
-                assert_eq!(rt; outcome, Outcome::ReadFailed);
-                assert_eq!(rt; source.failures(), 1);
-                assert!(rt; sink.into_inner().is_empty());
-            }
-            let mut source = Trickle::new(LOOSE_PFX, LOOSE_PFX.len() + 1);
-            let mut sink = StdSink::new(Vec::new(rt.alloc()));
-            let outcome = run(rt.alloc(), &mut source, &mut sink, mode, kind);
-            let by_bytes = (outcome, sink.into_inner());
-            assert_eq!(rt; by_bytes, outcome_of(rt.alloc(), LOOSE_PFX, mode, kind));
-        }
+/// The outcome of a run over the bytes in memory, and what it wrote.
+fn outcome_of(alloc: Global, mode: Mode, kind: Kind) -> (Outcome, Vec<u8>) {
+    let mut source = StdSource::new(LOOSE_PFX);
+    let mut sink = StdSink::new(Vec::new(alloc));
+    let outcome = run(alloc, &mut source, &mut sink, mode, kind);
+    (outcome, sink.into_inner())
+}
+
+/// Asks that each read fails in turn, with nothing written, and that a source that gives a byte a read makes no
+/// difference.
+fn reads_fail_in_turn(
+    rt: &impl Abort,
+    alloc: Global,
+    kind: Kind,
+    mode: Mode,
+    expected: &(Outcome, Vec<u8>),
+) -> Result<(), Fail> {
+    for reads_left in 0..=LOOSE_PFX.len() {
+        let mut source = Trickle::new(LOOSE_PFX, reads_left);
+        let mut sink = StdSink::new(Vec::new(alloc));
+        let outcome = run(alloc, &mut source, &mut sink, mode, kind);
+        assert_eq!(rt; outcome, Outcome::ReadFailed);
+        assert_eq!(rt; source.failures(), 1);
+        assert!(rt; sink.into_inner().is_empty());
     }
+    let mut source = Trickle::new(LOOSE_PFX, LOOSE_PFX.len() + 1);
+    let mut sink = StdSink::new(Vec::new(alloc));
+    let outcome = run(alloc, &mut source, &mut sink, mode, kind);
+    let by_bytes = (outcome, sink.into_inner());
+    assert_eq!(rt; by_bytes, *expected);
     Ok(())
 }
 
@@ -64,13 +73,15 @@ fn writes_fail_in_turn(
 }
 
 #[test]
-fn each_write_of_a_store_fails_in_turn(rt: HostRuntime) -> Result<(), Fail> {
-    for kind in [Kind::Pfx, Kind::RawPfx] {
-        let line = line_of(rt.alloc(), LOOSE_PFX, kind);
-        let (_, text) = rewritten(rt.alloc(), LOOSE_PFX, kind);
-        for width in [1, usize::MAX] {
-            writes_fail_in_turn(&rt, rt.alloc(), kind, Mode::Check, width, &line)?;
-            writes_fail_in_turn(&rt, rt.alloc(), kind, Mode::Rewrite, width, &text)?;
+fn each_read_and_write_of_a_store_fails_in_turn(rt: HostRuntime) -> Result<(), Fail> {
+    let alloc = rt.alloc();
+    for kind in [Kind::Store(StoreKind::Pfx), Kind::Store(StoreKind::RawPfx)] {
+        for mode in [Mode::Check, Mode::Rewrite] {
+            let expected = outcome_of(alloc, mode, kind);
+            reads_fail_in_turn(&rt, alloc, kind, mode, &expected)?;
+            for width in [1, usize::MAX] {
+                writes_fail_in_turn(&rt, alloc, kind, mode, width, &expected.1)?;
+            }
         }
     }
     Ok(())

@@ -1,21 +1,23 @@
-//! Tests of PKCS #12 files and of what they hold, by public calls: worked examples, files of openssl and keytool, bad
-//! inputs, and a representation of a caller's own. Expected values are those of the standards, or of other tools.
+//! Tests of PKCS #12 and of its algorithms by public calls: values looked at inside, values that no text has, conversions,
+//! streams that fail, and a representation of a caller's own. The rows of `example_rows` say what is read and written.
+//! Expected values are those of the standards, or of other tools.
 #![tactic(auto)]
 
 #[cfg(test)]
-mod arms;
+mod algorithms;
 #[cfg(test)]
 mod bags;
+#[cfg(test)]
+mod built;
 #[cfg(test)]
 mod failures;
 #[cfg(test)]
 mod files;
 #[cfg(test)]
 mod levels;
-#[cfg(test)]
-mod lines;
 pub mod octets_repr;
 #[cfg(test)]
 mod representations;
 #[cfg(test)]
 mod stores;
+pub mod values;

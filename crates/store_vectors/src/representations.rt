@@ -2,6 +2,8 @@
 
 use crate::octets_repr::OctetsRepr;
 use asn1_core::{Error, OctetStringAsn1, StdSink, from_bytes, to_vec};
+use std::alloc::Global;
+use std::process::Abort;
 use std::test::Fail;
 use vector_checks::checks::{is_kept, refusal};
 use x509_containers::{
@@ -22,36 +24,32 @@ const NO_OCTETS_PFX: &[u8] = b"\
 const SEQUENCE_PFX: &[u8] = b"\
     \x30\x16\x02\x01\x03\x30\x11\x06\x09\x2A\x86\x48\x86\xF7\x0D\x01\x07\x01\xA0\x04\x04\x02\x30\x00";
 
-#[test]
-fn octets_stand_in_the_data(rt: HostRuntime) -> Result<(), Fail> {
-    let pfx: Pfx<OctetsRepr> = is_kept(rt.alloc(), OCTETS_PFX)?;
-    match &pfx.auth_safe {
-        AuthenticatedSafeContentInfo::Data(octets) => {
-            assert_eq!(rt; octets.0.as_slice(), b"\x07".as_slice());
+/// PFX round an OCTET STRING as data, by three representations.
+fn are_read_as_octets(rt: &impl Abort, alloc: Global) -> Result<(), Fail> {
+    for (text, covered, octets) in [
+        (OCTETS_PFX, b"\x04\x01\x07".as_slice(), b"\x07".as_slice()),
+        (NO_OCTETS_PFX, b"\x04\x00".as_slice(), b"".as_slice()),
+    ] {
+        let pfx: Pfx<OctetsRepr> = is_kept(alloc, text)?;
+        match &pfx.auth_safe {
+            AuthenticatedSafeContentInfo::Data(data) => {
+                assert_eq!(rt; data.0.as_slice(), octets);
+            }
+            AuthenticatedSafeContentInfo::Unknown { .. } => assert!(rt; false),
         }
-        AuthenticatedSafeContentInfo::Unknown { .. } => assert!(rt; false),
+        let raw: RawPfx = is_kept(alloc, text)?;
+        assert_eq!(rt; raw.mac_octets(), Some(covered));
+        let why = refusal::<Pfx<ParsedAuthenticatedSafeDataRepr>>(alloc, text);
+        assert_eq!(rt; why, Some(Error::Invalid));
     }
-    let raw: RawPfx = is_kept(rt.alloc(), OCTETS_PFX)?;
-    assert_eq!(rt; raw.mac_octets(), Some(b"\x04\x01\x07".as_slice()));
-    let why = refusal::<Pfx<OctetsRepr>>(rt.alloc(), SEQUENCE_PFX);
-    assert_eq!(rt; why, Some(Error::Invalid));
-    let why = refusal::<Pfx<ParsedAuthenticatedSafeDataRepr>>(rt.alloc(), OCTETS_PFX);
+    let why = refusal::<Pfx<OctetsRepr>>(alloc, SEQUENCE_PFX);
     assert_eq!(rt; why, Some(Error::Invalid));
     Ok(())
 }
 
 #[test]
-fn no_octets_stand_in_the_data(rt: HostRuntime) -> Result<(), Fail> {
-    let pfx: Pfx<OctetsRepr> = is_kept(rt.alloc(), NO_OCTETS_PFX)?;
-    match &pfx.auth_safe {
-        AuthenticatedSafeContentInfo::Data(octets) => assert!(rt; octets.0.is_empty()),
-        AuthenticatedSafeContentInfo::Unknown { .. } => assert!(rt; false),
-    }
-    Ok(())
-}
-
-#[test]
-fn octets_are_written_as_their_representation_is(rt: HostRuntime) -> Result<(), Fail> {
+fn octets_as_data(rt: HostRuntime) -> Result<(), Fail> {
+    are_read_as_octets(&rt, rt.alloc())?;
     let text = b"\x04\x01\x07".as_slice();
     let octets: OctetStringAsn1 = from_bytes(rt.alloc(), text)?;
     assert_eq!(rt; OctetsRepr::repr_len(&octets)?, 3);

@@ -1,0 +1,211 @@
+//! What is asked of an input at a type.
+
+use crate::rows::Row;
+use asn1_core::parts::{FirstTags, read_retagged};
+use asn1_core::{
+    DerDeserialize, DerTagged, Error, MAX_NESTING, Reader, SeenByText, StdSink, StdSource,
+    TryClone, from_bytes, from_bytes_counted, from_bytes_limited, to_vec,
+};
+use std::alloc::Global;
+use std::test::Fail;
+use vector_checks::checks::{is_rewritten, is_sent};
+use x509_containers::{Kind, Mode, Outcome, run, run_at};
+
+/// Up to so many bytes, sinks that fail, beginnings and changes are tried of an input.
+const SHORT: usize = 100;
+
+fn expect(holds: bool, what: &'static str) -> Result<(), Fail> {
+    if holds { Ok(()) } else { Err(Fail::new(what)) }
+}
+
+/// Asks that a check said the line and that a rewriting wrote the text, or nothing of what is refused.
+fn is_said(
+    row: &Row,
+    checked: (Outcome, Vec<u8>),
+    rewritten: (Outcome, Vec<u8>),
+) -> Result<(), Fail> {
+    let (outcome, line) = checked;
+    let (again, written) = rewritten;
+    let said = line.as_slice().strip_suffix(b"\n");
+    if said != Some(row.said.as_slice()) {
+        return Err(Fail::new(format_args!("it says {line:?}")));
+    }
+    match outcome {
+        Outcome::Normal => expect(row.input == row.text, "the text of a normal input")?,
+        Outcome::Loose => expect(row.input != row.text, "the text of a loose input")?,
+        _ => return expect(again == outcome && written.is_empty(), "nothing is written"),
+    }
+    expect(again == Outcome::Written, "written")?;
+    if written != row.text {
+        return Err(Fail::new(format_args!("it writes {written:?}")));
+    }
+    Ok(())
+}
+
+/// The outcome of a run over the bytes as the kind, and what is written.
+fn ran_as(alloc: Global, kind: Kind, input: &[u8], mode: Mode) -> (Outcome, Vec<u8>) {
+    let mut source = StdSource::new(input);
+    let mut sink = StdSink::new(Vec::new(alloc));
+    let outcome = run(alloc, &mut source, &mut sink, mode, kind);
+    (outcome, sink.into_inner())
+}
+
+/// Asks what a row says of a run over its input as the kind.
+pub fn is_said_by_kind(alloc: Global, kind: Kind, row: &Row) -> Result<(), Fail> {
+    let checked = ran_as(alloc, kind, &row.input, Mode::Check);
+    is_said(row, checked, ran_as(alloc, kind, &row.input, Mode::Rewrite))
+}
+
+/// The outcome of a run over the bytes as the type, and what is written.
+fn ran<T: DerDeserialize>(alloc: Global, input: &[u8], mode: Mode) -> (Outcome, Vec<u8>) {
+    let mut source = StdSource::new(input);
+    let mut sink = StdSink::new(Vec::new(alloc));
+    let outcome = run_at::<T, StdSource<&[u8]>, StdSink<Vec<u8>>>(
+        alloc,
+        &mut source,
+        &mut sink,
+        mode,
+    );
+    (outcome, sink.into_inner())
+}
+
+/// Asks that each proper beginning of an accepted input is refused.
+fn is_whole<T: DerDeserialize>(alloc: Global, input: &[u8]) -> Result<(), Fail> {
+    for size in 0..input.len() {
+        let (outcome, headers) = from_bytes_counted::<T>(alloc, &input[..size]);
+        expect(outcome.is_err(), "a beginning")?;
+        expect(headers <= size / 2 + 1, "the headers of a beginning")?;
+    }
+    Ok(())
+}
+
+/// Asks of an input whose text is read again that the text is normal, and of what is refused that few headers are read.
+fn reaches_an_end<T: DerDeserialize>(alloc: Global, input: &[u8]) -> Result<(), Fail> {
+    let (outcome, headers) = from_bytes_counted::<T>(alloc, input);
+    expect(headers <= input.len() / 2 + 1, "the headers of a change")?;
+    let value = match outcome {
+        Ok(value) => value,
+        Err(error) => return expect(error != Error::Memory, "memory"),
+    };
+    expect(
+        headers <= input.len() / 2,
+        "the headers of an accepted change",
+    )?;
+    expect(value.well_formed(), "a well-formed change")?;
+    let text = to_vec(alloc, &value)?;
+    let (again, _) = ran::<T>(alloc, &text, Mode::Check);
+    expect(again == Outcome::Normal, "a fixed point")?;
+    let (checked, _) = ran::<T>(alloc, input, Mode::Check);
+    expect(
+        (checked == Outcome::Normal) == (text.as_slice() == input),
+        "a normal change",
+    )
+}
+
+/// Asks of each change of one byte what `reaches_an_end` does.
+fn is_changed<T: DerDeserialize>(alloc: Global, input: &[u8]) -> Result<(), Fail> {
+    let mut changed = Vec::from_slice(alloc, input)?;
+    for at in 0..changed.len() {
+        for _ in 1..=255u8 {
+            changed[at] = changed[at].wrapping_add(1);
+            reaches_an_end::<T>(alloc, &changed)?;
+        }
+        changed[at] = changed[at].wrapping_add(1);
+    }
+    expect(changed.as_slice() == input, "the input itself")
+}
+
+/// Asks that with two more elements behind the input as many headers are read, and that these elements are left.
+fn ends<T: DerDeserialize>(alloc: Global, input: &[u8], headers: usize) -> Result<(), Fail> {
+    let mut longer = Vec::from_slice(alloc, input)?;
+    longer.extend_from_slice(b"\x05\x00\x05\x00")?;
+    let mut r = Reader::new(&longer);
+    let _value = T::read(alloc, &mut r, MAX_NESTING)?;
+    expect(
+        r.headers_read() == headers && r.left() == 4,
+        "what stands behind the input",
+    )
+}
+
+/// Asks of an accepted input that its value is written and cloned, and of a short one that it is sent into sinks that
+/// fail, that no beginning is accepted, and what changes of one byte come to.
+fn is_kept<T: DerDeserialize + SeenByText + TryClone>(
+    alloc: Global,
+    row: &Row,
+) -> Result<(), Fail> {
+    let value: T = is_rewritten(alloc, &row.input, &row.text)?;
+    if row.input.len() <= SHORT {
+        is_sent(alloc, &value, &row.text, 1)?;
+        is_sent(alloc, &value, &row.text, usize::MAX)?;
+        is_whole::<T>(alloc, &row.input)?;
+        is_changed::<T>(alloc, &row.input)?;
+    }
+    Ok(())
+}
+
+/// Asks what a row says of its input as the type.
+pub fn is_so<T: DerDeserialize + SeenByText + TryClone>(
+    alloc: Global,
+    row: &Row,
+) -> Result<(), Fail> {
+    if let Some(levels) = row.levels {
+        return is_said_within::<T>(alloc, levels, row);
+    }
+    let checked = ran::<T>(alloc, &row.input, Mode::Check);
+    is_said(row, checked, ran::<T>(alloc, &row.input, Mode::Rewrite))?;
+    let (outcome, headers) = from_bytes_counted::<T>(alloc, &row.input);
+    if row.headers.is_some_and(|wanted| wanted != headers) {
+        return Err(Fail::new(format_args!("it reads {headers} headers")));
+    }
+    if outcome.is_err() {
+        return Ok(());
+    }
+    ends::<T>(alloc, &row.input, headers)?;
+    is_kept::<T>(alloc, row)
+}
+
+/// A tag that no type here begins with.
+const OTHER_TAG: u8 = 0x9E;
+
+/// Asks what a row says of its input as a type with a tag of its own, and that under another tag an accepted one's text is
+/// the same but for its first byte, and is read as the same value.
+pub fn is_so_under_tags<T: DerTagged + SeenByText + TryClone>(
+    alloc: Global,
+    row: &Row,
+) -> Result<(), Fail> {
+    is_so::<T>(alloc, row)?;
+    let Ok(value) = from_bytes::<T>(alloc, &row.input) else {
+        return Ok(());
+    };
+    expect(
+        T::begins(T::TAG) && !T::begins(OTHER_TAG),
+        "the first tags of the type",
+    )?;
+    let mut sink = StdSink::new(Vec::new(alloc));
+    value.emit_as(OTHER_TAG, &mut sink)?;
+    let tagged = sink.into_inner();
+    expect(tagged.first() == Some(&OTHER_TAG), "the other tag")?;
+    expect(tagged.get(1..) == row.text.get(1..), "the text behind it")?;
+    let mut r = Reader::new(&tagged);
+    let again: T = read_retagged(alloc, &mut r, MAX_NESTING, OTHER_TAG)?;
+    expect(again == value, "the value under the other tag")
+}
+
+/// Asks what a row says of its input as the type, with fewer levels of nesting.
+pub fn is_said_within<T: DerDeserialize>(alloc: Global, levels: u8, row: &Row) -> Result<(), Fail> {
+    if levels > MAX_NESTING {
+        return Err(Fail::new("at most 64 levels"));
+    }
+    let outcome: Result<T, Error> = from_bytes_limited(alloc, levels, &row.input);
+    match outcome {
+        Ok(value) => {
+            expect(!row.said.starts_with(b"refused"), "it is accepted")?;
+            expect(value.well_formed_at(levels), "well-formed at the levels")?;
+            expect(to_vec(alloc, &value)? == row.text, "the text")
+        }
+        Err(error) => {
+            let why = row.said.strip_prefix(b"refused: ".as_slice());
+            expect(why == Some(error.word().as_bytes()), "it is refused")
+        }
+    }
+}

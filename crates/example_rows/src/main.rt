@@ -1,0 +1,45 @@
+//! The worked examples that are inputs: each row of standard input is a type, an input in hexadecimal, what a check says
+//! of it, and the text where that is another. Prints each row that doesn't hold and each kind that lacks a row, and counts
+//! the others.
+#![tactic(auto)]
+
+mod checks;
+mod coverage;
+mod rows;
+mod subjects;
+
+use std::process::Termination;
+use std::test::Fail;
+
+/// Writes why something doesn't hold to standard error, and answers whether it holds.
+fn holds(rt: &HostRuntime, outcome: Result<(), Fail>) -> bool {
+    let is_ok = outcome.is_ok();
+    let _ = outcome.report(rt);
+    is_ok
+}
+
+fn main(rt: HostRuntime) -> Result<(), Fail> {
+    let alloc = rt.alloc();
+    let mut seen = Vec::new(alloc);
+    let mut held = 0u64;
+    for line in rt.lines(alloc) {
+        let line = line?;
+        if line.is_empty() || line.starts_with('#') {
+            continue;
+        }
+        seen.extend(rows::kind_of(line.as_str()))?;
+        if holds(&rt, rows::holds(alloc, line.as_str())) {
+            held = held.saturating_add(1);
+        } else {
+            println!(rt; "doesn't hold: {line}")?;
+        }
+    }
+    let mut known = 0u64;
+    for kind in coverage::all_kinds(alloc)? {
+        if holds(&rt, coverage::has_rows(kind, &seen)) {
+            known = known.saturating_add(1);
+        }
+    }
+    println!(rt; "{held} rows hold, of {known} kinds")?;
+    Ok(())
+}

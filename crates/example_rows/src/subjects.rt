@@ -1,0 +1,24 @@
+//! The types that words name.
+
+mod contents;
+mod leaves;
+mod stores;
+mod wrappers;
+mod x509;
+
+use crate::rows::Row;
+use std::alloc::Global;
+use std::test::Fail;
+
+/// Asks what a row says of the type that the word names.
+pub fn is_so(alloc: Global, word: &str, row: &Row) -> Result<(), Fail> {
+    if leaves::is_so(alloc, word, row)?
+        || wrappers::is_so(alloc, word, row)?
+        || x509::is_so(alloc, word, row)?
+        || stores::is_so(alloc, word, row)?
+        || contents::is_so(alloc, word, row)?
+    {
+        return Ok(());
+    }
+    Err(Fail::new("no type has this word"))
+}

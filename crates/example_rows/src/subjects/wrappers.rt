@@ -1,0 +1,72 @@
+//! Lists, tags and containers, whose words name what is in them too, and a type of a caller's own. These are no kinds of
+//! `derbox`.
+
+use crate::checks::{is_so as at, is_so_under_tags as under_tags};
+use crate::rows::Row;
+use example_stamp::Stamp;
+use std::alloc::Global;
+use std::test::Fail;
+use x509_containers::{
+    Asn1RawDer, Asn1SequenceOf, Asn1SetOf, ExplicitContextTag0, ExplicitContextTag1,
+    ExplicitContextTag2, ImplicitContextTag0, ImplicitContextTag1, ObjectIdentifierAsn1,
+    OctetStringAsn1, OctetStringAsn1Container,
+};
+
+type TaggedSets = Asn1SequenceOf<ExplicitContextTag0<Asn1SetOf<OctetStringAsn1>>>;
+
+type TaggedNumbers = Asn1SequenceOf<ExplicitContextTag1<u8>>;
+
+type HeldNumbers = OctetStringAsn1Container<Asn1SequenceOf<u8>>;
+
+/// Asks what a row says, where the word names one of these types.
+pub fn is_so(alloc: Global, word: &str, row: &Row) -> Result<bool, Fail> {
+    Ok(is_so_of_a_list(alloc, word, row)? || is_so_of_a_tag(alloc, word, row)?)
+}
+
+fn is_so_of_a_list(alloc: Global, word: &str, row: &Row) -> Result<bool, Fail> {
+    match word {
+        "asn1sequenceof-asn1rawder" => under_tags::<Asn1SequenceOf<Asn1RawDer>>(alloc, row)?,
+        "asn1sequenceof-explicitcontexttag0-asn1setof-octetstringasn1" => {
+            under_tags::<TaggedSets>(alloc, row)?
+        }
+        "asn1sequenceof-explicitcontexttag1-u8" => under_tags::<TaggedNumbers>(alloc, row)?,
+        "asn1sequenceof-octetstringasn1" => at::<Asn1SequenceOf<OctetStringAsn1>>(alloc, row)?,
+        "asn1sequenceof-u8" => under_tags::<Asn1SequenceOf<u8>>(alloc, row)?,
+        "asn1setof-u8" => under_tags::<Asn1SetOf<u8>>(alloc, row)?,
+        "octetstringasn1container-asn1sequenceof-u8" => at::<HeldNumbers>(alloc, row)?,
+        "octetstringasn1container-octetstringasn1" => {
+            at::<OctetStringAsn1Container<OctetStringAsn1>>(alloc, row)?
+        }
+        "octetstringasn1container-u8" => at::<OctetStringAsn1Container<u8>>(alloc, row)?,
+        "stamp" => at::<Stamp>(alloc, row)?,
+        _ => return Ok(false),
+    }
+    Ok(true)
+}
+
+fn is_so_of_a_tag(alloc: Global, word: &str, row: &Row) -> Result<bool, Fail> {
+    match word {
+        "explicitcontexttag0-asn1rawder" => at::<ExplicitContextTag0<Asn1RawDer>>(alloc, row)?,
+        "explicitcontexttag0-octetstringasn1" => {
+            at::<ExplicitContextTag0<OctetStringAsn1>>(alloc, row)?
+        }
+        "explicitcontexttag0-u8" => at::<ExplicitContextTag0<u8>>(alloc, row)?,
+        "explicitcontexttag1-u8" => at::<ExplicitContextTag1<u8>>(alloc, row)?,
+        "explicitcontexttag2-u8" => at::<ExplicitContextTag2<u8>>(alloc, row)?,
+        "implicitcontexttag0-asn1sequenceof-u8" => {
+            at::<ImplicitContextTag0<Asn1SequenceOf<u8>>>(alloc, row)?
+        }
+        "implicitcontexttag0-objectidentifierasn1" => {
+            at::<ImplicitContextTag0<ObjectIdentifierAsn1>>(alloc, row)?
+        }
+        "implicitcontexttag0-u32" => at::<ImplicitContextTag0<u32>>(alloc, row)?,
+        "implicitcontexttag1-asn1setof-u8" => {
+            at::<ImplicitContextTag1<Asn1SetOf<u8>>>(alloc, row)?
+        }
+        "implicitcontexttag1-octetstringasn1" => {
+            at::<ImplicitContextTag1<OctetStringAsn1>>(alloc, row)?
+        }
+        _ => return Ok(false),
+    }
+    Ok(true)
+}

@@ -1,0 +1,29 @@
+//! The types of X.509. These are no kinds of `derbox`.
+
+use crate::checks::{is_so as at, is_so_under_tags as under_tags};
+use crate::rows::Row;
+use std::alloc::Global;
+use std::test::Fail;
+use x509_containers::{
+    AlgorithmIdentifier, Attribute, DigestInfo, Extension, Extensions, Name, NameValue,
+    RawAlgorithmIdentifier, SubjectKeyIdentifier, Time, Version,
+};
+
+/// Asks what a row says, where the word names one of these types.
+pub fn is_so(alloc: Global, word: &str, row: &Row) -> Result<bool, Fail> {
+    match word {
+        "algorithmidentifier" => at::<AlgorithmIdentifier>(alloc, row)?,
+        "attribute" => at::<Attribute>(alloc, row)?,
+        "digestinfo" => at::<DigestInfo>(alloc, row)?,
+        "extension" => at::<Extension>(alloc, row)?,
+        "extensions" => at::<Extensions>(alloc, row)?,
+        "name" => at::<Name>(alloc, row)?,
+        "namevalue" => at::<NameValue>(alloc, row)?,
+        "rawalgorithmidentifier" => at::<RawAlgorithmIdentifier>(alloc, row)?,
+        "subjectkeyidentifier" => under_tags::<SubjectKeyIdentifier>(alloc, row)?,
+        "time" => at::<Time>(alloc, row)?,
+        "version" => at::<Version>(alloc, row)?,
+        _ => return Ok(false),
+    }
+    Ok(true)
+}
