@@ -1,3 +1,5 @@
+pub mod Arcs
+pub mod Known
 pub mod Oid
 pub mod OidLaws
 pub mod OidTest

@@ -146,7 +146,3 @@ is_oid-true (o ∷ os) = (
 -- of octets that are written out: `oid_from_test octets refl`
 pub oid_from_test : (os : List ℕ) → is_oid os ≡ true → IsOid os
 oid_from_test os = (is_oid-true os).0
-
--- the same of octets that equal written ones: `oid_written e refl`
-pub oid_written : {octets known : List ℕ} → octets ≡ known → is_oid known ≡ true → IsOid octets
-oid_written {known} e h = subst IsOid (sym e) (oid_from_test known h)

@@ -2,9 +2,11 @@
 #![tactic(auto)]
 
 mod contents;
+pub mod known;
 mod oid;
 mod text;
 mod views;
 
 pub use contents::is_oid;
+pub use known::is_oid_of;
 pub use oid::ObjectIdentifier;
