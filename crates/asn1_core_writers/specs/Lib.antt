@@ -1,4 +1,6 @@
 pub mod Writers
 pub mod Comparing
 pub mod Sinks
+pub mod Buffers
+pub mod Appending
 pub mod Texts

@@ -25,20 +25,20 @@ pub record NotEmitted {S : Type 0} (text : List ℕ) (sink_old sink_new : S) (ol
 abbrev pub Emits : {S : Type 0} → List ℕ → S → S → Option (List ℕ) → Option (List ℕ) → ℕ → ℕ → Result (Unit {0}) WriteError → Type 0
 Emits text sink_old sink_new old new f g r = MatchResult r (λ _. Appends old new text × (g ≡ f)) (λ e. NotEmitted text sink_old sink_new old new f g e)
 
-appends_none : (o : Option (List ℕ)) → Appends o o []
+pub appends_none : (o : Option (List ℕ)) → Appends o o []
 appends_none None = tt
 appends_none (Some xs) = sym (append-nil xs)
 
 pub sends_none : (o : Option (List ℕ)) (f : ℕ) → Appends o o [] × (f ≡ f)
 sends_none o f = (appends_none o, refl)
 
-appends_more : (o p q : Option (List ℕ)) (a b : List ℕ) → Appends o p a → Appends p q b → Appends o q (a ++ b)
+pub appends_more : (o p q : Option (List ℕ)) (a b : List ℕ) → Appends o p a → Appends p q b → Appends o q (a ++ b)
 appends_more None p q a b h k = tt
 appends_more (Some xs) None q a b h k = absurd h
 appends_more (Some xs) (Some ys) None a b h k = k
 appends_more (Some xs) (Some ys) (Some zs) a b h k = k ∙ ap (λ l. l ++ b) h ∙ append_assoc xs a b
 
-stopped_first : (a b : List ℕ) (o p : Option (List ℕ)) (f g : ℕ) (e : WriteError) → Stopped a o p f g e → Stopped (a ++ b) o p f g e
+pub stopped_first : (a b : List ℕ) (o p : Option (List ℕ)) (f g : ℕ) (e : WriteError) → Stopped a o p f g e → Stopped (a ++ b) o p f g e
 stopped_first a b o p f g e s = record {
   part = record {
     written = s.part.written;
@@ -50,7 +50,7 @@ stopped_first a b o p f g e s = record {
   too_long = λ h. ((s.too_long h).0, omega (arith, length-append a b, (s.too_long h).1));
 }
 
-sends_more : (a b : List ℕ) (o p q : Option (List ℕ)) (f g h : ℕ) (r : Result (Unit {0}) WriteError) → Appends o p a → g ≡ f → Sends b p q g h r → Sends (a ++ b) o q f h r
+pub sends_more : (a b : List ℕ) (o p q : Option (List ℕ)) (f g h : ℕ) (r : Result (Unit {0}) WriteError) → Appends o p a → g ≡ f → Sends b p q g h r → Sends (a ++ b) o q f h r
 sends_more a b o p q f g h (Ok u) k e s = (appends_more o p q a b k s.0, s.1 ∙ e)
 sends_more a b o p q f g h (Err x) k e s = record {
   part = record {
@@ -66,7 +66,7 @@ sends_more a b o p q f g h (Err x) k e s = record {
 no_failed : TooLong ≡ Failed → ⊥
 no_failed e = search rules
 
-stopped_long : (a : List ℕ) (o : Option (List ℕ)) (f : ℕ) → 2 ^ 64 ≤ length a → Stopped a o o f f TooLong
+pub stopped_long : (a : List ℕ) (o : Option (List ℕ)) (f : ℕ) → 2 ^ 64 ≤ length a → Stopped a o o f f TooLong
 stopped_long a o f l = record {
   part = record { written = []; unwritten = a; split = refl; appended = appends_none o };
   failed = λ e. absurd (no_failed e);

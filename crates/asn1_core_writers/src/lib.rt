@@ -1,18 +1,23 @@
-//! Writers: what takes the bytes of a text. One measures it, one fills a buffer from its end, one compares it with an
-//! input, and every sink takes it from its front. A type is written by one method over any of them.
+//! Writers: what takes the bytes of a text. One measures it, one fills a buffer from its end, one appends it to
+//! a buffer, one compares it with an input, and every sink takes it from its front, directly or by an array where small
+//! pieces wait. A type is written by one method over any of them.
 #![tactic(auto)]
 
 pub mod backward;
+pub mod buffered;
 pub mod compare;
 pub mod elements;
+pub mod forward;
 pub mod measure;
 pub mod numbers;
 pub mod sinks;
 pub mod writer;
 
 pub use backward::Backward;
+pub use buffered::Buffered;
 pub use compare::Compare;
 pub use elements::{put_element, put_head};
+pub use forward::Forward;
 pub use measure::Measure;
 pub use numbers::put_unsigned;
 pub use writer::{WriteError, Writer};

@@ -10,6 +10,7 @@ use crate::writer::{WriteError, Writer};
 #[derive(Drop)]
 pub struct Measure {
     total: usize,
+    pieces: usize,
 }
 
 impl Measure {
@@ -17,7 +18,10 @@ impl Measure {
     pub fn new() -> Measure
         ensures { result.total ≡ 0 }
     {
-        Measure { total: 0 }
+        Measure {
+            total: 0,
+            pieces: 0,
+        }
     }
 
     /// How many bytes were taken.
@@ -25,6 +29,13 @@ impl Measure {
         ensures { result ≡ self.now.total }
     {
         self.total
+    }
+
+    /// In how many pieces they were taken.
+    pub fn pieces(&self) -> usize
+        ensures { result ≡ self.now.pieces }
+    {
+        self.pieces
     }
 }
 
@@ -45,6 +56,7 @@ impl Writer for Measure {
         match self.total.checked_add(bytes.len()) {
             Some(total) => {
                 self.total = total;
+                self.pieces = self.pieces.saturating_add(1);
                 Ok(())
             }
             None => Err(WriteError::TooLong),
