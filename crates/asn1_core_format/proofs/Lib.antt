@@ -1,6 +1,7 @@
 pub mod RowReads
 pub mod Items
 pub mod ItemWrites
+pub mod ItemTests
 pub mod Tags
 pub mod Wholes
 pub mod LeafReads

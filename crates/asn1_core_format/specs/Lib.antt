@@ -16,6 +16,7 @@ pub mod Whole
 pub mod Sequences
 pub mod Levels
 pub mod LevelLaws
+pub mod Calls
 pub mod Rolled
 pub mod Same
 pub mod Views

@@ -8,6 +8,7 @@ pub mod leaves;
 pub mod less;
 pub mod lists;
 pub mod numbers;
+pub mod recursive;
 pub mod rows;
 pub mod tagged;
 pub mod traits;
@@ -18,6 +19,9 @@ pub mod within;
 pub use eithers::Either;
 pub use leaves::{Leaf, read_leaf, read_leaf_contents};
 pub use less::Less;
+pub use recursive::{
+    read_all_with, read_below, read_below_within, read_list_with, read_then_with, read_within_with,
+};
 pub use rows::{
     Alone, ApartFrom, End, FirstTags, HasDefault, Maybe, Omitted, Part, ReadRow, TagsApart,
     WriteRow, put_both,

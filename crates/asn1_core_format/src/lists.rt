@@ -1,7 +1,8 @@
 //! Items, one after another to the end of the contents.
 
-ghost use Rattle.std.specs.Prelude.{◌≡◌, List, map, true, false};
+ghost use Rattle.std.specs.Prelude.{◌≡◌, List, [], ◌∷◌, ◌++◌, map, true, false, MatchResult};
 ghost use Rattle.std.specs.List.{flat_map};
+ghost use Rattle.asn1_core_element.specs.declared.error.Error.TheVariants.{Memory};
 ghost use Rattle.asn1_core_format.specs.Lists.{each};
 ghost use Rattle.asn1_core_format.specs.ListLaws.{lawful_each};
 
@@ -37,6 +38,18 @@ fn put_items_back<T: DerSerialize, W: Writer>(items: &[T], w: &mut W) -> Result<
     Ok(())
 }
 
+/// Puts an item behind the others. Behind the last one comes none, so that it makes room for itself alone; before, a
+/// vector grows by itself, to four items at first. Refuses by `Memory` alone.
+pub fn push_item<T: Drop>(items: &mut Vec<T>, item: T, is_last: bool) -> Result<(), Error>
+    ensures { MatchResult result (λ _. items.new.items ≡ items.old.items ++ item ∷ []) (λ e. e ≡ Memory) }
+{
+    if is_last {
+        items.reserve_exact(1)?;
+    }
+    items.push(item)?;
+    Ok(())
+}
+
 /// Items, one after another.
 impl<T: DerSerialize> WriteRow for Vec<T> {
     ghost Value = { List T.Value };
@@ -66,13 +79,9 @@ impl<T: DerSerialize> WriteRow for Vec<T> {
 impl<T: DerDeserialize> ReadRow for Vec<T> {
     fn read_row(alloc: Global, r: &mut Reader<'_>, nest: u8) -> Result<Self, Error> {
         let mut items = Vec::new(alloc);
-        // most lists have few items, and a vector that grows by itself begins with room for more
-        if r.left() > 0 {
-            items.reserve_exact(1)?;
-        }
         'items: while r.left() > 0 {
             let item = T::read(alloc, r, nest)?;
-            items.push(item)?;
+            push_item(&mut items, item, r.left() == 0)?;
         }
         Ok(items)
     }

@@ -11,7 +11,7 @@ use crate::traits::DerDeserialize;
 use asn1_core_element::element::open_element;
 use asn1_core_element::{Error, Reader};
 use asn1_core_streams::Sink;
-use asn1_core_writers::{WriteError, Writer};
+use asn1_core_writers::{Buffered, WriteError, Writer};
 use std::alloc::Global;
 
 /// A type whose texts are elements with one tag, so that an IMPLICIT tag may stand in its place.
@@ -25,7 +25,7 @@ pub trait DerTagged: DerDeserialize {
         requires { W.MayTake w.old }
         ensures { W.Takes (retag tag (Self.format.text (Self.value self.now))) w.old w.new result };
 
-    /// Sends the text, whose first byte becomes that tag. Takes no memory.
+    /// Sends the text, whose first byte becomes that tag, as `emit` does.
     #[tactic(auto, using(asn1_core_element::specs::ElementLaws::length_retag))]
     final fn emit_as<S: Sink>(&self, tag: u8, sink: &mut S) -> Result<(), WriteError>
         requires { S.failed sink.old < u64.MAX }
@@ -34,7 +34,9 @@ pub trait DerTagged: DerDeserialize {
         if self.encoded_len().is_err() {
             return Err(WriteError::TooLong);
         }
-        self.put_as(tag, sink)
+        let mut w = Buffered::new(sink);
+        self.put_as(tag, &mut w)?;
+        w.flush()
     }
 
     /// Reads what stands in an element with that tag, to the end of the open contents.

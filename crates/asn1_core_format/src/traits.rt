@@ -1,13 +1,14 @@
 //! What a type that writes, and one that reads too, gives and promises.
 
-ghost use Rattle.std.specs.Prelude.{◌≡◌, ◌↔◌, ◌-◌, ◌<◌, ◌≤◌, ◌++◌, ℕ, IsTrue, false, length, take, vec_capacity};
+ghost use Rattle.std.specs.Prelude.{◌≡◌, ◌↔◌, ◌+◌, ◌-◌, ◌^◌, ◌<◌, ◌≤◌, ◌++◌, ℕ, IsTrue, false, length, take, vec_capacity, MatchResult};
+ghost use Rattle.asn1_core_element.specs.declared.error.Error.TheVariants.{TooLong};
 ghost use Rattle.asn1_core_format.specs.Format.{Format, IsLawful, Gives};
 ghost use Rattle.asn1_core_writers.specs.Sinks.{Emits};
 ghost use Rattle.asn1_core_writers.specs.Texts.{Measures, Writes};
 
 use asn1_core_element::{Error, Reader};
 use asn1_core_streams::Sink;
-use asn1_core_writers::{Backward, Measure, WriteError, Writer};
+use asn1_core_writers::{Backward, Buffered, Forward, Measure, WriteError, Writer};
 use std::alloc::Global;
 use std::mem;
 
@@ -44,11 +45,8 @@ pub trait DerSerialize {
     final fn encoded_len(&self) -> Result<usize, Error>
         ensures { Measures (format.text (value self.now)) result }
     {
-        let mut w = Measure::new();
-        match self.put(&mut w) {
-            Ok(()) => Ok(w.total()),
-            Err(_) => Err(Error::TooLong),
-        }
+        let w = measured(self)?;
+        Ok(w.total())
     }
 
     /// Appends the text, without a refusal where there is room for it. A refusal leaves the buffer's contents as they
@@ -57,15 +55,24 @@ pub trait DerSerialize {
         ensures text { Writes (format.text (value self.now)) out.old.items (vec_capacity out.old) out.new.items result }
         ensures capacity { vec_capacity out.old ≤ vec_capacity out.new }
     {
-        let size = self.encoded_len()?;
+        let w = measured(self)?;
+        let size = w.total();
         let len = out.len();
         out.reserve(size)?;
-        out.resize(len + size, 0)?;
-        fill(self, alloc, out);
+        if size >= LONG && w.pieces() <= FEW {
+            append(self, alloc, out);
+        } else {
+            out.resize(len + size, 0)?;
+            fill(self, alloc, out);
+        }
         Ok(())
     }
 
-    /// Sends the text. Takes no memory. A text that is too long is not begun.
+    /// Sends the text. Takes no memory: pieces of it wait in an array of 4 KB on the stack, so that the sink gets them
+    /// in few writes. A text that is too long is not begun.
+    ///
+    /// A header is sent before what it holds, which is measured for it. So what stands under n headers is measured n
+    /// times, and once at first: sending a deep value takes many times as long as `to_vec`, which measures all once.
     final fn emit<S: Sink>(&self, sink: &mut S) -> Result<(), WriteError>
         requires { S.failed sink.old < u64.MAX }
         ensures { Emits (format.text (value self.now)) sink.old sink.new (S.held sink.old) (S.held sink.new) (S.failed sink.old) (S.failed sink.new) result }
@@ -73,8 +80,42 @@ pub trait DerSerialize {
         if self.encoded_len().is_err() {
             return Err(WriteError::TooLong);
         }
-        self.put(sink)
+        let mut w = Buffered::new(sink);
+        self.put(&mut w)?;
+        w.flush()
     }
+}
+
+/// From so many bytes on, a text of few pieces is appended from its front, so that no zeros are written first.
+const LONG: usize = 16_384;
+
+/// At most so many pieces are few. They are measured again at each header above them.
+const FEW: usize = 16;
+
+/// Measures the text.
+fn measured<T: DerSerialize>(value: &T) -> Result<Measure, Error>
+    ensures { MatchResult result (λ w. w.total ≡ length (T.format.text (T.value value.now))) (λ e. (e ≡ TooLong) × (2 ^ 64 ≤ length (T.format.text (T.value value.now)))) }
+{
+    let mut w = Measure::new();
+    match value.put(&mut w) {
+        Ok(()) => Ok(w),
+        Err(_) => Err(Error::TooLong),
+    }
+}
+
+/// Writes the text behind what the buffer holds, into its room.
+fn append<T: DerSerialize>(value: &T, alloc: Global, out: &mut Vec<u8>)
+    requires room { length out.old.items + length (T.format.text (T.value value.now)) ≤ vec_capacity out.old }
+    requires fits { length (T.format.text (T.value value.now)) < 2 ^ 64 }
+    ensures text { out.new.items ≡ out.old.items ++ T.format.text (T.value value.now) }
+    ensures capacity { vec_capacity out.old ≤ vec_capacity out.new }
+{
+    let mut w = Forward::new(mem::replace(out, Vec::new(alloc)));
+    match value.put(&mut w) {
+        Ok(()) => {}
+        Err(_) => unreachable!(),
+    }
+    *out = w.into_inner();
 }
 
 /// Writes the text over the end of the buffer.

@@ -15,11 +15,11 @@ items-smaller g c = took_shortens g.T.DerSerialize.format g.met.T.DerDeserialize
 pub items-preserved : goal.items-preserved
 items-preserved g c =
     let t = took_more g.T.DerSerialize.format g.met.T.DerDeserialize.lawful c.args.nest c.items.invariant c.in_ok-item.ensures in
-    let e = ap (map g.T.DerSerialize.value) c.in_ok-push.ensures.items ∙ map_push g.T.DerSerialize.value c.items.items.items c.in_ok-item.item in
+    let e = ap (map g.T.DerSerialize.value) c.in_ok-push_item.ensures ∙ map_push g.T.DerSerialize.value c.items.items.items c.in_ok-item.item in
     subst (λ vs. TookItems g.T.DerSerialize.format c.args.nest c.args.r.now c.read.new.r vs) (sym e) t
 
-pub returns-in_err-push : goal.returns-in_err-push
-returns-in_err-push g c =
+pub returns-in_err-push_item : goal.returns-in_err-push_item
+returns-in_err-push_item g c =
     let t = took_more g.T.DerSerialize.format g.met.T.DerDeserialize.lawful c.args.nest c.items.invariant c.in_ok-item.ensures in
     let r = no_memory_items g.T.DerSerialize.format g.met.T.DerDeserialize.lawful c.args.nest t in
     search rules

@@ -1,0 +1,7 @@
+use Rattle.std.proofs.Common.{rules}
+use Rattle.asn1_core_writers.specs.Buffers.{emits_buffered}
+use Rattle.asn1_core_format.proofs.traits.DerSerialize.emit.Goals as goal
+
+pub returns : goal.returns
+returns g c =
+    emits_buffered g.S.Sink.held g.S.Sink.failed _ _ _ _ _ _ _ _ _ _ _ _ _ (search rules) c.new-w.ensures.same_sink c.new-w.ensures.sink c.new-w.ensures.waiting c.in_ok-put.ensures c.flush.ensures.same_sink c.flush.ensures.sent (search rules)

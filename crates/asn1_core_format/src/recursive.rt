@@ -1,0 +1,163 @@
+//! Reading types that hold themselves. What stands inside is read by a closure, so that these functions stand outside
+//! of the recursion: in a type's own cycle of calls are only those that come back to it.
+
+ghost use Rattle.std.specs.Prelude.{◌≡◌, false, map};
+ghost use Rattle.asn1_core_element.specs.Element.{IsTagByte};
+ghost use Rattle.asn1_core_format.specs.Calls.{MayBelow, GivesBelow};
+ghost use Rattle.asn1_core_format.specs.Format.{Gives, IsLawful};
+ghost use Rattle.asn1_core_format.specs.Levels.{less};
+ghost use Rattle.asn1_core_format.specs.Lists.{each};
+ghost use Rattle.asn1_core_format.specs.Rows.{GivesRow, part, within};
+
+use crate::lists::push_item;
+use crate::rows::{Part, WriteRow};
+use crate::traits::{DerDeserialize, DerSerialize};
+use asn1_core_element::element::open_element;
+use asn1_core_element::{Error, Reader};
+use std::alloc::Global;
+
+/// Reads a row by `by`.
+fn read_row_by<R: WriteRow, F: Fn(&mut Reader<'_>) -> Result<R, Error>>(
+    r: &mut Reader<'_>,
+    _nest: u8,
+    by: &F,
+) -> Result<R, Error>
+    requires sound { r.old.refused ≡ false }
+    requires called { (s : _) → s.now.refused ≡ false → F.pre by.now s }
+    requires gives { (s : _) (x : _) (t : _) → F.post by.now s x t → GivesRow R.value R.format _nest s.now t.now x }
+    ensures { GivesRow R.value R.format _nest r.old r.new result }
+{
+    by(r)
+}
+
+/// Reads a `T` by `by`.
+fn read_by<T: DerSerialize, F: Fn(&mut Reader<'_>) -> Result<T, Error>>(
+    r: &mut Reader<'_>,
+    _nest: u8,
+    by: &F,
+) -> Result<T, Error>
+    requires sound { r.old.refused ≡ false }
+    requires called { (s : _) → s.now.refused ≡ false → F.pre by.now s }
+    requires gives { (s : _) (x : _) (t : _) → F.post by.now s x t → Gives T.value T.format _nest s.now t.now x }
+    ensures { Gives T.value T.format _nest r.old r.new result }
+{
+    by(r)
+}
+
+/// Reads an element with that tag, whose contents `by` reads.
+pub fn read_within_with<R: WriteRow + Drop, F: Fn(&mut Reader<'_>) -> Result<R, Error>>(
+    r: &mut Reader<'_>,
+    nest: u8,
+    tag: u8,
+    by: &F,
+) -> Result<R, Error>
+    requires sound { r.old.refused ≡ false }
+    requires tag { IsTagByte tag }
+    requires called { (s : _) → s.now.refused ≡ false → F.pre by.now s }
+    requires gives { (s : _) (x : _) (t : _) → F.post by.now s x t → GivesRow R.value R.format nest s.now t.now x }
+    ensures { Gives R.value (within tag R.format) nest r.old r.new result }
+{
+    let outer = open_element(r, tag)?;
+    let row = read_row_by(r, nest, by)?;
+    r.end(outer)?;
+    Ok(row)
+}
+
+/// Reads items to the end of the open contents, each by `by`. The law of the items is a premise and no bound, since
+/// `DerDeserialize` would bring their `read` into the caller's cycle.
+pub fn read_all_with<T: DerSerialize + Drop, F: Fn(&mut Reader<'_>) -> Result<T, Error>>(
+    alloc: Global,
+    r: &mut Reader<'_>,
+    nest: u8,
+    by: &F,
+) -> Result<Vec<T>, Error>
+    requires sound { r.old.refused ≡ false }
+    requires lawful { IsLawful T.format }
+    requires called { (s : _) → s.now.refused ≡ false → F.pre by.now s }
+    requires gives { (s : _) (x : _) (t : _) → F.post by.now s x t → Gives T.value T.format nest s.now t.now x }
+    ensures { GivesRow (λ v. map T.value v.items) (each T.format) nest r.old r.new result }
+{
+    let mut items = Vec::new(alloc);
+    'items: while r.left() > 0 {
+        let item = read_by(r, nest, by)?;
+        push_item(&mut items, item, r.left() == 0)?;
+    }
+    Ok(items)
+}
+
+/// Reads an element with that tag that holds items, each read by `by`.
+pub fn read_list_with<T: DerSerialize + Drop, F: Fn(&mut Reader<'_>) -> Result<T, Error>>(
+    alloc: Global,
+    r: &mut Reader<'_>,
+    nest: u8,
+    tag: u8,
+    by: &F,
+) -> Result<Vec<T>, Error>
+    requires sound { r.old.refused ≡ false }
+    requires tag { IsTagByte tag }
+    requires lawful { IsLawful T.format }
+    requires called { (s : _) → s.now.refused ≡ false → F.pre by.now s }
+    requires gives { (s : _) (x : _) (t : _) → F.post by.now s x t → Gives T.value T.format nest s.now t.now x }
+    ensures { Gives (λ v. map T.value v.items) (within tag (each T.format)) nest r.old r.new result }
+{
+    let outer = open_element(r, tag)?;
+    let items = read_all_with(alloc, r, nest, by)?;
+    r.end(outer)?;
+    Ok(items)
+}
+
+/// Reads a `T` a level down, by `by`, which is told the levels that are left there.
+pub fn read_below<T: DerSerialize, F: Fn(&mut Reader<'_>, u8) -> Result<T, Error>>(
+    r: &mut Reader<'_>,
+    nest: u8,
+    by: &F,
+) -> Result<T, Error>
+    requires sound { r.old.refused ≡ false }
+    requires called { MayBelow (F.pre by.now) nest }
+    requires gives { GivesBelow (F.post by.now) T.value T.format nest }
+    ensures { Gives T.value (less T.format) nest r.old r.new result }
+{
+    if nest == 0 {
+        return Err(Error::TooDeep);
+    }
+    by(r, nest - 1)
+}
+
+/// Reads an element with that tag that holds a `T` a level down, read by `by`.
+pub fn read_below_within<T: DerSerialize + Drop, F: Fn(&mut Reader<'_>, u8) -> Result<T, Error>>(
+    r: &mut Reader<'_>,
+    nest: u8,
+    tag: u8,
+    by: &F,
+) -> Result<T, Error>
+    requires sound { r.old.refused ≡ false }
+    requires tag { IsTagByte tag }
+    requires lawful { IsLawful T.format }
+    requires called { MayBelow (F.pre by.now) nest }
+    requires gives { GivesBelow (F.post by.now) T.value T.format nest }
+    ensures { Gives T.value (within tag (less T.format)) nest r.old r.new result }
+{
+    let outer = open_element(r, tag)?;
+    let value = read_below(r, nest, by)?;
+    if r.left() > 0 {
+        return Err(Error::Malformed);
+    }
+    r.end(outer)?;
+    Ok(value)
+}
+
+/// Reads a part, and by `by` what stands behind it.
+pub fn read_then_with<
+    A: DerDeserialize,
+    R: WriteRow + Drop,
+    F: Fn(&mut Reader<'_>) -> Result<R, Error>,
+>(alloc: Global, r: &mut Reader<'_>, nest: u8, by: &F) -> Result<Part<A, R>, Error>
+    requires sound { r.old.refused ≡ false }
+    requires called { (s : _) → s.now.refused ≡ false → F.pre by.now s }
+    requires gives { (s : _) (x : _) (t : _) → F.post by.now s x t → GivesRow R.value R.format nest s.now t.now x }
+    ensures { GivesRow (λ p. (A.value p.0, R.value p.1)) (part A.format R.format) nest r.old r.new result }
+{
+    let first = A::read(alloc, r, nest)?;
+    let rest = read_row_by(r, nest, by)?;
+    Ok(Part(first, rest))
+}
