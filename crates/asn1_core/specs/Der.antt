@@ -12,3 +12,4 @@ pub use Rattle.asn1_core_oid.specs.OidValue.{octets_of}
 pub use Rattle.asn1_core.specs.Objects.{object_identifier, lawful_object_identifier}
 pub use Rattle.asn1_core.specs.Octets.{octet_string, lawful_octet_string}
 pub use Rattle.asn1_core.specs.Raw.{raw, lawful_raw}
+pub use Rattle.asn1_core.specs.Words.{Octets, OidOctets, IntegerOctets, BitStringOctets, StringOctets, ElementOctets}

@@ -1,3 +1,4 @@
+pub mod Words
 pub mod Seen
 pub mod Octets
 pub mod Raw
