@@ -5,9 +5,10 @@ use Rattle.asn1_core_element.specs.Element.{element}
 use Rattle.asn1_core_format.specs.Format.{IsLawful}
 use Rattle.asn1_core_format.specs.Loosened.{IsLoosening, lawful_loosened}
 use Rattle.asn1_core_oid.specs.Oid.{IsOid}
+use Rattle.asn1_choices.specs.Tables.{Table, IsTable}
 use Rattle.x509_base.specs.Algorithms.{AlgorithmValue, algorithm_identifier, null, null_written}
 use Rattle.x509_base.specs.AlgorithmLaws.{lawful_algorithm_identifier, null_is_element, parts_of, same_parts, some_parameters, element_is_some, or_null_formed, null_reread}
-use Rattle.x509_base.specs.AlgorithmChoices.{Table, IsTable, arm_read, HasArmParameters, arm_written, algorithm_choice}
+use Rattle.x509_base.specs.AlgorithmChoices.{arm_read, HasArmParameters, arm_written, algorithm_choice}
 
 some_same : {A : Type 0} {x y : A} → Some x ≡ Some y → x ≡ y
 some_same j = cc

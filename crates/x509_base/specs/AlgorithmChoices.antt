@@ -6,17 +6,8 @@ use Rattle.asn1_core_element.specs.Element.{element}
 use Rattle.asn1_core_format.specs.Format.{Format}
 use Rattle.asn1_core_format.specs.Eithers.{OneOf, from_one, map_one}
 use Rattle.asn1_core_format.specs.Loosened.{Loosening, loosened}
+use Rattle.asn1_choices.specs.Tables.{Table}
 use Rattle.x509_base.specs.Algorithms.{AlgorithmValue, algorithm_identifier, null, null_written}
-
--- the object identifiers of known arms
-pub record Table (A : Type 0) : Type 0 where
-  pub oid_of : A → List ℕ
-  pub arm_of : List ℕ → Option A
-
--- each arm has its own object identifier
-pub record IsTable {A : Type 0} (T : Table A) : Type 0 where
-  pub there : (a : A) → T.arm_of (T.oid_of a) ≡ Some a
-  pub back : (o : List ℕ) (a : A) → T.arm_of o ≡ Some a → T.oid_of a ≡ o
 
 -- a known arm, or an algorithm identifier whose object identifier no arm has
 abbrev pub arm_read : {A : Type 0} → Option A → AlgorithmValue → A ⊎ AlgorithmValue

@@ -1,5 +1,6 @@
 -- AlgorithmIdentifier ::= SEQUENCE { algorithm OBJECT IDENTIFIER, parameters ANY DEFINED BY algorithm OPTIONAL } (RFC 5280, 4.1.1.2)
 use Rattle.std.specs.Prelude.{◌≡◌, ◌≢◌, ℕ, List, [], ◌++◌, Option, Some, None}
+use Rattle.asn1_core.specs.Words.{OidOctets, ElementOctets}
 use Rattle.asn1_core_element.specs.Element.{element}
 use Rattle.asn1_core_format.specs.Format.{Format}
 use Rattle.asn1_core_format.specs.Rows.{nothing, part, optional, within}
@@ -9,7 +10,7 @@ use Rattle.asn1_core.specs.Raw.{raw}
 
 -- the object identifier, and the parameters
 abbrev pub AlgorithmValue : Type 0
-AlgorithmValue = List ℕ × (Option (List ℕ) × Unit {0})
+AlgorithmValue = OidOctets × (Option ElementOctets × Unit {0})
 
 -- as it stands
 abbrev pub algorithm_identifier : Format AlgorithmValue

@@ -1,7 +1,8 @@
--- Extension ::= SEQUENCE { extnID OBJECT IDENTIFIER, critical BOOLEAN DEFAULT FALSE, extnValue OCTET STRING }
+-- Extension ::= SEQUENCE { extnID OBJECT IDENTIFIER, critical BOOLEAN DEFAULT FALSE, extnValue OCTET STRING } (RFC 5280, 4.1)
 -- Extensions ::= SEQUENCE OF Extension
 -- An explicit FALSE is read, since old producers write it, and never written.
 use Rattle.std.specs.Prelude.{ℕ, Bool, List}
+use Rattle.asn1_core.specs.Words.{Octets, OidOctets}
 use Rattle.std.proofs.Common.{arith}
 use Rattle.asn1_core_format.specs.Format.{Format, IsLawful, IsLawfulRow}
 use Rattle.asn1_core_format.specs.Rows.{nothing, part, within}
@@ -14,7 +15,7 @@ use Rattle.asn1_core.specs.Octets.{octet_string, lawful_octet_string}
 use Rattle.x509_base.specs.Booleans.{boolean, lawful_boolean, explicit_false, false_is_normal}
 
 abbrev pub ExtensionValue : Type 0
-ExtensionValue = List ℕ × (Bool × (List ℕ × Unit {0}))
+ExtensionValue = OidOctets × (Bool × (Octets × Unit {0}))
 
 abbrev pub extension : Format ExtensionValue
 extension = within 0x30 (part object_identifier (omitted (is_text boolean explicit_false) explicit_false boolean (part octet_string nothing)))

@@ -1,6 +1,7 @@
 pub mod Algorithms
 pub mod AlgorithmParts
 pub mod AlgorithmLaws
+pub mod OtherAlgorithms
 pub mod AlgorithmChoices
 pub mod AlgorithmChoiceLaws
 pub mod Booleans

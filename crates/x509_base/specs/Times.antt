@@ -1,4 +1,4 @@
--- Time ::= CHOICE { utcTime UTCTime, generalTime GeneralizedTime }
+-- Time ::= CHOICE { utcTime UTCTime, generalTime GeneralizedTime } (RFC 5280, 4.1.2.5)
 use Rattle.std.specs.Prelude.{◌⊎◌}
 use Rattle.std.proofs.Common.{arith, inl, inr}
 use Rattle.asn1_core_format.specs.Format.{Format, IsLawful}

@@ -5,8 +5,10 @@ ghost use Rattle.std.proofs.Common.{rules};
 ghost use Rattle.asn1_core_format.specs.Rows.{option_value};
 ghost use Rattle.x509_base.specs.Algorithms.{AlgorithmValue, algorithm_identifier, raw_algorithm_identifier, null, written_null};
 ghost use Rattle.x509_base.specs.AlgorithmParts.{algorithm_of, parameters_of, parts_of, algorithm_value};
+ghost use Rattle.x509_base.specs.OtherAlgorithms.{other_algorithm, lawful_other_algorithm};
 ghost use Rattle.x509_base.specs.AlgorithmLaws.{lawful_algorithm_identifier, lawful_raw_algorithm_identifier};
 
+use asn1_choices::{AnyOid, ReadChoice, WriteChoice};
 use asn1_core::{
     Asn1RawDer, DerDeserialize, DerSerialize, EqualByText, Error, KnownOid, ObjectIdentifier,
     ObjectIdentifierAsn1, OidRef, Reader, TryClone,
@@ -155,6 +157,42 @@ impl DerDeserialize for RawAlgorithmIdentifier {
     }
 
     ghost lawful = { lawful_raw_algorithm_identifier };
+}
+
+/// The last arm of a choice of algorithms: any object identifier that no arm before it has.
+impl WriteChoice for RawAlgorithmIdentifier {
+    ghost Value = { AlgorithmValue };
+
+    ghost value = { λ a. algorithm_value (parts_of a) };
+
+    ghost choice = { other_algorithm };
+
+    fn oid(&self) -> &[u8] {
+        self.algorithm().octets()
+    }
+
+    fn put_choice<W: Writer>(&self, w: &mut W) -> Result<(), WriteError> {
+        let oid = OidRef(self.algorithm());
+        match self.parameters() {
+            Some(parameters) => Part(oid, Alone(parameters)).put_row(w),
+            None => Part(oid, Alone(Null)).put_row(w),
+        }
+    }
+
+    fn choice_well_formed_at(&self, limit: u8) -> bool {
+        self.parts.well_formed_at(limit)
+    }
+}
+
+impl ReadChoice for RawAlgorithmIdentifier {
+    fn read_behind(oid: &[u8], alloc: Global, r: &mut Reader<'_>, nest: u8) -> Result<Self, Error> {
+        let AnyOid(algorithm, Maybe(parameters, End)) = AnyOid::<
+            Maybe<Asn1RawDer, End>,
+        >::read_behind(oid, alloc, r, nest)?;
+        Ok(Self::from_parts(algorithm, parameters))
+    }
+
+    ghost lawful = { lawful_other_algorithm };
 }
 
 impl FirstTags for RawAlgorithmIdentifier {

@@ -1,4 +1,3 @@
 pub mod Objects
 pub mod Links
-pub mod Values
 pub mod Texts

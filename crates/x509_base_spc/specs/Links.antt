@@ -2,7 +2,8 @@
 -- SpcLink ::= CHOICE { url [0] IMPLICIT IA5String, moniker [1] IMPLICIT SpcSerializedObject, file [2] EXPLICIT SpcString }
 -- SpcSpOpusInfo ::= SEQUENCE { programName [0] EXPLICIT SpcString OPTIONAL, moreInfo [1] EXPLICIT SpcLink OPTIONAL }
 use Rattle.std.specs.Prelude.{◌≡◌, ◌⊎◌, ℕ, List, Option}
-use Rattle.std.proofs.Common.{arith, ⊎_elim}
+use Rattle.asn1_core.specs.Words.{StringOctets}
+use Rattle.std.proofs.Common.{arith, ⊎_elim, inl, inr}
 use Rattle.asn1_core_format.specs.Format.{Format, IsLawful}
 use Rattle.asn1_core_format.specs.Rows.{nothing, optional, within}
 use Rattle.asn1_core_format.specs.RowLaws.{lawful_nothing, lawful_optional, lawful_within}
@@ -14,10 +15,19 @@ use Rattle.asn1_leaves.specs.Strings.{bmp_string, lawful_bmp_string, ia5_string,
 use Rattle.asn1_leaves_strings.specs.Bmp.{IsBmp}
 use Rattle.asn1_leaves_strings.specs.Ia5.{IsIa5}
 use Rattle.x509_base_spc.specs.Objects.{SerializedObjectValue, serialized_object_row, serialized_object, lawful_serialized_object}
+use Rattle.asn1_leaves_strings.specs.Octets.{octets_of_bmp, octets_of_ia5}
+use Rattle.x509_base_spc.specs.declared.links.SpcString.{SpcString}
+use Rattle.x509_base_spc.specs.declared.links.SpcString.TheVariants.{Unicode, Ancii}
+use Rattle.x509_base_spc.specs.declared.links.SpcLink.{SpcLink}
+use Rattle.x509_base_spc.specs.declared.links.SpcLink.TheVariants.{Url, Moniker, File}
 
 -- octets of a BMPString, or of an IA5String
 abbrev pub StringValue : Type 0
-StringValue = List ℕ ⊎ List ℕ
+StringValue = StringOctets ⊎ StringOctets
+
+abbrev pub string_value : SpcString → StringValue
+string_value (Unicode s) = inl (octets_of_bmp s.0.0.0)
+string_value (Ancii s) = inr (octets_of_ia5 s.0.0.0)
 
 abbrev pub unicode : Format (List ℕ)
 unicode = implicit 0x80 0x1E bmp_string
@@ -30,7 +40,12 @@ spc_string = either unicode ascii
 
 -- octets of an IA5String, an object, or a string
 abbrev pub LinkValue : Type 0
-LinkValue = List ℕ ⊎ (SerializedObjectValue ⊎ StringValue)
+LinkValue = StringOctets ⊎ (SerializedObjectValue ⊎ StringValue)
+
+abbrev pub link_value : SpcLink → LinkValue
+link_value (Url u) = inl (octets_of_ia5 u.0.0.0.0)
+link_value (Moniker m) = inr (inl (m.0.0.0.class_id.0.0.items, (m.0.0.0.serialized_data.0.items, tt)))
+link_value (File f) = inr (inr (string_value f.0.0))
 
 abbrev pub url : Format (List ℕ)
 url = implicit 0x80 0x16 ia5_string

@@ -1,6 +1,7 @@
 -- SpcUuid ::= OCTET STRING
 -- SpcSerializedObject ::= SEQUENCE { classId SpcUuid, serializedData OCTET STRING }
 use Rattle.std.specs.Prelude.{ℕ, List, [], ◌∷◌}
+use Rattle.asn1_core.specs.Words.{Octets}
 use Rattle.std.proofs.Common.{arith}
 use Rattle.asn1_core_format.specs.Format.{Format, IsLawful}
 use Rattle.asn1_core_format.specs.Rows.{nothing, part, within}
@@ -8,7 +9,7 @@ use Rattle.asn1_core_format.specs.RowLaws.{lawful_nothing, lawful_part, lawful_w
 use Rattle.asn1_core.specs.Octets.{octet_string, lawful_octet_string}
 
 abbrev pub SerializedObjectValue : Type 0
-SerializedObjectValue = List ℕ × (List ℕ × Unit {0})
+SerializedObjectValue = Octets × (Octets × Unit {0})
 
 abbrev pub serialized_object_row : Format SerializedObjectValue
 serialized_object_row = part octet_string (part octet_string nothing)

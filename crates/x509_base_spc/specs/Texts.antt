@@ -3,7 +3,7 @@ use Rattle.std.specs.Prelude.{◌≡◌, ℕ, ◌<◌, ◌^◌, List, Result, Ma
 use Rattle.std.proofs.Common.{inl}
 use Rattle.std.specs.List.{All, flat_map}
 use Rattle.asn1_leaves_strings.specs.Bmp.{unit_octets}
-use Rattle.x509_base_spc.specs.Values.{string_of}
+use Rattle.x509_base_spc.specs.Links.{string_value}
 use Rattle.x509_base_spc.specs.declared.links.SpcString.{SpcString}
 use Rattle.x509_base_spc.specs.declared.string_error.StringError.{StringError}
 use Rattle.x509_base_spc.specs.declared.string_error.StringError.TheVariants.{CharSet, Memory}
@@ -25,7 +25,7 @@ WhyRefused characters Memory = Unit {0}
 abbrev pub StringGives : List ℕ → Result SpcString StringError → Type 0
 StringGives characters result =
     MatchResult result
-    (λ s. (string_of s ≡ inl (flat_map unit_octets characters)) × All IsOneUnit characters)
+    (λ s. (string_value s ≡ inl (flat_map unit_octets characters)) × All IsOneUnit characters)
     (WhyRefused characters)
 
 -- the octets of the text of a file that names none

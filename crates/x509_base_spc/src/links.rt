@@ -2,8 +2,7 @@
 
 ghost use Rattle.std.specs.Prelude.{◌≡◌};
 ghost use Rattle.std.proofs.Common.{rules, arith, ⊎_elim};
-ghost use Rattle.x509_base_spc.specs.Links.{StringValue, LinkValue, spc_string, url, moniker, file, spc_link, lawful_spc_string, lawful_url, lawful_moniker, lawful_file, lawful_spc_link};
-ghost use Rattle.x509_base_spc.specs.Values.{string_of, link_of};
+ghost use Rattle.x509_base_spc.specs.Links.{StringValue, LinkValue, spc_string, url, moniker, file, spc_link, lawful_spc_string, lawful_url, lawful_moniker, lawful_file, lawful_spc_link, string_value, link_value};
 
 use crate::objects::SpcSerializedObject;
 use asn1_core::{
@@ -25,7 +24,7 @@ pub enum SpcString {
 impl DerSerialize for SpcString {
     ghost Value = { StringValue };
 
-    ghost value = { string_of };
+    ghost value = { string_value };
 
     ghost format = { spc_string };
 
@@ -225,7 +224,7 @@ pub enum SpcLink {
 impl DerSerialize for SpcLink {
     ghost Value = { LinkValue };
 
-    ghost value = { link_of };
+    ghost value = { link_value };
 
     ghost format = { spc_link };
 

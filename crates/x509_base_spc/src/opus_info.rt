@@ -2,8 +2,7 @@
 
 ghost use Rattle.std.proofs.Common.{rules};
 ghost use Rattle.asn1_core_format.specs.Rows.{option_value};
-ghost use Rattle.x509_base_spc.specs.Links.{OpusInfoValue, opus_info, lawful_opus_info};
-ghost use Rattle.x509_base_spc.specs.Values.{string_of, link_of};
+ghost use Rattle.x509_base_spc.specs.Links.{OpusInfoValue, opus_info, lawful_opus_info, string_value, link_value};
 
 use crate::links::{SpcLink, SpcString};
 use asn1_core::{
@@ -26,7 +25,7 @@ type OpusInfoRow = Maybe<ExplicitContextTag0<SpcString>, Maybe<ExplicitContextTa
 impl DerSerialize for SpcSpOpusInfo {
     ghost Value = { OpusInfoValue };
 
-    ghost value = { λ x. (option_value (λ n. string_of n.0) x.program_name, (option_value (λ l. link_of l.0) x.more_info, tt)) };
+    ghost value = { λ x. (option_value (λ n. string_value n.0) x.program_name, (option_value (λ l. link_value l.0) x.more_info, tt)) };
 
     ghost format = { opus_info };
 

@@ -6,7 +6,7 @@ ghost use Rattle.std.specs.Str.{chars};
 ghost use Rattle.asn1_core_element.specs.declared.error.Error.TheVariants.{Memory};
 ghost use Rattle.asn1_leaves_strings.specs.Bmp.{IsBmp, unit_octets};
 ghost use Rattle.x509_base_spc.specs.Texts.{IsOneUnit, HoldsUnits, WhyRefused, StringGives, obsolete};
-ghost use Rattle.x509_base_spc.specs.Values.{string_of, link_of};
+ghost use Rattle.x509_base_spc.specs.Links.{string_value, link_value};
 
 use crate::links::{File, SpcLink, SpcString};
 use crate::string_error::StringError;
@@ -32,7 +32,7 @@ impl File {
     /// The file `<<<Obsolete>>>`.
     #[tactic(auto, using(crate::proofs::Units::obsolete_is_bmp))]
     pub fn default_in(alloc: Global) -> Result<Self, Error>
-        ensures { MatchResult result (λ f. string_of f.0.0 ≡ inl obsolete) (λ e. e ≡ Memory) }
+        ensures { MatchResult result (λ f. string_value f.0.0 ≡ inl obsolete) (λ e. e ≡ Memory) }
     {
         let octets = Vec::from_slice(alloc, &OBSOLETE)?;
         Ok(File(ExplicitContextTag2(unicode(octets))))
@@ -42,7 +42,7 @@ impl File {
 impl SpcLink {
     /// The file `<<<Obsolete>>>`.
     pub fn default_in(alloc: Global) -> Result<Self, Error>
-        ensures { MatchResult result (λ l. link_of l ≡ inr (inr (inl obsolete))) (λ e. e ≡ Memory) }
+        ensures { MatchResult result (λ l. link_value l ≡ inr (inr (inl obsolete))) (λ e. e ≡ Memory) }
     {
         Ok(SpcLink::File(File::default_in(alloc)?))
     }
@@ -50,7 +50,7 @@ impl SpcLink {
 
 fn unicode(octets: Vec<u8>) -> SpcString
     requires { IsBmp octets.items }
-    ensures { string_of result ≡ inl octets.items }
+    ensures { string_value result ≡ inl octets.items }
 {
     let text = BmpString::new(octets).unwrap();
     SpcString::Unicode(Optional(ImplicitContextTag0(BmpStringAsn1(text))))

@@ -1,0 +1,2 @@
+pub mod OidReads
+pub mod NestedReads

@@ -1,0 +1,17 @@
+-- Choices by object identifier, as they are read: the object identifier first, and then what stands behind it.
+use Rattle.std.specs.Prelude.{ℕ, ◌-◌, List, ◌++◌}
+use Rattle.asn1_core_element.specs.Element.{element}
+use Rattle.asn1_core_format.specs.Choices.{Choice}
+use Rattle.asn1_core_format.specs.Format.{Format}
+
+-- what stands behind an object identifier that was read
+abbrev pub behind : {V : Type 0} → List ℕ → Choice V → Format V
+behind key C = record {
+  text = C.row.text;
+  IsWellFormed = C.row.IsWellFormed;
+  Reads = λ k b v. C.row.Reads k (element 0x06 key ++ b) v;
+  IsNormal = λ k b. C.row.IsNormal k (element 0x06 key ++ b);
+  normal = C.row.normal;
+  IsTag = λ _. Unit {0};
+  least = λ v. C.row.least v - 1;
+}

@@ -1,0 +1,159 @@
+//! Arms of one object identifier, and of any other.
+
+ghost use Rattle.std.specs.Prelude.{◌≡◌, ◌↔◌, ◌⊎◌, ℕ, List, IsTrue};
+ghost use Rattle.std.proofs.Common.{inl, inr};
+ghost use Rattle.asn1_core_format.specs.Choices.{known, otherwise, lawful_known, lawful_otherwise};
+ghost use Rattle.asn1_core_format.specs.declared.eithers.Either.TheVariants.{First, Second};
+ghost use Rattle.asn1_core_oid.specs.Oid.{IsOid};
+ghost use Rattle.asn1_core_oid.specs.OidValue.{octets_of};
+
+use crate::choices::{ReadChoice, WriteChoice};
+use asn1_core::parts::{Either, Part, ReadRow, WriteRow};
+use asn1_core::{Error, KnownOid, ObjectIdentifier, OidRef, Reader, WriteError, Writer};
+use std::alloc::Global;
+use std::marker::PhantomData;
+
+/// The name of an object identifier.
+pub trait Named {
+    ghost OID: { List ℕ };
+
+    /// Its contents octets.
+    fn octets() -> &'static [u8]
+        ensures { result.now ≡ OID };
+
+    ghost valid: { IsOid OID };
+}
+
+/// Whether these are the contents octets of the object identifier `N`.
+pub(crate) fn is_named<N: Named>(octets: &[u8]) -> bool
+    ensures { IsTrue result ↔ (octets.now ≡ N.OID) }
+{
+    octets == N::octets()
+}
+
+/// What stands behind the object identifier `N`.
+#[derive(Drop)]
+pub struct Arm<N, R> {
+    pub row: R,
+    name: PhantomData<N>,
+}
+
+impl<N, R> Arm<N, R> {
+    pub fn new(row: R) -> Self
+        ensures { result.row ≡ row }
+    {
+        Arm {
+            row,
+            name: PhantomData,
+        }
+    }
+
+    pub fn into_row(self) -> R
+        ensures { result ≡ self.row }
+    {
+        self.row
+    }
+}
+
+/// The arm of one object identifier, or an arm behind it.
+impl<N: Named, R: WriteRow, C: WriteChoice> WriteChoice for Either<Arm<N, R>, C> {
+    ghost Value = { R.Value ⊎ C.Value };
+
+    ghost value = { λ x. elim x [ First a ↦ inl (R.value a.row) | Second c ↦ inr (C.value c) ] };
+
+    ghost choice = { known N.OID R.format C.choice };
+
+    fn oid(&self) -> &[u8] {
+        match self {
+            Either::First(_) => N::octets(),
+            Either::Second(other) => other.oid(),
+        }
+    }
+
+    fn put_choice<W: Writer>(&self, w: &mut W) -> Result<(), WriteError> {
+        match self {
+            Either::First(arm) => Part(KnownOid(N::octets()), &arm.row).put_row(w),
+            Either::Second(other) => other.put_choice(w),
+        }
+    }
+
+    fn choice_well_formed_at(&self, limit: u8) -> bool {
+        match self {
+            Either::First(arm) => arm.row.row_well_formed_at(limit),
+            Either::Second(other) => {
+                !is_named::<N>(other.oid()) && other.choice_well_formed_at(limit)
+            }
+        }
+    }
+}
+
+impl<N: Named + Drop, R: ReadRow, C: ReadChoice> ReadChoice for Either<Arm<N, R>, C> {
+    fn read_behind(oid: &[u8], alloc: Global, r: &mut Reader<'_>, nest: u8) -> Result<Self, Error> {
+        if is_named::<N>(oid) {
+            let row = R::read_row(alloc, r, nest)?;
+            return Ok(Either::First(Arm::new(row)));
+        }
+        let other = C::read_behind(oid, alloc, r, nest)?;
+        Ok(Either::Second(other))
+    }
+
+    ghost lawful = { lawful_known N.OID R.WriteRow.format C.WriteChoice.choice R.lawful C.lawful };
+}
+
+/// Any other object identifier, which is kept, and what stands behind it.
+#[derive(Drop)]
+pub struct AnyOid<R>(pub ObjectIdentifier, pub R);
+
+/// The same, lent, as it is written.
+#[derive(Drop)]
+pub struct AnyOidRef<'a, R>(pub &'a ObjectIdentifier, pub R);
+
+impl<R: WriteRow> WriteChoice for AnyOid<R> {
+    ghost Value = { List ℕ × R.Value };
+
+    ghost value = { λ x. (octets_of x.0, R.value x.1) };
+
+    ghost choice = { otherwise IsOid R.format };
+
+    fn oid(&self) -> &[u8] {
+        self.0.octets()
+    }
+
+    fn put_choice<W: Writer>(&self, w: &mut W) -> Result<(), WriteError> {
+        Part(OidRef(&self.0), &self.1).put_row(w)
+    }
+
+    fn choice_well_formed_at(&self, limit: u8) -> bool {
+        self.1.row_well_formed_at(limit)
+    }
+}
+
+impl<R: ReadRow> ReadChoice for AnyOid<R> {
+    fn read_behind(oid: &[u8], alloc: Global, r: &mut Reader<'_>, nest: u8) -> Result<Self, Error> {
+        let kept = ObjectIdentifier::from_octets(alloc, oid)?;
+        let row = R::read_row(alloc, r, nest)?;
+        Ok(AnyOid(kept, row))
+    }
+
+    ghost lawful = { lawful_otherwise IsOid R.WriteRow.format R.lawful };
+}
+
+impl<R: WriteRow> WriteChoice for AnyOidRef<'_, R> {
+    ghost Value = { List ℕ × R.Value };
+
+    ghost value = { λ x. (octets_of x.0.now, R.value x.1) };
+
+    ghost choice = { otherwise IsOid R.format };
+
+    fn oid(&self) -> &[u8] {
+        self.0.octets()
+    }
+
+    fn put_choice<W: Writer>(&self, w: &mut W) -> Result<(), WriteError> {
+        Part(OidRef(self.0), &self.1).put_row(w)
+    }
+
+    fn choice_well_formed_at(&self, limit: u8) -> bool {
+        self.1.row_well_formed_at(limit)
+    }
+}

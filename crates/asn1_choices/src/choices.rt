@@ -1,0 +1,93 @@
+//! Choices as contents.
+
+ghost use Rattle.std.specs.Prelude.{◌≡◌, ◌↔◌, ℕ, List, IsTrue, false};
+ghost use Rattle.asn1_core_format.specs.Choices.{Choice, IsLawfulChoice};
+ghost use Rattle.asn1_core_format.specs.Rows.{GivesRow};
+ghost use Rattle.asn1_choices.specs.Chosen.{behind};
+
+use asn1_core::parts::{ReadRow, WriteRow};
+use asn1_core::{Error, Reader, WriteError, Writer};
+use asn1_core_element::element::contents_of;
+use std::alloc::Global;
+
+/// A choice by object identifier that is written.
+pub trait WriteChoice {
+    ghost Value: { Type 0 };
+
+    ghost value: { Self → Value };
+
+    ghost choice: { Choice Value };
+
+    /// The contents octets of the object identifier.
+    fn oid(&self) -> &[u8]
+        ensures { result.now ≡ choice.oid_of (value self.now) };
+
+    /// Writes the object identifier and what stands behind it.
+    fn put_choice<W: Writer>(&self, w: &mut W) -> Result<(), WriteError>
+        requires { W.MayTake w.old }
+        ensures { W.Takes (choice.row.text (value self.now)) w.old w.new result };
+
+    /// Whether what stands behind is well-formed, and the object identifier is none of an arm before.
+    fn choice_well_formed_at(&self, limit: u8) -> bool
+        ensures { IsTrue result ↔ choice.row.IsWellFormed limit (value self.now) };
+}
+
+/// A choice by object identifier that is read.
+pub trait ReadChoice: WriteChoice + Drop {
+    /// Reads what stands behind an object identifier with these contents octets, to the end of the open contents.
+    fn read_behind(oid: &[u8], alloc: Global, r: &mut Reader<'_>, nest: u8) -> Result<Self, Error>
+        requires { r.old.refused ≡ false }
+        ensures { GivesRow Self.value (behind oid.now Self.choice) nest r.old r.new result };
+
+    ghost lawful: { IsLawfulChoice Self.WriteChoice.choice };
+}
+
+/// A choice as a row.
+#[derive(Drop)]
+pub struct Chosen<C>(pub C);
+
+impl<C: WriteChoice> WriteRow for Chosen<C> {
+    ghost Value = { C.Value };
+
+    ghost value = { λ x. C.value x.0 };
+
+    ghost format = { C.choice.row };
+
+    fn put_row<W: Writer>(&self, w: &mut W) -> Result<(), WriteError> {
+        self.0.put_choice(w)
+    }
+
+    fn row_well_formed_at(&self, limit: u8) -> bool {
+        self.0.choice_well_formed_at(limit)
+    }
+}
+
+impl<C: ReadChoice> ReadRow for Chosen<C> {
+    fn read_row(alloc: Global, r: &mut Reader<'_>, nest: u8) -> Result<Self, Error> {
+        let oid = contents_of(r, 0x06)?;
+        let choice = C::read_behind(oid, alloc, r, nest)?;
+        Ok(Chosen(choice))
+    }
+
+    ghost lawful = { C.lawful.row };
+}
+
+impl<C: WriteChoice> WriteChoice for &C {
+    ghost Value = { C.Value };
+
+    ghost value = { λ x. C.value x.now };
+
+    ghost choice = { C.choice };
+
+    fn oid(&self) -> &[u8] {
+        (**self).oid()
+    }
+
+    fn put_choice<W: Writer>(&self, w: &mut W) -> Result<(), WriteError> {
+        (**self).put_choice(w)
+    }
+
+    fn choice_well_formed_at(&self, limit: u8) -> bool {
+        (**self).choice_well_formed_at(limit)
+    }
+}

@@ -1,0 +1,14 @@
+//! Contents that begin with an object identifier, which says what follows it: `SEQUENCE { type OBJECT IDENTIFIER, value
+//! ANY DEFINED BY type }` and the like. A choice is a chain of arms, each for one object identifier or for those of a
+//! table, with any row behind it; a known object identifier is compared where it lies in the input, and never kept.
+#![tactic(auto)]
+
+mod arms;
+mod choices;
+mod nested;
+mod tables;
+
+pub use arms::{AnyOid, AnyOidRef, Arm, Named};
+pub use choices::{Chosen, ReadChoice, WriteChoice};
+pub use nested::read_nested_or;
+pub use tables::{Among, OidTable};

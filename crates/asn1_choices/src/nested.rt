@@ -1,0 +1,45 @@
+//! Choices of which one arm may hold the type that is read.
+
+ghost use Rattle.std.specs.Prelude.{◌≡◌, false};
+ghost use Rattle.std.proofs.Common.{inl, inr};
+ghost use Rattle.asn1_core_element.specs.Element.{IsTagByte};
+ghost use Rattle.asn1_core_format.specs.Calls.{MayBelow, GivesBelow};
+ghost use Rattle.asn1_core_format.specs.Choices.{known};
+ghost use Rattle.asn1_core_format.specs.Format.{IsLawful};
+ghost use Rattle.asn1_core_format.specs.Levels.{less};
+ghost use Rattle.asn1_core_format.specs.Rows.{GivesRow, part, within};
+ghost use Rattle.asn1_core_format.specs.declared.eithers.Either.TheVariants.{First, Second};
+
+use crate::arms::{Named, is_named};
+use crate::choices::ReadChoice;
+use asn1_core::parts::{Either, ReadRow};
+use asn1_core::{DerSerialize, Error, Reader};
+use asn1_core_element::element::contents_of;
+use asn1_core_format::read_below_within;
+use std::alloc::Global;
+
+/// Reads a choice. Behind the object identifier `N` stands an element with that tag that holds a `T` a level down, which
+/// `by` reads, and then `R`; behind any other what `C` says.
+pub fn read_nested_or<
+    N: Named,
+    T: DerSerialize + Drop,
+    R: ReadRow,
+    C: ReadChoice,
+    F: Fn(&mut Reader<'_>, u8) -> Result<T, Error>,
+>(alloc: Global, r: &mut Reader<'_>, nest: u8, tag: u8, by: &F) -> Result<Either<(T, R), C>, Error>
+    requires sound { r.old.refused ≡ false }
+    requires tag { IsTagByte tag }
+    requires lawful { IsLawful T.format }
+    requires called { MayBelow (F.pre by.now) nest }
+    requires gives { GivesBelow (F.post by.now) T.value T.format nest }
+    ensures { GivesRow (λ x. elim x [ First p ↦ inl (T.value p.0, R.value p.1) | Second c ↦ inr (C.value c) ]) (known N.OID (part (within tag (less T.format)) R.format) C.choice).row nest r.old r.new result }
+{
+    let oid = contents_of(r, 0x06)?;
+    if is_named::<N>(oid) {
+        let held = read_below_within(r, nest, tag, by)?;
+        let rest = R::read_row(alloc, r, nest)?;
+        return Ok(Either::First((held, rest)));
+    }
+    let other = C::read_behind(oid, alloc, r, nest)?;
+    Ok(Either::Second(other))
+}

@@ -1,0 +1,78 @@
+//! Arms that a table lists, which all have the same behind their object identifiers.
+
+ghost use Rattle.std.specs.Prelude.{◌≡◌, ◌⊎◌, None, MatchOption};
+ghost use Rattle.std.proofs.Common.{inl, inr};
+ghost use Rattle.asn1_choices.specs.Tables.{Table, IsTable, among, lawful_among};
+ghost use Rattle.asn1_choices.specs.declared.tables.Among.TheVariants.{Arm, Other};
+
+use crate::choices::{ReadChoice, WriteChoice};
+use asn1_core::parts::{Part, ReadRow, WriteRow};
+use asn1_core::{Error, KnownOid, Reader, WriteError, Writer};
+use std::alloc::Global;
+
+/// Kinds that are told apart by object identifiers.
+pub trait OidTable: Copy {
+    ghost table: { Table Self };
+
+    /// The contents octets of its object identifier.
+    fn octets(self) -> &'static [u8]
+        ensures { result.now ≡ table.oid_of self };
+
+    /// The kind with that object identifier.
+    fn with_octets(octets: &[u8]) -> Option<Self>
+        ensures { MatchOption result (table.arm_of octets.now ≡ None) (λ kind. table.oid_of kind ≡ octets.now) };
+
+    ghost is_table: { IsTable table };
+}
+
+/// A kind and the row that all kinds have, or an arm behind them.
+#[derive(Drop)]
+pub enum Among<K, R, C> {
+    Arm(K, R),
+    Other(C),
+}
+
+impl<K: OidTable, R: WriteRow, C: WriteChoice> WriteChoice for Among<K, R, C> {
+    ghost Value = { (K × R.Value) ⊎ C.Value };
+
+    ghost value = { λ x. elim x [ Arm kind row ↦ inl (kind, R.value row) | Other c ↦ inr (C.value c) ] };
+
+    ghost choice = { among K.table R.format C.choice };
+
+    fn oid(&self) -> &[u8] {
+        match self {
+            Among::Arm(kind, _) => kind.octets(),
+            Among::Other(other) => other.oid(),
+        }
+    }
+
+    fn put_choice<W: Writer>(&self, w: &mut W) -> Result<(), WriteError> {
+        match self {
+            Among::Arm(kind, row) => Part(KnownOid(kind.octets()), row).put_row(w),
+            Among::Other(other) => other.put_choice(w),
+        }
+    }
+
+    fn choice_well_formed_at(&self, limit: u8) -> bool {
+        match self {
+            Among::Arm(_, row) => row.row_well_formed_at(limit),
+            Among::Other(other) => {
+                K::with_octets(other.oid()).is_none() && other.choice_well_formed_at(limit)
+            }
+        }
+    }
+}
+
+impl<K: OidTable, R: ReadRow, C: ReadChoice> ReadChoice for Among<K, R, C> {
+    fn read_behind(oid: &[u8], alloc: Global, r: &mut Reader<'_>, nest: u8) -> Result<Self, Error> {
+        match K::with_octets(oid) {
+            Some(kind) => {
+                let row = R::read_row(alloc, r, nest)?;
+                Ok(Among::Arm(kind, row))
+            }
+            None => Ok(Among::Other(C::read_behind(oid, alloc, r, nest)?)),
+        }
+    }
+
+    ghost lawful = { lawful_among K.table R.WriteRow.format C.WriteChoice.choice K.is_table R.lawful C.lawful };
+}

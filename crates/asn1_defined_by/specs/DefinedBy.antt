@@ -1,0 +1,67 @@
+-- An object identifier, which is kept, and behind it, to the end of the contents, what it picks.
+use Rattle.std.specs.Prelude.{◌≡◌, ℕ, ◌+◌, List, ◌++◌}
+use Rattle.asn1_core_element.specs.Element.{element}
+use Rattle.asn1_core_format.specs.Format.{Format}
+use Rattle.asn1_core_oid.specs.Oid.{IsOid}
+
+-- how the values V are written, behind whatever object identifier, and the row that each object identifier picks
+pub record DefinedBy (V : Type 0) : Type 1 where
+  pub text : V → List ℕ
+  pub row : List ℕ → Format V
+
+abbrev pub any_defined_by : {V : Type 0} → DefinedBy V → Format (List ℕ × V)
+any_defined_by P = record {
+  text = λ p. element 0x06 p.0 ++ P.text p.1;
+  IsWellFormed = λ k p. IsOid p.0 × (P.row p.0).IsWellFormed k p.1;
+  Reads = λ k b p. (c : List ℕ) × (b ≡ element 0x06 p.0 ++ c) × IsOid p.0 × (P.row p.0).Reads k c p.1;
+  IsNormal = λ k b. (o : List ℕ) × (c : List ℕ) × (b ≡ element 0x06 o ++ c) × IsOid o × (P.row o).IsNormal k c;
+  normal = λ p. (p.0, (P.row p.0).normal p.1);
+  IsTag = λ t. t ≡ 0x06;
+  least = λ p. 1 + (P.row p.0).least p.1;
+}
+
+-- One arm of a type V: `put` puts a value into it, and `brought` brings the values of other arms into it that are
+-- written alike, and leaves all others as they are.
+pub record Arm (A V : Type 0) : Type 0 where
+  pub put : A → V
+  pub brought : V → V
+
+-- what F reads, as values of one arm of those that W writes
+abbrev pub arm : {A V : Type 0} → Format V → Arm A V → Format A → Format V
+arm {A} {V} W m F = record {
+  text = W.text;
+  IsWellFormed = λ k v. (a : A) × (m.put a ≡ m.brought v) × F.IsWellFormed k a;
+  Reads = λ k b v. (a : A) × (m.put a ≡ v) × F.Reads k b a;
+  IsNormal = F.IsNormal;
+  normal = λ v. W.normal (m.brought v);
+  IsTag = F.IsTag;
+  least = W.least;
+}
+
+-- an arm into which no other is brought
+abbrev pub by_itself : {A V : Type 0} → (A → V) → Arm A V
+by_itself put = record { put = put; brought = λ v. v }
+
+-- no arm: the values that W writes are not read
+abbrev pub no_arm : {V : Type 0} → Format V → Format V
+no_arm W = record {
+  text = W.text;
+  IsWellFormed = λ _ _. ⊥;
+  Reads = λ _ _ _. ⊥;
+  IsNormal = λ _ _. ⊥;
+  normal = W.normal;
+  IsTag = λ _. ⊥;
+  least = W.least;
+}
+
+-- the values of F as those of a type that only writes
+abbrev pub only_written : {V : Type 0} → Format V → Format V
+only_written F = record {
+  text = F.text;
+  IsWellFormed = F.IsWellFormed;
+  Reads = λ _ _ _. ⊥;
+  IsNormal = λ _ _. ⊥;
+  normal = F.normal;
+  IsTag = λ _. ⊥;
+  least = F.least;
+}

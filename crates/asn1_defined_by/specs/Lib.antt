@@ -1,0 +1,2 @@
+pub mod DefinedBy
+pub mod DefinedByLaws

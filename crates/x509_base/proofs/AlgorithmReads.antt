@@ -1,0 +1,20 @@
+-- Reading the last arm of a choice of algorithms.
+use Rattle.std.specs.Prelude.{ℕ, List}
+use Rattle.asn1_core_element.specs.Position.{Position}
+use Rattle.asn1_core_element.specs.declared.error.Error.{Error}
+use Rattle.asn1_core_format.specs.Choices.{otherwise}
+use Rattle.asn1_core_format.specs.Rows.{GaveUpRow, nothing, optional}
+use Rattle.asn1_core.specs.Raw.{raw}
+use Rattle.asn1_core_oid.specs.Oid.{IsOid}
+use Rattle.asn1_choices.specs.Chosen.{behind}
+use Rattle.x509_base.specs.OtherAlgorithms.{other_algorithm}
+
+-- absent parameters are read as they stand
+module _ (key : List ℕ) {k : ℕ} {old new : Position} where
+  pub other_refused : {e : Error} → GaveUpRow (behind key (otherwise IsOid (optional raw nothing))) k old new e → GaveUpRow (behind key other_algorithm) k old new e
+  other_refused g = record {
+    kind = g.kind;
+    none = λ m v s. g.none m s.0 s.1;
+    counts = g.counts;
+    at_most = g.at_most;
+  }
