@@ -1,3 +1,2 @@
-pub mod OidReads
 pub mod AlgorithmArms
 pub mod KnownAlgorithms

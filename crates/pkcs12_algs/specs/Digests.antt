@@ -5,10 +5,11 @@
 -- Digest ::= OCTET STRING
 -- MacData ::= SEQUENCE { mac DigestInfo, macSalt OCTET STRING, iterations INTEGER DEFAULT 1 } (RFC 7292, 4)
 use Rattle.std.specs.Prelude.{◌^◌, ℕ, List, [], ◌∷◌, Option, map}
-use Rattle.asn1_core.specs.Der.{Format, IsLawful, sequence, part, optional, nothing, octet_string, number_below, option_value, lawful_sequence, followed_by, perhaps, lawful_nothing, lawful_octet_string, lawful_number}
+use Rattle.asn1_core.specs.Der.{Format, IsLawful, sequence, part, optional, nothing, octet_string, number_below, option_value, lawful_sequence, followed_by, perhaps, lawful_nothing, lawful_octet_string, lawful_number, Octets}
 use Rattle.std.proofs.Common.{inr}
 use Rattle.x509_base.specs.AlgorithmChoiceLaws.{lawful_algorithm_choice}
 use Rattle.pkcs12_algs.specs.Algorithms.{KnownOrRaw, known_or_raw, raw_value, from_oid}
+use Rattle.pkcs12_algs.specs.Oids.{sha1_oid, sha224_oid, sha256_oid, sha384_oid, sha512_oid}
 use Rattle.pkcs12_algs.specs.Tables.{listing}
 use Rattle.pkcs12_algs.specs.TableLaws.{listing_is_table}
 use Rattle.pkcs12_algs.specs.declared.digests.Pkcs12DigestAlgorithm.{Pkcs12DigestAlgorithm}
@@ -16,13 +17,12 @@ use Rattle.pkcs12_algs.specs.declared.digests.Pkcs12DigestAlgorithm.TheVariants.
 use Rattle.pkcs12_algs.specs.declared.digests.Pkcs12DigestInfo.{Pkcs12DigestInfo}
 use Rattle.pkcs12_algs.specs.declared.macs.MacData.{MacData}
 
--- id-sha1 1.3.14.3.2.26; id-sha224, id-sha256, id-sha384, id-sha512: 2.16.840.1.101.3.4.2 with 4, 1, 2, 3 behind it
 abbrev pub digest_oid : Pkcs12DigestAlgorithm → List ℕ
-digest_oid Sha1 = 0x2B ∷ 0x0E ∷ 0x03 ∷ 0x02 ∷ 0x1A ∷ []
-digest_oid Sha224 = 0x60 ∷ 0x86 ∷ 0x48 ∷ 0x01 ∷ 0x65 ∷ 0x03 ∷ 0x04 ∷ 0x02 ∷ 0x04 ∷ []
-digest_oid Sha256 = 0x60 ∷ 0x86 ∷ 0x48 ∷ 0x01 ∷ 0x65 ∷ 0x03 ∷ 0x04 ∷ 0x02 ∷ 0x01 ∷ []
-digest_oid Sha384 = 0x60 ∷ 0x86 ∷ 0x48 ∷ 0x01 ∷ 0x65 ∷ 0x03 ∷ 0x04 ∷ 0x02 ∷ 0x02 ∷ []
-digest_oid Sha512 = 0x60 ∷ 0x86 ∷ 0x48 ∷ 0x01 ∷ 0x65 ∷ 0x03 ∷ 0x04 ∷ 0x02 ∷ 0x03 ∷ []
+digest_oid Sha1 = sha1_oid
+digest_oid Sha224 = sha224_oid
+digest_oid Sha256 = sha256_oid
+digest_oid Sha384 = sha384_oid
+digest_oid Sha512 = sha512_oid
 digest_oid (Unknown a) = (raw_value a).0
 
 abbrev pub digest_oids : List (List ℕ)
@@ -43,7 +43,7 @@ lawful_digest_algorithm = lawful_algorithm_choice (listing digest_oids) (listing
 
 -- the algorithm, and the digest
 abbrev pub DigestInfoValue : Type 0
-DigestInfoValue = DigestValue × (List ℕ × Unit {0})
+DigestInfoValue = DigestValue × (Octets × Unit {0})
 
 abbrev pub digest_info_value : Pkcs12DigestInfo → DigestInfoValue
 digest_info_value x = (digest_value x.digest_algorithm, (x.digest.0.items, tt))
@@ -56,7 +56,7 @@ lawful_digest_info = lawful_sequence (followed_by lawful_digest_algorithm (follo
 
 -- the digest, the salt, and the count
 abbrev pub MacValue : Type 0
-MacValue = DigestInfoValue × (List ℕ × (Option ℕ × Unit {0}))
+MacValue = DigestInfoValue × (Octets × (Option ℕ × Unit {0}))
 
 abbrev pub mac_value : MacData → MacValue
 mac_value m = (digest_info_value m.mac, (m.salt.0.items, (option_value (λ n. n) m.iterations, tt)))

@@ -4,15 +4,14 @@
 -- PBES2-params (RFC 8018, appendix A.4), one of pkcs-12PbeIds with pkcs-12PbeParams (RFC 7292, appendix C), or any other.
 use Rattle.std.specs.Prelude.{◌⊎◌}
 use Rattle.asn1_core.specs.Der.{Format, IsLawful, sequence, lawful_sequence}
-use Rattle.std.proofs.Common.{refl, inl, inr}
-use Rattle.asn1_core_format.specs.Choices.{Choice, known}
-use Rattle.asn1_core_oid.specs.OidTestLaws.{oid_from_test}
+use Rattle.std.proofs.Common.{inl, inr}
+use Rattle.asn1_core_format.specs.Choices.{Choice, IsLawfulChoice, known, lawful_known}
+use Rattle.asn1_choices.specs.Tables.{among, lawful_among}
 use Rattle.x509_base.specs.Algorithms.{AlgorithmValue}
 use Rattle.pkcs12_algs.specs.Algorithms.{raw_value}
-use Rattle.pkcs12_algs.specs.OidChoices.{among, any_other}
-use Rattle.pkcs12_algs.specs.OidChoiceLaws.{IsOidChoice, other_chosen, known_chosen, among_chosen}
+use Rattle.x509_base.specs.OtherAlgorithms.{other_algorithm, lawful_other_algorithm}
 use Rattle.pkcs12_algs.specs.Oids.{pbes2_oid}
-use Rattle.pkcs12_algs.specs.Pbes1.{Pbes1Value, pbes1_value, pbes1_params, lawful_pbes1_params, pbe_table, pbe_is_table, pbe_valid}
+use Rattle.pkcs12_algs.specs.Pbes1.{Pbes1Value, pbes1_value, pbes1_params, lawful_pbes1_params, pbe_table, pbe_is_table}
 use Rattle.pkcs12_algs.specs.Pbes2.{Pbes2Value, pbes2_value, pbes2_params, lawful_pbes2_params}
 use Rattle.pkcs12_algs.specs.declared.encryptions.Pkcs12EncryptionAlgorithm.{Pkcs12EncryptionAlgorithm}
 use Rattle.pkcs12_algs.specs.declared.encryptions.Pkcs12EncryptionAlgorithm.TheVariants.{Pbes1, Pbes2, Unknown}
@@ -28,15 +27,15 @@ encryption_algorithm_value (Pbes2 params) = inl (pbes2_value params)
 encryption_algorithm_value (Unknown a) = inr (inr (raw_value a))
 
 abbrev pub encryption_choice : Choice EncryptionAlgorithmValue
-encryption_choice = known pbes2_oid pbes2_params (among pbe_table pbes1_params any_other)
+encryption_choice = known pbes2_oid pbes2_params (among pbe_table pbes1_params other_algorithm)
 
-pub encryption_chosen : IsOidChoice encryption_choice
-encryption_chosen =
-    known_chosen (oid_from_test pbes2_oid refl) lawful_pbes2_params.row
-    (among_chosen pbe_is_table pbe_valid lawful_pbes1_params.row other_chosen)
+pub lawful_encryption_choice : IsLawfulChoice encryption_choice
+lawful_encryption_choice =
+    lawful_known pbes2_oid pbes2_params (among pbe_table pbes1_params other_algorithm) lawful_pbes2_params.row
+    (lawful_among pbe_table pbes1_params other_algorithm pbe_is_table lawful_pbes1_params.row lawful_other_algorithm)
 
 abbrev pub encryption_algorithm : Format EncryptionAlgorithmValue
 encryption_algorithm = sequence encryption_choice.row
 
 pub lawful_encryption_algorithm : IsLawful encryption_algorithm
-lawful_encryption_algorithm = lawful_sequence encryption_chosen.lawful.row
+lawful_encryption_algorithm = lawful_sequence lawful_encryption_choice.row

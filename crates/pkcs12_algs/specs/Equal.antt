@@ -3,7 +3,7 @@ use Rattle.asn1_core.specs.Der.{two_equal, option_equal}
 use Rattle.std.specs.Prelude.{true, ◌≡◌, ◌⊎◌, ◌↔◌, ℕ, Bool, List}
 use Rattle.std.proofs.Common.{ap, inl, inr, rules}
 use Rattle.std.proofs.lemmas.Bool.Decides.{Decides-eqb}
-use Rattle.asn1_core.specs.Equal.{octets_equal}
+use Rattle.asn1_core.specs.Equal.{octets_equal, with_end}
 use Rattle.asn1_core_format.specs.Views.{SeesEqual}
 use Rattle.x509_base.specs.Algorithms.{AlgorithmValue}
 use Rattle.pkcs12_algs.specs.Algorithms.{KnownOrRaw, raw_value}
@@ -22,10 +22,6 @@ use Rattle.pkcs12_algs.specs.contracts.pbes2.Pbes2EncryptionSchemePartialEq.TheI
 use Rattle.pkcs12_algs.specs.contracts.pbes2.Pbes2ParamsPartialEq.TheImpl as Pbes2
 use Rattle.pkcs12_algs.specs.declared.pbes2.Pbes2KeyDerivationFunc.TheVariants.{Pbkdf2 as ByPbkdf2, Unknown}
 use Rattle.x509_base.specs.contracts.algorithms.RawAlgorithmIdentifierPartialEq.TheImpl as Raw
-
--- a field with the end of the parts behind it
-pub with_end : {A : Type 0} {p : Bool} {a c : A} → (p ≡ true) ↔ (a ≡ c) → (p ≡ true) ↔ (◌≡◌ {A = A × Unit {0}} (a, tt) (c, tt))
-with_end f = (λ e. ap (λ x. (x, tt)) (f.0 e), λ e. f.1 (ap (λ x. x.0) e))
 
 -- values of the same arm
 pub in_first : {A B : Type 0} {p : Bool} {a c : A} → (p ≡ true) ↔ (a ≡ c) → (p ≡ true) ↔ (◌≡◌ {A = A ⊎ B} (inl a) (inl c))

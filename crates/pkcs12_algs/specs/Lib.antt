@@ -1,8 +1,6 @@
 pub mod Tables
 pub mod TableLaws
 pub mod Algorithms
-pub mod OidChoices
-pub mod OidChoiceLaws
 pub mod Oids
 pub mod Digests
 pub mod Pbkdf2

@@ -2,20 +2,21 @@
 --
 -- pkcs-12PbeParams ::= SEQUENCE { salt OCTET STRING, iterations INTEGER }
 use Rattle.std.specs.Prelude.{◌≡◌, ◌^◌, ℕ, List, [], ◌∷◌, Some}
-use Rattle.asn1_core.specs.Der.{Format, IsLawful, sequence, part, nothing, octet_string, number_below, lawful_sequence, followed_by, lawful_nothing, lawful_octet_string, lawful_number}
+use Rattle.asn1_core.specs.Der.{Format, IsLawful, sequence, part, nothing, octet_string, number_below, lawful_sequence, followed_by, lawful_nothing, lawful_octet_string, lawful_number, Octets}
 use Rattle.std.proofs.Common.{refl, rules}
 use Rattle.asn1_core_oid.specs.Oid.{IsOid}
-use Rattle.x509_base.specs.AlgorithmChoices.{Table, IsTable}
+use Rattle.asn1_choices.specs.Tables.{Table, IsTable}
+use Rattle.pkcs12_algs.specs.Oids.{sha_and_40_bit_rc2_cbc_oid, sha_and_3_key_3_des_cbc_oid}
 use Rattle.pkcs12_algs.specs.Tables.{table, arm_with}
 use Rattle.pkcs12_algs.specs.TableLaws.{is_table, valid_arm}
 use Rattle.pkcs12_algs.specs.declared.pbes1.Pbes1Params.{Pbes1Params}
 use Rattle.pkcs12_algs.specs.declared.pbes1.Pbes1AlgorithmKind.{Pbes1AlgorithmKind}
 use Rattle.pkcs12_algs.specs.declared.pbes1.Pbes1AlgorithmKind.TheVariants.{ShaAnd40BitRc2Cbc, ShaAnd3Key3DesCbc}
 
--- pkcs-12PbeIds, 1.2.840.113549.1.12.1: pbeWithSHAAnd40BitRC2-CBC 6, pbeWithSHAAnd3-KeyTripleDES-CBC 3
+-- those of pkcs-12PbeIds that are known
 abbrev pub pbe_oid : Pbes1AlgorithmKind → List ℕ
-pbe_oid ShaAnd40BitRc2Cbc = 0x2A ∷ 0x86 ∷ 0x48 ∷ 0x86 ∷ 0xF7 ∷ 0x0D ∷ 0x01 ∷ 0x0C ∷ 0x01 ∷ 0x06 ∷ []
-pbe_oid ShaAnd3Key3DesCbc = 0x2A ∷ 0x86 ∷ 0x48 ∷ 0x86 ∷ 0xF7 ∷ 0x0D ∷ 0x01 ∷ 0x0C ∷ 0x01 ∷ 0x03 ∷ []
+pbe_oid ShaAnd40BitRc2Cbc = sha_and_40_bit_rc2_cbc_oid
+pbe_oid ShaAnd3Key3DesCbc = sha_and_3_key_3_des_cbc_oid
 
 abbrev pub pbe_kinds : List Pbes1AlgorithmKind
 pbe_kinds = ShaAnd40BitRc2Cbc ∷ ShaAnd3Key3DesCbc ∷ []
@@ -34,7 +35,7 @@ pbe_valid a = valid_arm pbe_oid pbe_kinds refl (pbe_oid a) a (found_pbe a)
 
 -- the salt, and the count
 abbrev pub Pbes1Value : Type 0
-Pbes1Value = List ℕ × (ℕ × Unit {0})
+Pbes1Value = Octets × (ℕ × Unit {0})
 
 abbrev pub pbes1_value : Pbes1Params → Pbes1Value
 pbes1_value x = (x.salt.0.items, (x.iterations, tt))

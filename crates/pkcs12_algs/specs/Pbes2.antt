@@ -7,17 +7,15 @@
 -- PBES2-KDFs ALGORITHM-IDENTIFIER ::= { {PBKDF2-params IDENTIFIED BY id-PBKDF2}, ... }
 -- The parameters of AES in CBC mode are its initialization vector, an OCTET STRING (RFC 8018, appendix B.2.5).
 use Rattle.std.specs.Prelude.{◌≡◌, ◌⊎◌, ℕ, List, [], ◌∷◌, Some}
-use Rattle.asn1_core.specs.Der.{Format, IsLawful, sequence, part, nothing, octet_string, lawful_sequence, followed_by, lawful_nothing, lawful_octet_string}
+use Rattle.asn1_core.specs.Der.{Format, IsLawful, sequence, part, nothing, octet_string, lawful_sequence, followed_by, lawful_nothing, lawful_octet_string, Octets}
 use Rattle.std.proofs.Common.{refl, inl, inr, rules}
-use Rattle.asn1_core_format.specs.Choices.{Choice, known}
+use Rattle.asn1_core_format.specs.Choices.{Choice, IsLawfulChoice, known, lawful_known}
 use Rattle.asn1_core_oid.specs.Oid.{IsOid}
-use Rattle.asn1_core_oid.specs.OidTestLaws.{oid_from_test}
 use Rattle.x509_base.specs.Algorithms.{AlgorithmValue}
-use Rattle.x509_base.specs.AlgorithmChoices.{Table, IsTable}
+use Rattle.asn1_choices.specs.Tables.{Table, IsTable, among, lawful_among}
+use Rattle.x509_base.specs.OtherAlgorithms.{other_algorithm, lawful_other_algorithm}
 use Rattle.pkcs12_algs.specs.Algorithms.{raw_value}
-use Rattle.pkcs12_algs.specs.OidChoices.{among, any_other}
-use Rattle.pkcs12_algs.specs.OidChoiceLaws.{IsOidChoice, other_chosen, known_chosen, among_chosen}
-use Rattle.pkcs12_algs.specs.Oids.{pbkdf2_oid}
+use Rattle.pkcs12_algs.specs.Oids.{aes128_cbc_pad_oid, aes192_cbc_pad_oid, aes256_cbc_pad_oid, pbkdf2_oid}
 use Rattle.pkcs12_algs.specs.Pbkdf2.{Pbkdf2Value, pbkdf2_value, pbkdf2_params, lawful_pbkdf2_params}
 use Rattle.pkcs12_algs.specs.Tables.{table, arm_with}
 use Rattle.pkcs12_algs.specs.TableLaws.{is_table, valid_arm}
@@ -29,11 +27,10 @@ use Rattle.pkcs12_algs.specs.declared.pbes2.Pbes2KeyDerivationFunc.{Pbes2KeyDeri
 use Rattle.pkcs12_algs.specs.declared.pbes2.Pbes2KeyDerivationFunc.TheVariants as Kdf
 use Rattle.pkcs12_algs.specs.declared.pbes2.Pbes2Params.{Pbes2Params}
 
--- aes128-CBC-PAD, aes192-CBC-PAD, aes256-CBC-PAD: 2.16.840.1.101.3.4.1 with 2, 22, 42 behind it
 abbrev pub aes_oid : Pbes2AesCbcEncryption → List ℕ
-aes_oid Aes128 = 0x60 ∷ 0x86 ∷ 0x48 ∷ 0x01 ∷ 0x65 ∷ 0x03 ∷ 0x04 ∷ 0x01 ∷ 0x02 ∷ []
-aes_oid Aes192 = 0x60 ∷ 0x86 ∷ 0x48 ∷ 0x01 ∷ 0x65 ∷ 0x03 ∷ 0x04 ∷ 0x01 ∷ 0x16 ∷ []
-aes_oid Aes256 = 0x60 ∷ 0x86 ∷ 0x48 ∷ 0x01 ∷ 0x65 ∷ 0x03 ∷ 0x04 ∷ 0x01 ∷ 0x2A ∷ []
+aes_oid Aes128 = aes128_cbc_pad_oid
+aes_oid Aes192 = aes192_cbc_pad_oid
+aes_oid Aes256 = aes256_cbc_pad_oid
 
 abbrev pub aes_kinds : List Pbes2AesCbcEncryption
 aes_kinds = Aes128 ∷ Aes192 ∷ Aes256 ∷ []
@@ -59,36 +56,36 @@ kdf_value (Kdf.Pbkdf2 x) = inl (pbkdf2_value x)
 kdf_value (Kdf.Unknown a) = inr (raw_value a)
 
 abbrev pub kdf_choice : Choice KdfValue
-kdf_choice = known pbkdf2_oid pbkdf2_params any_other
+kdf_choice = known pbkdf2_oid pbkdf2_params other_algorithm
 
-pub kdf_chosen : IsOidChoice kdf_choice
-kdf_chosen = known_chosen (oid_from_test pbkdf2_oid refl) lawful_pbkdf2_params.row other_chosen
+pub lawful_kdf_choice : IsLawfulChoice kdf_choice
+lawful_kdf_choice = lawful_known pbkdf2_oid pbkdf2_params other_algorithm lawful_pbkdf2_params.row lawful_other_algorithm
 
 abbrev pub kdf : Format KdfValue
 kdf = sequence kdf_choice.row
 
 pub lawful_kdf : IsLawful kdf
-lawful_kdf = lawful_sequence kdf_chosen.lawful.row
+lawful_kdf = lawful_sequence lawful_kdf_choice.row
 
 -- AES in CBC mode with its initialization vector, or any other scheme
 abbrev pub SchemeValue : Type 0
-SchemeValue = (Pbes2AesCbcEncryption × List ℕ) ⊎ AlgorithmValue
+SchemeValue = (Pbes2AesCbcEncryption × Octets) ⊎ AlgorithmValue
 
 abbrev pub scheme_value : Pbes2EncryptionScheme → SchemeValue
 scheme_value (Scheme.AesCbc kind iv) = inl (kind, iv.0.items)
 scheme_value (Scheme.Unknown a) = inr (raw_value a)
 
 abbrev pub scheme_choice : Choice SchemeValue
-scheme_choice = among aes_table octet_string any_other
+scheme_choice = among aes_table octet_string other_algorithm
 
-pub scheme_chosen : IsOidChoice scheme_choice
-scheme_chosen = among_chosen aes_is_table aes_valid lawful_octet_string.row other_chosen
+pub lawful_scheme_choice : IsLawfulChoice scheme_choice
+lawful_scheme_choice = lawful_among aes_table octet_string other_algorithm aes_is_table lawful_octet_string.row lawful_other_algorithm
 
 abbrev pub scheme : Format SchemeValue
 scheme = sequence scheme_choice.row
 
 pub lawful_scheme : IsLawful scheme
-lawful_scheme = lawful_sequence scheme_chosen.lawful.row
+lawful_scheme = lawful_sequence lawful_scheme_choice.row
 
 -- the function, and the scheme
 abbrev pub Pbes2Value : Type 0

@@ -8,13 +8,14 @@
 --
 -- Counts and lengths of 0 are read, up to 2^32 - 1. A PRF that is left out and one that is HMAC with SHA-1 are told apart.
 use Rattle.std.specs.Prelude.{◌≡◌, ◌⊎◌, ◌^◌, ℕ, List, [], ◌∷◌, Option, map}
-use Rattle.asn1_core.specs.Der.{Format, IsLawful, sequence, part, optional, nothing, octet_string, number_below, option_value, lawful_sequence, followed_by, perhaps, lawful_nothing, lawful_octet_string, lawful_number}
+use Rattle.asn1_core.specs.Der.{Format, IsLawful, sequence, part, optional, nothing, octet_string, number_below, option_value, lawful_sequence, followed_by, perhaps, lawful_nothing, lawful_octet_string, lawful_number, Octets}
 use Rattle.std.proofs.Common.{inl, inr, ⊎_elim, arith}
 use Rattle.asn1_core_format.specs.Eithers.{either, lawful_either}
 use Rattle.x509_base.specs.Algorithms.{AlgorithmValue, raw_algorithm_identifier}
 use Rattle.x509_base.specs.AlgorithmLaws.{lawful_raw_algorithm_identifier}
 use Rattle.x509_base.specs.AlgorithmChoiceLaws.{lawful_algorithm_choice}
 use Rattle.pkcs12_algs.specs.Algorithms.{KnownOrRaw, known_or_raw, raw_value, from_oid}
+use Rattle.pkcs12_algs.specs.Oids.{hmac_with_sha1_oid, hmac_with_sha224_oid, hmac_with_sha256_oid, hmac_with_sha384_oid, hmac_with_sha512_oid}
 use Rattle.pkcs12_algs.specs.Tables.{listing}
 use Rattle.pkcs12_algs.specs.TableLaws.{listing_is_table}
 use Rattle.pkcs12_algs.specs.declared.pbkdf2.Pbkdf2Params.{Pbkdf2Params}
@@ -23,13 +24,13 @@ use Rattle.pkcs12_algs.specs.declared.pbkdf2.Pbkdf2SaltSource.TheVariants.{Speci
 use Rattle.pkcs12_algs.specs.declared.prfs.Pbkdf2Prf.{Pbkdf2Prf}
 use Rattle.pkcs12_algs.specs.declared.prfs.Pbkdf2Prf.TheVariants.{HmacWithSha1, HmacWithSha224, HmacWithSha256, HmacWithSha384, HmacWithSha512, Unknown}
 
--- id-hmacWithSHA1 and its kin (RFC 8018, appendix B.1): 1.2.840.113549.2 with 7, 8, 9, 10, 11 behind it
+-- id-hmacWithSHA1 and its kin (RFC 8018, appendix B.1)
 abbrev pub prf_oid : Pbkdf2Prf → List ℕ
-prf_oid HmacWithSha1 = 0x2A ∷ 0x86 ∷ 0x48 ∷ 0x86 ∷ 0xF7 ∷ 0x0D ∷ 0x02 ∷ 0x07 ∷ []
-prf_oid HmacWithSha224 = 0x2A ∷ 0x86 ∷ 0x48 ∷ 0x86 ∷ 0xF7 ∷ 0x0D ∷ 0x02 ∷ 0x08 ∷ []
-prf_oid HmacWithSha256 = 0x2A ∷ 0x86 ∷ 0x48 ∷ 0x86 ∷ 0xF7 ∷ 0x0D ∷ 0x02 ∷ 0x09 ∷ []
-prf_oid HmacWithSha384 = 0x2A ∷ 0x86 ∷ 0x48 ∷ 0x86 ∷ 0xF7 ∷ 0x0D ∷ 0x02 ∷ 0x0A ∷ []
-prf_oid HmacWithSha512 = 0x2A ∷ 0x86 ∷ 0x48 ∷ 0x86 ∷ 0xF7 ∷ 0x0D ∷ 0x02 ∷ 0x0B ∷ []
+prf_oid HmacWithSha1 = hmac_with_sha1_oid
+prf_oid HmacWithSha224 = hmac_with_sha224_oid
+prf_oid HmacWithSha256 = hmac_with_sha256_oid
+prf_oid HmacWithSha384 = hmac_with_sha384_oid
+prf_oid HmacWithSha512 = hmac_with_sha512_oid
 prf_oid (Unknown a) = (raw_value a).0
 
 abbrev pub prf_oids : List (List ℕ)
@@ -50,7 +51,7 @@ lawful_prf = lawful_algorithm_choice (listing prf_oids) (listing_is_table prf_oi
 
 -- the salt, or where it comes from
 abbrev pub SaltValue : Type 0
-SaltValue = List ℕ ⊎ AlgorithmValue
+SaltValue = Octets ⊎ AlgorithmValue
 
 abbrev pub salt_value : Pbkdf2SaltSource → SaltValue
 salt_value (Specified s) = inl s.0.items

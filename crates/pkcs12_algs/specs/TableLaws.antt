@@ -9,7 +9,7 @@ use Rattle.std.specs.Str.{bytes_eq}
 use Rattle.asn1_core_oid.specs.Oid.{IsOid}
 use Rattle.asn1_core_oid.specs.OidTest.{is_oid}
 use Rattle.asn1_core_oid.specs.OidTestLaws.{oid_from_test}
-use Rattle.x509_base.specs.AlgorithmChoices.{IsTable}
+use Rattle.asn1_choices.specs.Tables.{IsTable}
 use Rattle.pkcs12_algs.specs.Tables.{arm_with, table, is_listed, Listed, listed_where, listing, are_oids}
 
 module _ {A : Type 0} (oid_of : A → List ℕ) where

@@ -3,7 +3,7 @@ use Rattle.std.specs.Prelude.{◌≡◌, ℕ, Bool, true, false, List, [], ◌�
 use Rattle.std.proofs.Common.{refl}
 use Rattle.std.specs.Str.{bytes_eq}
 use Rattle.asn1_core_oid.specs.OidTest.{is_oid}
-use Rattle.x509_base.specs.AlgorithmChoices.{Table}
+use Rattle.asn1_choices.specs.Tables.{Table}
 
 -- the first of the arms with that object identifier
 abbrev pub arm_with : {A : Type 0} → (A → List ℕ) → List A → List ℕ → Option A

@@ -10,6 +10,7 @@ ghost use Rattle.pkcs12_algs.specs.Equal.{digest_equal, digest_info_equal};
 use crate::algorithms::{
     Algorithm, AlgorithmPart, AlgorithmRef, algorithm_from_raw, clone_algorithm, raw_of_algorithm,
 };
+use crate::oids::{SHA1, SHA224, SHA256, SHA384, SHA512};
 use crate::rows::{arm_by_rows, parts_by_rows};
 use asn1_core::parts::{End, FirstTags, Part, WriteRow, put_within, read_within};
 use asn1_core::{
@@ -38,16 +39,16 @@ pub enum Pkcs12DigestAlgorithm {
     Unknown(RawAlgorithmIdentifier),
 }
 
-/// The known digests, by the contents octets of their object identifiers: one row an arm.
+/// The known digests, by their object identifiers: one row an arm.
 macro_rules! known_digests {
     ($by:ident($value:expr)) => {
         $by! {
             $value,
-            Sha1 = [0x2B, 0x0E, 0x03, 0x02, 0x1A],
-            Sha224 = [0x60, 0x86, 0x48, 0x01, 0x65, 0x03, 0x04, 0x02, 0x04],
-            Sha256 = [0x60, 0x86, 0x48, 0x01, 0x65, 0x03, 0x04, 0x02, 0x01],
-            Sha384 = [0x60, 0x86, 0x48, 0x01, 0x65, 0x03, 0x04, 0x02, 0x02],
-            Sha512 = [0x60, 0x86, 0x48, 0x01, 0x65, 0x03, 0x04, 0x02, 0x03],
+            Sha1 = SHA1,
+            Sha224 = SHA224,
+            Sha256 = SHA256,
+            Sha384 = SHA384,
+            Sha512 = SHA512,
         }
     };
 }

@@ -4,10 +4,11 @@ ghost use Rattle.std.specs.Prelude.{◌≡◌};
 ghost use Rattle.pkcs12_algs.specs.Encryption.{EncryptionAlgorithmValue, encryption_algorithm_value, encryption_algorithm, lawful_encryption_algorithm};
 ghost use Rattle.pkcs12_algs.specs.EncryptionEqual.{encryption_algorithm_equal};
 
-use crate::choices::{Among, WriteChoice, read_choice};
+use crate::oids::Pbes2;
 use crate::pbes1::{Pbes1AlgorithmKind, Pbes1Params};
 use crate::pbes2::Pbes2Params;
-use asn1_core::parts::Either;
+use asn1_choices::{Among, Arm, Chosen, WriteChoice};
+use asn1_core::parts::{Alone, Either, put_within, read_within};
 use asn1_core::{
     DerDeserialize, DerSerialize, EqualByText, Error, Reader, TryClone, WriteError, Writer,
 };
@@ -32,19 +33,21 @@ pub enum Pkcs12EncryptionAlgorithm {
     Unknown(RawAlgorithmIdentifier),
 }
 
-type Pbes1Ref<'a> = Among<Pbes1AlgorithmKind, &'a Pbes1Params, &'a RawAlgorithmIdentifier>;
+type Pbes1Ref<'a> = Among<Pbes1AlgorithmKind, Alone<&'a Pbes1Params>, &'a RawAlgorithmIdentifier>;
 
-type EncryptionRef<'a> = Either<&'a Pbes2Params, Pbes1Ref<'a>>;
+type EncryptionRef<'a> = Either<Arm<Pbes2, Alone<&'a Pbes2Params>>, Pbes1Ref<'a>>;
 
-type Pbes1Choice = Among<Pbes1AlgorithmKind, Pbes1Params, RawAlgorithmIdentifier>;
+type Pbes1Choice = Among<Pbes1AlgorithmKind, Alone<Pbes1Params>, RawAlgorithmIdentifier>;
+
+type EncryptionChoice = Either<Arm<Pbes2, Alone<Pbes2Params>>, Pbes1Choice>;
 
 impl Pkcs12EncryptionAlgorithm {
     fn choice(&self) -> EncryptionRef<'_>
         ensures { ⟦<EncryptionRef<'static> as WriteChoice>⟧.value result ≡ encryption_algorithm_value self.now }
     {
         match self {
-            Self::Pbes1 { kind, params } => Either::Second(Among::Arm(*kind, params)),
-            Self::Pbes2(params) => Either::First(params),
+            Self::Pbes1 { kind, params } => Either::Second(Among::Arm(*kind, Alone(params))),
+            Self::Pbes2(params) => Either::First(Arm::new(Alone(params))),
             Self::Unknown(raw) => Either::Second(Among::Other(raw)),
         }
     }
@@ -58,7 +61,7 @@ impl DerSerialize for Pkcs12EncryptionAlgorithm {
     ghost format = { encryption_algorithm };
 
     fn put<W: Writer>(&self, w: &mut W) -> Result<(), WriteError> {
-        self.choice().put_choice(w)
+        put_within(0x30, &Chosen(self.choice()), w)
     }
 
     fn well_formed_at(&self, limit: u8) -> bool {
@@ -68,10 +71,10 @@ impl DerSerialize for Pkcs12EncryptionAlgorithm {
 
 impl DerDeserialize for Pkcs12EncryptionAlgorithm {
     fn read(alloc: Global, r: &mut Reader<'_>, nest: u8) -> Result<Self, Error> {
-        let choice: Either<Pbes2Params, Pbes1Choice> = read_choice(alloc, r, nest)?;
+        let Chosen(choice) = read_within::<Chosen<EncryptionChoice>>(alloc, r, nest, 0x30)?;
         match choice {
-            Either::First(params) => Ok(Self::Pbes2(params)),
-            Either::Second(Among::Arm(kind, params)) => Ok(Self::Pbes1 { kind, params }),
+            Either::First(arm) => Ok(Self::Pbes2(arm.into_row().0)),
+            Either::Second(Among::Arm(kind, Alone(params))) => Ok(Self::Pbes1 { kind, params }),
             Either::Second(Among::Other(raw)) => Ok(Self::Unknown(raw)),
         }
     }

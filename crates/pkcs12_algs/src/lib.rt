@@ -3,7 +3,6 @@
 #![tactic(auto)]
 
 mod algorithms;
-mod choices;
 mod digests;
 mod encryptions;
 mod kinds;

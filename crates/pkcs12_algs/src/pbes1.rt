@@ -8,7 +8,9 @@ ghost use Rattle.pkcs12_algs.specs.Pbes1.{pbe_oid, pbe_table, pbe_is_table, pbe_
 ghost use Rattle.pkcs12_algs.specs.declared.pbes1.Pbes1AlgorithmKind.{Pbes1AlgorithmKind};
 
 use crate::kinds::{Kind, oid_of_kind};
+use crate::oids::{SHA_AND_3_KEY_3_DES_CBC, SHA_AND_40_BIT_RC2_CBC};
 use crate::rows::{arm_by_rows, octets_by_rows};
+use asn1_choices::OidTable;
 use asn1_core::parts::{End, Part, WriteRow, put_within, read_within};
 use asn1_core::{
     DerDeserialize, DerSerialize, EqualByText, Error, ObjectIdentifier, OctetStringAsn1, Reader,
@@ -25,18 +27,18 @@ pub enum Pbes1AlgorithmKind {
     ShaAnd3Key3DesCbc,
 }
 
-/// The kinds, by the contents octets of their object identifiers: one row an arm.
+/// The kinds, by their object identifiers: one row an arm.
 macro_rules! pbe_kinds {
     ($by:ident($value:expr)) => {
         $by! {
             $value,
-            ShaAnd40BitRc2Cbc = [0x2A, 0x86, 0x48, 0x86, 0xF7, 0x0D, 0x01, 0x0C, 0x01, 0x06],
-            ShaAnd3Key3DesCbc = [0x2A, 0x86, 0x48, 0x86, 0xF7, 0x0D, 0x01, 0x0C, 0x01, 0x03],
+            ShaAnd40BitRc2Cbc = SHA_AND_40_BIT_RC2_CBC,
+            ShaAnd3Key3DesCbc = SHA_AND_3_KEY_3_DES_CBC,
         }
     };
 }
 
-impl Kind for Pbes1AlgorithmKind {
+impl OidTable for Pbes1AlgorithmKind {
     ghost table = { pbe_table };
 
     fn octets(self) -> &'static [u8] {
@@ -48,7 +50,9 @@ impl Kind for Pbes1AlgorithmKind {
     }
 
     ghost is_table = { pbe_is_table };
+}
 
+impl Kind for Pbes1AlgorithmKind {
     ghost valid = { pbe_valid };
 }
 

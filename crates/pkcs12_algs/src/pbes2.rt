@@ -1,20 +1,19 @@
 //! Encryption by PBES2: key derivation, and then an encryption scheme.
 
 ghost use Rattle.std.specs.Prelude.{◌≡◌, MatchResult};
-ghost use Rattle.std.proofs.Common.{refl, rules};
+ghost use Rattle.std.proofs.Common.{rules};
 ghost use Rattle.asn1_core_element.specs.declared.error.Error.TheVariants.{Memory};
-ghost use Rattle.asn1_core_oid.specs.OidTestLaws.{oid_from_test};
 ghost use Rattle.asn1_core_oid.specs.OidValue.{octets_of};
-ghost use Rattle.pkcs12_algs.specs.Oids.{pbes2_oid};
 ghost use Rattle.pkcs12_algs.specs.Pbes2.{aes_oid, aes_table, aes_is_table, aes_valid, KdfValue, kdf_value, kdf, lawful_kdf, SchemeValue, scheme_value, scheme, lawful_scheme, Pbes2Value, pbes2_value, pbes2_params, lawful_pbes2_params};
 ghost use Rattle.pkcs12_algs.specs.declared.pbes2.Pbes2AesCbcEncryption.{Pbes2AesCbcEncryption};
 ghost use Rattle.pkcs12_algs.specs.Equal.{kdf_equal, pbes2_equal};
 
-use crate::choices::{Among, Parameters, WriteChoice, read_choice};
 use crate::kinds::{Kind, oid_of_kind};
+use crate::oids::{AES128_CBC_PAD, AES192_CBC_PAD, AES256_CBC_PAD, Pbkdf2};
 use crate::pbkdf2::Pbkdf2Params;
 use crate::rows::{arm_by_rows, octets_by_rows};
-use asn1_core::parts::{Either, End, Part, WriteRow, put_within, read_within};
+use asn1_choices::{Among, Arm, Chosen, OidTable, WriteChoice};
+use asn1_core::parts::{Alone, Either, End, Part, WriteRow, put_within, read_within};
 use asn1_core::{
     DerDeserialize, DerSerialize, EqualByText, Error, ObjectIdentifier, OctetStringAsn1, Reader,
     TryClone, Viewed, WriteError, Writer,
@@ -32,14 +31,16 @@ pub enum Pbes2KeyDerivationFunc {
     Unknown(RawAlgorithmIdentifier),
 }
 
-type KdfRef<'a> = Either<&'a Pbkdf2Params, &'a RawAlgorithmIdentifier>;
+type KdfChoice = Either<Arm<Pbkdf2, Alone<Pbkdf2Params>>, RawAlgorithmIdentifier>;
+
+type KdfRef<'a> = Either<Arm<Pbkdf2, Alone<&'a Pbkdf2Params>>, &'a RawAlgorithmIdentifier>;
 
 impl Pbes2KeyDerivationFunc {
     fn choice(&self) -> KdfRef<'_>
         ensures { ⟦<KdfRef<'static> as WriteChoice>⟧.value result ≡ kdf_value self.now }
     {
         match self {
-            Self::Pbkdf2(params) => Either::First(params),
+            Self::Pbkdf2(params) => Either::First(Arm::new(Alone(params))),
             Self::Unknown(raw) => Either::Second(raw),
         }
     }
@@ -53,7 +54,7 @@ impl DerSerialize for Pbes2KeyDerivationFunc {
     ghost format = { kdf };
 
     fn put<W: Writer>(&self, w: &mut W) -> Result<(), WriteError> {
-        self.choice().put_choice(w)
+        put_within(0x30, &Chosen(self.choice()), w)
     }
 
     fn well_formed_at(&self, limit: u8) -> bool {
@@ -63,9 +64,9 @@ impl DerSerialize for Pbes2KeyDerivationFunc {
 
 impl DerDeserialize for Pbes2KeyDerivationFunc {
     fn read(alloc: Global, r: &mut Reader<'_>, nest: u8) -> Result<Self, Error> {
-        let choice: Either<Pbkdf2Params, RawAlgorithmIdentifier> = read_choice(alloc, r, nest)?;
+        let Chosen(choice) = read_within::<Chosen<KdfChoice>>(alloc, r, nest, 0x30)?;
         match choice {
-            Either::First(params) => Ok(Self::Pbkdf2(params)),
+            Either::First(arm) => Ok(Self::Pbkdf2(arm.into_row().0)),
             Either::Second(raw) => Ok(Self::Unknown(raw)),
         }
     }
@@ -97,19 +98,19 @@ pub enum Pbes2AesCbcEncryption {
     Aes256,
 }
 
-/// The kinds, by the contents octets of their object identifiers: one row an arm.
+/// The kinds, by their object identifiers: one row an arm.
 macro_rules! aes_kinds {
     ($by:ident($value:expr)) => {
         $by! {
             $value,
-            Aes128 = [0x60, 0x86, 0x48, 0x01, 0x65, 0x03, 0x04, 0x01, 0x02],
-            Aes192 = [0x60, 0x86, 0x48, 0x01, 0x65, 0x03, 0x04, 0x01, 0x16],
-            Aes256 = [0x60, 0x86, 0x48, 0x01, 0x65, 0x03, 0x04, 0x01, 0x2A],
+            Aes128 = AES128_CBC_PAD,
+            Aes192 = AES192_CBC_PAD,
+            Aes256 = AES256_CBC_PAD,
         }
     };
 }
 
-impl Kind for Pbes2AesCbcEncryption {
+impl OidTable for Pbes2AesCbcEncryption {
     ghost table = { aes_table };
 
     fn octets(self) -> &'static [u8] {
@@ -121,7 +122,9 @@ impl Kind for Pbes2AesCbcEncryption {
     }
 
     ghost is_table = { aes_is_table };
+}
 
+impl Kind for Pbes2AesCbcEncryption {
     ghost valid = { aes_valid };
 }
 
@@ -163,16 +166,20 @@ pub enum Pbes2EncryptionScheme {
     Unknown(RawAlgorithmIdentifier),
 }
 
-type SchemeRef<'a> = Among<Pbes2AesCbcEncryption, &'a OctetStringAsn1, &'a RawAlgorithmIdentifier>;
+type SchemeRef<'a> = Among<
+    Pbes2AesCbcEncryption,
+    Alone<&'a OctetStringAsn1>,
+    &'a RawAlgorithmIdentifier,
+>;
 
-type SchemeChoice = Among<Pbes2AesCbcEncryption, OctetStringAsn1, RawAlgorithmIdentifier>;
+type SchemeChoice = Among<Pbes2AesCbcEncryption, Alone<OctetStringAsn1>, RawAlgorithmIdentifier>;
 
 impl Pbes2EncryptionScheme {
     fn choice(&self) -> SchemeRef<'_>
         ensures { ⟦<SchemeRef<'static> as WriteChoice>⟧.value result ≡ scheme_value self.now }
     {
         match self {
-            Self::AesCbc { kind, iv } => Among::Arm(*kind, iv),
+            Self::AesCbc { kind, iv } => Among::Arm(*kind, Alone(iv)),
             Self::Unknown(raw) => Among::Other(raw),
         }
     }
@@ -186,7 +193,7 @@ impl DerSerialize for Pbes2EncryptionScheme {
     ghost format = { scheme };
 
     fn put<W: Writer>(&self, w: &mut W) -> Result<(), WriteError> {
-        self.choice().put_choice(w)
+        put_within(0x30, &Chosen(self.choice()), w)
     }
 
     fn well_formed_at(&self, limit: u8) -> bool {
@@ -196,9 +203,9 @@ impl DerSerialize for Pbes2EncryptionScheme {
 
 impl DerDeserialize for Pbes2EncryptionScheme {
     fn read(alloc: Global, r: &mut Reader<'_>, nest: u8) -> Result<Self, Error> {
-        let choice: SchemeChoice = read_choice(alloc, r, nest)?;
+        let Chosen(choice) = read_within::<Chosen<SchemeChoice>>(alloc, r, nest, 0x30)?;
         match choice {
-            Among::Arm(kind, iv) => Ok(Self::AesCbc { kind, iv }),
+            Among::Arm(kind, Alone(iv)) => Ok(Self::AesCbc { kind, iv }),
             Among::Other(raw) => Ok(Self::Unknown(raw)),
         }
     }
@@ -263,16 +270,6 @@ impl DerDeserialize for Pbes2Params {
     }
 
     ghost lawful = { lawful_pbes2_params };
-}
-
-impl Parameters for Pbes2Params {
-    ghost OID = { pbes2_oid };
-
-    fn octets() -> &'static [u8] {
-        &[0x2A, 0x86, 0x48, 0x86, 0xF7, 0x0D, 0x01, 0x05, 0x0D]
-    }
-
-    ghost valid = { oid_from_test pbes2_oid refl };
 }
 
 impl EqualByText for Pbes2Params {

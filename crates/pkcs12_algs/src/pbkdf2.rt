@@ -1,14 +1,11 @@
 //! The parameters of PBKDF2.
 
 ghost use Rattle.std.specs.Prelude.{◌≡◌};
-ghost use Rattle.std.proofs.Common.{rules, refl};
-ghost use Rattle.asn1_core_oid.specs.OidTestLaws.{oid_from_test};
-ghost use Rattle.pkcs12_algs.specs.Oids.{pbkdf2_oid};
+ghost use Rattle.std.proofs.Common.{rules};
 ghost use Rattle.pkcs12_algs.specs.Pbkdf2.{SaltValue, salt_value, salt, lawful_salt, Pbkdf2Value, pbkdf2_value, pbkdf2_params, lawful_pbkdf2_params};
 ghost use Rattle.pkcs12_algs.specs.Equal.{pbkdf2_equal};
 
 use crate::algorithms::{AlgorithmPart, AlgorithmRef};
-use crate::choices::Parameters;
 use crate::prfs::Pbkdf2Prf;
 use asn1_core::parts::{End, Maybe, Part, WriteRow, put_within, read_within};
 use asn1_core::{
@@ -179,16 +176,6 @@ impl DerDeserialize for Pbkdf2Params {
     }
 
     ghost lawful = { lawful_pbkdf2_params };
-}
-
-impl Parameters for Pbkdf2Params {
-    ghost OID = { pbkdf2_oid };
-
-    fn octets() -> &'static [u8] {
-        &[0x2A, 0x86, 0x48, 0x86, 0xF7, 0x0D, 0x01, 0x05, 0x0C]
-    }
-
-    ghost valid = { oid_from_test pbkdf2_oid refl };
 }
 
 impl EqualByText for Pbkdf2Params {

@@ -9,6 +9,9 @@ ghost use Rattle.pkcs12_algs.specs.declared.prfs.Pbkdf2Prf.TheVariants.{HmacWith
 ghost use Rattle.pkcs12_algs.specs.Equal.{prf_equal};
 
 use crate::algorithms::{Algorithm, algorithm_from_raw, clone_algorithm, raw_of_algorithm};
+use crate::oids::{
+    HMAC_WITH_SHA1, HMAC_WITH_SHA224, HMAC_WITH_SHA256, HMAC_WITH_SHA384, HMAC_WITH_SHA512,
+};
 use crate::rows::{arm_by_rows, parts_by_rows};
 use asn1_core::{Error, TryClone, Viewed};
 use std::alloc::Global;
@@ -33,16 +36,16 @@ pub enum Pbkdf2Prf {
     Unknown(RawAlgorithmIdentifier),
 }
 
-/// The known functions, by the contents octets of their object identifiers: one row an arm.
+/// The known functions, by their object identifiers: one row an arm.
 macro_rules! known_functions {
     ($by:ident($value:expr)) => {
         $by! {
             $value,
-            HmacWithSha1 = [0x2A, 0x86, 0x48, 0x86, 0xF7, 0x0D, 0x02, 0x07],
-            HmacWithSha224 = [0x2A, 0x86, 0x48, 0x86, 0xF7, 0x0D, 0x02, 0x08],
-            HmacWithSha256 = [0x2A, 0x86, 0x48, 0x86, 0xF7, 0x0D, 0x02, 0x09],
-            HmacWithSha384 = [0x2A, 0x86, 0x48, 0x86, 0xF7, 0x0D, 0x02, 0x0A],
-            HmacWithSha512 = [0x2A, 0x86, 0x48, 0x86, 0xF7, 0x0D, 0x02, 0x0B],
+            HmacWithSha1 = HMAC_WITH_SHA1,
+            HmacWithSha224 = HMAC_WITH_SHA224,
+            HmacWithSha256 = HMAC_WITH_SHA256,
+            HmacWithSha384 = HMAC_WITH_SHA384,
+            HmacWithSha512 = HMAC_WITH_SHA512,
         }
     };
 }

@@ -1,10 +1,10 @@
-//! Arms that are known by object identifiers, as rows `Arm = [octets]`: each in one place, for both directions.
+//! Arms that are known by object identifiers, as rows `Arm = OCTETS`: each in one place, for both directions.
 
 /// The octets of an algorithm's row, or what it holds where it is unknown.
 macro_rules! parts_by_rows {
-    ($algorithm:expr, $($arm:ident = $octets:tt,)*) => {
+    ($algorithm:expr, $($arm:ident = $octets:ident,)*) => {
         match $algorithm {
-            $(Self::$arm => Ok(&$octets),)*
+            $(Self::$arm => Ok($octets),)*
             Self::Unknown(raw) => Err(raw),
         }
     };
@@ -12,16 +12,16 @@ macro_rules! parts_by_rows {
 
 /// The octets of a kind's row.
 macro_rules! octets_by_rows {
-    ($kind:expr, $($arm:ident = $octets:tt,)*) => {
+    ($kind:expr, $($arm:ident = $octets:ident,)*) => {
         match $kind {
-            $(Self::$arm => &$octets,)*
+            $(Self::$arm => $octets,)*
         }
     };
 }
 
 /// The arm whose row has these octets.
 macro_rules! arm_by_rows {
-    ($octets:expr, $($arm:ident = $row:tt,)*) => {
+    ($octets:expr, $($arm:ident = $row:ident,)*) => {
         match $octets {
             $($row => Some(Self::$arm),)*
             _ => None,

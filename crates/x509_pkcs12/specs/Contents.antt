@@ -1,18 +1,19 @@
--- ContentInfo ::= SEQUENCE { contentType ContentType, content [0] EXPLICIT ANY DEFINED BY contentType OPTIONAL }
+-- ContentInfo ::= SEQUENCE { contentType ContentType, content [0] EXPLICIT ANY DEFINED BY contentType OPTIONAL } (RFC 2315, 7)
 -- of pkcs7-data, an OCTET STRING round SafeContents; of pkcs7-encryptedData, EncryptedData:
--- EncryptedData ::= SEQUENCE { version Version, encryptedContentInfo EncryptedContentInfo } with version 0
+-- EncryptedData ::= SEQUENCE { version Version, encryptedContentInfo EncryptedContentInfo } with version 0 (RFC 2315, 13)
 use Rattle.std.specs.Prelude.{◌⊎◌, ℕ, List, Option}
-use Rattle.asn1_core.specs.Der.{Format, within, sequence, part, optional, nothing, raw, octets_of, option_value}
-use Rattle.std.proofs.Common.{inl, inr}
-use Rattle.asn1_core_format.specs.Choices.{Choice, known, otherwise}
+use Rattle.asn1_core.specs.Der.{Format, within, sequence, part, optional, nothing, raw, octets_of, option_value, OidOctets, ElementOctets, IsLawful, IsLawfulRow, lawful_within, lawful_raw, followed_by, perhaps, lawful_nothing, lawful_sequence}
+use Rattle.std.proofs.Common.{inl, inr, arith}
+use Rattle.asn1_core_format.specs.Choices.{Choice, known, otherwise, IsLawfulChoice, lawful_known, lawful_otherwise}
 use Rattle.asn1_core_oid.specs.Oid.{IsOid}
 use Rattle.x509_pkcs12_bags.specs.Bags.{Bag, safe_contents}
 use Rattle.x509_pkcs12_bags.specs.BagValues.{contents_value}
-use Rattle.x509_pkcs12_parts.specs.Contents.{EncryptedContentsValue, encrypted_contents_value, encrypted_contents}
+use Rattle.x509_pkcs12_parts.specs.Contents.{EncryptedContentsValue, encrypted_contents_value, encrypted_contents, lawful_encrypted_contents}
 use Rattle.x509_pkcs12_parts.specs.Oids.{data_oid, encrypted_data_oid}
-use Rattle.x509_pkcs12.specs.Versions.{version}
+use Rattle.x509_pkcs12.specs.Versions.{version, lawful_version_0}
 use Rattle.x509_pkcs12.specs.declared.contents.SafeContentsContentInfo.{SafeContentsContentInfo}
 use Rattle.x509_pkcs12.specs.declared.contents.SafeContentsContentInfo.TheVariants.{Data, EncryptedData, Unknown}
+use Rattle.x509_pkcs12_bags.specs.BagsLaws.{lawful_safe_contents}
 
 -- a text in the OCTET STRING of data
 abbrev pub data_content : {V : Type 0} → Format V → Format V
@@ -26,7 +27,7 @@ encrypted_content = within 0xA0 (sequence (part (version 0) (part encrypted_cont
 
 -- any content, or none
 abbrev pub AnyContentValue : Type 0
-AnyContentValue = Option (List ℕ) × Unit {0}
+AnyContentValue = Option ElementOctets × Unit {0}
 
 abbrev pub any_content : Format AnyContentValue
 any_content = optional (within 0xA0 raw) nothing
@@ -36,7 +37,7 @@ unknown_content = otherwise IsOid any_content
 
 -- bags; encrypted bags; or an object identifier and its content
 abbrev pub ContentInfoValue : Type 0
-ContentInfoValue = List Bag ⊎ (EncryptedValue ⊎ (List ℕ × AnyContentValue))
+ContentInfoValue = List Bag ⊎ (EncryptedValue ⊎ (OidOctets × AnyContentValue))
 
 abbrev pub content_info_value : SafeContentsContentInfo → ContentInfoValue
 content_info_value (Data c) = inl (contents_value c)
@@ -51,3 +52,23 @@ content_choice = known data_oid (data_content safe_contents) encrypted_or_unknow
 
 abbrev pub content_info : Format ContentInfoValue
 content_info = sequence content_choice.row
+
+pub lawful_data_content : {V : Type 0} (F : Format V) → IsLawful F → IsLawful (data_content F)
+lawful_data_content F f = lawful_within (within 0x04 F) (lawful_within F f.row 0x04 (omega arith)).row 0xA0 (omega arith)
+
+lawful_encrypted_content : IsLawful encrypted_content
+lawful_encrypted_content = lawful_within _ (lawful_sequence (followed_by lawful_version_0 (followed_by lawful_encrypted_contents lawful_nothing))).row 0xA0 (omega arith)
+
+pub lawful_any_content : IsLawfulRow any_content
+lawful_any_content = perhaps (lawful_within raw lawful_raw.row 0xA0 (omega arith)) (λ t h e. e) lawful_nothing
+
+pub lawful_unknown_content : IsLawfulChoice unknown_content
+lawful_unknown_content = lawful_otherwise IsOid any_content lawful_any_content
+
+pub lawful_content_choice : IsLawfulChoice content_choice
+lawful_content_choice =
+    lawful_known data_oid (data_content safe_contents) encrypted_or_unknown (lawful_data_content safe_contents lawful_safe_contents).row
+    (lawful_known encrypted_data_oid encrypted_content unknown_content lawful_encrypted_content.row lawful_unknown_content)
+
+pub lawful_content_info : IsLawful content_info
+lawful_content_info = lawful_sequence lawful_content_choice.row

@@ -1,10 +1,11 @@
 pub mod Versions
 pub mod Contents
-pub mod ContentsLaws
 pub mod ContentsEqual
 pub mod AuthSafes
 pub mod Pfxs
 pub mod MacOctets
 pub mod Agree
+pub mod Measured
+pub mod MacRanges
 pub mod Parsed
 pub mod Equal

@@ -1,4 +1,4 @@
--- PFX ::= SEQUENCE { version INTEGER {v3(3)}(v3,...), authSafe ContentInfo, macData MacData OPTIONAL }
+-- PFX ::= SEQUENCE { version INTEGER {v3(3)}(v3,...), authSafe ContentInfo, macData MacData OPTIONAL } (RFC 7292, 4)
 use Rattle.std.specs.Prelude.{ℕ, Option}
 use Rattle.asn1_core.specs.Der.{Format, IsLawful, sequence, part, optional, nothing, followed_by, perhaps, lawful_nothing, lawful_sequence}
 use Rattle.pkcs12_algs.specs.Digests.{MacValue, mac_data, lawful_mac_data}

@@ -5,19 +5,19 @@ ghost use Rattle.std.proofs.Common.{inl, inr, rules};
 ghost use Rattle.asn1_core_format.specs.Rows.{option_value};
 ghost use Rattle.asn1_core_oid.specs.OidValue.{octets_of};
 ghost use Rattle.x509_pkcs12.specs.Equal.{seen_as};
-ghost use Rattle.x509_pkcs12.specs.AuthSafes.{AuthSafeValue, auth_safe_choice, auth_safe, lawful_auth_safe_choice, lawful_auth_safe};
+ghost use Rattle.x509_pkcs12.specs.AuthSafes.{AuthSafeValue, auth_safe, lawful_auth_safe};
 ghost use Rattle.x509_pkcs12.specs.declared.auth_safes.AuthenticatedSafeContentInfo.TheVariants.{Data, Unknown};
 
 use crate::contents::{AnyContent, AnyContentRef};
 use crate::representations::{AuthenticatedSafeDataRepr, ReprRef};
+use asn1_choices::{AnyOid, AnyOidRef, Arm, Chosen, WriteChoice};
 use asn1_core::{
-    Asn1RawDer, DerDeserialize, DerSerialize, EqualByText, Error, ExplicitContextTag0, KnownOid,
-    ObjectIdentifier, ObjectIdentifierAsn1, OctetStringAsn1Container, OidRef, Reader, TryClone,
-    WriteError, Writer,
+    Asn1RawDer, DerDeserialize, DerSerialize, EqualByText, Error, ExplicitContextTag0,
+    ObjectIdentifier, OctetStringAsn1Container, Reader, TryClone, WriteError, Writer,
 };
-use asn1_core_format::{Alone, FirstTags, Part, ReadRow, WriteRow, put_within, read_within};
+use asn1_core_format::{Alone, Either, FirstTags, put_within, read_within};
 use std::alloc::Global;
-use x509_pkcs12_parts::oids::{DATA, is_oid_of};
+use x509_pkcs12_parts::oids::Data;
 
 /// The `authSafe` of a PFX, a `ContentInfo ::= SEQUENCE { contentType ContentType, content [0] EXPLICIT ANY DEFINED BY
 /// contentType OPTIONAL }` (RFC 2315, 7; RFC 7292, 4).
@@ -33,80 +33,62 @@ pub enum AuthenticatedSafeContentInfo<R: AuthenticatedSafeDataRepr> {
     },
 }
 
-impl<R: AuthenticatedSafeDataRepr> WriteRow for AuthenticatedSafeContentInfo<R> {
-    ghost Value = { AuthSafeValue R.Value };
+type AuthSafeChoice<R> = Either<
+    Arm<Data, Alone<ExplicitContextTag0<OctetStringAsn1Container<R>>>>,
+    AnyOid<AnyContent>,
+>;
 
-    ghost value = { λ x. elim x [ Data d ↦ inl (R.value (R.from d)) | Unknown t c ↦ inr (octets_of t, (option_value (λ y. y.0.items) c, tt)) ] };
+type AuthSafeRef<'a, R> = Either<
+    Arm<Data, Alone<ExplicitContextTag0<OctetStringAsn1Container<ReprRef<'a, R>>>>>,
+    AnyOidRef<'a, AnyContentRef<'a>>,
+>;
 
-    ghost format = { (auth_safe_choice R.format).row };
-
-    fn put_row<W: Writer>(&self, w: &mut W) -> Result<(), WriteError> {
+impl<R: AuthenticatedSafeDataRepr> AuthenticatedSafeContentInfo<R> {
+    fn choice(&self) -> AuthSafeRef<'_, R>
+        ensures { ⟦<AuthSafeRef<'static, R> as WriteChoice>⟧.value result ≡ ⟦<AuthenticatedSafeContentInfo<R> as DerSerialize>⟧.value self.now }
+    {
         match self {
-            AuthenticatedSafeContentInfo::Data(repr) => {
+            Self::Data(repr) => {
                 let data = ExplicitContextTag0(OctetStringAsn1Container(ReprRef::<R>(repr)));
-                Part(KnownOid(&DATA), Alone(data)).put_row(w)
+                Either::First(Arm::new(Alone(data)))
             }
-            AuthenticatedSafeContentInfo::Unknown {
+            Self::Unknown {
                 content_type,
                 content,
-            } => Part(OidRef(content_type), AnyContentRef(content)).put_row(w),
+            } => Either::Second(AnyOidRef(content_type, AnyContentRef(content))),
         }
     }
-
-    fn row_well_formed_at(&self, limit: u8) -> bool {
-        match self {
-            AuthenticatedSafeContentInfo::Data(repr) => R::repr_well_formed_at(repr, limit),
-            AuthenticatedSafeContentInfo::Unknown {
-                content_type,
-                content,
-            } => {
-                if is_oid_of(content_type, &DATA) {
-                    return false;
-                }
-                AnyContentRef(content).row_well_formed_at(limit)
-            }
-        }
-    }
-}
-
-impl<R: AuthenticatedSafeDataRepr> ReadRow for AuthenticatedSafeContentInfo<R> {
-    fn read_row(alloc: Global, r: &mut Reader<'_>, nest: u8) -> Result<Self, Error> {
-        let ObjectIdentifierAsn1(content_type) = ObjectIdentifierAsn1::read(alloc, r, nest)?;
-        if is_oid_of(&content_type, &DATA) {
-            let Alone(ExplicitContextTag0(OctetStringAsn1Container(data))) = Alone::<
-                ExplicitContextTag0<OctetStringAsn1Container<R>>,
-            >::read_row(alloc, r, nest)?;
-            return Ok(AuthenticatedSafeContentInfo::Data(data.into_repr()));
-        }
-        let AnyContent(content) = AnyContent::read_row(alloc, r, nest)?;
-        Ok(AuthenticatedSafeContentInfo::Unknown {
-            content_type,
-            content,
-        })
-    }
-
-    ghost lawful = { (lawful_auth_safe_choice R.DerSerialize.format R.lawful).row };
 }
 
 impl<R: AuthenticatedSafeDataRepr> DerSerialize for AuthenticatedSafeContentInfo<R> {
     ghost Value = { AuthSafeValue R.Value };
 
-    ghost value = { ⟦<AuthenticatedSafeContentInfo<R> as WriteRow>⟧.value };
+    ghost value = { λ x. elim x [ Data d ↦ inl (R.value (R.from d)) | Unknown t c ↦ inr (octets_of t, (option_value (λ y. y.0.items) c, tt)) ] };
 
     ghost format = { auth_safe R.format };
 
     fn put<W: Writer>(&self, w: &mut W) -> Result<(), WriteError> {
-        put_within(0x30, self, w)
+        put_within(0x30, &Chosen(self.choice()), w)
     }
 
     fn well_formed_at(&self, limit: u8) -> bool {
-        self.row_well_formed_at(limit)
+        self.choice().choice_well_formed_at(limit)
     }
 }
 
 impl<R: AuthenticatedSafeDataRepr> DerDeserialize for AuthenticatedSafeContentInfo<R> {
     fn read(alloc: Global, r: &mut Reader<'_>, nest: u8) -> Result<Self, Error> {
-        read_within::<AuthenticatedSafeContentInfo<R>>(alloc, r, nest, 0x30)
+        let Chosen(choice) = read_within::<Chosen<AuthSafeChoice<R>>>(alloc, r, nest, 0x30)?;
+        match choice {
+            Either::First(arm) => Ok(Self::Data(arm.into_row().0.0.0.into_repr())),
+            Either::Second(other) => {
+                let AnyOid(content_type, AnyContent(content)) = other;
+                Ok(Self::Unknown {
+                    content_type,
+                    content,
+                })
+            }
+        }
     }
 
     ghost lawful = { lawful_auth_safe R.DerSerialize.format R.lawful };

@@ -1,24 +1,25 @@
 //! The contents that a PKCS #12 file holds.
 
-ghost use Rattle.std.specs.Prelude.{◌≡◌, false};
-ghost use Rattle.asn1_core_format.specs.Rows.{option_value, GivesRow};
+ghost use Rattle.std.specs.Prelude.{◌≡◌};
+ghost use Rattle.asn1_core_format.specs.Rows.{option_value};
 ghost use Rattle.asn1_core_format.specs.Sequences.{sequence, lawful_sequence};
-ghost use Rattle.x509_pkcs12_parts.specs.Contents.{encrypted_contents_value};
-ghost use Rattle.x509_pkcs12.specs.Contents.{AnyContentValue, any_content, encrypted_content, ContentInfoValue, content_info_value, content_choice, content_info};
+ghost use Rattle.x509_pkcs12.specs.Contents.{AnyContentValue, any_content, ContentInfoValue, content_info_value, content_info, lawful_any_content, lawful_content_info};
 ghost use Rattle.x509_pkcs12.specs.ContentsEqual.{content_info_equal};
-ghost use Rattle.x509_pkcs12.specs.ContentsLaws.{lawful_any_content, lawful_content_row, lawful_content_info};
 
 use crate::versions::FixedVersion;
+use asn1_choices::{AnyOid, AnyOidRef, Arm, Chosen, WriteChoice};
 use asn1_core::{
-    Asn1RawDer, DerDeserialize, DerSerialize, EqualByText, Error, ExplicitContextTag0, KnownOid,
-    ObjectIdentifier, ObjectIdentifierAsn1, OctetStringAsn1Container, OidRef, Reader, TryClone,
+    Asn1RawDer, DerDeserialize, DerSerialize, EqualByText, Error, ExplicitContextTag0,
+    ObjectIdentifier, OctetStringAsn1Container, Reader, TryClone,
 };
-use asn1_core_format::{Alone, End, Maybe, Part, ReadRow, WriteRow, put_within, read_within};
+use asn1_core_format::{
+    Alone, Either, End, Maybe, Part, ReadRow, WriteRow, put_within, read_within,
+};
 use asn1_core_writers::{WriteError, Writer};
 use std::alloc::Global;
 use x509_pkcs12_bags::SafeContents;
 use x509_pkcs12_parts::EncryptedSafeContents;
-use x509_pkcs12_parts::oids::{DATA, ENCRYPTED_DATA, is_oid_of};
+use x509_pkcs12_parts::oids::{Data, EncryptedData};
 
 /// An item of `AuthenticatedSafe`, a `ContentInfo ::= SEQUENCE { contentType ContentType, content [0] EXPLICIT ANY
 /// DEFINED BY contentType OPTIONAL }` (RFC 2315, 7; RFC 7292, 4.1).
@@ -132,90 +133,39 @@ impl<R: ReadRow> DerDeserialize for Asn1Sequence<R> {
     ghost lawful = { lawful_sequence R.lawful };
 }
 
-fn encrypted_ref(contents: &EncryptedSafeContents) -> EncryptedRef<'_>
-    ensures { ⟦<EncryptedRef<'static> as DerSerialize>⟧.value result ≡ (0, (encrypted_contents_value contents.now, tt)) }
-{
-    ExplicitContextTag0(Asn1Sequence(Part(FixedVersion(0), Part(contents, End))))
-}
+type ContentChoice = Either<
+    Arm<Data, Alone<ExplicitContextTag0<OctetStringAsn1Container<SafeContents>>>>,
+    Either<Arm<EncryptedData, Alone<EncryptedRow>>, AnyOid<AnyContent>>,
+>;
 
-impl WriteRow for SafeContentsContentInfo {
-    ghost Value = { ContentInfoValue };
+type ContentRef<'a> = Either<
+    Arm<Data, Alone<ExplicitContextTag0<OctetStringAsn1Container<&'a SafeContents>>>>,
+    Either<Arm<EncryptedData, Alone<EncryptedRef<'a>>>, AnyOidRef<'a, AnyContentRef<'a>>>,
+>;
 
-    ghost value = { content_info_value };
-
-    ghost format = { content_choice.row };
-
-    fn put_row<W: Writer>(&self, w: &mut W) -> Result<(), WriteError> {
+impl SafeContentsContentInfo {
+    fn choice(&self) -> ContentRef<'_>
+        ensures { ⟦<ContentRef<'static> as WriteChoice>⟧.value result ≡ content_info_value self.now }
+    {
         match self {
-            SafeContentsContentInfo::Data(bags) => {
+            Self::Data(bags) => {
                 let data = ExplicitContextTag0(OctetStringAsn1Container(bags));
-                Part(KnownOid(&DATA), Alone(data)).put_row(w)
+                Either::First(Arm::new(Alone(data)))
             }
-            SafeContentsContentInfo::EncryptedData(contents) => {
-                Part(KnownOid(&ENCRYPTED_DATA), Alone(encrypted_ref(contents))).put_row(w)
+            Self::EncryptedData(contents) => {
+                let row = Part(FixedVersion(0), Part(contents, End));
+                let data = ExplicitContextTag0(Asn1Sequence(row));
+                Either::Second(Either::First(Arm::new(Alone(data))))
             }
-            SafeContentsContentInfo::Unknown {
-                content_type,
-                content,
-            } => Part(OidRef(content_type), AnyContentRef(content)).put_row(w),
-        }
-    }
-
-    #[tactic(auto, using(crate::specs::ContentsLaws::not_data))]
-    fn row_well_formed_at(&self, limit: u8) -> bool {
-        match self {
-            SafeContentsContentInfo::Data(bags) => bags.well_formed_at(limit),
-            SafeContentsContentInfo::EncryptedData(contents) => contents.well_formed_at(limit),
-            SafeContentsContentInfo::Unknown {
+            Self::Unknown {
                 content_type,
                 content,
             } => {
-                if is_oid_of(content_type, &DATA) || is_oid_of(content_type, &ENCRYPTED_DATA) {
-                    return false;
-                }
-                AnyContentRef(content).row_well_formed_at(limit)
+                let any = AnyOidRef(content_type, AnyContentRef(content));
+                Either::Second(Either::Second(any))
             }
         }
     }
-}
-
-impl ReadRow for SafeContentsContentInfo {
-    fn read_row(alloc: Global, r: &mut Reader<'_>, nest: u8) -> Result<Self, Error> {
-        let ObjectIdentifierAsn1(content_type) = ObjectIdentifierAsn1::read(alloc, r, nest)?;
-        if is_oid_of(&content_type, &DATA) {
-            let Alone(ExplicitContextTag0(OctetStringAsn1Container(bags))) = Alone::<
-                ExplicitContextTag0<OctetStringAsn1Container<SafeContents>>,
-            >::read_row(alloc, r, nest)?;
-            return Ok(SafeContentsContentInfo::Data(bags));
-        }
-        if is_oid_of(&content_type, &ENCRYPTED_DATA) {
-            let contents = read_encrypted(alloc, r, nest)?;
-            return Ok(SafeContentsContentInfo::EncryptedData(contents));
-        }
-        let AnyContent(content) = AnyContent::read_row(alloc, r, nest)?;
-        Ok(SafeContentsContentInfo::Unknown {
-            content_type,
-            content,
-        })
-    }
-
-    ghost lawful = { lawful_content_row };
-}
-
-/// Reads `[0] EXPLICIT EncryptedData`, to the end of the open contents.
-fn read_encrypted(
-    alloc: Global,
-    r: &mut Reader<'_>,
-    nest: u8,
-) -> Result<EncryptedSafeContents, Error>
-    requires { r.old.refused ≡ false }
-    ensures { GivesRow (λ c. (0, (encrypted_contents_value c, tt))) encrypted_content nest r.old r.new result }
-{
-    let Alone(ExplicitContextTag0(Asn1Sequence(row))) = Alone::<EncryptedRow>::read_row(
-        alloc, r, nest,
-    )?;
-    let Part(_, Part(contents, End)) = row;
-    Ok(contents)
 }
 
 impl DerSerialize for SafeContentsContentInfo {
@@ -226,17 +176,31 @@ impl DerSerialize for SafeContentsContentInfo {
     ghost format = { content_info };
 
     fn put<W: Writer>(&self, w: &mut W) -> Result<(), WriteError> {
-        put_within(0x30, self, w)
+        put_within(0x30, &Chosen(self.choice()), w)
     }
 
     fn well_formed_at(&self, limit: u8) -> bool {
-        self.row_well_formed_at(limit)
+        self.choice().choice_well_formed_at(limit)
     }
 }
 
 impl DerDeserialize for SafeContentsContentInfo {
     fn read(alloc: Global, r: &mut Reader<'_>, nest: u8) -> Result<Self, Error> {
-        read_within::<SafeContentsContentInfo>(alloc, r, nest, 0x30)
+        let Chosen(choice) = read_within::<Chosen<ContentChoice>>(alloc, r, nest, 0x30)?;
+        match choice {
+            Either::First(arm) => Ok(Self::Data(arm.into_row().0.0.0)),
+            Either::Second(Either::First(arm)) => {
+                let Part(_, Part(contents, End)) = arm.into_row().0.0.0;
+                Ok(Self::EncryptedData(contents))
+            }
+            Either::Second(Either::Second(other)) => {
+                let AnyOid(content_type, AnyContent(content)) = other;
+                Ok(Self::Unknown {
+                    content_type,
+                    content,
+                })
+            }
+        }
     }
 
     ghost lawful = { lawful_content_info };

@@ -15,6 +15,13 @@ pub fn reads_as_the_raw_one<R: AuthenticatedSafeDataRepr>()
         ↔ ((w : PfxValue (List ℕ)) × (pfx raw).Reads k b w × ReadsAs (R.format.Reads k) w v) }
 {}
 
+/// Whatever else an input holds, the octets that its MAC covers are the contents octets of the OCTET STRING in `authSafe`
+/// of that input: a raw PFX is read loosely in its MAC data alone.
+pub fn mac_octets_stand_in_the_input()
+    ensures { (k : ℕ) (b octets : List ℕ) (w : PfxValue (List ℕ)) → (pfx raw).Reads k b w
+        → mac_octets w ≡ Some octets → Covers b octets }
+{}
+
 /// Whatever else a raw PFX holds, the octets that its MAC covers are the contents octets of the OCTET STRING in
 /// `authSafe` of its text.
 pub fn mac_octets_stand_in_the_text()

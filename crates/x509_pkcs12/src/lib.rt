@@ -4,6 +4,7 @@
 pub mod auth_safes;
 pub mod contents;
 pub mod laws;
+pub mod mac_ranges;
 pub mod parsed;
 pub mod pfxs;
 pub mod raw;
@@ -13,8 +14,10 @@ mod versions;
 pub use auth_safes::AuthenticatedSafeContentInfo;
 pub use contents::SafeContentsContentInfo;
 pub use laws::{
-    mac_octets_stand_in_the_text, mac_octets_survive_where_normal, reads_as_the_raw_one,
+    mac_octets_stand_in_the_input, mac_octets_stand_in_the_text, mac_octets_survive_where_normal,
+    reads_as_the_raw_one,
 };
+pub use mac_ranges::mac_range;
 pub use parsed::ParsedAuthenticatedSafeDataRepr;
 pub use pfxs::Pfx;
 pub use pkcs12_algs::{

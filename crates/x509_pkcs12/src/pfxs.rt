@@ -3,10 +3,11 @@
 ghost use Rattle.std.specs.Prelude.{◌≡◌, Option};
 ghost use Rattle.std.proofs.Common.{rules};
 ghost use Rattle.std.proofs.lemmas.Bool.Decides.{Decides-eqb};
+ghost use Rattle.asn1_core.specs.Equal.{with_end};
 ghost use Rattle.asn1_core_format.specs.Rows.{option_value};
 ghost use Rattle.asn1_core_format.specs.Views.{SeesEqual, option_equal, two_equal};
 ghost use Rattle.pkcs12_algs.specs.Digests.{mac_value};
-ghost use Rattle.pkcs12_algs.specs.Equal.{mac_equal, with_end};
+ghost use Rattle.pkcs12_algs.specs.Equal.{mac_equal};
 ghost use Rattle.x509_pkcs12.specs.Equal.{seen_as};
 ghost use Rattle.x509_pkcs12.specs.Pfxs.{PfxValue, pfx, lawful_pfx};
 
@@ -35,7 +36,7 @@ type PfxRow<R> = Part<FixedVersion<3>, Part<AuthenticatedSafeContentInfo<R>, May
 impl<R: AuthenticatedSafeDataRepr> DerSerialize for Pfx<R> {
     ghost Value = { PfxValue R.Value };
 
-    ghost value = { λ p. (p.version, (⟦<AuthenticatedSafeContentInfo<R> as WriteRow>⟧.value p.auth_safe, (option_value mac_value p.mac_data, tt))) };
+    ghost value = { λ p. (p.version, (⟦<AuthenticatedSafeContentInfo<R> as DerSerialize>⟧.value p.auth_safe, (option_value mac_value p.mac_data, tt))) };
 
     ghost format = { pfx R.format };
 
@@ -73,7 +74,7 @@ impl<R: AuthenticatedSafeDataRepr> FirstTags for Pfx<R> {
 impl<R: AuthenticatedSafeDataRepr> EqualByText for Pfx<R> {
     ghost equal_by_text = { λ x y.
         let same = seen_as R.Repr.equal R.seen in
-        let authentic : SeesEqual ⟦<AuthenticatedSafeContentInfo<R> as PartialEq>⟧.eq ⟦<AuthenticatedSafeContentInfo<R> as WriteRow>⟧.value = Prim.search rules in
+        let authentic : SeesEqual ⟦<AuthenticatedSafeContentInfo<R> as PartialEq>⟧.eq ⟦<AuthenticatedSafeContentInfo<R> as DerSerialize>⟧.value = Prim.search rules in
         two_equal (Decides-eqb x.version y.version) (two_equal (authentic x.auth_safe y.auth_safe)
         (with_end (option_equal _ mac_value mac_equal x.mac_data y.mac_data))) };
 }

@@ -1,31 +1,33 @@
 //! Bags, which may hold bags: their types, and how these are read, written, tested, compared and cloned.
 
-ghost use Rattle.std.specs.Prelude.{◌≡◌, ◌⊎◌, ◌↔◌, IsTrue, List, false, map};
+ghost use Rattle.std.specs.Prelude.{◌≡◌, ◌++◌, ◌<◌, ◌⊎◌, ◌↔◌, IsTrue, List, false};
+ghost use Rattle.std.proofs.Common.{inl, inr};
 ghost use Rattle.asn1_core_format.specs.Format.{Gives};
 ghost use Rattle.asn1_core_format.specs.Levels.{less};
-ghost use Rattle.asn1_core_format.specs.Lists.{each};
-ghost use Rattle.asn1_core_format.specs.Rows.{GivesRow, within};
-ghost use Rattle.asn1_core_format.specs.Views.{Clones};
-ghost use Rattle.asn1_core_oid.specs.OidValue.{octets_of};
+ghost use Rattle.asn1_core_format.specs.declared.eithers.Either.TheVariants.{First, Second};
 ghost use Rattle.x509_pkcs12_parts.specs.Attributes.{attributes_value};
+ghost use Rattle.asn1_core_element.specs.Element.{element};
+ghost use Rattle.asn1_core_oid.specs.OidValue.{octets_of};
 ghost use Rattle.x509_pkcs12_parts.specs.Oids.{key_bag_oid, shrouded_key_bag_oid, certificate_bag_oid, crl_bag_oid, secret_bag_oid, safe_contents_bag_oid};
+ghost use Rattle.x509_pkcs12_bags.specs.PlainBags.{bag_arm};
 ghost use Rattle.x509_pkcs12_bags.specs.Bags.{Bag, BagRow, bag_out, safe_bag, safe_contents, held_choice};
 ghost use Rattle.x509_pkcs12_bags.specs.BagEqual.{bag_equal, kind_equal, contents_equal};
 ghost use Rattle.x509_pkcs12_bags.specs.BagsLaws.{lawful_safe_bag, lawful_safe_contents};
-ghost use Rattle.x509_pkcs12_bags.specs.BagLevels.{row_value};
 ghost use Rattle.x509_pkcs12_bags.specs.BagValues.{Kind, bag_value, kind_value, contents_value};
-ghost use Rattle.x509_pkcs12_bags.specs.PlainBags.{bag_arm};
 
+use asn1_choices::{AnyOid, Arm, Named, WriteChoice, read_nested_or};
 use asn1_core::{
     Asn1RawDer, DerDeserialize, DerSerialize, EqualByText, Error, ExplicitContextTag0, KnownOid,
-    ObjectIdentifier, ObjectIdentifierAsn1, OidRef, Reader, TryClone, Viewed,
+    ObjectIdentifier, Reader, TryClone, Viewed,
 };
 use asn1_core_element::element::open_element;
-use asn1_core_format::{Less, Part, ReadRow, WriteRow, put_within};
+use asn1_core_format::Either::{self, First, Second};
+use asn1_core_format::{Less, Part, WriteRow, put_within, read_list_with};
 use asn1_core_writers::{WriteError, Writer};
 use std::alloc::Global;
 use x509_pkcs12_parts::oids::{
-    CERTIFICATE_BAG, CRL_BAG, KEY_BAG, SAFE_CONTENTS_BAG, SECRET_BAG, SHROUDED_KEY_BAG, is_oid_of,
+    CERTIFICATE_BAG, CRL_BAG, Certificate, Crl, KEY_BAG, Key, Nested, SAFE_CONTENTS_BAG,
+    SECRET_BAG, SHROUDED_KEY_BAG, Secret, ShroudedKey, is_oid_of,
 };
 use x509_pkcs12_parts::{
     BagAttributes, BagAttributesRef, CertificateBag, CrlBag, EncryptedKeyBag, KeyBag,
@@ -66,6 +68,63 @@ pub enum SafeBagKind {
 #[derive(Debug, Drop, PartialEq, Eq)]
 pub struct SafeContents(pub Vec<SafeBag>);
 
+/// What stands behind the object identifier of a bag.
+type Held<T> = Part<ExplicitContextTag0<T>, BagAttributes>;
+
+/// A bag that holds no bags.
+type SecretOr = Either<Arm<Secret, Held<SecretBag>>, AnyOid<Held<Asn1RawDer>>>;
+
+type CrlOr = Either<Arm<Crl, Held<CrlBag>>, SecretOr>;
+
+type CertificateOr = Either<Arm<Certificate, Held<CertificateBag>>, CrlOr>;
+
+type ShroudedOr = Either<Arm<ShroudedKey, Held<EncryptedKeyBag>>, CertificateOr>;
+
+type PlainBag = Either<Arm<Key, Held<KeyBag>>, ShroudedOr>;
+
+impl SafeBag {
+    /// The bag that was read.
+    fn of_row(row: Either<(SafeContents, BagAttributes), PlainBag>) -> SafeBag
+        ensures { bag_out (bag_value result) ≡ elim row [ First p ↦ inl (contents_value p.0, attributes_value p.1.0) | Second c ↦ inr (⟦<PlainBag as WriteChoice>⟧.value c) ] }
+    {
+        match row {
+            First((bags, attributes)) => made(SafeBagKind::SafeContents(bags), attributes),
+            Second(First(arm)) => {
+                let Part(ExplicitContextTag0(bag), attributes) = arm.into_row();
+                made(SafeBagKind::Key(bag), attributes)
+            }
+            Second(Second(First(arm))) => {
+                let Part(ExplicitContextTag0(bag), attributes) = arm.into_row();
+                made(SafeBagKind::EncryptedKey(bag), attributes)
+            }
+            Second(Second(Second(First(arm)))) => {
+                let Part(ExplicitContextTag0(bag), attributes) = arm.into_row();
+                made(SafeBagKind::Certificate(bag), attributes)
+            }
+            Second(Second(Second(Second(First(arm))))) => {
+                let Part(ExplicitContextTag0(bag), attributes) = arm.into_row();
+                made(SafeBagKind::Crl(bag), attributes)
+            }
+            Second(Second(Second(Second(Second(First(arm)))))) => {
+                let Part(ExplicitContextTag0(bag), attributes) = arm.into_row();
+                made(SafeBagKind::Secret(bag), attributes)
+            }
+            Second(Second(Second(Second(Second(Second(other)))))) => {
+                let AnyOid(type_id, Part(ExplicitContextTag0(value), attributes)) = other;
+                made(SafeBagKind::Unknown { type_id, value }, attributes)
+            }
+        }
+    }
+}
+
+fn made(kind: SafeBagKind, attributes: BagAttributes) -> SafeBag
+    ensures kind { result.kind ≡ kind }
+    ensures attributes { result.attributes ≡ attributes.0 }
+{
+    let BagAttributes(attributes) = attributes;
+    SafeBag { kind, attributes }
+}
+
 /// Whether the object identifier is that of a kind of bag that isn't `Unknown`.
 fn is_bag_oid(oid: &ObjectIdentifier) -> bool
     ensures { IsTrue result ↔ ((octets_of oid.now ≡ key_bag_oid) ⊎ (octets_of oid.now ≡ shrouded_key_bag_oid)
@@ -80,6 +139,20 @@ fn is_bag_oid(oid: &ObjectIdentifier) -> bool
         || is_oid_of(oid, &SAFE_CONTENTS_BAG)
 }
 
+/// Writes what stands in a bag: its object identifier, its value and its attributes.
+fn put_bag<T: DerSerialize, W: Writer>(
+    oid: &[u8],
+    value: &T,
+    attributes: &Option<Vec<Pkcs12Attribute>>,
+    w: &mut W,
+) -> Result<(), WriteError>
+    requires { W.MayTake w.old }
+    ensures { W.Takes (element 0x06 oid.now ++ (bag_arm T.format).text (T.value value.now, attributes_value attributes.now)) w.old w.new result }
+{
+    let row = Part(ExplicitContextTag0(value), BagAttributesRef(attributes));
+    Part(KnownOid(oid), row).put_row(w)
+}
+
 impl WriteRow for SafeBag {
     ghost Value = { BagRow (List Bag) };
 
@@ -89,59 +162,24 @@ impl WriteRow for SafeBag {
 
     #[cycle(put)]
     fn put_row<W: Writer>(&self, w: &mut W) -> Result<(), WriteError> {
-        let attributes = BagAttributesRef(&self.attributes);
+        let attributes = &self.attributes;
         match &self.kind {
-            SafeBagKind::Key(bag) => {
-                Part(
-                    KnownOid(&KEY_BAG),
-                    Part(ExplicitContextTag0(bag), attributes),
-                )
-                .put_row(w)
-            }
-            SafeBagKind::EncryptedKey(bag) => {
-                Part(
-                    KnownOid(&SHROUDED_KEY_BAG),
-                    Part(ExplicitContextTag0(bag), attributes),
-                )
-                .put_row(w)
-            }
-            SafeBagKind::Certificate(bag) => {
-                Part(
-                    KnownOid(&CERTIFICATE_BAG),
-                    Part(ExplicitContextTag0(bag), attributes),
-                )
-                .put_row(w)
-            }
-            SafeBagKind::Crl(bag) => {
-                Part(
-                    KnownOid(&CRL_BAG),
-                    Part(ExplicitContextTag0(bag), attributes),
-                )
-                .put_row(w)
-            }
-            SafeBagKind::Secret(bag) => {
-                Part(
-                    KnownOid(&SECRET_BAG),
-                    Part(ExplicitContextTag0(bag), attributes),
-                )
-                .put_row(w)
-            }
+            SafeBagKind::Key(bag) => put_bag(&KEY_BAG, bag, attributes, w),
+            SafeBagKind::EncryptedKey(bag) => put_bag(&SHROUDED_KEY_BAG, bag, attributes, w),
+            SafeBagKind::Certificate(bag) => put_bag(&CERTIFICATE_BAG, bag, attributes, w),
+            SafeBagKind::Crl(bag) => put_bag(&CRL_BAG, bag, attributes, w),
+            SafeBagKind::Secret(bag) => put_bag(&SECRET_BAG, bag, attributes, w),
             SafeBagKind::SafeContents(bags) => {
-                let held = ExplicitContextTag0(Less(bags));
-                Part(KnownOid(&SAFE_CONTENTS_BAG), Part(held, attributes)).put_row(w)
+                put_bag(&SAFE_CONTENTS_BAG, &Less(bags), attributes, w)
             }
             SafeBagKind::Unknown { type_id, value } => {
-                Part(
-                    OidRef(type_id),
-                    Part(ExplicitContextTag0(value), attributes),
-                )
-                .put_row(w)
+                put_bag(type_id.octets(), value, attributes, w)
             }
         }
     }
 
     fn row_well_formed_at(&self, limit: u8) -> bool {
-        bag_formed_at(self, limit)
+        self.well_formed_at(limit)
     }
 }
 
@@ -157,8 +195,25 @@ impl DerSerialize for SafeBag {
         put_within(0x30, self, w)
     }
 
+    #[cycle(formed)]
     fn well_formed_at(&self, limit: u8) -> bool {
-        bag_formed_at(self, limit)
+        if !BagAttributesRef(&self.attributes).row_well_formed_at(limit) {
+            return false;
+        }
+        match &self.kind {
+            SafeBagKind::Key(key) => key.well_formed_at(limit),
+            SafeBagKind::EncryptedKey(key) => key.well_formed_at(limit),
+            SafeBagKind::Certificate(value) => value.well_formed_at(limit),
+            SafeBagKind::Crl(value) => value.well_formed_at(limit),
+            SafeBagKind::Secret(value) => value.well_formed_at(limit),
+            SafeBagKind::SafeContents(held) => held_formed_at(held, limit),
+            SafeBagKind::Unknown { type_id, value } => {
+                if is_bag_oid(type_id) {
+                    return false;
+                }
+                value.well_formed_at(limit)
+            }
+        }
     }
 }
 
@@ -174,43 +229,14 @@ impl DerSerialize for SafeContents {
         put_within(0x30, &self.0, w)
     }
 
+    #[cycle(formed)]
     fn well_formed_at(&self, limit: u8) -> bool {
-        contents_formed_at(self, limit)
-    }
-}
-
-#[cycle(formed)]
-fn contents_formed_at(contents: &SafeContents, limit: u8) -> bool
-    ensures { IsTrue result ↔ safe_contents.IsWellFormed limit (contents_value contents.now) }
-{
-    for bag in &contents.0 {
-        if !bag_formed_at(bag, limit) {
-            return false;
-        }
-    }
-    true
-}
-
-#[cycle(formed)]
-fn bag_formed_at(bag: &SafeBag, limit: u8) -> bool
-    ensures { IsTrue result ↔ safe_bag.IsWellFormed limit (bag_value bag.now) }
-{
-    if !BagAttributesRef(&bag.attributes).row_well_formed_at(limit) {
-        return false;
-    }
-    match &bag.kind {
-        SafeBagKind::Key(key) => key.well_formed_at(limit),
-        SafeBagKind::EncryptedKey(key) => key.well_formed_at(limit),
-        SafeBagKind::Certificate(value) => value.well_formed_at(limit),
-        SafeBagKind::Crl(value) => value.well_formed_at(limit),
-        SafeBagKind::Secret(value) => value.well_formed_at(limit),
-        SafeBagKind::SafeContents(held) => held_formed_at(held, limit),
-        SafeBagKind::Unknown { type_id, value } => {
-            if is_bag_oid(type_id) {
+        for bag in &self.0 {
+            if !bag.well_formed_at(limit) {
                 return false;
             }
-            value.well_formed_at(limit)
         }
+        true
     }
 }
 
@@ -222,138 +248,51 @@ fn held_formed_at(held: &SafeContents, limit: u8) -> bool
     if limit == 0 {
         return false;
     }
-    contents_formed_at(held, limit - 1)
-}
-
-impl DerDeserialize for SafeBag {
-    fn read(alloc: Global, r: &mut Reader<'_>, nest: u8) -> Result<Self, Error> {
-        read_bag(alloc, r, nest)
-    }
-
-    ghost lawful = { lawful_safe_bag };
+    held.well_formed_at(limit - 1)
 }
 
 impl DerDeserialize for SafeContents {
+    #[cycle(read)]
     fn read(alloc: Global, r: &mut Reader<'_>, nest: u8) -> Result<Self, Error> {
-        read_contents(alloc, r, nest)
+        let bags = read_list_with(
+            alloc,
+            r,
+            nest,
+            0x30,
+            &|s: &mut Reader<'_>|
+                requires { s.old.refused ≡ false }
+                ensures { Gives bag_value safe_bag nest s.old s.new result }
+            { SafeBag::read(alloc, s, nest) },
+        )?;
+        Ok(SafeContents(bags))
     }
 
     ghost lawful = { lawful_safe_contents };
 }
 
-#[cycle(read)]
-fn read_contents(alloc: Global, r: &mut Reader<'_>, nest: u8) -> Result<SafeContents, Error>
-    requires { r.old.refused ≡ false }
-    ensures { Gives contents_value safe_contents nest r.old r.new result }
-{
-    let outer = open_element(r, 0x30)?;
-    let bags = read_bags(alloc, r, nest)?;
-    r.end(outer)?;
-    Ok(SafeContents(bags))
-}
+impl DerDeserialize for SafeBag {
+    #[cycle(read)]
+    fn read(alloc: Global, r: &mut Reader<'_>, nest: u8) -> Result<Self, Error> {
+        let outer = open_element(r, 0x30)?;
+        let row = read_nested_or::<Nested, SafeContents, BagAttributes, PlainBag, _>(
+            alloc,
+            r,
+            nest,
+            0xA0,
+            &|s: &mut Reader<'_>, below: u8|
+                requires sound { s.old.refused ≡ false }
+                requires less { below < nest }
+                ensures { Gives contents_value safe_contents below s.old s.new result }
+            {
+                prove!(below < nest);
+                SafeContents::read(alloc, s, below)
+            },
+        )?;
+        r.end(outer)?;
+        Ok(SafeBag::of_row(row))
+    }
 
-/// Reads bags to the end of the open contents.
-#[cycle(read)]
-fn read_bags(alloc: Global, r: &mut Reader<'_>, nest: u8) -> Result<Vec<SafeBag>, Error>
-    requires { r.old.refused ≡ false }
-    ensures { GivesRow (λ v. map bag_value v.items) (each safe_bag) nest r.old r.new result }
-{
-    let mut bags = Vec::new(alloc);
-    // as a list does: a vector that grows by itself begins with room for more
-    if r.left() > 0 {
-        bags.reserve_exact(1)?;
-    }
-    'bags: while r.left() > 0 {
-        let bag = read_bag(alloc, r, nest)?;
-        bags.push(bag)?;
-    }
-    Ok(bags)
-}
-
-#[cycle(read)]
-fn read_bag(alloc: Global, r: &mut Reader<'_>, nest: u8) -> Result<SafeBag, Error>
-    requires { r.old.refused ≡ false }
-    ensures { Gives bag_value safe_bag nest r.old r.new result }
-{
-    let outer = open_element(r, 0x30)?;
-    let (kind, attributes) = read_bag_row(alloc, r, nest)?;
-    r.end(outer)?;
-    Ok(SafeBag { kind, attributes })
-}
-
-/// Reads what stands in a bag, to the end of the open contents.
-#[cycle(read)]
-fn read_bag_row(
-    alloc: Global,
-    r: &mut Reader<'_>,
-    nest: u8,
-) -> Result<(SafeBagKind, Option<Vec<Pkcs12Attribute>>), Error>
-    requires { r.old.refused ≡ false }
-    ensures { GivesRow row_value held_choice.row nest r.old r.new result }
-{
-    let ObjectIdentifierAsn1(type_id) = ObjectIdentifierAsn1::read(alloc, r, nest)?;
-    if is_oid_of(&type_id, &SAFE_CONTENTS_BAG) {
-        let held = read_held(alloc, r, nest)?;
-        let BagAttributes(attributes) = BagAttributes::read_row(alloc, r, nest)?;
-        return Ok((SafeBagKind::SafeContents(held), attributes));
-    }
-    if is_oid_of(&type_id, &KEY_BAG) {
-        let (key, key_attributes) = read_value::<KeyBag>(alloc, r, nest)?;
-        return Ok((SafeBagKind::Key(key), key_attributes));
-    }
-    if is_oid_of(&type_id, &SHROUDED_KEY_BAG) {
-        let (shrouded, shrouded_attributes) = read_value::<EncryptedKeyBag>(alloc, r, nest)?;
-        return Ok((SafeBagKind::EncryptedKey(shrouded), shrouded_attributes));
-    }
-    if is_oid_of(&type_id, &CERTIFICATE_BAG) {
-        let (certificate, certificate_attributes) = read_value::<CertificateBag>(alloc, r, nest)?;
-        return Ok((
-            SafeBagKind::Certificate(certificate),
-            certificate_attributes,
-        ));
-    }
-    if is_oid_of(&type_id, &CRL_BAG) {
-        let (crl, crl_attributes) = read_value::<CrlBag>(alloc, r, nest)?;
-        return Ok((SafeBagKind::Crl(crl), crl_attributes));
-    }
-    if is_oid_of(&type_id, &SECRET_BAG) {
-        let (secret, secret_attributes) = read_value::<SecretBag>(alloc, r, nest)?;
-        return Ok((SafeBagKind::Secret(secret), secret_attributes));
-    }
-    let (value, value_attributes) = read_value::<Asn1RawDer>(alloc, r, nest)?;
-    Ok((SafeBagKind::Unknown { type_id, value }, value_attributes))
-}
-
-/// Reads `[0] EXPLICIT T` and the attributes, to the end of the open contents.
-fn read_value<T: DerDeserialize>(
-    alloc: Global,
-    r: &mut Reader<'_>,
-    nest: u8,
-) -> Result<(T, Option<Vec<Pkcs12Attribute>>), Error>
-    requires { r.old.refused ≡ false }
-    ensures { GivesRow (λ p. (T.value p.0, attributes_value p.1)) (bag_arm T.format) nest r.old r.new result }
-{
-    let row = Part::<ExplicitContextTag0<T>, BagAttributes>::read_row(alloc, r, nest)?;
-    let Part(ExplicitContextTag0(value), BagAttributes(attributes)) = row;
-    Ok((value, attributes))
-}
-
-/// Reads `[0] EXPLICIT SafeContents`, one level down.
-#[cycle(read)]
-fn read_held(alloc: Global, r: &mut Reader<'_>, nest: u8) -> Result<SafeContents, Error>
-    requires { r.old.refused ≡ false }
-    ensures { Gives contents_value (within 0xA0 (less safe_contents)) nest r.old r.new result }
-{
-    let outer = open_element(r, 0xA0)?;
-    if nest == 0 {
-        return Err(Error::TooDeep);
-    }
-    let held = read_contents(alloc, r, nest - 1)?;
-    if r.left() > 0 {
-        return Err(Error::Malformed);
-    }
-    r.end(outer)?;
-    Ok(held)
+    ghost lawful = { lawful_safe_bag };
 }
 
 impl EqualByText for SafeBag {
@@ -373,60 +312,40 @@ impl Viewed for SafeBagKind {
 }
 
 impl TryClone for SafeBag {
+    #[cycle(copy)]
     fn try_clone(&self, alloc: Global) -> Result<Self, Error> {
-        clone_bag(self, alloc)
+        let kind = self.kind.try_clone(alloc)?;
+        let attributes = self.attributes.try_clone(alloc)?;
+        Ok(SafeBag { kind, attributes })
     }
 }
 
 impl TryClone for SafeBagKind {
+    #[cycle(copy)]
     fn try_clone(&self, alloc: Global) -> Result<Self, Error> {
-        clone_kind(self, alloc)
+        match self {
+            Self::Key(key) => Ok(Self::Key(key.try_clone(alloc)?)),
+            Self::EncryptedKey(key) => Ok(Self::EncryptedKey(key.try_clone(alloc)?)),
+            Self::Certificate(value) => Ok(Self::Certificate(value.try_clone(alloc)?)),
+            Self::Crl(value) => Ok(Self::Crl(value.try_clone(alloc)?)),
+            Self::Secret(value) => Ok(Self::Secret(value.try_clone(alloc)?)),
+            Self::SafeContents(bags) => Ok(Self::SafeContents(bags.try_clone(alloc)?)),
+            Self::Unknown { type_id, value } => {
+                let type_id = type_id.try_clone(alloc)?;
+                let value = value.try_clone(alloc)?;
+                Ok(Self::Unknown { type_id, value })
+            }
+        }
     }
 }
 
 impl TryClone for SafeContents {
+    #[cycle(copy)]
     fn try_clone(&self, alloc: Global) -> Result<Self, Error> {
-        clone_contents(self, alloc)
-    }
-}
-
-#[cycle(copy)]
-fn clone_bag(bag: &SafeBag, alloc: Global) -> Result<SafeBag, Error>
-    ensures { Clones bag_value bag.now result }
-{
-    let kind = clone_kind(&bag.kind, alloc)?;
-    let attributes = bag.attributes.try_clone(alloc)?;
-    Ok(SafeBag { kind, attributes })
-}
-
-#[cycle(copy)]
-fn clone_kind(kind: &SafeBagKind, alloc: Global) -> Result<SafeBagKind, Error>
-    ensures { Clones kind_value kind.now result }
-{
-    match kind {
-        SafeBagKind::Key(key) => Ok(SafeBagKind::Key(key.try_clone(alloc)?)),
-        SafeBagKind::EncryptedKey(key) => Ok(SafeBagKind::EncryptedKey(key.try_clone(alloc)?)),
-        SafeBagKind::Certificate(value) => Ok(SafeBagKind::Certificate(value.try_clone(alloc)?)),
-        SafeBagKind::Crl(value) => Ok(SafeBagKind::Crl(value.try_clone(alloc)?)),
-        SafeBagKind::Secret(value) => Ok(SafeBagKind::Secret(value.try_clone(alloc)?)),
-        SafeBagKind::SafeContents(bags) => {
-            Ok(SafeBagKind::SafeContents(clone_contents(bags, alloc)?))
+        let mut bags = Vec::with_capacity(alloc, self.0.len())?;
+        for bag in &self.0 {
+            bags.push(bag.try_clone(alloc)?)?;
         }
-        SafeBagKind::Unknown { type_id, value } => {
-            let type_id = type_id.try_clone(alloc)?;
-            let value = value.try_clone(alloc)?;
-            Ok(SafeBagKind::Unknown { type_id, value })
-        }
+        Ok(SafeContents(bags))
     }
-}
-
-#[cycle(copy)]
-fn clone_contents(contents: &SafeContents, alloc: Global) -> Result<SafeContents, Error>
-    ensures { Clones contents_value contents.now result }
-{
-    let mut bags = Vec::with_capacity(alloc, contents.0.len())?;
-    for bag in &contents.0 {
-        bags.push(clone_bag(bag, alloc)?)?;
-    }
-    Ok(SafeContents(bags))
 }

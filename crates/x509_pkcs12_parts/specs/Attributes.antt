@@ -1,11 +1,11 @@
--- PKCS12Attribute ::= SEQUENCE { attrId OBJECT IDENTIFIER, attrValues SET OF ANY }
--- friendlyName: SET (SIZE (1)) OF BMPString; localKeyId: SET (SIZE (1)) OF OCTET STRING
+-- PKCS12Attribute ::= SEQUENCE { attrId OBJECT IDENTIFIER, attrValues SET OF ANY } (RFC 7292, 4.2)
+-- friendlyName: SET (SIZE (1)) OF BMPString; localKeyId: SET (SIZE (1)) OF OCTET STRING (RFC 2985, 5.5)
 use Rattle.std.specs.Prelude.{◌⊎◌, ℕ, List, Option, map}
-use Rattle.asn1_core.specs.Der.{Format, each, within, sequence, optional, nothing, octet_string, raw, octets_of, option_value}
-use Rattle.std.proofs.Common.{inl, inr, Vec, Global}
-use Rattle.asn1_core_format.specs.Choices.{Choice, known, otherwise}
+use Rattle.asn1_core.specs.Der.{Format, each, within, sequence, optional, nothing, octet_string, raw, octets_of, option_value, Octets, OidOctets, StringOctets, ElementOctets, IsLawful, IsLawfulRow, lawful_each, lawful_within, lawful_octet_string, lawful_raw, perhaps, lawful_nothing, lawful_sequence}
+use Rattle.std.proofs.Common.{inl, inr, Vec, Global, arith}
+use Rattle.asn1_core_format.specs.Choices.{Choice, known, otherwise, IsLawfulChoice, lawful_known, lawful_otherwise}
 use Rattle.asn1_core_oid.specs.Oid.{IsOid}
-use Rattle.asn1_leaves.specs.Strings.{bmp_string}
+use Rattle.asn1_leaves.specs.Strings.{bmp_string, lawful_bmp_string}
 use Rattle.asn1_leaves_strings.specs.Octets.{octets_of_bmp}
 use Rattle.x509_pkcs12_parts.specs.Oids.{friendly_name_oid, local_key_id_oid}
 use Rattle.x509_pkcs12_parts.specs.declared.attributes.Pkcs12Attribute.{Pkcs12Attribute}
@@ -13,7 +13,7 @@ use Rattle.x509_pkcs12_parts.specs.declared.attributes.Pkcs12Attribute.TheVarian
 
 -- a name; or an identifier; or an object identifier and any values
 abbrev pub AttributeValue : Type 0
-AttributeValue = List ℕ ⊎ (List ℕ ⊎ (List ℕ × List (List ℕ)))
+AttributeValue = StringOctets ⊎ (Octets ⊎ (OidOctets × List ElementOctets))
 
 abbrev pub attribute_value : Pkcs12Attribute → AttributeValue
 attribute_value (FriendlyName n) = inl (octets_of_bmp n)
@@ -48,3 +48,21 @@ attributes_value a = (option_value (λ v. map attribute_value v.items) a, tt)
 
 abbrev pub attributes : Format AttributesValue
 attributes = optional (within 0x31 (each pkcs12_attribute)) nothing
+
+pub lawful_set_of_one : {V : Type 0} (F : Format V) → IsLawful F → IsLawful (set_of_one F)
+lawful_set_of_one F f = lawful_within F f.row 0x31 (omega arith)
+
+pub lawful_any_values : IsLawful any_values
+lawful_any_values = lawful_within (each raw) (lawful_each raw lawful_raw) 0x31 (omega arith)
+
+pub lawful_attribute_choice : IsLawfulChoice attribute_choice
+lawful_attribute_choice =
+    lawful_known friendly_name_oid (set_of_one bmp_string) local_key_id (lawful_set_of_one bmp_string lawful_bmp_string).row
+    (lawful_known local_key_id_oid (set_of_one octet_string) unknown_attribute (lawful_set_of_one octet_string lawful_octet_string).row
+    (lawful_otherwise IsOid any_values lawful_any_values.row))
+
+pub lawful_pkcs12_attribute : IsLawful pkcs12_attribute
+lawful_pkcs12_attribute = lawful_sequence lawful_attribute_choice.row
+
+pub lawful_attributes : IsLawfulRow attributes
+lawful_attributes = perhaps (lawful_within (each pkcs12_attribute) (lawful_each pkcs12_attribute lawful_pkcs12_attribute) 0x31 (omega arith)) (λ t h e. e) lawful_nothing

@@ -1,10 +1,7 @@
 -- `==` of attributes sees what they contain.
 use Rattle.std.proofs.Common.{rules}
-use Rattle.std.specs.Prelude.{List}
-use Rattle.asn1_core.specs.Der.{list_equal, option_equal}
-use Rattle.std.specs.Option.{option_eq}
+use Rattle.asn1_core.specs.Der.{list_equal}
 use Rattle.asn1_core.specs.Equal.{raw_equal}
-use Rattle.asn1_core_format.specs.Rows.{option_value}
 use Rattle.asn1_core_format.specs.Views.{SeesEqual}
 use Rattle.x509_pkcs12_parts.specs.Attributes.{attribute_value}
 use Rattle.x509_pkcs12_parts.specs.contracts.attributes.Pkcs12AttributePartialEq.TheImpl as Attribute

@@ -1,8 +1,7 @@
 -- `==` of certificates, revocation lists, secrets and encrypted keys sees what they contain.
 use Rattle.std.proofs.Common.{rules}
-use Rattle.asn1_core.specs.Equal.{octets_equal}
+use Rattle.asn1_core.specs.Equal.{octets_equal, with_end}
 use Rattle.asn1_core_format.specs.Views.{SeesEqual, two_equal}
-use Rattle.pkcs12_algs.specs.Equal.{with_end}
 use Rattle.pkcs12_algs.specs.EncryptionEqual.{encryption_algorithm_equal}
 use Rattle.x509_pkcs12_parts.specs.Bags.{certificate_value, crl_value, secret_value, encrypted_key_value}
 use Rattle.x509_pkcs12_parts.specs.contracts.bags.CertificateBagPartialEq.TheImpl as Certificate

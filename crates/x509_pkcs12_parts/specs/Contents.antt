@@ -1,12 +1,16 @@
 -- EncryptedContentInfo ::= SEQUENCE { contentType ContentType, contentEncryptionAlgorithm AlgorithmIdentifier, encryptedContent [0] IMPLICIT OCTET STRING OPTIONAL }
--- with contentType pkcs7-data
+-- (RFC 2315, 10.1), with contentType pkcs7-data (RFC 7292, 4.1)
 use Rattle.std.specs.Prelude.{◌≡◌, ℕ, List, Option}
-use Rattle.asn1_core.specs.Der.{Format, sequence, part, optional, nothing, octet_string, option_value}
-use Rattle.asn1_core_format.specs.Leaf.{Spelling, leaf}
+use Rattle.asn1_core.specs.Der.{Format, sequence, part, optional, nothing, octet_string, option_value, Octets, IsLawful, lawful_octet_string, followed_by, perhaps, lawful_nothing, lawful_sequence}
+use Rattle.asn1_core_format.specs.Leaf.{Spelling, leaf, IsLawfulSpelling}
 use Rattle.asn1_core_format.specs.Tagged.{implicit, context_tag}
-use Rattle.pkcs12_algs.specs.Encryption.{EncryptionAlgorithmValue, encryption_algorithm_value, encryption_algorithm}
+use Rattle.pkcs12_algs.specs.Encryption.{EncryptionAlgorithmValue, encryption_algorithm_value, encryption_algorithm, lawful_encryption_algorithm}
 use Rattle.x509_pkcs12_parts.specs.Oids.{data_oid}
 use Rattle.x509_pkcs12_parts.specs.declared.contents.EncryptedSafeContents.{EncryptedSafeContents}
+use Rattle.std.proofs.Common.{refl, arith}
+use Rattle.asn1_core.specs.Octets.{any_octets}
+use Rattle.asn1_core_format.specs.LeafLaws.{lawful_leaf}
+use Rattle.asn1_core_format.specs.TaggedLaws.{lawful_implicit, context_tag_is, leaf_tagged}
 
 -- these contents and no others
 abbrev pub only_octets : List ℕ → Spelling (Unit {0})
@@ -17,7 +21,7 @@ abbrev pub only_oid : List ℕ → Format (Unit {0})
 only_oid o = leaf 0x06 (only_octets o)
 
 abbrev pub EncryptedContentsValue : Type 0
-EncryptedContentsValue = Unit {0} × (EncryptionAlgorithmValue × (Option (List ℕ) × Unit {0}))
+EncryptedContentsValue = Unit {0} × (EncryptionAlgorithmValue × (Option Octets × Unit {0}))
 
 abbrev pub encrypted_contents_value : EncryptedSafeContents → EncryptedContentsValue
 encrypted_contents_value c = (tt, (encryption_algorithm_value c.algorithm, (option_value (λ o. o.0.items) c.encrypted_content, tt)))
@@ -27,3 +31,15 @@ encrypted_octets = implicit (context_tag 0 0x04) 0x04 octet_string
 
 abbrev pub encrypted_contents : Format EncryptedContentsValue
 encrypted_contents = sequence (part (only_oid data_oid) (part encryption_algorithm (optional encrypted_octets nothing)))
+
+lawful_only : (o : List ℕ) → IsLawfulSpelling (only_octets o)
+lawful_only o = record { one_value = λ v w h i e. refl; spelled = λ v h. refl; has_value = λ c h. (tt, h, tt) }
+
+pub lawful_only_oid : (o : List ℕ) → IsLawful (only_oid o)
+lawful_only_oid o = lawful_leaf 0x06 (omega arith) (only_octets o) (lawful_only o)
+
+lawful_encrypted_octets : IsLawful encrypted_octets
+lawful_encrypted_octets = lawful_implicit (context_tag 0 0x04) 0x04 octet_string lawful_octet_string (leaf_tagged 0x04 (omega arith) any_octets) (context_tag_is 0 0x04 (omega arith))
+
+pub lawful_encrypted_contents : IsLawful encrypted_contents
+lawful_encrypted_contents = lawful_sequence (followed_by (lawful_only_oid data_oid) (followed_by lawful_encryption_algorithm (perhaps lawful_encrypted_octets (λ t h e. e) lawful_nothing)))

@@ -1,11 +1,7 @@
 pub mod Oids
-pub mod OidsLaws
 pub mod Attributes
-pub mod AttributesLaws
 pub mod AttributesEqual
 pub mod Bags
-pub mod BagsLaws
 pub mod BagsEqual
 pub mod Contents
-pub mod ContentsLaws
 pub mod ContentsEqual

@@ -1,19 +1,19 @@
 //! The attributes of a bag.
 
-ghost use Rattle.std.specs.Prelude.{ℕ, List};
+ghost use Rattle.std.specs.Prelude.{◌≡◌, ℕ, List};
 ghost use Rattle.asn1_leaves.specs.Strings.{bmp_string};
 ghost use Rattle.asn1_leaves_strings.specs.Octets.{octets_of_bmp};
-ghost use Rattle.x509_pkcs12_parts.specs.Attributes.{AttributeValue, attribute_value, attribute_choice, pkcs12_attribute, AttributesValue, attributes_value, attributes};
+ghost use Rattle.x509_pkcs12_parts.specs.Attributes.{AttributeValue, attribute_value, pkcs12_attribute, AttributesValue, attributes_value, attributes, lawful_pkcs12_attribute, lawful_attributes};
 ghost use Rattle.x509_pkcs12_parts.specs.AttributesEqual.{attribute_equal};
-ghost use Rattle.x509_pkcs12_parts.specs.AttributesLaws.{lawful_attribute_row, lawful_pkcs12_attribute, lawful_attributes};
 
-use crate::oids::{FRIENDLY_NAME, LOCAL_KEY_ID, is_oid_of};
+use crate::oids::{FriendlyName, LocalKeyId};
 use crate::sets::{SetOfOne, SetRef};
+use asn1_choices::{AnyOid, AnyOidRef, Arm, Chosen, WriteChoice};
 use asn1_core::{
-    Asn1RawDer, Asn1SetOf, DerDeserialize, DerSerialize, EqualByText, Error, KnownOid,
-    ObjectIdentifier, ObjectIdentifierAsn1, OctetStringAsn1, OidRef, Reader, TryClone,
+    Asn1RawDer, Asn1SetOf, DerDeserialize, DerSerialize, EqualByText, Error, ObjectIdentifier,
+    OctetStringAsn1, Reader, TryClone,
 };
-use asn1_core_format::{Alone, End, Maybe, Part, ReadRow, WriteRow, put_within, read_within};
+use asn1_core_format::{Alone, Either, End, Maybe, ReadRow, WriteRow, put_within, read_within};
 use asn1_core_writers::{WriteError, Writer, put_element};
 use asn1_leaves::{BmpString, BmpStringAsn1};
 use std::alloc::Global;
@@ -54,60 +54,31 @@ impl DerSerialize for BmpRef<'_> {
     }
 }
 
-impl WriteRow for Pkcs12Attribute {
-    ghost Value = { AttributeValue };
+type AttributeChoice = Either<
+    Arm<FriendlyName, Alone<SetOfOne<BmpStringAsn1>>>,
+    Either<Arm<LocalKeyId, Alone<SetOfOne<OctetStringAsn1>>>, AnyOid<Alone<Asn1SetOf<Asn1RawDer>>>>,
+>;
 
-    ghost value = { attribute_value };
+type AttributeRef<'a> = Either<
+    Arm<FriendlyName, Alone<SetOfOne<BmpRef<'a>>>>,
+    Either<
+        Arm<LocalKeyId, Alone<SetOfOne<&'a OctetStringAsn1>>>,
+        AnyOidRef<'a, Alone<SetRef<'a, Asn1RawDer>>>,
+    >,
+>;
 
-    ghost format = { attribute_choice.row };
-
-    fn put_row<W: Writer>(&self, w: &mut W) -> Result<(), WriteError> {
+impl Pkcs12Attribute {
+    fn choice(&self) -> AttributeRef<'_>
+        ensures { ⟦<AttributeRef<'static> as WriteChoice>⟧.value result ≡ attribute_value self.now }
+    {
         match self {
-            Pkcs12Attribute::FriendlyName(name) => {
-                Part(KnownOid(&FRIENDLY_NAME), Alone(SetOfOne(BmpRef(name)))).put_row(w)
-            }
-            Pkcs12Attribute::LocalKeyId(id) => {
-                Part(KnownOid(&LOCAL_KEY_ID), Alone(SetOfOne(id))).put_row(w)
-            }
-            Pkcs12Attribute::Unknown { oid, value } => {
-                Part(OidRef(oid), Alone(SetRef(value))).put_row(w)
+            Self::FriendlyName(name) => Either::First(Arm::new(Alone(SetOfOne(BmpRef(name))))),
+            Self::LocalKeyId(id) => Either::Second(Either::First(Arm::new(Alone(SetOfOne(id))))),
+            Self::Unknown { oid, value } => {
+                Either::Second(Either::Second(AnyOidRef(oid, Alone(SetRef(value)))))
             }
         }
     }
-
-    #[tactic(auto, using(asn1_leaves_strings::specs::StringLaws::bmp_octets))]
-    fn row_well_formed_at(&self, limit: u8) -> bool {
-        match self {
-            Pkcs12Attribute::FriendlyName(_) => true,
-            Pkcs12Attribute::LocalKeyId(_) => true,
-            Pkcs12Attribute::Unknown { oid, value } => {
-                if is_oid_of(oid, &FRIENDLY_NAME) || is_oid_of(oid, &LOCAL_KEY_ID) {
-                    return false;
-                }
-                value.row_well_formed_at(limit)
-            }
-        }
-    }
-}
-
-impl ReadRow for Pkcs12Attribute {
-    fn read_row(alloc: Global, r: &mut Reader<'_>, nest: u8) -> Result<Self, Error> {
-        let ObjectIdentifierAsn1(oid) = ObjectIdentifierAsn1::read(alloc, r, nest)?;
-        if is_oid_of(&oid, &FRIENDLY_NAME) {
-            let Alone(SetOfOne(BmpStringAsn1(name))) = Alone::<SetOfOne<BmpStringAsn1>>::read_row(
-                alloc, r, nest,
-            )?;
-            return Ok(Pkcs12Attribute::FriendlyName(name));
-        }
-        if is_oid_of(&oid, &LOCAL_KEY_ID) {
-            let Alone(SetOfOne(id)) = Alone::<SetOfOne<OctetStringAsn1>>::read_row(alloc, r, nest)?;
-            return Ok(Pkcs12Attribute::LocalKeyId(id));
-        }
-        let Alone(Asn1SetOf(value)) = Alone::<Asn1SetOf<Asn1RawDer>>::read_row(alloc, r, nest)?;
-        Ok(Pkcs12Attribute::Unknown { oid, value })
-    }
-
-    ghost lawful = { lawful_attribute_row };
 }
 
 impl DerSerialize for Pkcs12Attribute {
@@ -118,17 +89,25 @@ impl DerSerialize for Pkcs12Attribute {
     ghost format = { pkcs12_attribute };
 
     fn put<W: Writer>(&self, w: &mut W) -> Result<(), WriteError> {
-        put_within(0x30, self, w)
+        put_within(0x30, &Chosen(self.choice()), w)
     }
 
     fn well_formed_at(&self, limit: u8) -> bool {
-        self.row_well_formed_at(limit)
+        self.choice().choice_well_formed_at(limit)
     }
 }
 
 impl DerDeserialize for Pkcs12Attribute {
     fn read(alloc: Global, r: &mut Reader<'_>, nest: u8) -> Result<Self, Error> {
-        read_within::<Pkcs12Attribute>(alloc, r, nest, 0x30)
+        let Chosen(choice) = read_within::<Chosen<AttributeChoice>>(alloc, r, nest, 0x30)?;
+        match choice {
+            Either::First(arm) => Ok(Self::FriendlyName(arm.into_row().0.0.0)),
+            Either::Second(Either::First(arm)) => Ok(Self::LocalKeyId(arm.into_row().0.0)),
+            Either::Second(Either::Second(other)) => {
+                let AnyOid(oid, Alone(Asn1SetOf(value))) = other;
+                Ok(Self::Unknown { oid, value })
+            }
+        }
     }
 
     ghost lawful = { lawful_pkcs12_attribute };

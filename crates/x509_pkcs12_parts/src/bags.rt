@@ -1,22 +1,33 @@
 //! Certificates, revocation lists, secrets and encrypted keys, as bags hold them.
 
 ghost use Rattle.std.specs.Prelude.{◌≡◌};
-ghost use Rattle.x509_pkcs12_parts.specs.Bags.{OctetsOrAny, certificate_value, certificate_choice, certificate_bag, crl_value, crl_choice, crl_bag, SecretValue, secret_value, secret_bag, EncryptedKeyValue, encrypted_key_value, encrypted_key_bag};
+ghost use Rattle.x509_pkcs12_parts.specs.Bags.{OctetsOrAny, certificate_value, certificate_bag, crl_value, crl_bag, SecretValue, secret_value, secret_bag, EncryptedKeyValue, encrypted_key_value, encrypted_key_bag, lawful_certificate_bag, lawful_crl_bag, lawful_secret_bag, lawful_encrypted_key_bag};
 ghost use Rattle.x509_pkcs12_parts.specs.BagsEqual.{certificate_equal, crl_equal, secret_equal, encrypted_key_equal};
-ghost use Rattle.x509_pkcs12_parts.specs.BagsLaws.{lawful_certificate_row, lawful_certificate_bag, lawful_crl_row, lawful_crl_bag, lawful_secret_bag, lawful_encrypted_key_bag};
 
-use crate::oids::{X509_CERTIFICATE, X509_CRL, is_oid_of};
+use crate::oids::{X509Certificate, X509Crl};
+use asn1_choices::{AnyOid, AnyOidRef, Arm, Chosen, WriteChoice};
 use asn1_core::{
-    Asn1RawDer, DerDeserialize, DerSerialize, EqualByText, Error, ExplicitContextTag0, KnownOid,
+    Asn1RawDer, DerDeserialize, DerSerialize, EqualByText, Error, ExplicitContextTag0,
     ObjectIdentifier, ObjectIdentifierAsn1, OctetStringAsn1, OidRef, Reader, TryClone,
 };
-use asn1_core_format::{Alone, End, Part, ReadRow, WriteRow, put_within, read_within};
+use asn1_core_format::{Alone, Either, End, Part, WriteRow, put_within, read_within};
 use asn1_core_writers::{WriteError, Writer};
 use pkcs12_algs::Pkcs12EncryptionAlgorithm;
 use std::alloc::Global;
 
 /// `KeyBag ::= PrivateKeyInfo`, which is not looked into (RFC 7292, 4.2.1).
 pub type KeyBag = Asn1RawDer;
+
+/// The octets of the type that `N` names, or an element of any other.
+type OctetsOrAny<N> = Either<
+    Arm<N, Alone<ExplicitContextTag0<OctetStringAsn1>>>,
+    AnyOid<Alone<ExplicitContextTag0<Asn1RawDer>>>,
+>;
+
+type OctetsOrAnyRef<'a, N> = Either<
+    Arm<N, Alone<ExplicitContextTag0<&'a OctetStringAsn1>>>,
+    AnyOidRef<'a, Alone<ExplicitContextTag0<&'a Asn1RawDer>>>,
+>;
 
 /// `CertBag ::= SEQUENCE { certId BAG-TYPE.&id, certValue [0] EXPLICIT BAG-TYPE.&Type }` (RFC 7292, 4.2.3).
 #[derive(Debug, Drop, PartialEq, Eq)]
@@ -30,57 +41,17 @@ pub enum CertificateBag {
     },
 }
 
-impl WriteRow for CertificateBag {
-    ghost Value = { OctetsOrAny };
-
-    ghost value = { certificate_value };
-
-    ghost format = { certificate_choice.row };
-
-    fn put_row<W: Writer>(&self, w: &mut W) -> Result<(), WriteError> {
+impl CertificateBag {
+    fn choice(&self) -> OctetsOrAnyRef<'_, X509Certificate>
+        ensures { ⟦<OctetsOrAnyRef<'static, X509Certificate> as WriteChoice>⟧.value result ≡ certificate_value self.now }
+    {
         match self {
-            CertificateBag::X509(octets) => {
-                Part(
-                    KnownOid(&X509_CERTIFICATE),
-                    Alone(ExplicitContextTag0(octets)),
-                )
-                .put_row(w)
-            }
-            CertificateBag::Unknown { type_id, value } => {
-                Part(OidRef(type_id), Alone(ExplicitContextTag0(value))).put_row(w)
+            Self::X509(octets) => Either::First(Arm::new(Alone(ExplicitContextTag0(octets)))),
+            Self::Unknown { type_id, value } => {
+                Either::Second(AnyOidRef(type_id, Alone(ExplicitContextTag0(value))))
             }
         }
     }
-
-    fn row_well_formed_at(&self, limit: u8) -> bool {
-        match self {
-            CertificateBag::X509(_) => true,
-            CertificateBag::Unknown { type_id, value } => {
-                if is_oid_of(type_id, &X509_CERTIFICATE) {
-                    return false;
-                }
-                value.well_formed_at(limit)
-            }
-        }
-    }
-}
-
-impl ReadRow for CertificateBag {
-    fn read_row(alloc: Global, r: &mut Reader<'_>, nest: u8) -> Result<Self, Error> {
-        let ObjectIdentifierAsn1(type_id) = ObjectIdentifierAsn1::read(alloc, r, nest)?;
-        if is_oid_of(&type_id, &X509_CERTIFICATE) {
-            let Alone(ExplicitContextTag0(octets)) = Alone::<
-                ExplicitContextTag0<OctetStringAsn1>,
-            >::read_row(alloc, r, nest)?;
-            return Ok(CertificateBag::X509(octets));
-        }
-        let Alone(ExplicitContextTag0(value)) = Alone::<ExplicitContextTag0<Asn1RawDer>>::read_row(
-            alloc, r, nest,
-        )?;
-        Ok(CertificateBag::Unknown { type_id, value })
-    }
-
-    ghost lawful = { lawful_certificate_row };
 }
 
 impl DerSerialize for CertificateBag {
@@ -91,17 +62,26 @@ impl DerSerialize for CertificateBag {
     ghost format = { certificate_bag };
 
     fn put<W: Writer>(&self, w: &mut W) -> Result<(), WriteError> {
-        put_within(0x30, self, w)
+        put_within(0x30, &Chosen(self.choice()), w)
     }
 
     fn well_formed_at(&self, limit: u8) -> bool {
-        self.row_well_formed_at(limit)
+        self.choice().choice_well_formed_at(limit)
     }
 }
 
 impl DerDeserialize for CertificateBag {
     fn read(alloc: Global, r: &mut Reader<'_>, nest: u8) -> Result<Self, Error> {
-        read_within::<CertificateBag>(alloc, r, nest, 0x30)
+        let Chosen(choice) = read_within::<Chosen<OctetsOrAny<X509Certificate>>>(
+            alloc, r, nest, 0x30,
+        )?;
+        match choice {
+            Either::First(arm) => Ok(Self::X509(arm.into_row().0.0)),
+            Either::Second(other) => {
+                let AnyOid(type_id, Alone(ExplicitContextTag0(value))) = other;
+                Ok(Self::Unknown { type_id, value })
+            }
+        }
     }
 
     ghost lawful = { lawful_certificate_bag };
@@ -136,53 +116,17 @@ pub enum CrlBag {
     },
 }
 
-impl WriteRow for CrlBag {
-    ghost Value = { OctetsOrAny };
-
-    ghost value = { crl_value };
-
-    ghost format = { crl_choice.row };
-
-    fn put_row<W: Writer>(&self, w: &mut W) -> Result<(), WriteError> {
+impl CrlBag {
+    fn choice(&self) -> OctetsOrAnyRef<'_, X509Crl>
+        ensures { ⟦<OctetsOrAnyRef<'static, X509Crl> as WriteChoice>⟧.value result ≡ crl_value self.now }
+    {
         match self {
-            CrlBag::X509(octets) => {
-                Part(KnownOid(&X509_CRL), Alone(ExplicitContextTag0(octets))).put_row(w)
-            }
-            CrlBag::Unknown { type_id, value } => {
-                Part(OidRef(type_id), Alone(ExplicitContextTag0(value))).put_row(w)
+            Self::X509(octets) => Either::First(Arm::new(Alone(ExplicitContextTag0(octets)))),
+            Self::Unknown { type_id, value } => {
+                Either::Second(AnyOidRef(type_id, Alone(ExplicitContextTag0(value))))
             }
         }
     }
-
-    fn row_well_formed_at(&self, limit: u8) -> bool {
-        match self {
-            CrlBag::X509(_) => true,
-            CrlBag::Unknown { type_id, value } => {
-                if is_oid_of(type_id, &X509_CRL) {
-                    return false;
-                }
-                value.well_formed_at(limit)
-            }
-        }
-    }
-}
-
-impl ReadRow for CrlBag {
-    fn read_row(alloc: Global, r: &mut Reader<'_>, nest: u8) -> Result<Self, Error> {
-        let ObjectIdentifierAsn1(type_id) = ObjectIdentifierAsn1::read(alloc, r, nest)?;
-        if is_oid_of(&type_id, &X509_CRL) {
-            let Alone(ExplicitContextTag0(octets)) = Alone::<
-                ExplicitContextTag0<OctetStringAsn1>,
-            >::read_row(alloc, r, nest)?;
-            return Ok(CrlBag::X509(octets));
-        }
-        let Alone(ExplicitContextTag0(value)) = Alone::<ExplicitContextTag0<Asn1RawDer>>::read_row(
-            alloc, r, nest,
-        )?;
-        Ok(CrlBag::Unknown { type_id, value })
-    }
-
-    ghost lawful = { lawful_crl_row };
 }
 
 impl DerSerialize for CrlBag {
@@ -193,17 +137,24 @@ impl DerSerialize for CrlBag {
     ghost format = { crl_bag };
 
     fn put<W: Writer>(&self, w: &mut W) -> Result<(), WriteError> {
-        put_within(0x30, self, w)
+        put_within(0x30, &Chosen(self.choice()), w)
     }
 
     fn well_formed_at(&self, limit: u8) -> bool {
-        self.row_well_formed_at(limit)
+        self.choice().choice_well_formed_at(limit)
     }
 }
 
 impl DerDeserialize for CrlBag {
     fn read(alloc: Global, r: &mut Reader<'_>, nest: u8) -> Result<Self, Error> {
-        read_within::<CrlBag>(alloc, r, nest, 0x30)
+        let Chosen(choice) = read_within::<Chosen<OctetsOrAny<X509Crl>>>(alloc, r, nest, 0x30)?;
+        match choice {
+            Either::First(arm) => Ok(Self::X509(arm.into_row().0.0)),
+            Either::Second(other) => {
+                let AnyOid(type_id, Alone(ExplicitContextTag0(value))) = other;
+                Ok(Self::Unknown { type_id, value })
+            }
+        }
     }
 
     ghost lawful = { lawful_crl_bag };

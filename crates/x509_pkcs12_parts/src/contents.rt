@@ -2,9 +2,8 @@
 
 ghost use Rattle.std.specs.Prelude.{◌≡◌, ℕ, List};
 ghost use Rattle.x509_pkcs12_parts.specs.Oids.{data_oid};
-ghost use Rattle.x509_pkcs12_parts.specs.Contents.{only_octets, only_oid, encrypted_octets, EncryptedContentsValue, encrypted_contents_value, encrypted_contents};
+ghost use Rattle.x509_pkcs12_parts.specs.Contents.{only_octets, only_oid, encrypted_octets, EncryptedContentsValue, encrypted_contents_value, encrypted_contents, lawful_only_oid, lawful_encrypted_contents};
 ghost use Rattle.x509_pkcs12_parts.specs.ContentsEqual.{encrypted_contents_equal};
-ghost use Rattle.x509_pkcs12_parts.specs.ContentsLaws.{lawful_only_oid, lawful_encrypted_contents};
 
 use crate::oids::DATA;
 use asn1_core::{

@@ -1,0 +1,2 @@
+pub mod MacPlaces
+pub mod MeasuredReads
