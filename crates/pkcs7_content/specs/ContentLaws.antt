@@ -1,22 +1,21 @@
 -- The laws of encapsulated content.
 use Rattle.std.specs.Prelude.{◌≡◌, ℕ, ◌+◌, List, [], ◌++◌, Some, None}
-use Rattle.std.proofs.Common.{arith, refl, ap, inl, inr}
+use Rattle.std.proofs.Common.{arith, refl, sym, ap, subst, inl, inr}
 use Rattle.asn1_core.specs.Der.{IsLawful, IsLawfulRow, part, nothing, within, octet_string, lawful_sequence, followed_by, perhaps, lawful_nothing, lawful_within, lawful_octet_string}
 use Rattle.asn1_core_element.specs.Element.{element}
+use Rattle.asn1_core_oid.specs.Arcs.{oid_by_arcs}
 use Rattle.asn1_core_oid.specs.Oid.{IsOid}
-use Rattle.asn1_core_oid.specs.OidTestLaws.{oid_written}
-use Rattle.asn1_picked.specs.Picks.{Arm}
-use Rattle.asn1_picked.specs.PickLaws.{IsPick, IsArm, itself, lawful_arm, lawful_picked}
-use Rattle.pkcs7_content.specs.Contents.{ContentValues, content_values, ContentRow, written_content, kind_of, as_data, as_octets, OctetsRow, octets_row, to_data, to_octets, perhaps_in, data_arm, octets_arm, content_row, content_pick, encapsulated}
-use Rattle.pkcs7_content.specs.IndirectData.{indirect_data}
-use Rattle.pkcs7_content.specs.IndirectDataLaws.{lawful_indirect_data}
-use Rattle.pkcs7_content.specs.Oids.{data_oid}
+use Rattle.asn1_defined_by.specs.DefinedBy.{Arm}
+use Rattle.asn1_defined_by.specs.DefinedByLaws.{IsDefinedBy, IsArm, itself, lawful_arm, lawful_any_defined_by}
+use Rattle.pkcs7_content.specs.Contents.{ContentValues, content_values, ContentRow, written_content, kind_of, as_data, as_octets, OctetsRow, octets_row, to_data, to_octets, perhaps_in, data_arm, octets_arm, content_row, content_defined_by, encapsulated}
+use Rattle.pkcs7_content.specs.IndirectData.{indirect_data, lawful_indirect_data}
+use Rattle.pkcs7_content.specs.Oids.{data_oid, data_arcs}
 use Rattle.pkcs7_content.specs.declared.contents.Kind.{Kind}
 use Rattle.pkcs7_content.specs.declared.contents.Kind.TheVariants.{IndirectData, TrustList, PlainData, Foreign}
 use Rattle.pkcs7_content_ctl.specs.TrustLists.{ctl, lawful_ctl}
 
 pub data_oid_is : (octets : List ℕ) → octets ≡ data_oid → IsOid octets
-data_oid_is octets e = oid_written e refl
+data_oid_is octets e = subst IsOid (sym e) (oid_by_arcs data_arcs)
 
 lawful_octets_row : IsLawfulRow octets_row
 lawful_octets_row = perhaps (lawful_within octet_string lawful_octet_string.row 0xA0 (omega arith)) (λ t h e. e) lawful_nothing
@@ -75,8 +74,8 @@ written_alike TrustList c = refl
 written_alike PlainData c = refl
 written_alike Foreign c = refl
 
-pub content_is_picked : IsPick content_pick
-content_is_picked = record { lawful = λ o. lawful_content_row (kind_of o); alike = λ o c. written_alike (kind_of o) c }
+pub content_is_defined_by : IsDefinedBy content_defined_by
+content_is_defined_by = record { lawful = λ o. lawful_content_row (kind_of o); alike = λ o c. written_alike (kind_of o) c }
 
 pub lawful_encapsulated : IsLawful encapsulated
-lawful_encapsulated = lawful_sequence (lawful_picked content_pick content_is_picked)
+lawful_encapsulated = lawful_sequence (lawful_any_defined_by content_defined_by content_is_defined_by)

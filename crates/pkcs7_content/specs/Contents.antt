@@ -2,26 +2,40 @@
 -- (RFC 5652, 5.2; ContentType ::= OBJECT IDENTIFIER). In signatures of Authenticode and in signed trust lists the content
 -- is no octet string, but an SpcIndirectDataContent or a CertificateTrustList (RFC 2315, 7: ANY DEFINED BY contentType).
 use Rattle.std.specs.Prelude.{◌⊎◌, ℕ, List, Option, Some, if◌then◌else◌}
-use Rattle.asn1_core.specs.Der.{Format, sequence, part, optional, nothing, within, octet_string, option_value}
+use Rattle.asn1_core.specs.Der.{Format, sequence, part, optional, nothing, within, octet_string, option_value, Octets, OidOctets, octets_of}
 use Rattle.std.specs.Str.{bytes_eq}
 use Rattle.std.proofs.Common.{inl, inr}
 use Rattle.asn1_core_format.specs.Eithers.{either}
-use Rattle.asn1_picked.specs.Picks.{Pick, picked, Arm, arm, by_itself, only_written}
-use Rattle.pkcs7_content.specs.IndirectData.{IndirectDataValue, indirect_data}
+use Rattle.asn1_defined_by.specs.DefinedBy.{DefinedBy, any_defined_by, Arm, arm, by_itself, only_written}
+use Rattle.pkcs7_content.specs.IndirectData.{IndirectDataValue, indirect_data, indirect_data_value}
 use Rattle.pkcs7_content.specs.Oids.{data_oid, indirect_data_oid, trust_list_oid}
 use Rattle.pkcs7_content.specs.declared.contents.Kind.{Kind}
 use Rattle.pkcs7_content.specs.declared.contents.Kind.TheVariants.{IndirectData, TrustList, PlainData, Foreign}
-use Rattle.pkcs7_content_ctl.specs.TrustLists.{CtlValue, ctl}
+use Rattle.pkcs7_content_ctl.specs.TrustLists.{CtlValue, ctl, ctl_value}
+use Rattle.pkcs7_content.specs.declared.contents.ContentValue.{ContentValue}
+use Rattle.pkcs7_content.specs.declared.contents.ContentValue.TheVariants as Content
+use Rattle.pkcs7_content.specs.declared.indirect_data.SpcIndirectDataContent.{SpcIndirectDataContent}
+use Rattle.asn1_core.specs.declared.explicit.ExplicitContextTag0.{ExplicitContextTag0}
+use Rattle.pkcs7_content.specs.declared.contents.EncapsulatedContentInfo.{EncapsulatedContentInfo}
 
 -- what is signed indirectly, octets, data, or a trust list
 abbrev pub ContentValues : Type 0
-ContentValues = IndirectDataValue ⊎ (List ℕ ⊎ (List ℕ ⊎ CtlValue))
+ContentValues = IndirectDataValue ⊎ (Octets ⊎ (Octets ⊎ CtlValue))
+
+abbrev pub content_value : ContentValue → ContentValues
+content_value (Content.SpcIndirectDataContent x) = inl (indirect_data_value x)
+content_value (Content.OctetString x) = inr (inl x.0.items)
+content_value (Content.Data x) = inr (inr (inl x.0.items))
+content_value (Content.CertificateTrustList x) = inr (inr (inr (ctl_value x)))
 
 abbrev pub content_values : Format ContentValues
 content_values = only_written (either indirect_data (either octet_string (either octet_string ctl)))
 
 abbrev pub ContentRow : Type 0
 ContentRow = Option ContentValues × Unit {0}
+
+abbrev pub content_row_value : Option (ExplicitContextTag0 ContentValue) → ContentRow
+content_row_value c = (option_value (λ x. content_value x.0) c, tt)
 
 abbrev pub written_content : Format ContentRow
 written_content = optional (within 0xA0 content_values) nothing
@@ -83,11 +97,14 @@ content_row TrustList = arm written_content (by_itself (λ p. (Some (inr (inr (i
 content_row PlainData = arm written_content data_arm octets_row
 content_row Foreign = arm written_content octets_arm octets_row
 
-abbrev pub content_pick : Pick ContentRow
-content_pick = record { text = written_content.text; row = λ o. content_row (kind_of o) }
+abbrev pub content_defined_by : DefinedBy ContentRow
+content_defined_by = record { text = written_content.text; row = λ o. content_row (kind_of o) }
 
 abbrev pub EncapsulatedValue : Type 0
-EncapsulatedValue = List ℕ × ContentRow
+EncapsulatedValue = OidOctets × ContentRow
+
+abbrev pub encapsulated_value : EncapsulatedContentInfo → EncapsulatedValue
+encapsulated_value x = (octets_of x.content_type.0, content_row_value x.content)
 
 abbrev pub encapsulated : Format EncapsulatedValue
-encapsulated = sequence (picked content_pick)
+encapsulated = sequence (any_defined_by content_defined_by)

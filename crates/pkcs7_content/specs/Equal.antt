@@ -1,13 +1,17 @@
 -- `==` is equality of what the values contain.
 use Rattle.std.proofs.Common.{rules}
 use Rattle.asn1_core.specs.Der.{two_equal, option_equal}
-use Rattle.asn1_core.specs.Equal.{octets_equal}
+use Rattle.asn1_core.specs.Equal.{octets_equal, with_end}
 use Rattle.asn1_core_format.specs.Views.{SeesEqual}
 use Rattle.asn1_leaves_strings.specs.Octets.{contents_of}
 use Rattle.x509_base.specs.contracts.digests.DigestInfoPartialEq.TheImpl as Digest
-use Rattle.x509_base_spc.specs.Values.{link_of}
+use Rattle.x509_base_spc.specs.Links.{link_value}
 use Rattle.x509_base_spc.specs.contracts.links.SpcLinkPartialEq.TheImpl as Link
-use Rattle.pkcs7_content.specs.Values.{pe_image_of, sip_info_of, spc_value_of, spc_attribute_of, digest_info_of, indirect_data_of, content_value_of, encapsulated_of}
+use Rattle.pkcs7_content.specs.PeImages.{pe_image_value}
+use Rattle.pkcs7_content.specs.SipInfos.{sip_info_value}
+use Rattle.pkcs7_content.specs.IndirectData.{spc_value, spc_attribute_value, indirect_data_value}
+use Rattle.x509_base.specs.Digests.{digest_info_value}
+use Rattle.pkcs7_content.specs.Contents.{content_value, encapsulated_value}
 use Rattle.pkcs7_content.specs.contracts.pe_images.SpcPeImageFlagsPartialEq.TheImpl as Flags
 use Rattle.pkcs7_content.specs.contracts.pe_images.SpcPeImageDataPartialEq.TheImpl as PeImage
 use Rattle.pkcs7_content.specs.contracts.sip_infos.SpcSipInfoPartialEq.TheImpl as SipInfo
@@ -18,18 +22,18 @@ use Rattle.pkcs7_content.specs.contracts.contents.ContentValuePartialEq.TheImpl 
 use Rattle.pkcs7_content.specs.contracts.contents.EncapsulatedContentInfoPartialEq.TheImpl as Encapsulated
 use Rattle.pkcs7_content.specs.declared.indirect_data.SpcAttributeAndOptionalValueValue.TheVariants.{SpcPeImageData, SpcSipInfo}
 use Rattle.pkcs7_content.specs.declared.contents.ContentValue.TheVariants.{SpcIndirectDataContent, OctetString, Data, CertificateTrustList}
-use Rattle.pkcs7_content_ctl.specs.Equal.{same_left, same_right, oid_equal, with_end, integer_equal, ctl_equal}
+use Rattle.pkcs7_content_ctl.specs.Equal.{same_left, same_right, oid_equal, integer_equal, ctl_equal}
 
 flags_equal : SeesEqual Flags.ghosts.eq (λ x. contents_of x.0.0)
 flags_equal x y = search rules
 
-link_equal : SeesEqual Link.ghosts.eq link_of
+link_equal : SeesEqual Link.ghosts.eq link_value
 link_equal x y = search rules
 
-pub pe_image_equal : SeesEqual PeImage.ghosts.eq pe_image_of
+pub pe_image_equal : SeesEqual PeImage.ghosts.eq pe_image_value
 pe_image_equal x y = two_equal (flags_equal x.flags y.flags) (with_end (link_equal x.file.0 y.file.0))
 
-pub sip_info_equal : SeesEqual SipInfo.ghosts.eq sip_info_of
+pub sip_info_equal : SeesEqual SipInfo.ghosts.eq sip_info_value
 sip_info_equal x y =
     two_equal (integer_equal x.version y.version)
     (two_equal (octets_equal x.uuid y.uuid)
@@ -39,26 +43,26 @@ sip_info_equal x y =
     (two_equal (integer_equal x.reserved4 y.reserved4)
     (with_end (integer_equal x.reserved5 y.reserved5)))))))
 
-pub spc_value_equal : SeesEqual Value.ghosts.eq spc_value_of
+pub spc_value_equal : SeesEqual Value.ghosts.eq spc_value
 spc_value_equal (SpcPeImageData x) (SpcPeImageData y) = same_left (pe_image_equal x y)
 spc_value_equal (SpcSipInfo x) (SpcSipInfo y) = same_right (sip_info_equal x y)
 spc_value_equal x y = (λ e. cc, λ e. cc)
 
-pub spc_attribute_equal : SeesEqual Attribute.ghosts.eq spc_attribute_of
+pub spc_attribute_equal : SeesEqual Attribute.ghosts.eq spc_attribute_value
 spc_attribute_equal x y = two_equal (oid_equal x.ty y.ty) (spc_value_equal x.value y.value)
 
-digest_equal : SeesEqual Digest.ghosts.eq digest_info_of
+digest_equal : SeesEqual Digest.ghosts.eq digest_info_value
 digest_equal x y = search rules
 
-pub indirect_data_equal : SeesEqual Indirect.ghosts.eq indirect_data_of
+pub indirect_data_equal : SeesEqual Indirect.ghosts.eq indirect_data_value
 indirect_data_equal x y = two_equal (spc_attribute_equal x.spc_data y.spc_data) (with_end (digest_equal x.message_digest y.message_digest))
 
-pub content_value_equal : SeesEqual Content.ghosts.eq content_value_of
+pub content_value_equal : SeesEqual Content.ghosts.eq content_value
 content_value_equal (SpcIndirectDataContent x) (SpcIndirectDataContent y) = same_left (indirect_data_equal x y)
 content_value_equal (OctetString x) (OctetString y) = same_right (same_left (octets_equal x y))
 content_value_equal (Data x) (Data y) = same_right (same_right (same_left (octets_equal x y)))
 content_value_equal (CertificateTrustList x) (CertificateTrustList y) = same_right (same_right (same_right (ctl_equal x y)))
 content_value_equal x y = (λ e. cc, λ e. cc)
 
-pub encapsulated_equal : SeesEqual Encapsulated.ghosts.eq encapsulated_of
+pub encapsulated_equal : SeesEqual Encapsulated.ghosts.eq encapsulated_value
 encapsulated_equal x y = two_equal (oid_equal x.content_type y.content_type) (with_end (option_equal _ _ (λ a b. content_value_equal a.0 b.0) x.content y.content))

@@ -2,21 +2,33 @@
 -- SpcAttributeTypeAndOptionalValue ::= SEQUENCE { type OBJECT IDENTIFIER, value ANY DEFINED BY type }, the value being
 -- an SpcPeImageData or an SpcSipInfo
 -- SpcIndirectDataContent ::= SEQUENCE { data SpcAttributeTypeAndOptionalValue, messageDigest DigestInfo }
-use Rattle.std.specs.Prelude.{◌⊎◌, ℕ, List, if◌then◌else◌}
-use Rattle.asn1_core.specs.Der.{Format, sequence, part, nothing}
+use Rattle.std.specs.Prelude.{◌⊎◌, ℕ, List, if◌then◌else◌, ◌≡◌}
+use Rattle.asn1_core.specs.Der.{Format, sequence, part, nothing, OidOctets, IsLawful, IsLawfulRow, lawful_sequence, followed_by, lawful_nothing, octets_of}
 use Rattle.std.specs.Str.{bytes_eq}
-use Rattle.std.proofs.Common.{inl, inr}
+use Rattle.std.proofs.Common.{inl, inr, refl}
 use Rattle.asn1_core_format.specs.Eithers.{either}
-use Rattle.asn1_picked.specs.Picks.{Pick, picked, arm, by_itself, no_arm, only_written}
-use Rattle.x509_base.specs.Digests.{DigestInfoValue, digest_info}
+use Rattle.asn1_defined_by.specs.DefinedBy.{DefinedBy, any_defined_by, arm, by_itself, no_arm, only_written}
+use Rattle.x509_base.specs.Digests.{DigestInfoValue, digest_info, lawful_digest_info, digest_info_value}
 use Rattle.pkcs7_content.specs.Oids.{pe_image_oid, sip_info_oid}
-use Rattle.pkcs7_content.specs.PeImages.{PeImageValue, pe_image_data}
-use Rattle.pkcs7_content.specs.SipInfos.{SipInfoValue, sip_info}
+use Rattle.pkcs7_content.specs.PeImages.{PeImageValue, pe_image_data, pe_image_value}
+use Rattle.pkcs7_content.specs.SipInfos.{SipInfoValue, sip_info, lawful_sip_info, sip_info_value}
 use Rattle.pkcs7_content.specs.declared.indirect_data.Subject.{Subject}
 use Rattle.pkcs7_content.specs.declared.indirect_data.Subject.TheVariants.{PeImage, SipInfo, Foreign}
+use Rattle.asn1_defined_by.specs.DefinedByLaws.{IsDefinedBy, itself, lawful_arm, lawful_no_arm, lawful_any_defined_by}
+use Rattle.pkcs7_content.specs.PeImageLaws.{lawful_pe_image_data}
+use Rattle.pkcs7_content.specs.declared.indirect_data.SpcAttributeAndOptionalValueValue.{SpcAttributeAndOptionalValueValue}
+use Rattle.pkcs7_content.specs.declared.indirect_data.SpcAttributeAndOptionalValueValue.TheVariants as Spc
+use Rattle.pkcs7_content.specs.declared.pe_images.SpcPeImageData.{SpcPeImageData}
+use Rattle.pkcs7_content.specs.declared.sip_infos.SpcSipInfo.{SpcSipInfo}
+use Rattle.pkcs7_content.specs.declared.indirect_data.SpcAttributeAndOptionalValue.{SpcAttributeAndOptionalValue}
+use Rattle.pkcs7_content.specs.declared.indirect_data.SpcIndirectDataContent.{SpcIndirectDataContent}
 
 abbrev pub SpcValue : Type 0
 SpcValue = PeImageValue ⊎ SipInfoValue
+
+abbrev pub spc_value : SpcAttributeAndOptionalValueValue → SpcValue
+spc_value (Spc.SpcPeImageData x) = inl (pe_image_value x)
+spc_value (Spc.SpcSipInfo x) = inr (sip_info_value x)
 
 abbrev pub spc_values : Format SpcValue
 spc_values = only_written (either pe_image_data sip_info)
@@ -30,17 +42,42 @@ spc_row PeImage = arm spc_values (by_itself inl) pe_image_data
 spc_row SipInfo = arm spc_values (by_itself inr) sip_info
 spc_row Foreign = no_arm spc_values
 
-abbrev pub spc_pick : Pick SpcValue
-spc_pick = record { text = spc_values.text; row = λ o. spc_row (subject_of o) }
+abbrev pub spc_defined_by : DefinedBy SpcValue
+spc_defined_by = record { text = spc_values.text; row = λ o. spc_row (subject_of o) }
 
 abbrev pub SpcAttributeValue : Type 0
-SpcAttributeValue = List ℕ × SpcValue
+SpcAttributeValue = OidOctets × SpcValue
+
+abbrev pub spc_attribute_value : SpcAttributeAndOptionalValue → SpcAttributeValue
+spc_attribute_value x = (octets_of x.ty.0, spc_value x.value)
 
 abbrev pub spc_attribute : Format SpcAttributeValue
-spc_attribute = sequence (picked spc_pick)
+spc_attribute = sequence (any_defined_by spc_defined_by)
 
 abbrev pub IndirectDataValue : Type 0
 IndirectDataValue = SpcAttributeValue × (DigestInfoValue × Unit {0})
 
+abbrev pub indirect_data_value : SpcIndirectDataContent → IndirectDataValue
+indirect_data_value x = (spc_attribute_value x.spc_data, (digest_info_value x.message_digest, tt))
+
 abbrev pub indirect_data : Format IndirectDataValue
 indirect_data = sequence (part spc_attribute (part digest_info nothing))
+
+lawful_spc_row : (s : Subject) → IsLawfulRow (spc_row s)
+lawful_spc_row PeImage = lawful_arm spc_values _ pe_image_data (itself (λ a. refl) (λ a. refl) (λ a. refl)) lawful_pe_image_data.row
+lawful_spc_row SipInfo = lawful_arm spc_values _ sip_info (itself (λ a. refl) (λ a. refl) (λ a. refl)) lawful_sip_info.row
+lawful_spc_row Foreign = lawful_no_arm spc_values
+
+written_alike : (s : Subject) (v : SpcValue) → (spc_row s).text v ≡ spc_values.text v
+written_alike PeImage v = refl
+written_alike SipInfo v = refl
+written_alike Foreign v = refl
+
+pub spc_is_defined_by : IsDefinedBy spc_defined_by
+spc_is_defined_by = record { lawful = λ o. lawful_spc_row (subject_of o); alike = λ o v. written_alike (subject_of o) v }
+
+pub lawful_spc_attribute : IsLawful spc_attribute
+lawful_spc_attribute = lawful_sequence (lawful_any_defined_by spc_defined_by spc_is_defined_by)
+
+pub lawful_indirect_data : IsLawful indirect_data
+lawful_indirect_data = lawful_sequence (followed_by lawful_spc_attribute (followed_by lawful_digest_info lawful_nothing))

@@ -4,8 +4,6 @@ pub mod PeImages
 pub mod PeImageLaws
 pub mod SipInfos
 pub mod IndirectData
-pub mod IndirectDataLaws
 pub mod Contents
 pub mod ContentLaws
-pub mod Values
 pub mod Equal

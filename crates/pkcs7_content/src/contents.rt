@@ -5,11 +5,10 @@ ghost use Rattle.asn1_core.specs.Der.{option_value, octets_of};
 ghost use Rattle.std.proofs.Common.{inl, inr};
 ghost use Rattle.asn1_core_element.specs.declared.error.Error.TheVariants.{Memory};
 ghost use Rattle.asn1_core_format.specs.Rows.{GivesRow};
-ghost use Rattle.pkcs7_content.specs.Contents.{ContentValues, content_values, ContentRow, kind_of, IsPlain, octets_row, content_row, content_pick, EncapsulatedValue, encapsulated};
-ghost use Rattle.pkcs7_content.specs.ContentLaws.{content_is_picked, lawful_encapsulated};
+ghost use Rattle.pkcs7_content.specs.Contents.{ContentValues, content_values, ContentRow, kind_of, IsPlain, octets_row, content_row, content_defined_by, EncapsulatedValue, encapsulated, content_value, content_row_value, encapsulated_value};
+ghost use Rattle.pkcs7_content.specs.ContentLaws.{content_is_defined_by, lawful_encapsulated};
 ghost use Rattle.pkcs7_content.specs.Equal.{content_value_equal, encapsulated_equal};
 ghost use Rattle.pkcs7_content.specs.Oids.{data_oid};
-ghost use Rattle.pkcs7_content.specs.Values.{content_value_of, content_of, encapsulated_of};
 
 use crate::indirect_data::SpcIndirectDataContent;
 use crate::oids::{DATA, INDIRECT_DATA, TRUST_LIST};
@@ -18,7 +17,7 @@ use asn1_core::{
     DerDeserialize, DerSerialize, EqualByText, Error, ExplicitContextTag0, ObjectIdentifier,
     ObjectIdentifierAsn1, OctetStringAsn1, Reader, TryClone,
 };
-use asn1_picked::{OidAnd, Picked, read_picked_sequence};
+use asn1_defined_by::{AnyDefinedBy, OidAnd, read_sequence_defined_by};
 use pkcs7_content_ctl::Ctl;
 use std::alloc::Global;
 
@@ -68,7 +67,7 @@ pub enum ContentValue {
 impl ContentValue {
     /// Whether this is well-formed where the content type says that it is of that kind.
     fn fits(&self, kind: Kind, limit: u8) -> bool
-        ensures { IsTrue result ↔ (content_row kind).IsWellFormed limit (Some (content_value_of self.now), tt) }
+        ensures { IsTrue result ↔ (content_row kind).IsWellFormed limit (Some (content_value self.now), tt) }
     {
         match self {
             ContentValue::SpcIndirectDataContent(content) => {
@@ -86,7 +85,7 @@ impl ContentValue {
 impl DerSerialize for ContentValue {
     ghost Value = { ContentValues };
 
-    ghost value = { content_value_of };
+    ghost value = { content_value };
 
     ghost format = { content_values };
 
@@ -136,14 +135,19 @@ type Tagged = ExplicitContextTag0<ContentValue>;
 #[derive(Drop)]
 struct Content(Option<Tagged>);
 
-impl Picked for Content {
+impl AnyDefinedBy for Content {
     ghost Value = { ContentRow };
 
-    ghost value = { λ c. content_of c.0 };
+    ghost value = { λ c. content_row_value c.0 };
 
-    ghost pick = { content_pick };
+    ghost defined_by = { content_defined_by };
 
-    fn read_picked(alloc: Global, oid: &[u8], r: &mut Reader<'_>, nest: u8) -> Result<Self, Error> {
+    fn read_defined_by(
+        alloc: Global,
+        oid: &[u8],
+        r: &mut Reader<'_>,
+        nest: u8,
+    ) -> Result<Self, Error> {
         match Kind::with_oid(oid) {
             Kind::IndirectData => {
                 let Part(ExplicitContextTag0(content), End) = Part::<
@@ -174,7 +178,7 @@ impl Picked for Content {
         }
     }
 
-    ghost lawful = { content_is_picked };
+    ghost lawful = { content_is_defined_by };
 }
 
 /// Reads octets, or none, to the end of the open contents.
@@ -197,7 +201,7 @@ fn read_octets(
 
 /// Whether the content, or its absence, is well-formed behind a content type with these contents octets.
 fn fits(content: &Option<Tagged>, oid: &[u8], limit: u8) -> bool
-    ensures { IsTrue result ↔ (content_pick.row oid.now).IsWellFormed limit (content_of content.now) }
+    ensures { IsTrue result ↔ (content_defined_by.row oid.now).IsWellFormed limit (content_row_value content.now) }
 {
     let kind = Kind::with_oid(oid);
     match content {
@@ -220,7 +224,7 @@ impl EncapsulatedContentInfo {
     /// in the arm that the content type picks. Takes no memory.
     pub fn new(content_type: ObjectIdentifier, content: Option<Vec<u8>>) -> Self
         ensures content_type { result.content_type.0 ≡ content_type }
-        ensures content { content_of result.content ≡ (option_value (λ octets. inr (inr (inl octets.items))) content, tt) }
+        ensures content { content_row_value result.content ≡ (option_value (λ octets. inr (inr (inl octets.items))) content, tt) }
     {
         let content = match content {
             Some(octets) => Some(ExplicitContextTag0(ContentValue::Data(OctetStringAsn1(octets)))),
@@ -236,7 +240,7 @@ impl EncapsulatedContentInfo {
     #[tactic(auto, using(crate::specs::ContentLaws::data_oid_is))]
     pub fn new_pkcs7_data(alloc: Global, content: Option<Vec<u8>>) -> Result<Self, Error>
         ensures { MatchResult result
-            (λ x. encapsulated_of x ≡ (data_oid, (option_value (λ octets. inr (inr (inl octets.items))) content, tt)))
+            (λ x. encapsulated_value x ≡ (data_oid, (option_value (λ octets. inr (inr (inl octets.items))) content, tt)))
             (λ e. e ≡ Memory) }
     {
         let octets = Vec::from_slice(alloc, &DATA)?;
@@ -247,7 +251,7 @@ impl EncapsulatedContentInfo {
 impl DerSerialize for EncapsulatedContentInfo {
     ghost Value = { EncapsulatedValue };
 
-    ghost value = { encapsulated_of };
+    ghost value = { encapsulated_value };
 
     ghost format = { encapsulated };
 
@@ -263,7 +267,7 @@ impl DerSerialize for EncapsulatedContentInfo {
 
 impl DerDeserialize for EncapsulatedContentInfo {
     fn read(alloc: Global, r: &mut Reader<'_>, nest: u8) -> Result<Self, Error> {
-        let OidAnd(content_type, Content(content)) = read_picked_sequence(alloc, r, nest)?;
+        let OidAnd(content_type, Content(content)) = read_sequence_defined_by(alloc, r, nest)?;
         Ok(EncapsulatedContentInfo {
             content_type,
             content,

@@ -2,9 +2,7 @@
 
 ghost use Rattle.std.specs.Prelude.{◌≡◌, ◌↔◌, IsTrue};
 ghost use Rattle.pkcs7_content.specs.Equal.{spc_value_equal, spc_attribute_equal, indirect_data_equal};
-ghost use Rattle.pkcs7_content.specs.IndirectData.{SpcValue, spc_values, subject_of, spc_pick, SpcAttributeValue, spc_attribute, IndirectDataValue, indirect_data};
-ghost use Rattle.pkcs7_content.specs.IndirectDataLaws.{spc_is_picked, lawful_spc_attribute, lawful_indirect_data};
-ghost use Rattle.pkcs7_content.specs.Values.{spc_value_of, spc_attribute_of, indirect_data_of};
+ghost use Rattle.pkcs7_content.specs.IndirectData.{SpcValue, spc_values, subject_of, spc_defined_by, SpcAttributeValue, spc_attribute, IndirectDataValue, indirect_data, spc_is_defined_by, lawful_spc_attribute, lawful_indirect_data, spc_value, spc_attribute_value, indirect_data_value};
 
 use crate::oids::{PE_IMAGE, SIP_INFO};
 use crate::pe_images::SpcPeImageData;
@@ -15,7 +13,7 @@ use asn1_core::parts::{
 use asn1_core::{
     DerDeserialize, DerSerialize, EqualByText, Error, ObjectIdentifierAsn1, Reader, TryClone,
 };
-use asn1_picked::{OidAnd, Picked, read_picked_sequence};
+use asn1_defined_by::{AnyDefinedBy, OidAnd, read_sequence_defined_by};
 use std::alloc::Global;
 use x509_base::DigestInfo;
 
@@ -52,7 +50,7 @@ pub enum SpcAttributeAndOptionalValueValue {
 impl SpcAttributeAndOptionalValueValue {
     /// Whether this is well-formed behind an object identifier with these contents octets.
     fn fits(&self, oid: &[u8], limit: u8) -> bool
-        ensures { IsTrue result ↔ (spc_pick.row oid.now).IsWellFormed limit (spc_value_of self.now) }
+        ensures { IsTrue result ↔ (spc_defined_by.row oid.now).IsWellFormed limit (spc_value self.now) }
     {
         let subject = Subject::with_oid(oid);
         match self {
@@ -69,7 +67,7 @@ impl SpcAttributeAndOptionalValueValue {
 impl DerSerialize for SpcAttributeAndOptionalValueValue {
     ghost Value = { SpcValue };
 
-    ghost value = { spc_value_of };
+    ghost value = { spc_value };
 
     ghost format = { spc_values };
 
@@ -88,14 +86,19 @@ impl DerSerialize for SpcAttributeAndOptionalValueValue {
     }
 }
 
-impl Picked for SpcAttributeAndOptionalValueValue {
+impl AnyDefinedBy for SpcAttributeAndOptionalValueValue {
     ghost Value = { SpcValue };
 
-    ghost value = { spc_value_of };
+    ghost value = { spc_value };
 
-    ghost pick = { spc_pick };
+    ghost defined_by = { spc_defined_by };
 
-    fn read_picked(alloc: Global, oid: &[u8], r: &mut Reader<'_>, nest: u8) -> Result<Self, Error> {
+    fn read_defined_by(
+        alloc: Global,
+        oid: &[u8],
+        r: &mut Reader<'_>,
+        nest: u8,
+    ) -> Result<Self, Error> {
         match Subject::with_oid(oid) {
             Subject::PeImage => {
                 let Alone(image) = Alone::read_row(alloc, r, nest)?;
@@ -109,7 +112,7 @@ impl Picked for SpcAttributeAndOptionalValueValue {
         }
     }
 
-    ghost lawful = { spc_is_picked };
+    ghost lawful = { spc_is_defined_by };
 }
 
 impl EqualByText for SpcAttributeAndOptionalValueValue {
@@ -140,7 +143,7 @@ pub struct SpcAttributeAndOptionalValue {
 impl DerSerialize for SpcAttributeAndOptionalValue {
     ghost Value = { SpcAttributeValue };
 
-    ghost value = { spc_attribute_of };
+    ghost value = { spc_attribute_value };
 
     ghost format = { spc_attribute };
 
@@ -155,7 +158,7 @@ impl DerSerialize for SpcAttributeAndOptionalValue {
 
 impl DerDeserialize for SpcAttributeAndOptionalValue {
     fn read(alloc: Global, r: &mut Reader<'_>, nest: u8) -> Result<Self, Error> {
-        let OidAnd(ty, value) = read_picked_sequence(alloc, r, nest)?;
+        let OidAnd(ty, value) = read_sequence_defined_by(alloc, r, nest)?;
         Ok(SpcAttributeAndOptionalValue { ty, value })
     }
 
@@ -187,7 +190,7 @@ type IndirectDataRow = Part<SpcAttributeAndOptionalValue, Part<DigestInfo, End>>
 impl DerSerialize for SpcIndirectDataContent {
     ghost Value = { IndirectDataValue };
 
-    ghost value = { indirect_data_of };
+    ghost value = { indirect_data_value };
 
     ghost format = { indirect_data };
 

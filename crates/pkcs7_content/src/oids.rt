@@ -1,7 +1,6 @@
 //! The object identifiers that are known, each by its contents octets.
 
-/// `id-data` (RFC 5652, 4)
-pub(crate) const DATA: [u8; 9] = [0x2A, 0x86, 0x48, 0x86, 0xF7, 0x0D, 0x01, 0x07, 0x01];
+pub(crate) use asn1_core_oid::known::DATA;
 
 /// `SPC_INDIRECT_DATA_OBJID`
 pub(crate) const INDIRECT_DATA: [u8; 10] = [

@@ -6,9 +6,8 @@ ghost use Rattle.asn1_core_element.specs.declared.error.Error.TheVariants.{Memor
 ghost use Rattle.asn1_leaves.specs.Strings.{bit_string, lawful_bit_string};
 ghost use Rattle.asn1_leaves_strings.specs.Octets.{contents_of};
 ghost use Rattle.pkcs7_content.specs.Equal.{pe_image_equal};
-ghost use Rattle.pkcs7_content.specs.PeImages.{default_flags, PeImageValue, pe_image_data};
+ghost use Rattle.pkcs7_content.specs.PeImages.{default_flags, PeImageValue, pe_image_data, pe_image_value};
 ghost use Rattle.pkcs7_content.specs.PeImageLaws.{lawful_pe_image_data};
-ghost use Rattle.pkcs7_content.specs.Values.{pe_image_of};
 
 use asn1_core::parts::{
     ApartFrom, End, FirstTags, Maybe, Part, WriteError, WriteRow, Writer, put_within, read_within,
@@ -92,7 +91,7 @@ type PeImageRow = Maybe<SpcPeImageFlags, Part<ExplicitContextTag0<SpcLink>, End>
 impl DerSerialize for SpcPeImageData {
     ghost Value = { PeImageValue };
 
-    ghost value = { pe_image_of };
+    ghost value = { pe_image_value };
 
     ghost format = { pe_image_data };
 

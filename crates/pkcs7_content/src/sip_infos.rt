@@ -2,8 +2,7 @@
 
 ghost use Rattle.std.specs.Prelude.{◌≡◌};
 ghost use Rattle.pkcs7_content.specs.Equal.{sip_info_equal};
-ghost use Rattle.pkcs7_content.specs.SipInfos.{SipInfoValue, sip_info, lawful_sip_info};
-ghost use Rattle.pkcs7_content.specs.Values.{sip_info_of};
+ghost use Rattle.pkcs7_content.specs.SipInfos.{SipInfoValue, sip_info, lawful_sip_info, sip_info_value};
 
 use asn1_core::parts::{End, Part, WriteError, WriteRow, Writer, put_within, read_within};
 use asn1_core::{
@@ -41,7 +40,7 @@ type SipInfoRef<'a> = Part<
 
 impl SpcSipInfo {
     fn row(&self) -> SipInfoRef<'_>
-        ensures { ⟦<SipInfoRef<'static> as WriteRow>⟧.value result ≡ sip_info_of self.now }
+        ensures { ⟦<SipInfoRef<'static> as WriteRow>⟧.value result ≡ sip_info_value self.now }
     {
         let last = Part(&self.reserved4, Part(&self.reserved5, End));
         let reserved = Part(
@@ -55,7 +54,7 @@ impl SpcSipInfo {
 impl DerSerialize for SpcSipInfo {
     ghost Value = { SipInfoValue };
 
-    ghost value = { sip_info_of };
+    ghost value = { sip_info_value };
 
     ghost format = { sip_info };
 

@@ -3,7 +3,7 @@ use Rattle.std.specs.Prelude.{◌≡◌, ◌↔◌, ◌⊎◌, ℕ, Bool, true}
 use Rattle.std.proofs.Common.{arith, rules, ap, inl, inr}
 use Rattle.asn1_core.specs.Der.{octets_of, list_equal, two_equal}
 use Rattle.std.proofs.lemmas.Slice.Eq.{bytes_eq-Decides}
-use Rattle.asn1_core.specs.Equal.{octets_equal, raw_equal}
+use Rattle.asn1_core.specs.Equal.{octets_equal, raw_equal, with_end}
 use Rattle.asn1_core.specs.contracts.objects.ObjectIdentifierAsn1PartialEq.TheImpl as Oid
 use Rattle.asn1_core_format.specs.Views.{SeesEqual}
 use Rattle.asn1_core_oid.specs.OidValueLaws.{equal_octets}
@@ -11,8 +11,9 @@ use Rattle.asn1_leaves.specs.contracts.integers.IntegerAsn1PartialEq.TheImpl as 
 use Rattle.asn1_leaves_times.specs.TimesLaws.{equal_utc}
 use Rattle.x509_base.specs.AlgorithmParts.{algorithm_value}
 use Rattle.x509_base.specs.contracts.algorithms.AlgorithmIdentifierPartialEq.TheImpl as Algorithm
-use Rattle.pkcs7_content_ctl.specs.AttributeValues.{AttributeValues}
-use Rattle.pkcs7_content_ctl.specs.Values.{chain_policy_of, qualifier_of, cert_policy_of, values_of, entry_attribute_of, entry_of, ctl_of}
+use Rattle.pkcs7_content_ctl.specs.AttributeValues.{AttributeValues, attribute_values_value}
+use Rattle.pkcs7_content_ctl.specs.Policies.{chain_policy_value, qualifier_value, cert_policy_value}
+use Rattle.pkcs7_content_ctl.specs.TrustLists.{entry_attribute_value, entry_value, ctl_value}
 use Rattle.pkcs7_content_ctl.specs.declared.values.CTLEntryAttributeValues.TheVariants.{CertAuthRootSha256HashPropId, CertDisallowedFileTimePropId, CertFriendlyName, CertKeyIdentifierPropId, CertSubjectNameMd5HashPropId, UnknownReservedPropId126, DisallowedEnhkeyUsage, CertEnhkeyUsagePropId, UnknownReservedPropId127, CertRootProgramChainPolicy, CertRootProgramCertPoliciesPropId, Unknown}
 use Rattle.pkcs7_content_ctl.specs.contracts.policies.RootProgramChainPolicyPartialEq.TheImpl as ChainPolicy
 use Rattle.pkcs7_content_ctl.specs.contracts.policies.PolicyQualifierPartialEq.TheImpl as Qualifier
@@ -22,13 +23,13 @@ use Rattle.pkcs7_content_ctl.specs.contracts.attributes.CTLEntryAttributePartial
 use Rattle.pkcs7_content_ctl.specs.contracts.entries.CTLEntryPartialEq.TheImpl as Entry
 use Rattle.pkcs7_content_ctl.specs.contracts.entries.CtlPartialEq.TheImpl as TrustList
 
-pub chain_policy_equal : SeesEqual ChainPolicy.ghosts.eq chain_policy_of
+pub chain_policy_equal : SeesEqual ChainPolicy.ghosts.eq chain_policy_value
 chain_policy_equal x y = search rules
 
-pub qualifier_equal : SeesEqual Qualifier.ghosts.eq qualifier_of
+pub qualifier_equal : SeesEqual Qualifier.ghosts.eq qualifier_value
 qualifier_equal x y = search rules
 
-pub cert_policy_equal : SeesEqual Policy.ghosts.eq cert_policy_of
+pub cert_policy_equal : SeesEqual Policy.ghosts.eq cert_policy_value
 cert_policy_equal x y =
     let q = list_equal _ _ qualifier_equal x.qualifier.0.items y.qualifier.0.items in
     search rules
@@ -54,7 +55,7 @@ number_at (inr (inr (inl x))) = 256
 number_at (inr (inr (inr (inl x)))) = 257
 number_at (inr (inr (inr (inr x)))) = 258
 
-pub values_equal : SeesEqual Values.ghosts.eq values_of
+pub values_equal : SeesEqual Values.ghosts.eq attribute_values_value
 values_equal (CertAuthRootSha256HashPropId s) (CertAuthRootSha256HashPropId t) = same_left (same_number (list_equal _ _ octets_equal s.0.items t.0.items))
 values_equal (CertDisallowedFileTimePropId s) (CertDisallowedFileTimePropId t) = same_left (same_number (list_equal _ _ octets_equal s.0.items t.0.items))
 values_equal (CertFriendlyName s) (CertFriendlyName t) = same_left (same_number (list_equal _ _ octets_equal s.0.items t.0.items))
@@ -69,14 +70,10 @@ values_equal (CertRootProgramCertPoliciesPropId s) (CertRootProgramCertPoliciesP
 values_equal (Unknown s) (Unknown t) = same_right (same_right (same_right (same_right (list_equal _ _ raw_equal s.0.items t.0.items))))
 values_equal x y = (λ e. cc, λ e. absurd (omega (arith, ap number_at e)))
 
-pub attribute_equal : SeesEqual Attribute.ghosts.eq entry_attribute_of
+pub attribute_equal : SeesEqual Attribute.ghosts.eq entry_attribute_value
 attribute_equal x y = two_equal (oid_equal x.oid y.oid) (values_equal x.value y.value)
 
--- a field with the end of the parts behind it
-pub with_end : {A : Type 0} {p : Bool} {a c : A} → (p ≡ true) ↔ (a ≡ c) → (p ≡ true) ↔ (◌≡◌ {A = A × Unit {0}} (a, tt) (c, tt))
-with_end f = (λ e. ap (λ x. (x, tt)) (f.0 e), λ e. f.1 (ap (λ x. x.0) e))
-
-pub entry_equal : SeesEqual Entry.ghosts.eq entry_of
+pub entry_equal : SeesEqual Entry.ghosts.eq entry_value
 entry_equal x y = two_equal (octets_equal x.cert_fingerprint y.cert_fingerprint) (with_end (list_equal _ _ attribute_equal x.attributes.0.items y.attributes.0.items))
 
 pub integer_equal : SeesEqual Integer.ghosts.eq (λ x. x.0.items)
@@ -85,7 +82,7 @@ integer_equal x y = bytes_eq-Decides x.0.items y.0.items
 algorithm_equal : SeesEqual Algorithm.ghosts.eq algorithm_value
 algorithm_equal x y = search rules
 
-pub ctl_equal : SeesEqual TrustList.ghosts.eq ctl_of
+pub ctl_equal : SeesEqual TrustList.ghosts.eq ctl_value
 ctl_equal x y =
     two_equal (list_equal _ _ oid_equal x.signers.0.items y.signers.0.items)
     (two_equal (integer_equal x.sequence_number y.sequence_number)

@@ -1,9 +1,8 @@
 -- Values of attributes that are only lent.
 use Rattle.std.specs.Prelude.{◌≡◌}
 use Rattle.std.proofs.Common.{inl, inr}
-use Rattle.pkcs7_content_ctl.specs.AttributeValues.{AttributeValues}
+use Rattle.pkcs7_content_ctl.specs.AttributeValues.{AttributeValues, octets_in, usages_in, chain_policies_in, cert_policies_in, raws_in}
 use Rattle.pkcs7_content_ctl.specs.Properties.{shape_of}
-use Rattle.pkcs7_content_ctl.specs.Values.{octets_in, usages_in, chain_policies_in, cert_policies_in, raws_in}
 use Rattle.pkcs7_content_ctl.specs.declared.properties.Shape.TheVariants as Shapes
 use Rattle.pkcs7_content_ctl.specs.declared.values.Lent.{Lent}
 use Rattle.pkcs7_content_ctl.specs.declared.values.Lent.TheVariants.{Octets, Usages, ChainPolicies, CertPolicies, Raws}

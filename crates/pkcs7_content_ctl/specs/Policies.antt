@@ -2,12 +2,19 @@
 -- RootProgramChainPolicy ::= SEQUENCE { oid OBJECT IDENTIFIER }
 -- PolicyQualifier ::= SEQUENCE { oid OBJECT IDENTIFIER, bits BIT STRING }
 -- CertPolicy ::= SEQUENCE { oid OBJECT IDENTIFIER, qualifier SEQUENCE OF PolicyQualifier }
-use Rattle.std.specs.Prelude.{ℕ, List}
-use Rattle.asn1_core.specs.Der.{Format, IsLawful, sequence, part, nothing, each, object_identifier, lawful_sequence, followed_by, lawful_nothing, lawful_each, lawful_object_identifier}
+use Rattle.std.specs.Prelude.{List, map}
+use Rattle.asn1_core.specs.Der.{Format, IsLawful, sequence, part, nothing, each, object_identifier, lawful_sequence, followed_by, lawful_nothing, lawful_each, lawful_object_identifier, OidOctets, BitStringOctets, octets_of}
 use Rattle.asn1_leaves.specs.Strings.{bit_string, lawful_bit_string}
+use Rattle.pkcs7_content_ctl.specs.declared.policies.RootProgramChainPolicy.{RootProgramChainPolicy}
+use Rattle.asn1_leaves_strings.specs.Octets.{contents_of}
+use Rattle.pkcs7_content_ctl.specs.declared.policies.PolicyQualifier.{PolicyQualifier}
+use Rattle.pkcs7_content_ctl.specs.declared.policies.CertPolicy.{CertPolicy}
 
 abbrev pub ChainPolicyValue : Type 0
-ChainPolicyValue = List ℕ × Unit {0}
+ChainPolicyValue = OidOctets × Unit {0}
+
+abbrev pub chain_policy_value : RootProgramChainPolicy → ChainPolicyValue
+chain_policy_value x = (octets_of x.oid.0, tt)
 
 abbrev pub chain_policy : Format ChainPolicyValue
 chain_policy = sequence (part object_identifier nothing)
@@ -16,7 +23,10 @@ pub lawful_chain_policy : IsLawful chain_policy
 lawful_chain_policy = lawful_sequence (followed_by lawful_object_identifier lawful_nothing)
 
 abbrev pub QualifierValue : Type 0
-QualifierValue = List ℕ × (List ℕ × Unit {0})
+QualifierValue = OidOctets × (BitStringOctets × Unit {0})
+
+abbrev pub qualifier_value : PolicyQualifier → QualifierValue
+qualifier_value x = (octets_of x.oid.0, (contents_of x.bits.0, tt))
 
 abbrev pub policy_qualifier : Format QualifierValue
 policy_qualifier = sequence (part object_identifier (part bit_string nothing))
@@ -25,7 +35,10 @@ pub lawful_policy_qualifier : IsLawful policy_qualifier
 lawful_policy_qualifier = lawful_sequence (followed_by lawful_object_identifier (followed_by lawful_bit_string lawful_nothing))
 
 abbrev pub CertPolicyValue : Type 0
-CertPolicyValue = List ℕ × (List QualifierValue × Unit {0})
+CertPolicyValue = OidOctets × (List QualifierValue × Unit {0})
+
+abbrev pub cert_policy_value : CertPolicy → CertPolicyValue
+cert_policy_value x = (octets_of x.oid.0, (map qualifier_value x.qualifier.0.items, tt))
 
 abbrev pub cert_policy : Format CertPolicyValue
 cert_policy = sequence (part object_identifier (part (sequence (each policy_qualifier)) nothing))

@@ -3,13 +3,14 @@
 -- which they are.
 use Rattle.std.specs.Prelude.{◌≡◌, ◌==◌, ℕ, List, [], ◌∷◌, if◌then◌else◌}
 use Rattle.std.proofs.Common.{refl}
+use Rattle.asn1_core_oid.specs.Arcs.{arcs}
 use Rattle.pkcs7_content_ctl.specs.declared.properties.TheConstants.{ROOT_SHA256, DISALLOWED_TIME, FRIENDLY_NAME, KEY_IDENTIFIER, SUBJECT_NAME_MD5, RESERVED_126, DISALLOWED_KEY_USAGES, KEY_USAGES, RESERVED_127, CHAIN_POLICY, CERT_POLICIES}
 use Rattle.pkcs7_content_ctl.specs.declared.properties.Shape.{Shape}
 use Rattle.pkcs7_content_ctl.specs.declared.properties.Shape.TheVariants.{Octets, Usages, ChainPolicies, CertPolicies, Raws}
 
--- 1.3.6.1.4.1.311.10.11
+-- szOID_CERT_PROP_ID_PREFIX
 abbrev pub property_prefix : List ℕ
-property_prefix = 0x2B ∷ 0x06 ∷ 0x01 ∷ 0x04 ∷ 0x01 ∷ 0x82 ∷ 0x37 ∷ 0x0A ∷ 0x0B ∷ []
+property_prefix = arcs (1 ∷ 3 ∷ 6 ∷ 1 ∷ 4 ∷ 1 ∷ 311 ∷ 10 ∷ 11 ∷ [])
 
 -- the octet behind the prefix, where there is one and no more; else 0, which is no property
 abbrev pub octet_behind : List ℕ → List ℕ → ℕ

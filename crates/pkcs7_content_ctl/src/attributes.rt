@@ -1,15 +1,15 @@
 //! Attributes of the entries of trust lists.
 
 ghost use Rattle.pkcs7_content_ctl.specs.Equal.{attribute_equal};
-ghost use Rattle.pkcs7_content_ctl.specs.TrustLists.{EntryAttributeValue, entry_attribute, lawful_entry_attribute};
-ghost use Rattle.pkcs7_content_ctl.specs.Values.{entry_attribute_of, values_of};
+ghost use Rattle.pkcs7_content_ctl.specs.TrustLists.{EntryAttributeValue, entry_attribute, lawful_entry_attribute, entry_attribute_value};
+ghost use Rattle.pkcs7_content_ctl.specs.AttributeValues.{attribute_values_value};
 
 use crate::values::CTLEntryAttributeValues;
 use asn1_core::parts::{Alone, Part, WriteError, Writer, put_within};
 use asn1_core::{
     DerDeserialize, DerSerialize, EqualByText, Error, ObjectIdentifierAsn1, Reader, TryClone,
 };
-use asn1_picked::{OidAnd, read_picked_sequence};
+use asn1_defined_by::{OidAnd, read_sequence_defined_by};
 use std::alloc::Global;
 
 /// `Attribute ::= SEQUENCE { type OBJECT IDENTIFIER, values SET OF ANY DEFINED BY type }`, whose type says which
@@ -23,7 +23,7 @@ pub struct CTLEntryAttribute {
 impl DerSerialize for CTLEntryAttribute {
     ghost Value = { EntryAttributeValue };
 
-    ghost value = { entry_attribute_of };
+    ghost value = { entry_attribute_value };
 
     ghost format = { entry_attribute };
 
@@ -38,7 +38,7 @@ impl DerSerialize for CTLEntryAttribute {
 
 impl DerDeserialize for CTLEntryAttribute {
     fn read(alloc: Global, r: &mut Reader<'_>, nest: u8) -> Result<Self, Error> {
-        let OidAnd(oid, value) = read_picked_sequence(alloc, r, nest)?;
+        let OidAnd(oid, value) = read_sequence_defined_by(alloc, r, nest)?;
         Ok(CTLEntryAttribute { oid, value })
     }
 

@@ -2,8 +2,7 @@
 
 ghost use Rattle.std.specs.Prelude.{◌≡◌};
 ghost use Rattle.pkcs7_content_ctl.specs.Equal.{entry_equal, ctl_equal};
-ghost use Rattle.pkcs7_content_ctl.specs.TrustLists.{EntryValue, entry, lawful_entry, CtlValue, ctl, lawful_ctl};
-ghost use Rattle.pkcs7_content_ctl.specs.Values.{entry_of, ctl_of};
+ghost use Rattle.pkcs7_content_ctl.specs.TrustLists.{EntryValue, entry, lawful_entry, CtlValue, ctl, lawful_ctl, entry_value, ctl_value};
 
 use crate::attributes::CTLEntryAttribute;
 use asn1_core::parts::{End, Part, WriteError, WriteRow, Writer, put_within, read_within};
@@ -27,7 +26,7 @@ type EntryRow = Part<OctetStringAsn1, Part<Asn1SetOf<CTLEntryAttribute>, End>>;
 impl DerSerialize for CTLEntry {
     ghost Value = { EntryValue };
 
-    ghost value = { entry_of };
+    ghost value = { entry_value };
 
     ghost format = { entry };
 
@@ -110,7 +109,7 @@ type CtlRef<'a> = Part<
 
 impl Ctl {
     fn row(&self) -> CtlRef<'_>
-        ensures { ⟦<CtlRef<'static> as WriteRow>⟧.value result ≡ ctl_of self.now }
+        ensures { ⟦<CtlRef<'static> as WriteRow>⟧.value result ≡ ctl_value self.now }
     {
         let subjects = Part(&self.digest_algorithm, Part(&self.crl_entries, End));
         let dated = Part(&self.sequence_number, Part(&self.effective_date, subjects));
@@ -121,7 +120,7 @@ impl Ctl {
 impl DerSerialize for Ctl {
     ghost Value = { CtlValue };
 
-    ghost value = { ctl_of };
+    ghost value = { ctl_value };
 
     ghost format = { ctl };
 

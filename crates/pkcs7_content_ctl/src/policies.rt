@@ -1,8 +1,7 @@
 //! Policies, as attributes of trust lists hold them.
 
 ghost use Rattle.pkcs7_content_ctl.specs.Equal.{chain_policy_equal, qualifier_equal, cert_policy_equal};
-ghost use Rattle.pkcs7_content_ctl.specs.Policies.{ChainPolicyValue, chain_policy, lawful_chain_policy, QualifierValue, policy_qualifier, lawful_policy_qualifier, CertPolicyValue, cert_policy, lawful_cert_policy};
-ghost use Rattle.pkcs7_content_ctl.specs.Values.{chain_policy_of, qualifier_of, cert_policy_of};
+ghost use Rattle.pkcs7_content_ctl.specs.Policies.{ChainPolicyValue, chain_policy, lawful_chain_policy, QualifierValue, policy_qualifier, lawful_policy_qualifier, CertPolicyValue, cert_policy, lawful_cert_policy, chain_policy_value, qualifier_value, cert_policy_value};
 
 use asn1_core::parts::{End, Part, WriteError, WriteRow, Writer, put_within, read_within};
 use asn1_core::{
@@ -21,7 +20,7 @@ pub struct RootProgramChainPolicy {
 impl DerSerialize for RootProgramChainPolicy {
     ghost Value = { ChainPolicyValue };
 
-    ghost value = { chain_policy_of };
+    ghost value = { chain_policy_value };
 
     ghost format = { chain_policy };
 
@@ -67,7 +66,7 @@ type QualifierRow = Part<ObjectIdentifierAsn1, Part<BitStringAsn1, End>>;
 impl DerSerialize for PolicyQualifier {
     ghost Value = { QualifierValue };
 
-    ghost value = { qualifier_of };
+    ghost value = { qualifier_value };
 
     ghost format = { policy_qualifier };
 
@@ -113,7 +112,7 @@ type CertPolicyRow = Part<ObjectIdentifierAsn1, Part<Asn1SequenceOf<PolicyQualif
 impl DerSerialize for CertPolicy {
     ghost Value = { CertPolicyValue };
 
-    ghost value = { cert_policy_of };
+    ghost value = { cert_policy_value };
 
     ghost format = { cert_policy };
 

@@ -4,11 +4,9 @@ ghost use Rattle.std.specs.Prelude.{◌≡◌, ◌↔◌, IsTrue};
 ghost use Rattle.std.proofs.Common.{rules, inl, inr};
 ghost use Rattle.asn1_core_format.specs.Rows.{GivesRow};
 ghost use Rattle.pkcs7_content_ctl.specs.Equal.{values_equal};
-ghost use Rattle.pkcs7_content_ctl.specs.AttributeValues.{AttributeValues, attribute_values, values_pick};
-ghost use Rattle.pkcs7_content_ctl.specs.AttributeValueLaws.{values_are_picked};
+ghost use Rattle.pkcs7_content_ctl.specs.AttributeValues.{AttributeValues, attribute_values, values_defined_by, values_are_defined_by, octets_in, usages_in, attribute_values_value};
 ghost use Rattle.pkcs7_content_ctl.specs.Properties.{shape_of};
 ghost use Rattle.pkcs7_content_ctl.specs.Lent.{values_lent, IsLent};
-ghost use Rattle.pkcs7_content_ctl.specs.Values.{octets_in, usages_in, values_of};
 ghost use Rattle.pkcs7_content_ctl.specs.declared.properties.Shape.TheVariants.{Octets, Usages};
 
 use crate::policies::{CertPolicy, RootProgramChainPolicy};
@@ -21,7 +19,7 @@ use asn1_core::{
     Asn1RawDer, Asn1SequenceOf, Asn1SetOf, DerSerialize, EqualByText, Error, ObjectIdentifierAsn1,
     OctetStringAsn1, OctetStringAsn1Container, Reader, TryClone,
 };
-use asn1_picked::Picked;
+use asn1_defined_by::AnyDefinedBy;
 use std::alloc::Global;
 
 type OctetsSet = Asn1SetOf<OctetStringAsn1>;
@@ -74,7 +72,7 @@ enum Lent<'a> {
 /// The octets of the property with that number.
 fn octets_of_property(number: u8, values: OctetsSet) -> CTLEntryAttributeValues
     requires { shape_of number ≡ Octets }
-    ensures { values_of result ≡ inl (number, octets_in values) }
+    ensures { attribute_values_value result ≡ inl (number, octets_in values) }
 {
     match number {
         ROOT_SHA256 => CTLEntryAttributeValues::CertAuthRootSha256HashPropId(values),
@@ -89,7 +87,7 @@ fn octets_of_property(number: u8, values: OctetsSet) -> CTLEntryAttributeValues
 /// The usages of the property with that number.
 fn usages_of_property(number: u8, values: UsagesSet) -> CTLEntryAttributeValues
     requires { shape_of number ≡ Usages }
-    ensures { values_of result ≡ inr (inl (number, usages_in values)) }
+    ensures { attribute_values_value result ≡ inr (inl (number, usages_in values)) }
 {
     match number {
         DISALLOWED_KEY_USAGES => CTLEntryAttributeValues::DisallowedEnhkeyUsage(values),
@@ -100,7 +98,7 @@ fn usages_of_property(number: u8, values: UsagesSet) -> CTLEntryAttributeValues
 
 impl CTLEntryAttributeValues {
     fn lent(&self) -> Lent<'_>
-        ensures same { values_lent result ≡ values_of self.now }
+        ensures same { values_lent result ≡ attribute_values_value self.now }
         ensures is { IsLent result }
     {
         match self {
@@ -121,7 +119,7 @@ impl CTLEntryAttributeValues {
 
     /// Whether these are well-formed values of an attribute whose object identifier has these contents octets.
     pub(crate) fn fits(&self, oid: &[u8], limit: u8) -> bool
-        ensures { IsTrue result ↔ (values_pick.row oid.now).IsWellFormed limit (values_of self.now) }
+        ensures { IsTrue result ↔ (values_defined_by.row oid.now).IsWellFormed limit (attribute_values_value self.now) }
     {
         let number = property_number(oid);
         let shape = Shape::of_property(number);
@@ -146,7 +144,7 @@ impl CTLEntryAttributeValues {
 impl DerSerialize for CTLEntryAttributeValues {
     ghost Value = { AttributeValues };
 
-    ghost value = { values_of };
+    ghost value = { attribute_values_value };
 
     ghost format = { attribute_values };
 
@@ -171,14 +169,19 @@ impl DerSerialize for CTLEntryAttributeValues {
     }
 }
 
-impl Picked for CTLEntryAttributeValues {
+impl AnyDefinedBy for CTLEntryAttributeValues {
     ghost Value = { AttributeValues };
 
-    ghost value = { values_of };
+    ghost value = { attribute_values_value };
 
-    ghost pick = { values_pick };
+    ghost defined_by = { values_defined_by };
 
-    fn read_picked(alloc: Global, oid: &[u8], r: &mut Reader<'_>, nest: u8) -> Result<Self, Error> {
+    fn read_defined_by(
+        alloc: Global,
+        oid: &[u8],
+        r: &mut Reader<'_>,
+        nest: u8,
+    ) -> Result<Self, Error> {
         let number = property_number(oid);
         match Shape::of_property(number) {
             Shape::Octets => {
@@ -204,7 +207,7 @@ impl Picked for CTLEntryAttributeValues {
         }
     }
 
-    ghost lawful = { values_are_picked };
+    ghost lawful = { values_are_defined_by };
 }
 
 impl EqualByText for CTLEntryAttributeValues {

@@ -1,12 +1,12 @@
 use Rattle.std.proofs.Common.{rules, refl}
 use Rattle.asn1_core.specs.Der.{part, nothing, within}
-use Rattle.asn1_picked.specs.PickLaws.{itself}
-use Rattle.asn1_picked.proofs.PickReads.{arm_took, arm_refused, took_at, refused_at}
+use Rattle.asn1_defined_by.specs.DefinedByLaws.{itself}
+use Rattle.asn1_defined_by.proofs.DefinedByReads.{arm_took, arm_refused, took_at, refused_at}
 use Rattle.pkcs7_content.specs.Contents.{written_content, octets_row, data_arm, octets_arm, content_row}
 use Rattle.pkcs7_content.specs.ContentLaws.{data_is_arm, octets_is_arm}
 use Rattle.pkcs7_content.specs.IndirectData.{indirect_data}
 use Rattle.pkcs7_content_ctl.specs.TrustLists.{ctl}
-use Rattle.pkcs7_content.proofs.contents.ContentPicked.read_picked.Goals as goal
+use Rattle.pkcs7_content.proofs.contents.ContentAnyDefinedBy.read_defined_by.Goals as goal
 
 pub returns-in_err-content-in-IndirectData : goal.returns-in_err-content-in-IndirectData
 returns-in_err-content-in-IndirectData c =

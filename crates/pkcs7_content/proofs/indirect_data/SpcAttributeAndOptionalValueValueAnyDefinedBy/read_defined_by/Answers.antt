@@ -1,9 +1,9 @@
 use Rattle.std.proofs.Common.{rules}
-use Rattle.asn1_picked.proofs.PickReads.{arm_refused, refused_at}
+use Rattle.asn1_defined_by.proofs.DefinedByReads.{arm_refused, refused_at}
 use Rattle.pkcs7_content.specs.IndirectData.{spc_values, spc_row}
 use Rattle.pkcs7_content.specs.PeImages.{pe_image_data}
 use Rattle.pkcs7_content.specs.SipInfos.{sip_info}
-use Rattle.pkcs7_content.proofs.indirect_data.SpcAttributeAndOptionalValueValuePicked.read_picked.Goals as goal
+use Rattle.pkcs7_content.proofs.indirect_data.SpcAttributeAndOptionalValueValueAnyDefinedBy.read_defined_by.Goals as goal
 
 pub returns-in_err-image-in-PeImage : goal.returns-in_err-image-in-PeImage
 returns-in_err-image-in-PeImage c =
