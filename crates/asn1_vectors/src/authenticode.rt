@@ -1,17 +1,10 @@
-//! The types of Authenticode: texts of worked examples, read, written and made.
+//! The types of Authenticode that are made: strings of a text, and defaults.
 
 use crate::values::is_value;
-use asn1_core::DerSerialize;
 use asn1_leaves::CharSetError;
 use std::alloc::Global;
-use std::process::Abort;
 use std::test::Fail;
-use vector_checks::checks::is_written;
-use vector_checks::texts::{hex, kept};
-use x509_base::spc::{
-    File, Moniker, SpcLink, SpcSerializedObject, SpcSpOpusInfo, SpcString, SpcUuid, StringError,
-    Url,
-};
+use x509_base::spc::{File, SpcLink, SpcSerializedObject, SpcString, SpcUuid, StringError};
 
 /// The string `<<<Obsolete>>>` under the tag `[0]`.
 const OBSOLETE: &str =
@@ -24,32 +17,8 @@ fn from_text(alloc: Global, text: &str) -> Result<SpcString, StringError> {
     SpcString::try_from_string(alloc, String::from_str(alloc, text)?)
 }
 
-fn opus_infos(rt: &impl Abort, alloc: Global) -> Result<(), Fail> {
-    for (text, is_named, is_linked) in [
-        ("30 00", false, false),
-        ("30 04 A0 02 80 00", true, false),
-        ("30 04 A1 02 80 00", false, true),
-        ("30 08 A0 02 80 00 A1 02 80 00", true, true),
-    ] {
-        let info: SpcSpOpusInfo = kept(alloc, &[text])?;
-        let name = info.program_name.as_ref();
-        assert_eq!(rt;
-            name.is_some_and(|name| matches!(&name.0, SpcString::Unicode(_))),
-            is_named,
-            "{text}"
-        );
-        let link = info.more_info.as_ref();
-        assert_eq!(rt;
-            link.is_some_and(|link| matches!(&link.0, SpcLink::Url(_))),
-            is_linked,
-            "{text}"
-        );
-    }
-    Ok(())
-}
-
 #[test]
-fn values_of_authenticode(rt: HostRuntime) -> Result<(), Fail> {
+fn strings_of_texts(rt: HostRuntime) -> Result<(), Fail> {
     let alloc = rt.alloc();
     for (text, octets) in [
         ("", "80 00"),
@@ -57,30 +26,24 @@ fn values_of_authenticode(rt: HostRuntime) -> Result<(), Fail> {
         ("\u{FFFF}", "80 02 FF FF"),
         ("<<<Obsolete>>>", OBSOLETE),
     ] {
-        let string = from_text(alloc, text)?;
-        is_written(alloc, &string, &hex(alloc, &[octets])?)?;
-        assert!(rt; matches!(&string, SpcString::Unicode(_)), "{text}");
+        is_value(alloc, octets, &from_text(alloc, text)?)?;
     }
-    assert_eq!(rt;
-        from_text(alloc, "\u{1F600}"),
-        Err(StringError::CharSet(CharSetError))
-    );
-    let ascii: SpcString = kept(alloc, &["81 01 41"])?;
-    assert!(rt; matches!(&ascii, SpcString::Ancii(_)));
-    let url: Url = kept(alloc, &["80 01 41"])?;
-    is_value(alloc, "80 01 41", &SpcLink::Url(url))?;
-    let moniker: Moniker = kept(alloc, &["A1 04 04 00 04 00"])?;
-    is_value(alloc, "A1 04 04 00 04 00", &SpcLink::Moniker(moniker))?;
-    let file = File::default_in(alloc)?;
-    is_value(alloc, OBSOLETE_FILE, &file)?;
-    assert_eq!(rt; SpcLink::default_in(alloc)?, SpcLink::File(file));
-    let class = SpcUuid::default_in(alloc)?;
-    let text = "04 10 A6 B5 86 D5 B4 A1 24 66 AE 05 A2 17 DA 8E 60 D6";
-    is_value(alloc, text, &class)?;
-    let object = SpcSerializedObject::default_in(alloc)?;
-    let text = "30 14 04 10 A6 B5 86 D5 B4 A1 24 66 AE 05 A2 17 DA 8E 60 D6 04 00";
-    is_value(alloc, text, &object)?;
-    assert_eq!(rt; object.class_id, class);
-    assert!(rt; object.serialized_data.0.is_empty());
-    opus_infos(&rt, alloc)
+    for text in ["\u{10000}", "\u{1F600}"] {
+        assert_eq!(rt;
+            from_text(alloc, text),
+            Err(StringError::CharSet(CharSetError))
+        );
+    }
+    Ok(())
+}
+
+#[test]
+fn defaults(rt: HostRuntime) -> Result<(), Fail> {
+    let alloc = rt.alloc();
+    is_value(alloc, OBSOLETE_FILE, &File::default_in(alloc)?)?;
+    is_value(alloc, OBSOLETE_FILE, &SpcLink::default_in(alloc)?)?;
+    let class = "04 10 A6 B5 86 D5 B4 A1 24 66 AE 05 A2 17 DA 8E 60 D6";
+    is_value(alloc, class, &SpcUuid::default_in(alloc)?)?;
+    let object = "30 14 04 10 A6 B5 86 D5 B4 A1 24 66 AE 05 A2 17 DA 8E 60 D6 04 00";
+    is_value(alloc, object, &SpcSerializedObject::default_in(alloc)?)
 }

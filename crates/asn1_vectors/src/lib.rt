@@ -5,8 +5,6 @@
 #[cfg(test)]
 mod authenticode;
 #[cfg(test)]
-mod elements;
-#[cfg(test)]
 mod errors;
 #[cfg(test)]
 mod formats;
@@ -24,5 +22,3 @@ mod times;
 mod values;
 #[cfg(test)]
 mod writers;
-#[cfg(test)]
-mod x509;

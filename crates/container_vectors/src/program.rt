@@ -6,8 +6,7 @@ use std::env::{self, Env, FillError};
 use std::io::{self, ErrorKind};
 use std::test::Fail;
 use vector_checks::fakes::{Narrow, Trickle};
-use x509_containers::{Error, Kind, Mode, Outcome};
-use x509_containers_program::{Answer, WordsError, answer_words, words_of};
+use x509_containers_program::{WordsError, answer_words, words_of};
 
 /// A PFX around an empty SEQUENCE.
 const EMPTY_PFX: &[u8] =
@@ -230,51 +229,6 @@ fn each_write_of_a_complaint_fails_in_turn(rt: HostRuntime) -> Result<(), Fail> 
         );
         assert!(rt; output.into_inner().is_empty(), "at {writes_left}");
     }
-    Ok(())
-}
-
-#[test]
-fn statuses_and_complaints(rt: HostRuntime) -> Result<(), Fail> {
-    let kind = Kind::from_word("rawpfx").ok_or("no kind")?;
-    let invalid = Outcome::Refused(Error::Invalid);
-    for (mode, outcome, status, complaint) in [
-        (Mode::Check, Outcome::Normal, 0, ""),
-        (Mode::Check, Outcome::Loose, 3, ""),
-        (Mode::Rewrite, Outcome::Written, 0, ""),
-        (Mode::Check, invalid, 1, ""),
-        (Mode::Rewrite, invalid, 1, "refused: invalid\n"),
-        (Mode::Check, Outcome::ReadFailed, 1, "derbox: read failed\n"),
-        (
-            Mode::Rewrite,
-            Outcome::ReadFailed,
-            1,
-            "derbox: read failed\n",
-        ),
-        (
-            Mode::Check,
-            Outcome::WriteFailed,
-            1,
-            "derbox: write failed\n",
-        ),
-        (
-            Mode::Rewrite,
-            Outcome::WriteFailed,
-            1,
-            "derbox: write failed\n",
-        ),
-    ] {
-        let answer = Answer::Ran {
-            mode,
-            kind,
-            outcome,
-        };
-        assert_eq!(rt; answer.status(), status, "{answer:?}");
-        assert_eq!(rt; answer.complaint(), complaint, "{answer:?}");
-    }
-    assert_eq!(rt; Answer::WrongWords.status(), 2);
-    assert_eq!(rt; Answer::WrongWords.complaint(), USAGE);
-    assert_eq!(rt; Answer::NoMemory.status(), 1);
-    assert_eq!(rt; Answer::NoMemory.complaint(), "refused: no memory\n");
     Ok(())
 }
 

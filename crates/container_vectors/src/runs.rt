@@ -1,4 +1,4 @@
-//! Runs over inputs: what is written, with which outcome, from sources and into sinks that fail, and of large inputs.
+//! Runs over inputs: what is written, with which outcome, from sources and into sinks that fail.
 
 use asn1_core::{Sink, Source, StdSink, StdSource};
 use std::alloc::Global;
@@ -6,7 +6,7 @@ use std::process::Abort;
 use std::test::Fail;
 use vector_checks::fakes::{Narrow, Trickle};
 use vector_checks::texts::hex;
-use x509_containers::{Error, Kind, Mode, Outcome, refusal, run};
+use x509_containers::{Error, Kind, Mode, Outcome, run};
 
 /// A PFX around an empty SEQUENCE.
 const EMPTY_PFX: &str = "30 16 02 01 03 30 11 06 09 2A 86 48 86 F7 0D 01 07 01 A0 04 04 02 30 00";
@@ -148,82 +148,4 @@ fn each_write_fails_in_turn(rt: HostRuntime) -> Result<(), Fail> {
         }
     }
     Ok(())
-}
-
-#[test]
-fn words_of_modes_and_kinds(rt: HostRuntime) {
-    for word in [
-        "authenticatedsafecontentinfo",
-        "certificatebag",
-        "certpolicy",
-        "cmsversion",
-        "crlbag",
-        "ctl",
-        "ctlentry",
-        "ctlentryattribute",
-        "encapsulatedcontentinfo",
-        "encryptedkeybag",
-        "encryptedsafecontents",
-        "file",
-        "macdata",
-        "moniker",
-        "parsedauthenticatedsafedatarepr",
-        "pbes1params",
-        "pbes2encryptionscheme",
-        "pbes2keyderivationfunc",
-        "pbes2params",
-        "pbkdf2params",
-        "pfx",
-        "pkcs12attribute",
-        "pkcs12digestinfo",
-        "pkcs12encryptionalgorithm",
-        "policyqualifier",
-        "rawauthenticatedsafecontentinfo",
-        "rawauthenticatedsafedatarepr",
-        "rawpfx",
-        "rootprogramchainpolicy",
-        "safebag",
-        "safecontents",
-        "safecontentscontentinfo",
-        "secretbag",
-        "spcattributeandoptionalvalue",
-        "spcindirectdatacontent",
-        "spclink",
-        "spcpeimagedata",
-        "spcpeimageflags",
-        "spcserializedobject",
-        "spcsipinfo",
-        "spcspopusinfo",
-        "spcstring",
-        "spcuuid",
-        "url",
-    ] {
-        assert!(rt; Kind::from_word(word).is_some(), "{word}");
-    }
-    for word in ["RawPfx", "p12", ""] {
-        assert!(rt; Kind::from_word(word).is_none(), "{word}");
-    }
-    for (word, mode) in [
-        ("check", Some(Mode::Check)),
-        ("rewrite", Some(Mode::Rewrite)),
-        ("Check", None),
-        ("", None),
-    ] {
-        assert_eq!(rt; Mode::from_word(word), mode, "{word}");
-    }
-}
-
-#[test]
-fn lines_of_refusals(rt: HostRuntime) {
-    for (error, line) in [
-        (Error::Malformed, "refused: malformed\n"),
-        (Error::Missing, "refused: missing\n"),
-        (Error::Invalid, "refused: invalid\n"),
-        (Error::TooDeep, "refused: too deep\n"),
-        (Error::TooLong, "refused: too long\n"),
-        (Error::Memory, "refused: no memory\n"),
-    ] {
-        assert_eq!(rt; refusal(Mode::Check, error), line);
-        assert_eq!(rt; refusal(Mode::Rewrite, error), "");
-    }
 }

@@ -1,5 +1,5 @@
 //! Tests of encapsulated content, of what Authenticode signs and of trust lists that no row of `example_rows` can say:
-//! values that are made, and values looked into. Expected values are those of the standards, or of other tools.
+//! values that are made. Expected values are those of the standards, or of other tools.
 #![tactic(auto)]
 
 #[cfg(test)]
@@ -9,8 +9,4 @@ mod contents;
 #[cfg(test)]
 mod indirect_data;
 #[cfg(test)]
-mod policies;
-#[cfg(test)]
 mod trust_lists;
-#[cfg(test)]
-mod versions;

@@ -15,7 +15,11 @@ use std::time::Instant;
 use std::{env, io};
 use thiserror::Error as ThisError;
 use x509_base::{Extension, Extensions, Name, NameValue};
-use x509_containers::{RawAuthenticatedSafeContentInfo, RawPfx};
+use x509_containers::{
+    AuthenticatedSafeContentInfo, CertificateBag, ParsedAuthenticatedSafeDataRepr, Pfx,
+    Pkcs12Attribute, RawAuthenticatedSafeContentInfo, RawPfx, SafeBag, SafeBagKind, SafeContents,
+    SafeContentsContentInfo,
+};
 
 /// How often each call is timed; the shortest time counts.
 const ROUNDS: u32 = 30;
@@ -52,10 +56,11 @@ impl Shortest {
     }
 }
 
-/// Takes all that it is given, and adds up the lengths.
+/// Takes all that it is given, and adds up the lengths and the writes.
 #[derive(Drop)]
 struct Counter {
     taken: usize,
+    writes: usize,
 }
 
 impl Sink for Counter {
@@ -65,6 +70,7 @@ impl Sink for Counter {
 
     fn write(&mut self, buf: &[u8]) -> io::Result<usize> {
         self.taken = self.taken.saturating_add(buf.len());
+        self.writes = self.writes.saturating_add(1);
         Ok(buf.len())
     }
 
@@ -103,15 +109,19 @@ fn length_time<T: DerSerialize>(rt: &HostRuntime, value: &T) -> Result<Shortest,
     Ok(best)
 }
 
-/// The time of sending a value whose text has that many bytes.
+/// The time of sending a value whose text has that many bytes, and in how many writes it was sent.
 fn send_time<T: DerSerialize>(
     rt: &HostRuntime,
     value: &T,
     size: usize,
-) -> Result<Shortest, Failure> {
+) -> Result<(Shortest, usize), Failure> {
     let mut best = Shortest(u64::MAX);
+    let mut writes = 0;
     for _ in 0..ROUNDS {
-        let mut sink = Counter { taken: 0 };
+        let mut sink = Counter {
+            taken: 0,
+            writes: 0,
+        };
         let start = Instant::now(rt)?;
         let Ok(()) = value.emit(&mut sink) else {
             return Err(Failure::Sending);
@@ -120,8 +130,9 @@ fn send_time<T: DerSerialize>(
         if sink.taken != size {
             return Err(Failure::Sending);
         }
+        writes = sink.writes;
     }
-    Ok(best)
+    Ok((best, writes))
 }
 
 fn read_time<T: DerDeserialize>(rt: &HostRuntime, bytes: &[u8]) -> Result<(T, Shortest), Failure> {
@@ -158,11 +169,12 @@ fn measure<T: DerDeserialize + TryClone>(
     let nanos = copy.0;
     let written = write_time(rt, &value)?.percent(&copy);
     let measured = length_time(rt, &value)?.percent(&copy);
-    let sent = send_time(rt, &value, size)?.percent(&copy);
+    let (sending, writes) = send_time(rt, &value, size)?;
+    let sent = sending.percent(&copy);
     let read = read.percent(&copy);
     let cloned = clone_time(rt, &value)?.percent(&copy);
     println!(rt;
-        "{name}: {size} bytes, copy {nanos} ns; in % of it: to_vec {written}, encoded_len {measured}, emit {sent}, from_bytes {read}, try_clone {cloned}"
+        "{name}: {size} bytes, copy {nanos} ns; in % of it: to_vec {written}, encoded_len {measured}, emit {sent} ({writes} writes), from_bytes {read}, try_clone {cloned}"
     )?;
     Ok(())
 }
@@ -212,6 +224,56 @@ fn pfx(alloc: Global, size: usize) -> Result<RawPfx, Error> {
     })
 }
 
+/// A bag with a local key identifier.
+fn bag(alloc: Global, kind: SafeBagKind) -> Result<SafeBag, Error> {
+    let mut attributes = Vec::new(alloc);
+    let id = OctetStringAsn1(octets(alloc, 20)?);
+    attributes.push(Pkcs12Attribute::LocalKeyId(id))?;
+    Ok(SafeBag {
+        kind,
+        attributes: Some(attributes),
+    })
+}
+
+fn certificates(alloc: Global, count: usize) -> Result<Vec<SafeBag>, Error> {
+    let mut bags = Vec::new(alloc);
+    for _ in 0..count {
+        let certificate = CertificateBag::X509(OctetStringAsn1(octets(alloc, 1_200)?));
+        bags.push(bag(alloc, SafeBagKind::Certificate(certificate))?)?;
+    }
+    Ok(bags)
+}
+
+fn keys(alloc: Global, count: usize) -> Result<Vec<SafeBag>, Error> {
+    let mut bags = Vec::new(alloc);
+    for _ in 0..count {
+        let key = Asn1RawDer(to_vec(alloc, &OctetStringAsn1(octets(alloc, 40)?))?);
+        bags.push(bag(alloc, SafeBagKind::Key(key))?)?;
+    }
+    Ok(bags)
+}
+
+type Store = Pfx<ParsedAuthenticatedSafeDataRepr>;
+
+fn store(alloc: Global, bags: Vec<SafeBag>) -> Result<Store, Error> {
+    let mut contents = Vec::new(alloc);
+    contents.push(SafeContentsContentInfo::Data(SafeContents(bags)))?;
+    Ok(Pfx {
+        version: 3,
+        auth_safe: AuthenticatedSafeContentInfo::Data(contents),
+        mac_data: None,
+    })
+}
+
+/// Stores of many bags.
+fn measure_stores(rt: &HostRuntime) -> Result<(), Failure> {
+    let alloc = rt.alloc();
+    let few = certificates(alloc, 100)?;
+    measure(rt, "pfx, 100 certificates", &store(alloc, few)?)?;
+    let many = keys(alloc, 10_000)?;
+    measure(rt, "pfx, 10000 bags", &store(alloc, many)?)
+}
+
 type Four<T> = ExplicitContextTag0<
     ExplicitContextTag0<ExplicitContextTag0<ExplicitContextTag0<T>>>,
 >;
@@ -256,7 +318,7 @@ fn measure_writing<T: DerSerialize>(
 ) -> Result<(), Failure> {
     let size = value.encoded_len()?;
     let written = write_time(rt, value)?.percent(writing);
-    let sent = send_time(rt, value, size)?.percent(sending);
+    let sent = send_time(rt, value, size)?.0.percent(sending);
     println!(rt;
         "{name}: {size} bytes; in % of the times of 10000 numbers at depth 1: to_vec {written}, emit {sent}"
     )?;
@@ -269,7 +331,7 @@ fn measure_numbers(rt: &HostRuntime) -> Result<(), Failure> {
     let few = numbers(alloc, 10_000)?;
     let size = few.encoded_len()?;
     let written = write_time(rt, &few)?;
-    let sent = send_time(rt, &few, size)?;
+    let (sent, _) = send_time(rt, &few, size)?;
     for count in [10_000, 40_000] {
         measure_writing(
             rt,
@@ -310,6 +372,7 @@ fn measure_all(rt: &HostRuntime) -> Result<(), Failure> {
     measure(rt, "extensions, 20000", &extensions(alloc, 20_000)?)?;
     measure(rt, "name, 2000 parts", &name(alloc, 2_000)?)?;
     measure(rt, "raw pfx, 1 MB", &pfx(alloc, 1_000_000)?)?;
+    measure_stores(rt)?;
     measure_strings(rt)?;
     measure_depths(rt)?;
     measure_numbers(rt)

@@ -7,6 +7,7 @@ use asn1_core::{
     TryClone, from_bytes, from_bytes_counted, from_bytes_limited, to_vec,
 };
 use std::alloc::Global;
+use std::fmt::Debug;
 use std::test::Fail;
 use vector_checks::checks::{is_rewritten, is_sent};
 use x509_containers::{Kind, Mode, Outcome, run, run_at};
@@ -115,7 +116,8 @@ fn is_changed<T: DerDeserialize>(alloc: Global, input: &[u8]) -> Result<(), Fail
     expect(changed.as_slice() == input, "the input itself")
 }
 
-/// Asks that with two more elements behind the input as many headers are read, and that these elements are left.
+/// Asks that with two more elements behind the input as many headers are read, and that these elements are left; and that
+/// the whole is refused as malformed, with no more headers.
 fn ends<T: DerDeserialize>(alloc: Global, input: &[u8], headers: usize) -> Result<(), Fail> {
     let mut longer = Vec::from_slice(alloc, input)?;
     longer.extend_from_slice(b"\x05\x00\x05\x00")?;
@@ -124,16 +126,34 @@ fn ends<T: DerDeserialize>(alloc: Global, input: &[u8], headers: usize) -> Resul
     expect(
         r.headers_read() == headers && r.left() == 4,
         "what stands behind the input",
+    )?;
+    let (outcome, counted) = from_bytes_counted::<T>(alloc, &longer);
+    expect(
+        outcome.err() == Some(Error::Malformed) && counted == headers,
+        "the headers of an input with more behind it",
     )
 }
 
-/// Asks of an accepted input that its value is written and cloned, and of a short one that it is sent into sinks that
+/// Asks that `Debug` shows the value as the row says, where it does.
+fn is_shown<T: Debug>(alloc: Global, value: &T, row: &Row) -> Result<(), Fail> {
+    let Some(wanted) = &row.shown else {
+        return Ok(());
+    };
+    let shown = format!(in alloc; "{value:?}")?;
+    if shown == *wanted {
+        return Ok(());
+    }
+    Err(Fail::new(format_args!("its value is {shown}")))
+}
+
+/// Asks of an accepted input that its value is shown as the row says, written and cloned, and of a short one that it is sent into sinks that
 /// fail, that no beginning is accepted, and what changes of one byte come to.
-fn is_kept<T: DerDeserialize + SeenByText + TryClone>(
+fn is_kept<T: DerDeserialize + SeenByText + TryClone + Debug>(
     alloc: Global,
     row: &Row,
 ) -> Result<(), Fail> {
     let value: T = is_rewritten(alloc, &row.input, &row.text)?;
+    is_shown(alloc, &value, row)?;
     if row.input.len() <= SHORT {
         is_sent(alloc, &value, &row.text, 1)?;
         is_sent(alloc, &value, &row.text, usize::MAX)?;
@@ -144,7 +164,7 @@ fn is_kept<T: DerDeserialize + SeenByText + TryClone>(
 }
 
 /// Asks what a row says of its input as the type.
-pub fn is_so<T: DerDeserialize + SeenByText + TryClone>(
+pub fn is_so<T: DerDeserialize + SeenByText + TryClone + Debug>(
     alloc: Global,
     row: &Row,
 ) -> Result<(), Fail> {
@@ -158,7 +178,7 @@ pub fn is_so<T: DerDeserialize + SeenByText + TryClone>(
         return Err(Fail::new(format_args!("it reads {headers} headers")));
     }
     if outcome.is_err() {
-        return Ok(());
+        return expect(row.shown.is_none(), "no value is said of what is refused");
     }
     ends::<T>(alloc, &row.input, headers)?;
     is_kept::<T>(alloc, row)
@@ -169,7 +189,7 @@ const OTHER_TAG: u8 = 0x9E;
 
 /// Asks what a row says of its input as a type with a tag of its own, and that under another tag an accepted one's text is
 /// the same but for its first byte, and is read as the same value.
-pub fn is_so_under_tags<T: DerTagged + SeenByText + TryClone>(
+pub fn is_so_under_tags<T: DerTagged + SeenByText + TryClone + Debug>(
     alloc: Global,
     row: &Row,
 ) -> Result<(), Fail> {

@@ -19,6 +19,8 @@ pub struct Row {
     pub headers: Option<usize>,
     /// How many levels of nesting are read, where not 64.
     pub levels: Option<u8>,
+    /// How `Debug` shows the value of an accepted input, where that is said.
+    pub shown: Option<String>,
 }
 
 /// The octets of a column, which is `-` where there are none. `02.01.07*5000` are three octets, so often.
@@ -53,10 +55,17 @@ fn row_of(
     headers: Option<usize>,
     levels: Option<u8>,
 ) -> Result<Row, Fail> {
+    let (columns, shown) = match columns {
+        [before @ .., last] => match last.strip_prefix("= ") {
+            Some(shown) => (before, Some(String::from_str(alloc, shown)?)),
+            None => (columns, None),
+        },
+        [] => (columns, None),
+    };
     let (input, said, text) = match columns {
         [_, input, said] => (*input, *said, *input),
         [_, input, said, text] => (*input, *said, *text),
-        _ => return Err(Fail::new("three or four columns")),
+        _ => return Err(Fail::new("three or four columns, and a value")),
     };
     Ok(Row {
         input: octets(alloc, input)?,
@@ -64,6 +73,7 @@ fn row_of(
         text: octets(alloc, text)?,
         headers,
         levels,
+        shown,
     })
 }
 

@@ -1,7 +1,7 @@
 //! Values that no text has: they aren't well-formed, and are written all the same.
 
 use crate::values::{algorithm, element, octets, read};
-use asn1_core::DerSerialize;
+use asn1_core::{DerSerialize, TryClone};
 use std::alloc::Global;
 use std::test::Fail;
 use vector_checks::checks::is_written;
@@ -131,5 +131,6 @@ fn stores(rt: HostRuntime) -> Result<(), Fail> {
     is_ill_formed(alloc, &bag, KEY_BAG)?;
     let read_again: SafeBag = read(alloc, &[KEY_BAG])?;
     assert!(rt; matches!(&read_again.kind, SafeBagKind::Key(_)));
+    assert!(rt; read_again.kind.try_clone(alloc)? == read_again.kind);
     Ok(())
 }

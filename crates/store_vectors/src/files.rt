@@ -5,6 +5,7 @@ use std::test::Fail;
 use x509_containers::{
     AuthenticatedSafeContentInfo, AuthenticatedSafeDataRepr, ParsedAuthenticatedSafeDataRepr, Pfx,
     Pkcs12Attribute, RawAuthenticatedSafeDataRepr, RawPfx, SafeBag, SafeContentsContentInfo,
+    mac_range,
 };
 
 type Parsed = ParsedAuthenticatedSafeDataRepr;
@@ -157,7 +158,10 @@ fn has_name(pfx: &ParsedPfx, octets: &[u8]) -> bool {
 #[test]
 fn names_and_representations(rt: HostRuntime) -> Result<(), Fail> {
     let alloc = rt.alloc();
-    for (file, is_plain) in [(OPENSSL_DEFAULT, false), (OPENSSL_PLAIN, true)] {
+    for (file, is_plain, place) in [
+        (OPENSSL_DEFAULT, false, (30, 957)),
+        (OPENSSL_PLAIN, true, (30, 1245)),
+    ] {
         let parsed: ParsedPfx = from_bytes(alloc, file)?;
         assert_eq!(rt; has_name(&parsed, KEY_NAME), is_plain);
         assert_eq!(rt; has_name(&parsed, SECOND_NAME), is_plain);
@@ -166,6 +170,11 @@ fn names_and_representations(rt: HostRuntime) -> Result<(), Fail> {
         let Some(covered) = raw.mac_octets() else {
             return Err(Fail::new("no data"));
         };
+        let Some(range) = mac_range(alloc, file)? else {
+            return Err(Fail::new("no range"));
+        };
+        assert_eq!(rt; (range.start, range.end), place);
+        assert_eq!(rt; file.get(range), Some(covered));
         let AuthenticatedSafeContentInfo::Data(contents) = &parsed.auth_safe else {
             return Err(Fail::new("no data"));
         };

@@ -1,12 +1,10 @@
-//! Tests of PKCS #12 and of its algorithms by public calls: values looked at inside, values that no text has, conversions,
+//! Tests of PKCS #12 and of its algorithms by public calls: conversions, values that no text has, files looked into,
 //! streams that fail, and a representation of a caller's own. The rows of `example_rows` say what is read and written.
 //! Expected values are those of the standards, or of other tools.
 #![tactic(auto)]
 
 #[cfg(test)]
 mod algorithms;
-#[cfg(test)]
-mod bags;
 #[cfg(test)]
 mod built;
 #[cfg(test)]
@@ -19,5 +17,4 @@ pub mod octets_repr;
 #[cfg(test)]
 mod representations;
 #[cfg(test)]
-mod stores;
-pub mod values;
+mod values;

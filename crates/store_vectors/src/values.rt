@@ -1,6 +1,6 @@
 //! Values of texts, and values that are built.
 
-use asn1_core::{DerDeserialize, SeenByText, from_bytes};
+use asn1_core::{DerDeserialize, from_bytes};
 use std::alloc::Global;
 use std::test::Fail;
 use vector_checks::texts::{hex, oid};
@@ -9,19 +9,6 @@ use x509_containers::{Asn1RawDer, OctetStringAsn1, RawAlgorithmIdentifier};
 /// The value of texts in hexadecimal.
 pub fn read<T: DerDeserialize>(alloc: Global, texts: &[&str]) -> Result<T, Fail> {
     Ok(from_bytes(alloc, &hex(alloc, texts)?)?)
-}
-
-/// Asks that texts in hexadecimal are read as the value.
-pub fn is_read_as<T: DerDeserialize + SeenByText>(
-    alloc: Global,
-    texts: &[&str],
-    value: &T,
-) -> Result<(), Fail> {
-    let found: T = read(alloc, texts)?;
-    if found == *value {
-        return Ok(());
-    }
-    Err(Fail::new(format_args!("another value: {texts:?}")))
 }
 
 /// The octets of a text in hexadecimal, none of an empty one.
