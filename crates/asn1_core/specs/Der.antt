@@ -9,7 +9,9 @@ pub use Rattle.asn1_core_format.specs.RowLaws.{lawful_nothing, lawful_part, lawf
 pub use Rattle.asn1_core_format.specs.Sequences.{sequence, followed_by, perhaps, lawful_sequence}
 pub use Rattle.asn1_core_format.specs.Views.{list_equal, option_equal, two_equal}
 pub use Rattle.asn1_core_oid.specs.OidValue.{octets_of}
+pub use Rattle.asn1_core.specs.Nulls.{null_element, lawful_null_element}
 pub use Rattle.asn1_core.specs.Objects.{object_identifier, lawful_object_identifier}
 pub use Rattle.asn1_core.specs.Octets.{octet_string, lawful_octet_string}
-pub use Rattle.asn1_core.specs.Raw.{raw, lawful_raw}
+pub use Rattle.asn1_core.specs.Raw.{element_of, lawful_element_of, raw, lawful_raw}
+pub use Rattle.asn1_core.specs.Versions.{version, lawful_version_0, lawful_version_1, lawful_version_3}
 pub use Rattle.asn1_core.specs.Words.{Octets, OidOctets, IntegerOctets, BitStringOctets, StringOctets, ElementOctets}

@@ -1,6 +1,7 @@
--- `==` of octet strings and raw elements is equality of octets, and that of a last field is equality of the rest.
-use Rattle.std.specs.Prelude.{◌≡◌, ◌↔◌, Bool, true}
-use Rattle.std.proofs.Common.{ap}
+-- `==` of octet strings and raw elements is equality of octets, that of a last field is equality of the rest, and that of
+-- what an arm holds is equality of the whole.
+use Rattle.std.specs.Prelude.{◌≡◌, ◌↔◌, ◌⊎◌, Bool, true}
+use Rattle.std.proofs.Common.{ap, inl, inr}
 use Rattle.std.proofs.lemmas.Slice.Eq.{bytes_eq-Decides}
 use Rattle.asn1_core_format.specs.Views.{SeesEqual}
 use Rattle.asn1_core.specs.contracts.octets.OctetStringAsn1PartialEq.TheImpl as Octets
@@ -15,3 +16,10 @@ raw_equal x y = bytes_eq-Decides x.0.items y.0.items
 -- a field with the end of the parts behind it
 pub with_end : {A : Type 0} {p : Bool} {a c : A} → (p ≡ true) ↔ (a ≡ c) → (p ≡ true) ↔ (◌≡◌ {A = A × Unit {0}} (a, tt) (c, tt))
 with_end f = (λ e. ap (λ x. (x, tt)) (f.0 e), λ e. f.1 (ap (λ x. x.0) e))
+
+-- what one arm of two holds
+pub same_first : {A B : Type 0} {p : Bool} {a c : A} → (p ≡ true) ↔ (a ≡ c) → (p ≡ true) ↔ (◌≡◌ {A = A ⊎ B} (inl a) (inl c))
+same_first {A} {B} {p} {a} {c} f = (λ e. ap inl (f.0 e), λ e. (let h : a ≡ c = cc in f.1 h))
+
+pub same_second : {A B : Type 0} {p : Bool} {a c : B} → (p ≡ true) ↔ (a ≡ c) → (p ≡ true) ↔ (◌≡◌ {A = A ⊎ B} (inr a) (inr c))
+same_second {A} {B} {p} {a} {c} f = (λ e. ap inr (f.0 e), λ e. (let h : a ≡ c = cc in f.1 h))

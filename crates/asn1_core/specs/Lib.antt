@@ -2,6 +2,8 @@ pub mod Words
 pub mod Seen
 pub mod Octets
 pub mod Raw
+pub mod Nulls
 pub mod Objects
 pub mod Equal
+pub mod Versions
 pub mod Der

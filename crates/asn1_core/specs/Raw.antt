@@ -1,32 +1,40 @@
--- Any one element, kept as it is.
+-- One element, kept as it is.
 use Rattle.std.specs.Prelude.{◌≡◌, ℕ, List}
 use Rattle.std.proofs.Common.{refl, sym, ◌∙◌, subst}
 use Rattle.asn1_core_element.specs.Element.{IsElement, IsTagByte}
 use Rattle.asn1_core_format.specs.Format.{Format, IsLawful}
 use Rattle.asn1_core_format.specs.Laws.{begins_alone}
 
-abbrev pub raw : Format (List ℕ)
-raw = record {
+-- one whose tag is one of these
+abbrev pub element_of : (ℕ → Type 0) → Format (List ℕ)
+element_of IsOne = record {
   text = λ v. v;
-  IsWellFormed = λ _ v. IsElement IsTagByte v;
-  Reads = λ _ b v. (b ≡ v) × IsElement IsTagByte b;
-  IsNormal = λ _ b. IsElement IsTagByte b;
+  IsWellFormed = λ _ v. IsElement IsOne v;
+  Reads = λ _ b v. (b ≡ v) × IsElement IsOne b;
+  IsNormal = λ _ b. IsElement IsOne b;
   normal = λ v. v;
-  IsTag = IsTagByte;
+  IsTag = IsOne;
   least = λ _. 1;
 }
 
-pub lawful_raw : IsLawful raw
-lawful_raw = record {
+pub lawful_element_of : (IsOne : ℕ → Type 0) → IsLawful (element_of IsOne)
+lawful_element_of IsOne = record {
   row = record {
-    begins = λ k b v r. begins_alone IsTagByte b r.1;
+    begins = λ k b v r. begins_alone IsOne b r.1;
     one_value = λ k b v w r s. sym r.0 ∙ s.0;
     text_reads = λ k v h. (refl, h);
     text_normal = λ k v h. h;
     normal_reads = λ k b n. (b, (refl, n));
     fixed = λ k b v r. (λ e. r.1, λ n. sym r.0);
-    well_formed = λ k b v r. subst (IsElement IsTagByte) r.0 r.1;
+    well_formed = λ k b v r. subst (IsElement IsOne) r.0 r.1;
     deeper = λ k b v r. r;
   };
   element = λ k b v r. r.1;
 }
+
+-- any one
+abbrev pub raw : Format (List ℕ)
+raw = element_of IsTagByte
+
+pub lawful_raw : IsLawful raw
+lawful_raw = lawful_element_of IsTagByte

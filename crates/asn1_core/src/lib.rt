@@ -6,11 +6,13 @@ pub mod containers;
 pub mod explicit;
 pub mod implicit;
 pub mod lists;
+pub mod nulls;
 pub mod objects;
 pub mod octets;
 pub mod parts;
 pub mod raw;
 pub mod seen;
+pub mod versions;
 
 pub use asn1_core_element::{Error, Reader};
 pub use asn1_core_format::laws::{
@@ -30,7 +32,9 @@ pub use containers::{OctetStringAsn1Container, Optional};
 pub use explicit::{ExplicitContextTag0, ExplicitContextTag1, ExplicitContextTag2};
 pub use implicit::{ImplicitContextTag0, ImplicitContextTag1};
 pub use lists::{Asn1SequenceOf, Asn1SetOf};
+pub use nulls::Null;
 pub use objects::{KnownOid, ObjectIdentifierAsn1, OidRef};
 pub use octets::OctetStringAsn1;
 pub use raw::Asn1RawDer;
 pub use seen::SeenByText;
+pub use versions::FixedVersion;

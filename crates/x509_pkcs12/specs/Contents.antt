@@ -2,7 +2,7 @@
 -- of pkcs7-data, an OCTET STRING round SafeContents; of pkcs7-encryptedData, EncryptedData:
 -- EncryptedData ::= SEQUENCE { version Version, encryptedContentInfo EncryptedContentInfo } with version 0 (RFC 2315, 13)
 use Rattle.std.specs.Prelude.{◌⊎◌, ℕ, List, Option}
-use Rattle.asn1_core.specs.Der.{Format, within, sequence, part, optional, nothing, raw, octets_of, option_value, OidOctets, ElementOctets, IsLawful, IsLawfulRow, lawful_within, lawful_raw, followed_by, perhaps, lawful_nothing, lawful_sequence}
+use Rattle.asn1_core.specs.Der.{Format, within, sequence, part, optional, nothing, raw, octets_of, option_value, OidOctets, ElementOctets, IsLawful, IsLawfulRow, version, lawful_within, lawful_raw, lawful_version_0, followed_by, perhaps, lawful_nothing, lawful_sequence}
 use Rattle.std.proofs.Common.{inl, inr, arith}
 use Rattle.asn1_core_format.specs.Choices.{Choice, known, otherwise, IsLawfulChoice, lawful_known, lawful_otherwise}
 use Rattle.asn1_core_oid.specs.Oid.{IsOid}
@@ -10,7 +10,6 @@ use Rattle.x509_pkcs12_bags.specs.Bags.{Bag, safe_contents}
 use Rattle.x509_pkcs12_bags.specs.BagValues.{contents_value}
 use Rattle.x509_pkcs12_parts.specs.Contents.{EncryptedContentsValue, encrypted_contents_value, encrypted_contents, lawful_encrypted_contents}
 use Rattle.x509_pkcs12_parts.specs.Oids.{data_oid, encrypted_data_oid}
-use Rattle.x509_pkcs12.specs.Versions.{version, lawful_version_0}
 use Rattle.x509_pkcs12.specs.declared.contents.SafeContentsContentInfo.{SafeContentsContentInfo}
 use Rattle.x509_pkcs12.specs.declared.contents.SafeContentsContentInfo.TheVariants.{Data, EncryptedData, Unknown}
 use Rattle.x509_pkcs12_bags.specs.BagsLaws.{lawful_safe_contents}

@@ -1,4 +1,3 @@
-pub mod Versions
 pub mod Contents
 pub mod ContentsEqual
 pub mod AuthSafes

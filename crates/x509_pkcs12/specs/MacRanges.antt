@@ -1,13 +1,12 @@
 -- Where the octets that a MAC covers stand in an input.
 use Rattle.std.specs.Prelude.{◌≡◌, ℕ, ◌≤◌, List, length, drop, Option, IfSome, slice_range}
-use Rattle.asn1_core.specs.Der.{Format, IsLawful, sequence, part, optional, nothing, raw, lawful_raw, option_value, followed_by, perhaps, lawful_nothing, lawful_sequence}
+use Rattle.asn1_core.specs.Der.{Format, IsLawful, sequence, part, optional, nothing, raw, lawful_raw, option_value, version, followed_by, perhaps, lawful_nothing, lawful_sequence, lawful_version_3}
 use Rattle.asn1_core_format.specs.Whole.{IsValueOf}
 use Rattle.pkcs12_algs.specs.Digests.{MacValue, mac_data, lawful_mac_data}
 use Rattle.x509_pkcs12.specs.AuthSafes.{AuthSafeValue, auth_safe, lawful_auth_safe}
 use Rattle.x509_pkcs12.specs.MacOctets.{mac_octets, Covers}
 use Rattle.x509_pkcs12.specs.Measured.{measured, lawful_measured}
 use Rattle.x509_pkcs12.specs.Pfxs.{PfxValue, pfx}
-use Rattle.x509_pkcs12.specs.Versions.{version, lawful_version_3}
 
 -- the contents octets of authSafe's OCTET STRING stand in the input between these two places, and behind them what stands
 -- behind authSafe

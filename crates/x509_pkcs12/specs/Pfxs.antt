@@ -1,9 +1,8 @@
 -- PFX ::= SEQUENCE { version INTEGER {v3(3)}(v3,...), authSafe ContentInfo, macData MacData OPTIONAL } (RFC 7292, 4)
 use Rattle.std.specs.Prelude.{ℕ, Option}
-use Rattle.asn1_core.specs.Der.{Format, IsLawful, sequence, part, optional, nothing, followed_by, perhaps, lawful_nothing, lawful_sequence}
+use Rattle.asn1_core.specs.Der.{Format, IsLawful, sequence, part, optional, nothing, version, followed_by, perhaps, lawful_nothing, lawful_sequence, lawful_version_3}
 use Rattle.pkcs12_algs.specs.Digests.{MacValue, mac_data, lawful_mac_data}
 use Rattle.x509_pkcs12.specs.AuthSafes.{AuthSafeValue, auth_safe, lawful_auth_safe}
-use Rattle.x509_pkcs12.specs.Versions.{version, lawful_version_3}
 
 -- the version, what is authenticated, and the MAC
 abbrev pub PfxValue : Type 0 → Type 0

@@ -6,11 +6,10 @@ ghost use Rattle.asn1_core_format.specs.Sequences.{sequence, lawful_sequence};
 ghost use Rattle.x509_pkcs12.specs.Contents.{AnyContentValue, any_content, ContentInfoValue, content_info_value, content_info, lawful_any_content, lawful_content_info};
 ghost use Rattle.x509_pkcs12.specs.ContentsEqual.{content_info_equal};
 
-use crate::versions::FixedVersion;
 use asn1_choices::{AnyOid, AnyOidRef, Arm, Chosen, WriteChoice};
 use asn1_core::{
     Asn1RawDer, DerDeserialize, DerSerialize, EqualByText, Error, ExplicitContextTag0,
-    ObjectIdentifier, OctetStringAsn1Container, Reader, TryClone,
+    FixedVersion, ObjectIdentifier, OctetStringAsn1Container, Reader, TryClone,
 };
 use asn1_core_format::{
     Alone, Either, End, Maybe, Part, ReadRow, WriteRow, put_within, read_within,
@@ -153,7 +152,7 @@ impl SafeContentsContentInfo {
                 Either::First(Arm::new(Alone(data)))
             }
             Self::EncryptedData(contents) => {
-                let row = Part(FixedVersion(0), Part(contents, End));
+                let row = Part(FixedVersion, Part(contents, End));
                 let data = ExplicitContextTag0(Asn1Sequence(row));
                 Either::Second(Either::First(Arm::new(Alone(data))))
             }
@@ -190,7 +189,7 @@ impl DerDeserialize for SafeContentsContentInfo {
         match choice {
             Either::First(arm) => Ok(Self::Data(arm.into_row().0.0.0)),
             Either::Second(Either::First(arm)) => {
-                let Part(_, Part(contents, End)) = arm.into_row().0.0.0;
+                let Part(FixedVersion, Part(contents, End)) = arm.into_row().0.0.0;
                 Ok(Self::EncryptedData(contents))
             }
             Either::Second(Either::Second(other)) => {

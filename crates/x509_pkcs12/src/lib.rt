@@ -9,7 +9,6 @@ pub mod parsed;
 pub mod pfxs;
 pub mod raw;
 pub mod representations;
-mod versions;
 
 pub use auth_safes::AuthenticatedSafeContentInfo;
 pub use contents::SafeContentsContentInfo;

@@ -10,8 +10,7 @@ ghost use Rattle.x509_pkcs12.specs.Pfxs.{pfx};
 
 use crate::pfxs::Pfx;
 use crate::raw::{RawAuthenticatedSafeContentInfo, RawPfx};
-use crate::versions::FixedVersion;
-use asn1_core::{DerSerialize, Error, MAX_NESTING, Reader, WriteError, Writer};
+use asn1_core::{DerSerialize, Error, FixedVersion, MAX_NESTING, Reader, WriteError, Writer};
 use asn1_core_format::{End, Maybe, Part, ReadRow, WriteRow, read_within};
 use pkcs12_algs::MacData;
 use std::alloc::Global;
@@ -71,9 +70,9 @@ fn read_placed(alloc: Global, r: &mut Reader<'_>) -> Result<Placed, Error>
     if r.left() > 0 {
         return Err(Error::Malformed);
     }
-    let Part(FixedVersion(version), Part(auth_safe, Measured(Maybe(mac_data, End), behind))) = row;
+    let Part(FixedVersion, Part(auth_safe, Measured(Maybe(mac_data, End), behind))) = row;
     let file = Pfx {
-        version,
+        version: 3,
         auth_safe,
         mac_data,
     };

@@ -13,9 +13,9 @@ ghost use Rattle.x509_pkcs12.specs.Pfxs.{PfxValue, pfx, lawful_pfx};
 
 use crate::auth_safes::AuthenticatedSafeContentInfo;
 use crate::representations::AuthenticatedSafeDataRepr;
-use crate::versions::FixedVersion;
 use asn1_core::{
-    DerDeserialize, DerSerialize, EqualByText, Error, Reader, TryClone, WriteError, Writer,
+    DerDeserialize, DerSerialize, EqualByText, Error, FixedVersion, Reader, TryClone, WriteError,
+    Writer,
 };
 use asn1_core_format::{End, FirstTags, Maybe, Part, WriteRow, put_within, read_within};
 use pkcs12_algs::MacData;
@@ -42,21 +42,21 @@ impl<R: AuthenticatedSafeDataRepr> DerSerialize for Pfx<R> {
 
     fn put<W: Writer>(&self, w: &mut W) -> Result<(), WriteError> {
         let rest = Part(&self.auth_safe, Maybe(self.mac_data.as_ref(), End));
-        put_within(0x30, &Part(FixedVersion::<3>(self.version), rest), w)
+        put_within(0x30, &Part(self.version, rest), w)
     }
 
     fn well_formed_at(&self, limit: u8) -> bool {
         let rest = Part(&self.auth_safe, Maybe(self.mac_data.as_ref(), End));
-        Part(FixedVersion::<3>(self.version), rest).row_well_formed_at(limit)
+        self.version == 3 && rest.row_well_formed_at(limit)
     }
 }
 
 impl<R: AuthenticatedSafeDataRepr> DerDeserialize for Pfx<R> {
     fn read(alloc: Global, r: &mut Reader<'_>, nest: u8) -> Result<Self, Error> {
         let row: PfxRow<R> = read_within(alloc, r, nest, 0x30)?;
-        let Part(FixedVersion(version), Part(auth_safe, Maybe(mac_data, End))) = row;
+        let Part(FixedVersion, Part(auth_safe, Maybe(mac_data, End))) = row;
         Ok(Pfx {
-            version,
+            version: 3,
             auth_safe,
             mac_data,
         })

@@ -1,6 +1,6 @@
 use Rattle.std.proofs.Common.{sym, ◌∙◌, arith, ◌<◌, ◌^◌}
-use Rattle.x509_pkcs12.specs.Versions.{one_version}
-use Rattle.x509_pkcs12.proofs.versions.FixedVersionLeaf.from_contents.Goals as goal
+use Rattle.asn1_core.specs.Versions.{one_version}
+use Rattle.asn1_core.proofs.versions.FixedVersionLeaf.from_contents.Goals as goal
 
 pub returns-then-number-clause-spelled : goal.returns-then-number-clause-spelled
 returns-then-number-clause-spelled g c = record {

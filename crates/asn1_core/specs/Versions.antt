@@ -37,6 +37,9 @@ lawful_version n l = lawful_leaf 0x02 (omega arith) (only n) (lawful_only n l)
 pub lawful_version_0 : IsLawful (version 0)
 lawful_version_0 = lawful_version 0 (omega arith)
 
+pub lawful_version_1 : IsLawful (version 1)
+lawful_version_1 = lawful_version 1 (omega arith)
+
 pub lawful_version_3 : IsLawful (version 3)
 lawful_version_3 = lawful_version 3 (omega arith)
 

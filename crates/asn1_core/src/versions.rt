@@ -1,21 +1,22 @@
-//! Versions.
+//! Versions of which one alone may stand.
 
 ghost use Rattle.std.specs.Prelude.{ℕ};
-ghost use Rattle.x509_pkcs12.specs.Versions.{only, version, lawful_version_0, lawful_version_3};
+ghost use Rattle.asn1_core.specs.Versions.{only, version, lawful_version_0, lawful_version_1, lawful_version_3};
 
-use asn1_core::{DerDeserialize, DerSerialize, Error, Reader};
-use asn1_core_format::{Leaf, read_leaf};
-use asn1_core_writers::{WriteError, Writer};
+use asn1_core_element::{Error, Reader};
+use asn1_core_format::{DerDeserialize, DerSerialize, FirstTags, Leaf, read_leaf};
+use asn1_core_writers::{WriteError, Writer, put_unsigned};
 use std::alloc::Global;
 
-/// An INTEGER that holds `N`, the only version that is read. Another is written, and is not well-formed.
+/// An INTEGER that holds `N`, the only version that is read. A type that holds its version in a field writes the field
+/// itself, since its texts are those of any number.
 #[derive(Drop)]
-pub(crate) struct FixedVersion<const N: u8>(pub u8);
+pub struct FixedVersion<const N: u8>;
 
 impl<const N: u8> Leaf for FixedVersion<N> {
     ghost Value = { ℕ };
 
-    ghost value = { λ v. v.0 };
+    ghost value = { λ _. N };
 
     ghost spelling = { only N };
 
@@ -26,23 +27,23 @@ impl<const N: u8> Leaf for FixedVersion<N> {
         if number != N {
             return Err(Error::Invalid);
         }
-        Ok(FixedVersion(number))
+        Ok(FixedVersion)
     }
 }
 
 impl<const N: u8> DerSerialize for FixedVersion<N> {
     ghost Value = { ℕ };
 
-    ghost value = { λ v. v.0 };
+    ghost value = { λ _. N };
 
     ghost format = { version N };
 
     fn put<W: Writer>(&self, w: &mut W) -> Result<(), WriteError> {
-        self.0.put(w)
+        put_unsigned(0x02, u32::from(N), w)
     }
 
     fn well_formed_at(&self, _limit: u8) -> bool {
-        self.0 == N
+        true
     }
 }
 
@@ -52,6 +53,20 @@ impl DerDeserialize for FixedVersion<0> {
     }
 
     ghost lawful = { lawful_version_0 };
+}
+
+impl DerDeserialize for FixedVersion<1> {
+    fn read(alloc: Global, r: &mut Reader<'_>, nest: u8) -> Result<Self, Error> {
+        read_leaf(alloc, r, nest, 0x02)
+    }
+
+    ghost lawful = { lawful_version_1 };
+}
+
+impl FirstTags for FixedVersion<1> {
+    fn begins(tag: u8) -> bool {
+        tag == 0x02
+    }
 }
 
 impl DerDeserialize for FixedVersion<3> {

@@ -1,0 +1,54 @@
+//! NULL (X.690, 8.8).
+
+ghost use Rattle.asn1_core.specs.Nulls.{no_contents, null_element, lawful_null_element};
+
+use asn1_core_element::{Error, Reader};
+use asn1_core_format::{DerDeserialize, DerSerialize, Leaf, read_leaf};
+use asn1_core_writers::{WriteError, Writer, put_element};
+use std::alloc::Global;
+
+/// NULL.
+#[derive(Drop)]
+pub struct Null;
+
+impl Leaf for Null {
+    ghost Value = { Unit {0} };
+
+    ghost value = { λ _. tt };
+
+    ghost spelling = { no_contents };
+
+    ghost MayLackMemory = { ⊥ };
+
+    fn from_contents(_alloc: Global, contents: &[u8]) -> Result<Self, Error> {
+        if contents.is_empty() {
+            Ok(Null)
+        } else {
+            Err(Error::Invalid)
+        }
+    }
+}
+
+impl DerSerialize for Null {
+    ghost Value = { Unit {0} };
+
+    ghost value = { λ _. tt };
+
+    ghost format = { null_element };
+
+    fn put<W: Writer>(&self, w: &mut W) -> Result<(), WriteError> {
+        put_element(0x05, &[], w)
+    }
+
+    fn well_formed_at(&self, _limit: u8) -> bool {
+        true
+    }
+}
+
+impl DerDeserialize for Null {
+    fn read(alloc: Global, r: &mut Reader<'_>, nest: u8) -> Result<Self, Error> {
+        read_leaf(alloc, r, nest, 0x05)
+    }
+
+    ghost lawful = { lawful_null_element };
+}
