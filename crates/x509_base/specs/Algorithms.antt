@@ -20,18 +20,6 @@ algorithm_identifier = within 0x30 (part object_identifier (optional raw nothing
 abbrev pub null : List ℕ
 null = element 0x05 []
 
--- NULL, as a type that only writes
-abbrev pub written_null : Format (Unit {0})
-written_null = record {
-  text = λ _. null;
-  IsWellFormed = λ _ _. Unit {0};
-  Reads = λ _ _ _. ⊥;
-  IsNormal = λ _ _. ⊥;
-  normal = λ v. v;
-  IsTag = λ _. ⊥;
-  least = λ _. 1;
-}
-
 -- NULL for absent parameters
 abbrev pub or_null : Option (List ℕ) → Option (List ℕ)
 or_null None = Some null

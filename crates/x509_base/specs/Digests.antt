@@ -1,5 +1,4 @@
 -- DigestInfo ::= SEQUENCE { digestAlgorithm AlgorithmIdentifier, digest OCTET STRING } (RFC 2315, 9.4)
-use Rattle.std.specs.Prelude.{ℕ, List}
 use Rattle.asn1_core.specs.Words.{Octets}
 use Rattle.std.proofs.Common.{arith}
 use Rattle.asn1_core_format.specs.Format.{Format, IsLawful}

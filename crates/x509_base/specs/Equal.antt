@@ -1,30 +1,45 @@
--- `==` of the items of lists, and of times, is equality of what they contain.
-use Rattle.std.specs.Prelude.{◌≡◌, ◌↔◌, ◌⊎◌, Bool, true}
-use Rattle.std.proofs.Common.{rules, ap, inl, inr}
-use Rattle.asn1_core_format.specs.Views.{SeesEqual}
-use Rattle.asn1_core_oid.specs.OidValue.{octets_of}
+-- `==` is equality of what the values contain.
+use Rattle.std.proofs.Common.{rules}
+use Rattle.asn1_core.specs.Equal.{raw_equal, same_first, same_second}
+use Rattle.asn1_core_format.specs.Views.{SeesEqual, list_equal}
 use Rattle.asn1_leaves_times.specs.TimesLaws.{equal_utc, equal_generalized}
-use Rattle.x509_base.specs.Extensions.{ExtensionValue}
-use Rattle.x509_base.specs.Names.{NameValueValue}
-use Rattle.x509_base.specs.Times.{TimeValue, time_of}
+use Rattle.x509_base.specs.AlgorithmParts.{algorithm_value}
+use Rattle.x509_base.specs.Extensions.{extension_value, extensions_value}
+use Rattle.x509_base.specs.Names.{name_value_value, name_parts, attribute_value}
+use Rattle.x509_base.specs.Times.{time_of}
+use Rattle.x509_base.specs.Versions.{number_of}
 use Rattle.x509_base.specs.declared.times.Time.TheVariants.{Utc, Generalized}
+use Rattle.x509_base.specs.contracts.algorithms.AlgorithmIdentifierPartialEq.TheImpl as Algorithm
 use Rattle.x509_base.specs.contracts.names.NameValuePartialEq.TheImpl as NameValues
+use Rattle.x509_base.specs.contracts.names.NamePartialEq.TheImpl as Names
+use Rattle.x509_base.specs.contracts.names.AttributePartialEq.TheImpl as AnAttribute
 use Rattle.x509_base.specs.contracts.extensions.ExtensionPartialEq.TheImpl as AnExtension
+use Rattle.x509_base.specs.contracts.extensions.ExtensionsPartialEq.TheImpl as AllExtensions
 use Rattle.x509_base.specs.contracts.times.TimePartialEq.TheImpl as Times
+use Rattle.x509_base.specs.contracts.versions.VersionPartialEq.TheImpl as Versions
 
-pub name_value_equal : SeesEqual {V = NameValueValue} NameValues.ghosts.eq (λ x. (octets_of x.ty.0, (x.value.0.items, tt)))
+pub algorithm_equal : SeesEqual Algorithm.ghosts.eq algorithm_value
+algorithm_equal x y = search rules
+
+pub version_equal : SeesEqual Versions.ghosts.eq number_of
+version_equal x y = search rules
+
+pub name_value_equal : SeesEqual NameValues.ghosts.eq name_value_value
 name_value_equal x y = search rules
 
-pub extension_equal : SeesEqual {V = ExtensionValue} AnExtension.ghosts.eq (λ x. (octets_of x.extn_id.0, (x.critical, (x.extn_value.0.items, tt))))
+pub name_equal : SeesEqual Names.ghosts.eq name_parts
+name_equal x y = list_equal _ _ (λ a b. list_equal _ _ name_value_equal a.0.items b.0.items) x.0.0.items y.0.0.items
+
+pub attribute_equal : SeesEqual AnAttribute.ghosts.eq attribute_value
+attribute_equal x y = let values = list_equal _ _ raw_equal x.value.0.items y.value.0.items in search rules
+
+pub extension_equal : SeesEqual AnExtension.ghosts.eq extension_value
 extension_equal x y = search rules
 
-same_first : {A B : Type 0} {p : Bool} {a c : A} → (p ≡ true) ↔ (a ≡ c) → (p ≡ true) ↔ (◌≡◌ {A = A ⊎ B} (inl a) (inl c))
-same_first {A} {B} {p} {a} {c} f = (λ e. ap inl (f.0 e), λ e. (let h : a ≡ c = cc in f.1 h))
+pub extensions_equal : SeesEqual AllExtensions.ghosts.eq extensions_value
+extensions_equal x y = list_equal _ _ extension_equal x.0.items y.0.items
 
-same_second : {A B : Type 0} {p : Bool} {a c : B} → (p ≡ true) ↔ (a ≡ c) → (p ≡ true) ↔ (◌≡◌ {A = A ⊎ B} (inr a) (inr c))
-same_second {A} {B} {p} {a} {c} f = (λ e. ap inr (f.0 e), λ e. (let h : a ≡ c = cc in f.1 h))
-
-pub time_equal : SeesEqual {V = TimeValue} Times.ghosts.eq time_of
+pub time_equal : SeesEqual Times.ghosts.eq time_of
 time_equal (Utc x) (Utc y) = same_first (equal_utc x.0 y.0)
 time_equal (Utc x) (Generalized y) = (λ e. cc, λ e. cc)
 time_equal (Generalized x) (Utc y) = (λ e. cc, λ e. cc)

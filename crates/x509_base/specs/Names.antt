@@ -1,7 +1,7 @@
 -- Name ::= SEQUENCE OF SET OF AttributeTypeAndValue (RFC 5280, 4.1.2.4)
 -- AttributeTypeAndValue ::= SEQUENCE { type OBJECT IDENTIFIER, value ANY }
 -- Attribute ::= SEQUENCE { type OBJECT IDENTIFIER, values SET OF ANY } (RFC 5652, 5.3)
-use Rattle.std.specs.Prelude.{ℕ, List}
+use Rattle.std.specs.Prelude.{List, map}
 use Rattle.asn1_core.specs.Words.{OidOctets, ElementOctets}
 use Rattle.std.proofs.Common.{arith}
 use Rattle.asn1_core_format.specs.Format.{Format, IsLawful}
@@ -11,9 +11,16 @@ use Rattle.asn1_core_format.specs.Lists.{each}
 use Rattle.asn1_core_format.specs.ListLaws.{lawful_each}
 use Rattle.asn1_core.specs.Objects.{object_identifier, lawful_object_identifier}
 use Rattle.asn1_core.specs.Raw.{raw, lawful_raw}
+use Rattle.asn1_core_oid.specs.OidValue.{octets_of}
+use Rattle.x509_base.specs.declared.names.NameValue.{NameValue}
+use Rattle.x509_base.specs.declared.names.Name.{Name}
+use Rattle.x509_base.specs.declared.names.Attribute.{Attribute}
 
 abbrev pub NameValueValue : Type 0
 NameValueValue = OidOctets × (ElementOctets × Unit {0})
+
+abbrev pub name_value_value : NameValue → NameValueValue
+name_value_value x = (octets_of x.ty.0, (x.value.0.items, tt))
 
 abbrev pub name_value : Format NameValueValue
 name_value = within 0x30 (part object_identifier (part raw nothing))
@@ -21,7 +28,13 @@ name_value = within 0x30 (part object_identifier (part raw nothing))
 pub lawful_name_value : IsLawful name_value
 lawful_name_value = lawful_within _ (lawful_part object_identifier _ lawful_object_identifier (lawful_part raw nothing lawful_raw lawful_nothing)) 0x30 (omega arith)
 
-abbrev pub name : Format (List (List NameValueValue))
+abbrev pub NameParts : Type 0
+NameParts = List (List NameValueValue)
+
+abbrev pub name_parts : Name → NameParts
+name_parts x = map (λ s. map name_value_value s.0.items) x.0.0.items
+
+abbrev pub name : Format NameParts
 name = within 0x30 (each (within 0x31 (each name_value)))
 
 pub lawful_name : IsLawful name
@@ -29,6 +42,9 @@ lawful_name = lawful_within _ (lawful_each _ (lawful_within _ (lawful_each name_
 
 abbrev pub AttributeValue : Type 0
 AttributeValue = OidOctets × (List ElementOctets × Unit {0})
+
+abbrev pub attribute_value : Attribute → AttributeValue
+attribute_value x = (octets_of x.ty.0, (map (λ v. v.0.items) x.value.0.items, tt))
 
 abbrev pub attribute : Format AttributeValue
 attribute = within 0x30 (part object_identifier (part (within 0x31 (each raw)) nothing))

@@ -1,20 +1,23 @@
 //! Algorithm identifiers (RFC 5280, 4.1.1.2).
 
 ghost use Rattle.std.specs.Prelude.{◌≡◌, Some};
-ghost use Rattle.std.proofs.Common.{rules};
+ghost use Rattle.std.proofs.Common.{rules, arith};
 ghost use Rattle.asn1_core_format.specs.Rows.{option_value};
-ghost use Rattle.x509_base.specs.Algorithms.{AlgorithmValue, algorithm_identifier, raw_algorithm_identifier, null, written_null};
+ghost use Rattle.x509_base.specs.Algorithms.{AlgorithmValue, algorithm_identifier, raw_algorithm_identifier, null};
 ghost use Rattle.x509_base.specs.AlgorithmParts.{algorithm_of, parameters_of, parts_of, algorithm_value};
+ghost use Rattle.x509_base.specs.Equal.{algorithm_equal};
 ghost use Rattle.x509_base.specs.OtherAlgorithms.{other_algorithm, lawful_other_algorithm};
 ghost use Rattle.x509_base.specs.AlgorithmLaws.{lawful_algorithm_identifier, lawful_raw_algorithm_identifier};
 
 use asn1_choices::{AnyOid, ReadChoice, WriteChoice};
 use asn1_core::{
-    Asn1RawDer, DerDeserialize, DerSerialize, EqualByText, Error, KnownOid, ObjectIdentifier,
-    ObjectIdentifierAsn1, OidRef, Reader, TryClone,
+    Asn1RawDer, DerDeserialize, DerSerialize, EqualByText, Error, FixedVersion, KnownOid, Null,
+    ObjectIdentifier, ObjectIdentifierAsn1, OidRef, Reader, TryClone,
 };
-use asn1_core_format::{Alone, End, FirstTags, Maybe, Part, WriteRow, put_within, read_within};
-use asn1_core_writers::{WriteError, Writer, put_element};
+use asn1_core_format::{
+    Alone, ApartFrom, End, FirstTags, Maybe, Part, WriteRow, put_within, read_within,
+};
+use asn1_core_writers::{WriteError, Writer};
 use std::alloc::Global;
 
 type AlgorithmRow = Part<ObjectIdentifierAsn1, Maybe<Asn1RawDer, End>>;
@@ -88,8 +91,12 @@ impl FirstTags for AlgorithmIdentifier {
     }
 }
 
+impl<const N: u8> ApartFrom<AlgorithmIdentifier> for FixedVersion<N> {
+    ghost no_common_tag = { λ t h e. Prim.omega arith };
+}
+
 impl EqualByText for AlgorithmIdentifier {
-    ghost equal_by_text = { Prim.search rules };
+    ghost equal_by_text = { algorithm_equal };
 }
 
 impl TryClone for AlgorithmIdentifier {
@@ -218,24 +225,4 @@ pub fn put_algorithm<W: Writer>(octets: &[u8], w: &mut W) -> Result<(), WriteErr
     ensures { W.Takes (algorithm_identifier.text (octets.now, (Some null, tt))) w.old w.new result }
 {
     put_within(0x30, &Part(KnownOid(octets), Alone(Null)), w)
-}
-
-/// NULL (X.690, 8.8), which only writes.
-#[derive(Drop)]
-struct Null;
-
-impl DerSerialize for Null {
-    ghost Value = { Unit {0} };
-
-    ghost value = { λ _. tt };
-
-    ghost format = { written_null };
-
-    fn put<W: Writer>(&self, w: &mut W) -> Result<(), WriteError> {
-        put_element(0x05, &[], w)
-    }
-
-    fn well_formed_at(&self, _limit: u8) -> bool {
-        true
-    }
 }

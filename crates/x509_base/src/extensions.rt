@@ -1,12 +1,10 @@
 //! Extensions (RFC 5280, 4.2).
 
-ghost use Rattle.std.specs.Prelude.{List, Bool, map};
+ghost use Rattle.std.specs.Prelude.{List, Bool};
 ghost use Rattle.std.proofs.Common.{arith};
-ghost use Rattle.asn1_core_oid.specs.OidValue.{octets_of};
 ghost use Rattle.x509_base.specs.Booleans.{booleans, boolean, lawful_boolean, explicit_false, is_false, false_is_normal, false_reads};
-ghost use Rattle.asn1_core_format.specs.Views.{list_equal};
-ghost use Rattle.x509_base.specs.Equal.{extension_equal};
-ghost use Rattle.x509_base.specs.Extensions.{ExtensionValue, extension, extensions, lawful_extension, lawful_extensions};
+ghost use Rattle.x509_base.specs.Equal.{extension_equal, extensions_equal};
+ghost use Rattle.x509_base.specs.Extensions.{ExtensionValue, extension_value, extension, extensions_value, extensions, lawful_extension, lawful_extensions};
 
 use asn1_core::{
     DerDeserialize, DerSerialize, EqualByText, Error, ObjectIdentifierAsn1, OctetStringAsn1,
@@ -106,7 +104,7 @@ type ExtensionRow = Part<ObjectIdentifierAsn1, Omitted<Critical, Part<OctetStrin
 impl DerSerialize for Extension {
     ghost Value = { ExtensionValue };
 
-    ghost value = { λ x. (octets_of x.extn_id.0, (x.critical, (x.extn_value.0.items, tt))) };
+    ghost value = { extension_value };
 
     ghost format = { extension };
 
@@ -160,7 +158,7 @@ pub struct Extensions(pub Vec<Extension>);
 impl DerSerialize for Extensions {
     ghost Value = { List ExtensionValue };
 
-    ghost value = { λ x. map ⟦<Extension as DerSerialize>⟧.value x.0.items };
+    ghost value = { extensions_value };
 
     ghost format = { extensions };
 
@@ -188,7 +186,7 @@ impl FirstTags for Extensions {
 }
 
 impl EqualByText for Extensions {
-    ghost equal_by_text = { λ x y. list_equal _ _ extension_equal x.0.items y.0.items };
+    ghost equal_by_text = { extensions_equal };
 }
 
 impl TryClone for Extensions {

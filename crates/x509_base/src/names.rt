@@ -1,12 +1,7 @@
 //! Names and attributes (RFC 5280, 4.1.2.4; RFC 5652, 5.3).
 
-ghost use Rattle.std.specs.Prelude.{map};
-ghost use Rattle.std.proofs.Common.{rules};
-ghost use Rattle.asn1_core_oid.specs.OidValue.{octets_of};
-ghost use Rattle.asn1_core_format.specs.Views.{list_equal};
-ghost use Rattle.asn1_core.specs.Equal.{raw_equal};
-ghost use Rattle.x509_base.specs.Equal.{name_value_equal};
-ghost use Rattle.x509_base.specs.Names.{NameValueValue, name_value, name, AttributeValue, attribute, lawful_name_value, lawful_name, lawful_attribute};
+ghost use Rattle.x509_base.specs.Equal.{name_value_equal, name_equal, attribute_equal};
+ghost use Rattle.x509_base.specs.Names.{NameValueValue, name_value_value, name_value, NameParts, name_parts, name, AttributeValue, attribute_value, attribute, lawful_name_value, lawful_name, lawful_attribute};
 
 use asn1_core::{
     Asn1RawDer, Asn1SequenceOf, Asn1SetOf, DerDeserialize, DerSerialize, EqualByText, Error,
@@ -28,7 +23,7 @@ type NameValueRow = Part<ObjectIdentifierAsn1, Part<Asn1RawDer, End>>;
 impl DerSerialize for NameValue {
     ghost Value = { NameValueValue };
 
-    ghost value = { λ x. (octets_of x.ty.0, (x.value.0.items, tt)) };
+    ghost value = { name_value_value };
 
     ghost format = { name_value };
 
@@ -67,9 +62,9 @@ impl TryClone for NameValue {
 pub struct Name(pub Asn1SequenceOf<Asn1SetOf<NameValue>>);
 
 impl DerSerialize for Name {
-    ghost Value = { ⟦<Asn1SequenceOf<Asn1SetOf<NameValue>> as DerSerialize>⟧.Value };
+    ghost Value = { NameParts };
 
-    ghost value = { λ x. ⟦<Asn1SequenceOf<Asn1SetOf<NameValue>> as DerSerialize>⟧.value x.0 };
+    ghost value = { name_parts };
 
     ghost format = { name };
 
@@ -97,7 +92,7 @@ impl FirstTags for Name {
 }
 
 impl EqualByText for Name {
-    ghost equal_by_text = { λ x y. list_equal _ _ (λ a b. list_equal _ _ name_value_equal a.0.items b.0.items) x.0.0.items y.0.0.items };
+    ghost equal_by_text = { name_equal };
 }
 
 impl TryClone for Name {
@@ -118,7 +113,7 @@ type AttributeRow = Part<ObjectIdentifierAsn1, Part<Asn1SetOf<Asn1RawDer>, End>>
 impl DerSerialize for Attribute {
     ghost Value = { AttributeValue };
 
-    ghost value = { λ x. (octets_of x.ty.0, (map (λ v. v.0.items) x.value.0.items, tt)) };
+    ghost value = { attribute_value };
 
     ghost format = { attribute };
 
@@ -141,7 +136,7 @@ impl DerDeserialize for Attribute {
 }
 
 impl EqualByText for Attribute {
-    ghost equal_by_text = { λ x y. let values = list_equal _ _ raw_equal x.value.0.items y.value.0.items in Prim.search rules };
+    ghost equal_by_text = { attribute_equal };
 }
 
 impl TryClone for Attribute {

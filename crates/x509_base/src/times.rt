@@ -3,12 +3,15 @@
 ghost use Rattle.asn1_core_element.specs.declared.error.Error.TheVariants.{Memory};
 ghost use Rattle.asn1_core_format.specs.Format.{Gives};
 ghost use Rattle.std.specs.Prelude.{◌≡◌, ◌≢◌, false, IfErr};
+ghost use Rattle.std.proofs.Common.{arith, ⊎_elim};
 ghost use Rattle.x509_base.specs.Equal.{time_equal};
 ghost use Rattle.x509_base.specs.Times.{TimeValue, time, time_of, lawful_time};
 
-use asn1_core::{DerDeserialize, DerSerialize, EqualByText, Error, Reader, TryClone};
-use asn1_core_format::FirstTags;
+use asn1_core::{
+    DerDeserialize, DerSerialize, EqualByText, Error, ExplicitContextTag0, Reader, TryClone,
+};
 use asn1_core_format::rows::next_is;
+use asn1_core_format::{ApartFrom, FirstTags};
 use asn1_core_writers::{WriteError, Writer};
 use asn1_leaves::{GeneralizedTimeAsn1, UTCTimeAsn1};
 use std::alloc::Global;
@@ -64,6 +67,10 @@ impl FirstTags for Time {
     fn begins(tag: u8) -> bool {
         tag == 0x17 || tag == 0x18
     }
+}
+
+impl<T: DerSerialize> ApartFrom<ExplicitContextTag0<T>> for Time {
+    ghost no_common_tag = { λ t h e. ⊎_elim (λ (u : t ≡ 0x17). Prim.omega arith) (λ (g : t ≡ 0x18). Prim.omega arith) h };
 }
 
 impl EqualByText for Time {

@@ -3,8 +3,8 @@
 ghost use Rattle.std.specs.Prelude.{◌≡◌, ◌≢◌, ℕ, false, IfErr};
 ghost use Rattle.asn1_core_element.specs.declared.error.Error.TheVariants.{Memory};
 ghost use Rattle.asn1_core_format.specs.Format.{Gives};
-ghost use Rattle.std.proofs.Common.{rules};
 ghost use Rattle.asn1_core_format.specs.Numbers.{numbers_below, number_below, lawful_number};
+ghost use Rattle.x509_base.specs.Equal.{version_equal};
 ghost use Rattle.x509_base.specs.Versions.{number_of};
 
 use asn1_core::{DerDeserialize, DerSerialize, EqualByText, Error, Reader, TryClone};
@@ -81,7 +81,7 @@ impl FirstTags for Version {
 }
 
 impl EqualByText for Version {
-    ghost equal_by_text = { Prim.search rules };
+    ghost equal_by_text = { version_equal };
 }
 
 impl TryClone for Version {
