@@ -1,0 +1,15 @@
+-- SignedAttributes ::= SET OF Attribute, under its tag [0] IMPLICIT (RFC 5652, 5.3)
+use Rattle.std.specs.Prelude.{List, map}
+use Rattle.std.proofs.Common.{arith}
+use Rattle.asn1_core.specs.Der.{Format, IsLawful, within, each, lawful_within, lawful_each}
+use Rattle.x509_base.specs.Names.{AttributeValue, attribute_value, attribute, lawful_attribute}
+use Rattle.pkcs7_signed_crl.specs.declared.attributes.Attributes.{Attributes}
+
+abbrev pub attributes_value : Attributes → List AttributeValue
+attributes_value x = map attribute_value x.0.0.items
+
+abbrev pub attributes : Format (List AttributeValue)
+attributes = within 0xA0 (each attribute)
+
+pub lawful_attributes : IsLawful attributes
+lawful_attributes = lawful_within (each attribute) (lawful_each attribute lawful_attribute) 0xA0 (omega arith)

@@ -1,0 +1,8 @@
+pub mod Algorithms
+pub mod Attributes
+pub mod Signers
+pub mod Certificates
+pub mod Revoked
+pub mod CertificateLists
+pub mod Revocations
+pub mod Equal
