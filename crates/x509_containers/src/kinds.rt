@@ -7,6 +7,7 @@ ghost use Rattle.x509_containers.specs.Kinds.{rewriting_as};
 mod algorithms;
 mod authenticode;
 mod contents;
+mod signed_parts;
 mod stores;
 mod trust_lists;
 
@@ -14,6 +15,7 @@ pub use algorithms::AlgorithmKind;
 use asn1_core_streams::{Sink, Source};
 pub use authenticode::AuthenticodeKind;
 pub use contents::ContentKind;
+pub use signed_parts::SignedPartKind;
 use std::alloc::Global;
 pub use stores::StoreKind;
 pub use trust_lists::TrustListKind;
@@ -25,6 +27,7 @@ pub enum Kind {
     Algorithm(AlgorithmKind),
     Authenticode(AuthenticodeKind),
     Content(ContentKind),
+    SignedPart(SignedPartKind),
     Store(StoreKind),
     TrustList(TrustListKind),
 }
@@ -44,6 +47,9 @@ impl Kind {
         }
         if let Some(kind) = ContentKind::from_word(word) {
             return Some(Kind::Content(kind));
+        }
+        if let Some(kind) = SignedPartKind::from_word(word) {
+            return Some(Kind::SignedPart(kind));
         }
         if let Some(kind) = StoreKind::from_word(word) {
             return Some(Kind::Store(kind));
@@ -76,6 +82,7 @@ pub fn run<R: Source, W: Sink>(
         Kind::Algorithm(kind) => kind.run(alloc, source, sink, mode),
         Kind::Authenticode(kind) => kind.run(alloc, source, sink, mode),
         Kind::Content(kind) => kind.run(alloc, source, sink, mode),
+        Kind::SignedPart(kind) => kind.run(alloc, source, sink, mode),
         Kind::Store(kind) => kind.run(alloc, source, sink, mode),
         Kind::TrustList(kind) => kind.run(alloc, source, sink, mode),
     }

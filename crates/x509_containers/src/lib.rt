@@ -1,5 +1,5 @@
 //! What the program `derbox` makes of an input, and what the crates below offer: PKCS #12 (RFC 7292), contents of
-//! PKCS #7 (RFC 2315, RFC 5652), trust lists, X.509 and Authenticode.
+//! PKCS #7 (RFC 2315, RFC 5652), revocation lists (RFC 5280), trust lists, X.509 and Authenticode.
 #![tactic(auto)]
 
 mod kinds;
@@ -15,10 +15,12 @@ pub use asn1_core::Error;
 pub use asn1_core::ExplicitContextTag0;
 pub use asn1_core::ExplicitContextTag1;
 pub use asn1_core::ExplicitContextTag2;
+pub use asn1_core::FixedVersion;
 pub use asn1_core::ImplicitContextTag0;
 pub use asn1_core::ImplicitContextTag1;
 pub use asn1_core::KnownOid;
 pub use asn1_core::MAX_NESTING;
+pub use asn1_core::Null;
 pub use asn1_core::ObjectIdentifier;
 pub use asn1_core::ObjectIdentifierAsn1;
 pub use asn1_core::OctetStringAsn1;
@@ -73,6 +75,7 @@ pub use kinds::AlgorithmKind;
 pub use kinds::AuthenticodeKind;
 pub use kinds::ContentKind;
 pub use kinds::Kind;
+pub use kinds::SignedPartKind;
 pub use kinds::StoreKind;
 pub use kinds::TrustListKind;
 pub use kinds::run;
@@ -101,6 +104,23 @@ pub use pkcs7_content::SpcString;
 pub use pkcs7_content::SpcUuid;
 pub use pkcs7_content::StringError;
 pub use pkcs7_content::Url;
+pub use pkcs7_signed_crl::Attributes;
+pub use pkcs7_signed_crl::CertificateChoices;
+pub use pkcs7_signed_crl::CertificateList;
+pub use pkcs7_signed_crl::CertificateSerialNumber;
+pub use pkcs7_signed_crl::CertificateSet;
+pub use pkcs7_signed_crl::DigestAlgorithmIdentifier;
+pub use pkcs7_signed_crl::DigestAlgorithmIdentifiers;
+pub use pkcs7_signed_crl::IssuerAndSerialNumber;
+pub use pkcs7_signed_crl::OtherRevocationInfoFormat;
+pub use pkcs7_signed_crl::RevocationInfoChoice;
+pub use pkcs7_signed_crl::RevocationInfoChoices;
+pub use pkcs7_signed_crl::RevokedCertificate;
+pub use pkcs7_signed_crl::RevokedCertificates;
+pub use pkcs7_signed_crl::SignatureAlgorithmIdentifier;
+pub use pkcs7_signed_crl::SignatureValue;
+pub use pkcs7_signed_crl::SignerIdentifier;
+pub use pkcs7_signed_crl::TbsCertList;
 pub use x509_base::AlgorithmIdentifier;
 pub use x509_base::Attribute;
 pub use x509_base::DigestInfo;
