@@ -3,7 +3,8 @@
 use std::alloc::Global;
 use std::test::Fail;
 use x509_containers::{
-    AlgorithmKind, AuthenticodeKind, ContentKind, Kind, KindOfInput, StoreKind, TrustListKind,
+    AlgorithmKind, AuthenticodeKind, ContentKind, Kind, KindOfInput, SignedPartKind, StoreKind,
+    TrustListKind,
 };
 
 /// What a check says, by its first word.
@@ -28,16 +29,24 @@ impl Said {
 }
 
 /// The words of the kinds whose types have no spelling but the normal one.
-const STRICT: [&str; 24] = [
+const STRICT: [&str; 35] = [
+    "attributes",
     "certificatebag",
+    "certificatechoices",
+    "certificateserialnumber",
+    "certificateset",
     "certpolicy",
     "cmsversion",
     "crlbag",
     "ctl",
     "ctlentry",
     "ctlentryattribute",
+    "digestalgorithmidentifier",
+    "digestalgorithmidentifiers",
     "file",
+    "issuerandserialnumber",
     "moniker",
+    "otherrevocationinfoformat",
     "pbes1params",
     "pkcs12attribute",
     "policyqualifier",
@@ -45,6 +54,9 @@ const STRICT: [&str; 24] = [
     "rawauthenticatedsafedatarepr",
     "rootprogramchainpolicy",
     "secretbag",
+    "signaturealgorithmidentifier",
+    "signaturevalue",
+    "signeridentifier",
     "spclink",
     "spcpeimageflags",
     "spcserializedobject",
@@ -66,6 +78,9 @@ pub fn all_kinds(alloc: Global) -> Result<Vec<Kind>, Fail> {
     }
     for kind in ContentKind::all() {
         kinds.push(Kind::Content(*kind))?;
+    }
+    for kind in SignedPartKind::all() {
+        kinds.push(Kind::SignedPart(*kind))?;
     }
     for kind in StoreKind::all() {
         kinds.push(Kind::Store(*kind))?;
