@@ -1,5 +1,5 @@
-//! Tests of encapsulated content, of what Authenticode signs and of trust lists that no row of `example_rows` can say:
-//! values that are made. Expected values are those of the standards, or of other tools.
+//! Tests of encapsulated content, of what Authenticode signs, of trust lists, of revocation lists, certificates and signers
+//! that no row of `example_rows` can say: values that are made. Expected values are those of the standards, or of other tools.
 #![tactic(auto)]
 
 #[cfg(test)]
@@ -8,5 +8,7 @@ mod built;
 mod contents;
 #[cfg(test)]
 mod indirect_data;
+#[cfg(test)]
+mod signed_parts;
 #[cfg(test)]
 mod trust_lists;
