@@ -16,13 +16,24 @@ use std::{env, io};
 use thiserror::Error as ThisError;
 use x509_base::{Extension, Extensions, Name, NameValue};
 use x509_containers::{
-    AuthenticatedSafeContentInfo, CertificateBag, ParsedAuthenticatedSafeDataRepr, Pfx,
-    Pkcs12Attribute, RawAuthenticatedSafeContentInfo, RawPfx, SafeBag, SafeBagKind, SafeContents,
-    SafeContentsContentInfo,
+    AuthenticatedSafeContentInfo, CertificateBag, CertificateList, ParsedAuthenticatedSafeDataRepr,
+    Pfx, Pkcs12Attribute, RawAuthenticatedSafeContentInfo, RawPfx, RevokedCertificates, SafeBag,
+    SafeBagKind, SafeContents, SafeContentsContentInfo,
 };
 
 /// How often each call is timed; the shortest time counts.
 const ROUNDS: u32 = 30;
+
+/// A revocation list without entries.
+const REVOCATION_LIST: &[u8] = b"\
+    \x30\x24\x30\x18\x30\x05\x06\x03\x2A\x03\x04\x30\x00\x17\x0D\x32\x31\x30\x34\x32\x30\x30\x36\x35\
+    \x32\x32\x34\x5A\x30\x05\x06\x03\x2A\x03\x04\x03\x01\x00";
+
+/// An entry of a revocation list: a number of sixteen octets, a time and a reason.
+const REVOKED: &[u8] = b"\
+    \x30\x2F\x02\x10\x07\x07\x07\x07\x07\x07\x07\x07\x07\x07\x07\x07\x07\x07\x07\x07\x17\x0D\x32\x31\
+    \x30\x34\x32\x30\x30\x36\x35\x32\x32\x34\x5A\x30\x0C\x30\x0A\x06\x03\x55\x1D\x15\x04\x03\x0A\x01\
+    \x01";
 
 /// Why nothing more was measured.
 #[derive(Debug, Drop, ThisError)]
@@ -201,6 +212,16 @@ fn extensions(alloc: Global, count: usize) -> Result<Extensions, Error> {
     Ok(Extensions(items))
 }
 
+fn revocation_list(alloc: Global, count: usize) -> Result<CertificateList, Error> {
+    let mut list: CertificateList = from_bytes(alloc, REVOCATION_LIST)?;
+    let mut entries = Vec::new(alloc);
+    for _ in 0..count {
+        entries.push(from_bytes(alloc, REVOKED)?)?;
+    }
+    list.tbs_cert_list.revoked_certificates = Some(RevokedCertificates(Asn1SequenceOf(entries)));
+    Ok(list)
+}
+
 fn name(alloc: Global, count: usize) -> Result<Name, Error> {
     let mut sets = Vec::new(alloc);
     for _ in 0..count {
@@ -370,6 +391,11 @@ fn measure_strings(rt: &HostRuntime) -> Result<(), Failure> {
 fn measure_all(rt: &HostRuntime) -> Result<(), Failure> {
     let alloc = rt.alloc();
     measure(rt, "extensions, 20000", &extensions(alloc, 20_000)?)?;
+    measure(
+        rt,
+        "revocation list, 20000",
+        &revocation_list(alloc, 20_000)?,
+    )?;
     measure(rt, "name, 2000 parts", &name(alloc, 2_000)?)?;
     measure(rt, "raw pfx, 1 MB", &pfx(alloc, 1_000_000)?)?;
     measure_stores(rt)?;
