@@ -17,6 +17,8 @@ pub mod Sequences
 pub mod Levels
 pub mod LevelLaws
 pub mod Calls
+pub mod Gated
+pub mod EmptySets
 pub mod Rolled
 pub mod Same
 pub mod Views

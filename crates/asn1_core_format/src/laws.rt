@@ -1,6 +1,10 @@
 //! What holds of every type that reads and writes.
 
 ghost use Rattle.std.specs.Prelude.{◌≡◌, ◌+◌, ◌≤◌, ℕ, List, [], ◌++◌};
+ghost use Rattle.asn1_core_element.specs.Element.{IsTagByte};
+ghost use Rattle.asn1_core_format.specs.EmptySets.{set_or_none};
+ghost use Rattle.asn1_core_format.specs.Format.{IsLawful, IsLawfulRow};
+ghost use Rattle.asn1_core_format.specs.Gated.{gated};
 ghost use Rattle.asn1_core_format.specs.Laws.{IsSameAt};
 
 use crate::traits::DerDeserialize;
@@ -26,4 +30,15 @@ pub fn normal_texts_stay_normal<T: DerDeserialize>()
 /// exactly where it is normal at that limit.
 pub fn limits_agree<T: DerDeserialize>()
     ensures { (k j : ℕ) (b : List ℕ) (v : T.Value) → k ≤ j → T.format.Reads k b v → IsSameAt T.format k j b v }
+{}
+
+/// What stands nowhere where no level is left is lawful, as what it is made of.
+pub fn gated_types_are_lawful<T: DerDeserialize>()
+    ensures { IsLawful (gated T.format) }
+{}
+
+/// A set at the end of contents that an empty set stands for is lawful, under each tag.
+pub fn sets_left_out_are_lawful<T: DerDeserialize>(_tag: u8)
+    requires tag { IsTagByte _tag }
+    ensures { IsLawfulRow (set_or_none _tag T.format) }
 {}
