@@ -1,0 +1,2 @@
+pub mod SetReads
+pub mod GateReads

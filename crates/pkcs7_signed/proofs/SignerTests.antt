@@ -1,0 +1,97 @@
+-- Testing signers, what they hold and signed data, one level of them.
+use Rattle.std.proofs.Common.{◌≡◌, ◌↔◌, ◌⊎◌, ℕ, zero, suc, IsTrue, true, false, List, [], ◌∷◌, map, refl, sym, ap, ◌∙◌, subst, inl, inr, rules}
+use Rattle.std.specs.List.{AllByRecursion}
+use Rattle.asn1_core.specs.Der.{Format, IsLawful, sequence, nothing, octets_of}
+use Rattle.asn1_core_format.specs.Levels.{less}
+use Rattle.asn1_core_format.specs.LevelLaws.{unroll_formed}
+use Rattle.pkcs7_signed.specs.Parts.{set_of, SignerParts, signer_end, behind_signer, signer_parts, SignedParts, signed_end, behind_signed, signed_parts}
+use Rattle.pkcs7_signed.specs.Rows.{signer_row, signed_row, AttributeValues, IsOfKind, values_row}
+use Rattle.pkcs7_signed.specs.Signers.{Value, signers, attributes, certificates, still, step, signer, attribute, certificate, signed_data, unsigned_attributes, values}
+use Rattle.pkcs7_signed.specs.SignerLaws.{signer_step}
+use Rattle.pkcs7_signed.specs.SignerLevels.{parts_of_signer, attributes_in, parts_of_signed, out_signer}
+use Rattle.pkcs7_signed.specs.SignerValues.{signer_value}
+use Rattle.pkcs7_signed.specs.declared.signers.Kind.{Kind}
+use Rattle.pkcs7_signed.specs.declared.signers.Kind.TheVariants.{MsCounterSign, CounterSign, Foreign}
+use Rattle.pkcs7_signed.specs.declared.signers.SignerInfo.{SignerInfo}
+
+pub never : {P : Type 0} → (P → ⊥) → IsTrue false ↔ P
+never n = search (rules, n)
+
+pub through : {P Q R : Type 0} → P ↔ Q → Q ↔ R → P ↔ R
+through p q = (λ h. q.0 (p.0 h), λ h. p.1 (q.1 h))
+
+-- the parts are well-formed, and so is what stands behind them
+module _ {R : Type 0} (F : Format R) (k : ℕ) where
+  signer_split : (p : SignerParts R) → ((signer_parts nothing).IsWellFormed k (signer_end p tt) × F.IsWellFormed k (behind_signer p)) ↔ (signer_parts F).IsWellFormed k p
+  signer_split p = (
+    λ h. (h.0.0, (h.0.1.0, (h.0.1.1.0, (h.0.1.1.1.0, (h.0.1.1.1.1.0, (h.0.1.1.1.1.1.0, h.1)))))),
+    λ h. ((h.0, (h.1.0, (h.1.1.0, (h.1.1.1.0, (h.1.1.1.1.0, (h.1.1.1.1.1.0, tt)))))), h.1.1.1.1.1.1),
+  )
+
+  signed_split : (p : SignedParts R) → ((signed_parts nothing).IsWellFormed k (signed_end p tt) × F.IsWellFormed k (behind_signed p)) ↔ (signed_parts F).IsWellFormed k p
+  signed_split p = (
+    λ h. (h.0.0, (h.0.1.0, (h.0.1.1.0, (h.0.1.1.1.0, (h.0.1.1.1.1.0, h.1))))),
+    λ h. ((h.0, (h.1.0, (h.1.1.0, (h.1.1.1.0, (h.1.1.1.1.0, tt))))), h.1.1.1.1.1),
+  )
+
+-- a signer
+module _ (k : ℕ) (x : SignerInfo) where
+  signer_is : ((signer_parts nothing).IsWellFormed k (parts_of_signer x tt) × unsigned_attributes.IsWellFormed k (attributes_in x)) ↔ signer.IsWellFormed k (signer_value x)
+  signer_is =
+      let u = unroll_formed {I = Unit {0}} {V = λ _. Value signers} still step signer_step k tt (signer_value x) in
+      let e = out_signer x in
+      (λ h. u.1 (subst ((signer_row attribute).IsWellFormed k) (sym e) ((signer_split _ k (parts_of_signer x (attributes_in x, tt))).0 (h.0, (h.1, tt)))),
+      λ h. let s = (signer_split _ k (parts_of_signer x (attributes_in x, tt))).1 (subst ((signer_row attribute).IsWellFormed k) e (u.0 h)) in (s.0, s.1.0))
+
+  pub signer_unformed : ((signer_parts nothing).IsWellFormed k (parts_of_signer x tt) → ⊥) → IsTrue false ↔ signer.IsWellFormed k (signer_value x)
+  signer_unformed n = never (λ h. n (signer_is.1 h).0)
+
+  pub signer_formed : {P : Type 0} → (signer_parts nothing).IsWellFormed k (parts_of_signer x tt) → P ↔ unsigned_attributes.IsWellFormed k (attributes_in x) → P ↔ signer.IsWellFormed k (signer_value x)
+  signer_formed w p = (λ h. signer_is.0 (w, p.0 h), λ h. p.1 (signer_is.1 h).1)
+
+-- signed data, whose signers stand a level down
+pub signed_formed : {k : ℕ} (j : ℕ) → suc j ≡ k → (p : SignedParts (List (Value signers))) {P : Type 0} → (signed_parts nothing).IsWellFormed k (signed_end p tt) → P ↔ (set_of signer).IsWellFormed j (behind_signed p) → P ↔ signed_data.IsWellFormed k p
+signed_formed j e p {P} w d =
+    subst (λ i. P ↔ signed_data.IsWellFormed i p) e
+    (let s = signed_split (set_of (less signer)) (suc j) p in
+    let v : (signed_parts nothing).IsWellFormed (suc j) (signed_end p tt) = subst (λ i. (signed_parts nothing).IsWellFormed i (signed_end p tt)) (sym e) w in
+    (λ h. s.0 (v, d.0 h), λ h. d.1 (s.1 h).1))
+
+pub signed_unformed : (k : ℕ) (p : SignedParts (List (Value signers))) → ((signed_parts nothing).IsWellFormed k (signed_end p tt) → ⊥) → signed_data.IsWellFormed k p → ⊥
+signed_unformed zero p n h = h
+signed_unformed (suc k) p n h = n ((signed_split (set_of (less signer)) (suc k) p).1 h).0
+
+-- the values of an attribute, of that kind
+abbrev Values : Type 0
+Values = AttributeValues (Value certificates) (Value signers)
+
+module _ {A : Type 0} (put : A → Values) (P : A → Type 0) where
+  arm_formed : ((a b : A) → put a ≡ put b → a ≡ b) → (a : A) → P a ↔ ((b : A) × (put b ≡ put a) × P b)
+  arm_formed one a = (λ h. (a, refl, h), λ h. subst P (one h.0 a h.1) h.2)
+
+pub of_kind : (k : ℕ) (i : Kind) (v : Values) → IsOfKind i v → values.IsWellFormed k v ↔ (values_row certificate (less signer) i).IsWellFormed k v
+of_kind k MsCounterSign (inl v) f = arm_formed (λ u. inl u) _ (λ a b e. cc) v
+of_kind k CounterSign (inr (inl v)) f = arm_formed (λ u. inr (inl u)) _ (λ a b e. cc) v
+of_kind k Foreign (inr (inr v)) f = arm_formed (λ u. inr (inr u)) _ (λ a b e. cc) v
+of_kind k i v f = absurd f
+
+pub not_of_kind : (k : ℕ) (i : Kind) (v : Values) → (IsOfKind i v → ⊥) → (values_row certificate (less signer) i).IsWellFormed k v → ⊥
+not_of_kind k MsCounterSign (inl v) n h = n tt
+not_of_kind k MsCounterSign (inr v) n h = (let e = h.1 in cc)
+not_of_kind k CounterSign (inr (inl v)) n h = n tt
+not_of_kind k CounterSign (inl v) n h = (let e = h.1 in cc)
+not_of_kind k CounterSign (inr (inr v)) n h = (let e = h.1 in cc)
+not_of_kind k Foreign (inr (inr v)) n h = n tt
+not_of_kind k Foreign (inl v) n h = (let e = h.1 in cc)
+not_of_kind k Foreign (inr (inl v)) n h = (let e = h.1 in cc)
+
+pub with_first : {P Q A : Type 0} → A → P ↔ Q → P ↔ (A × Q)
+with_first a p = (λ h. (a, p.0 h), λ h. p.1 h.1)
+
+-- signers a level down
+pub none_below : {k : ℕ} → k ≡ zero → {P : Type 0} {xs : List SignerInfo} → P ↔ (xs ≡ []) → P ↔ (set_of (less signer)).IsWellFormed k (map signer_value xs)
+none_below {k} e {P} {[]} p = (λ h. tt, λ h. p.1 refl)
+none_below {k} e {P} {x ∷ xs} p = (λ h. (let n = p.0 h in cc), λ h. absurd (subst (λ j. (less signer).IsWellFormed j (signer_value x)) e h.0))
+
+pub some_below : {k j : ℕ} → suc j ≡ k → {P : Type 0} {vs : List (Value signers)} → P ↔ (set_of signer).IsWellFormed j vs → P ↔ (set_of (less signer)).IsWellFormed k vs
+some_below {k} {j} e {P} {vs} p = subst (λ i. P ↔ (set_of (less signer)).IsWellFormed i vs) e p

@@ -1,0 +1,117 @@
+-- Rows of the types that hold one another, over what stands for the types inside:
+-- SignerInfo ::= SEQUENCE { .., unsignedAttrs [1] IMPLICIT SET OF UnsignedAttribute OPTIONAL } (RFC 5652, 5.3)
+-- SignedData ::= SEQUENCE { .., signerInfos SET OF SignerInfo } (RFC 5652, 5.1)
+-- Pkcs7Certificate ::= SEQUENCE { contentType OBJECT IDENTIFIER (id-signedData), content [0] EXPLICIT SignedData } (RFC 5652, 3)
+-- UnsignedAttribute ::= SEQUENCE { type OBJECT IDENTIFIER, values SET OF ANY DEFINED BY type } (RFC 5652, 5.3)
+-- Absent unsigned attributes are none; signed data stand nowhere where no level is left.
+use Rattle.std.specs.Prelude.{◌⊎◌, ℕ, List, if◌then◌else◌}
+use Rattle.std.specs.Str.{bytes_eq}
+use Rattle.std.proofs.Common.{refl, inl, inr, arith}
+use Rattle.asn1_core.specs.Der.{Format, IsLawful, IsLawfulRow, within, lawful_within, sequence, lawful_sequence, part, followed_by, raw, lawful_raw, OidOctets, ElementOctets}
+use Rattle.asn1_core_format.specs.Eithers.{either}
+use Rattle.asn1_nested.specs.EmptySets.{set_or_none, lawful_set_or_none}
+use Rattle.asn1_nested.specs.Gated.{gated, lawful_gated}
+use Rattle.asn1_defined_by.specs.DefinedBy.{DefinedBy, any_defined_by, arm, by_itself, only_written}
+use Rattle.asn1_defined_by.specs.DefinedByLaws.{IsDefinedBy, itself, lawful_arm, lawful_any_defined_by}
+use Rattle.pkcs7_signed.specs.Oids.{signed_data_oid, countersignature_oid, ms_counter_sign_oid}
+use Rattle.pkcs7_signed.specs.Parts.{set_of, lawful_set, SignerParts, signer_parts, lawful_signer_parts, SignedParts, signed_parts, lawful_signed_parts, only_oid, lawful_only_oid}
+use Rattle.pkcs7_signed.specs.declared.signers.Kind.{Kind}
+use Rattle.pkcs7_signed.specs.declared.signers.Kind.TheVariants.{MsCounterSign, CounterSign, Foreign}
+
+-- over attributes
+abbrev pub SignerRow : Type 0 → Type 0
+SignerRow A = SignerParts (List A × Unit {0})
+
+abbrev pub signer_row : {A : Type 0} → Format A → Format (SignerRow A)
+signer_row F = sequence (signer_parts (set_or_none 0xA1 F))
+
+-- over signers
+abbrev pub SignedRow : Type 0 → Type 0
+SignedRow S = SignedParts (List S)
+
+abbrev pub signed_row : {S : Type 0} → Format S → Format (SignedRow S)
+signed_row F = gated (sequence (signed_parts (set_of F)))
+
+abbrev pub CertificateRow : Type 0 → Type 0
+CertificateRow S = OidOctets × SignedRow S
+
+abbrev pub certificate_row : {S : Type 0} → Format S → Format (CertificateRow S)
+certificate_row F = sequence (part (only_oid signed_data_oid) (within 0xA0 (signed_row F)))
+
+-- what an attribute's object identifier says
+abbrev pub kind_of : List ℕ → Kind
+kind_of o =
+    if bytes_eq o ms_counter_sign_oid then MsCounterSign
+    else if bytes_eq o countersignature_oid then CounterSign
+    else Foreign
+
+-- certificates, signers, or any elements
+abbrev pub AttributeValues : Type 0 → Type 0 → Type 0
+AttributeValues C S = List C ⊎ (List S ⊎ List ElementOctets)
+
+abbrev pub by_kind : Kind → Type 0 → Type 0 → Type 0 → Type 0
+by_kind MsCounterSign A B C = A
+by_kind CounterSign A B C = B
+by_kind Foreign A B C = C
+
+-- the values are what the object identifier says
+abbrev pub IsOfKind : {C S : Type 0} → Kind → AttributeValues C S → Type 0
+IsOfKind i (inl v) = by_kind i (Unit {0}) ⊥ ⊥
+IsOfKind i (inr (inl v)) = by_kind i ⊥ (Unit {0}) ⊥
+IsOfKind i (inr (inr v)) = by_kind i ⊥ ⊥ (Unit {0})
+
+module _ {C S : Type 0} (F : Format C) (G : Format S) where
+  -- however they are written, whatever the object identifier
+  abbrev pub attribute_values : Format (AttributeValues C S)
+  attribute_values = only_written (either (set_of F) (either (set_of G) (set_of raw)))
+
+  abbrev pub certificates_arm : Format (AttributeValues C S)
+  certificates_arm = arm attribute_values (by_itself (λ v. inl v)) (set_of F)
+
+  abbrev pub signers_arm : Format (AttributeValues C S)
+  signers_arm = arm attribute_values (by_itself (λ v. inr (inl v))) (set_of G)
+
+  abbrev pub elements_arm : Format (AttributeValues C S)
+  elements_arm = arm attribute_values (by_itself (λ v. inr (inr v))) (set_of raw)
+
+  abbrev pub values_row : Kind → Format (AttributeValues C S)
+  values_row i = record {
+    text = attribute_values.text;
+    IsWellFormed = λ k v. by_kind i (certificates_arm.IsWellFormed k v) (signers_arm.IsWellFormed k v) (elements_arm.IsWellFormed k v);
+    Reads = λ k b v. by_kind i (certificates_arm.Reads k b v) (signers_arm.Reads k b v) (elements_arm.Reads k b v);
+    IsNormal = λ k b. by_kind i (certificates_arm.IsNormal k b) (signers_arm.IsNormal k b) (elements_arm.IsNormal k b);
+    normal = attribute_values.normal;
+    IsTag = (set_of raw).IsTag;
+    least = attribute_values.least;
+  }
+
+  abbrev pub values_defined_by : DefinedBy (AttributeValues C S)
+  values_defined_by = record { text = attribute_values.text; row = λ o. values_row (kind_of o) }
+
+-- over certificates and signers
+abbrev pub AttributeRow : Type 0 → Type 0 → Type 0
+AttributeRow C S = OidOctets × AttributeValues C S
+
+abbrev pub attribute_row : {C S : Type 0} → Format C → Format S → Format (AttributeRow C S)
+attribute_row F G = sequence (any_defined_by (values_defined_by F G))
+
+pub lawful_signer_row : {A : Type 0} (F : Format A) → IsLawful F → IsLawful (signer_row F)
+lawful_signer_row F f = lawful_sequence (lawful_signer_parts (lawful_set_or_none 0xA1 (omega arith) F f))
+
+pub lawful_signed_row : {S : Type 0} (F : Format S) → IsLawful F → IsLawful (signed_row F)
+lawful_signed_row F f = lawful_gated (sequence (signed_parts (set_of F))) (lawful_sequence (lawful_signed_parts (lawful_set F f).row (λ t h. h)))
+
+pub lawful_certificate_row : {S : Type 0} (F : Format S) → IsLawful F → IsLawful (certificate_row F)
+lawful_certificate_row F f = lawful_sequence (followed_by (lawful_only_oid signed_data_oid) (lawful_within (signed_row F) (lawful_signed_row F f).row 0xA0 (omega arith)).row)
+
+module _ {C S : Type 0} (F : Format C) (G : Format S) (f : IsLawful F) (g : IsLawful G) where
+  lawful_values : (i : Kind) → IsLawfulRow (values_row F G i)
+  lawful_values MsCounterSign = lawful_arm (attribute_values F G) _ (set_of F) (itself (λ a. refl) (λ a. refl) (λ a. refl)) (lawful_set F f).row
+  lawful_values CounterSign = lawful_arm (attribute_values F G) _ (set_of G) (itself (λ a. refl) (λ a. refl) (λ a. refl)) (lawful_set G g).row
+  lawful_values Foreign = lawful_arm (attribute_values F G) _ (set_of raw) (itself (λ a. refl) (λ a. refl) (λ a. refl)) (lawful_set raw lawful_raw).row
+
+  pub values_are_defined_by : IsDefinedBy (values_defined_by F G)
+  values_are_defined_by = record { lawful = λ o. lawful_values (kind_of o); alike = λ o v. refl }
+
+  pub lawful_attribute_row : IsLawful (attribute_row F G)
+  lawful_attribute_row = lawful_sequence (lawful_any_defined_by (values_defined_by F G) values_are_defined_by)

@@ -1,0 +1,96 @@
+-- The values of signers, what they hold and signed data, level by level.
+use Rattle.std.specs.Prelude.{◌≡◌, ℕ, true, false, List, [], ◌∷◌, ◌++◌, map}
+use Rattle.std.proofs.Common.{refl, sym, ap, ◌∙◌, inl, inr, rules, append-nil}
+use Rattle.asn1_core.specs.Der.{octets_of, sequence, nothing}
+use Rattle.asn1_core.specs.declared.lists.Asn1SetOf.{Asn1SetOf}
+use Rattle.asn1_core.specs.declared.raw.Asn1RawDer.{Asn1RawDer}
+use Rattle.asn1_nested.specs.EmptySets.{is_nil}
+use Rattle.asn1_core_format.specs.LevelLaws.{unroll_text}
+use Rattle.asn1_core_format.specs.Omitted.{text_unless}
+use Rattle.pkcs7_signed.specs.Parts.{SignerParts, signer_parts, SignedParts, ending}
+use Rattle.pkcs7_signed.specs.Rows.{signer_row}
+use Rattle.pkcs7_signed.specs.Signers.{Value, signers, attributes, certificates, signer_out, signer_into, certificate_out, certificate_into, attribute_out, attribute_into, still, step, signer, attribute, unsigned_attributes}
+use Rattle.pkcs7_signed.specs.SignerLaws.{signer_there, certificate_there, attribute_there, signer_step}
+use Rattle.pkcs7_signed.specs.SignerValues.{elements, signer_parts_value, signed_parts_value, values_value, certificate_value, signed_value, signer_value, signers_value, attribute_value, attributes_value}
+use Rattle.pkcs7_signed.specs.declared.signers.Pkcs7Certificate.{Pkcs7Certificate, out-Pkcs7Certificate}
+use Rattle.pkcs7_signed.specs.declared.signers.SignedData.{SignedData, out-SignedData}
+use Rattle.pkcs7_signed.specs.declared.signers.SignerInfo.{SignerInfo, out-SignerInfo}
+use Rattle.pkcs7_signed.specs.declared.signers.SignersInfos.{SignersInfos, out-SignersInfos}
+use Rattle.pkcs7_signed.specs.declared.signers.UnsignedAttribute.{UnsignedAttribute, out-UnsignedAttribute}
+use Rattle.pkcs7_signed.specs.declared.signers.UnsignedAttributes.{UnsignedAttributes, out-UnsignedAttributes}
+use Rattle.pkcs7_signed.specs.declared.signers.UnsignedAttributeValue.{UnsignedAttributeValue, MsCounterSign, CounterSign, Unknown}
+use Rattle.pkcs7_signed.specs.declared.signers.UnsignedAttributeValue.TheFolds.{the_lemmas}
+
+pub value_ms_counter_sign : (s : Asn1SetOf Pkcs7Certificate) → values_value (MsCounterSign s) ≡ inl (map certificate_value s.0.items)
+value_ms_counter_sign s = search (rules, the_lemmas)
+
+pub value_counter_sign : (s : Asn1SetOf SignerInfo) → values_value (CounterSign s) ≡ inr (inl (map signer_value s.0.items))
+value_counter_sign s = search (rules, the_lemmas)
+
+pub value_unknown : (s : Asn1SetOf Asn1RawDer) → values_value (Unknown s) ≡ inr (inr (elements s.0))
+value_unknown s = search (rules, the_lemmas)
+
+pub value_signers : (x : SignersInfos) → signers_value x ≡ map signer_value (out-SignersInfos x).0.0.items
+value_signers x = search (rules, the_lemmas)
+
+pub value_attributes : (x : UnsignedAttributes) → attributes_value x ≡ map attribute_value (out-UnsignedAttributes x).0.items
+value_attributes x = search (rules, the_lemmas)
+
+value_certificate : (x : Pkcs7Certificate) → certificate_value x ≡ certificate_into (octets_of (out-Pkcs7Certificate x).oid.0, signed_value (out-Pkcs7Certificate x).signed_data.0)
+value_certificate x = search (rules, the_lemmas)
+
+value_attribute : (x : UnsignedAttribute) → attribute_value x ≡ attribute_into (octets_of (out-UnsignedAttribute x).ty.0, values_value (out-UnsignedAttribute x).value)
+value_attribute x = search (rules, the_lemmas)
+
+-- the parts of a signer, and what stands behind them
+abbrev pub parts_of_signer : {R : Type 0} → SignerInfo → R → SignerParts R
+parts_of_signer x r =
+    signer_parts_value (out-SignerInfo x).version (out-SignerInfo x).sid (out-SignerInfo x).digest_algorithm (out-SignerInfo x).signed_attrs.0
+    (out-SignerInfo x).signature_algorithm (out-SignerInfo x).signature r
+
+abbrev pub attributes_in : SignerInfo → List (Value attributes)
+attributes_in x = attributes_value (out-SignerInfo x).unsigned_attrs.0
+
+value_signer : (x : SignerInfo) → signer_value x ≡ signer_into (parts_of_signer x (attributes_in x, tt))
+value_signer x = search (rules, the_lemmas)
+
+abbrev pub parts_of_signed : {R : Type 0} → SignedData → R → SignedParts R
+parts_of_signed x r =
+    signed_parts_value (out-SignedData x).version (out-SignedData x).digest_algorithms (out-SignedData x).content_info
+    (out-SignedData x).certificates.0 (out-SignedData x).crls r
+
+pub value_signed : (x : SignedData) → signed_value x ≡ parts_of_signed x (signers_value (out-SignedData x).signers_infos)
+value_signed x = search (rules, the_lemmas)
+
+-- as rows
+pub out_certificate : (x : Pkcs7Certificate) → certificate_out (certificate_value x) ≡ (octets_of (out-Pkcs7Certificate x).oid.0, signed_value (out-Pkcs7Certificate x).signed_data.0)
+out_certificate x = ap certificate_out (value_certificate x) ∙ certificate_there _
+
+pub out_attribute : (x : UnsignedAttribute) → attribute_out (attribute_value x) ≡ (octets_of (out-UnsignedAttribute x).ty.0, values_value (out-UnsignedAttribute x).value)
+out_attribute x = ap attribute_out (value_attribute x) ∙ attribute_there _
+
+pub out_signer : (x : SignerInfo) → signer_out (signer_value x) ≡ parts_of_signer x (attributes_in x, tt)
+out_signer x = ap signer_out (value_signer x) ∙ signer_there _
+
+-- the text of a signer: without attributes, and with some
+text_signer : (x : SignerInfo) → (signer_row attribute).text (parts_of_signer x (attributes_in x, tt)) ≡ signer.text (signer_value x)
+text_signer x = ap (signer_row attribute).text (sym (out_signer x)) ∙ unroll_text {I = Unit {0}} {V = λ _. Value signers} still step signer_step tt (signer_value x)
+
+pub short_text : (x : SignerInfo) → attributes_in x ≡ [] → (sequence (signer_parts nothing)).text (parts_of_signer x tt) ≡ signer.text (signer_value x)
+short_text x e = ap (λ vs. (signer_row attribute).text (parts_of_signer x (vs, tt))) (sym e) ∙ text_signer x
+
+pub long_text : (x : SignerInfo) → is_nil (attributes_in x) ≡ false → (sequence (signer_parts unsigned_attributes)).text (parts_of_signer x (attributes_in x)) ≡ signer.text (signer_value x)
+long_text x e =
+    let t : List ℕ = unsigned_attributes.text (attributes_in x) in
+    ap (λ u. (sequence (signer_parts (ending u 0))).text (parts_of_signer x tt)) (sym (append-nil t) ∙ ap (λ b. text_unless b t ++ []) (sym e)) ∙ text_signer x
+
+-- whether a signer has attributes
+pub none_in : (x : SignerInfo) → (out-UnsignedAttributes (out-SignerInfo x).unsigned_attrs.0).0.items ≡ [] → attributes_in x ≡ []
+none_in x e = value_attributes (out-SignerInfo x).unsigned_attrs.0 ∙ ap (map attribute_value) e
+
+some_of : {T V : Type 0} (f : T → V) (xs : List T) → (xs ≡ [] → ⊥) → is_nil (map f xs) ≡ false
+some_of f [] n = absurd (n refl)
+some_of f (x ∷ xs) n = refl
+
+pub some_in : (x : SignerInfo) → ((out-UnsignedAttributes (out-SignerInfo x).unsigned_attrs.0).0.items ≡ [] → ⊥) → is_nil (attributes_in x) ≡ false
+some_in x n = ap is_nil (value_attributes (out-SignerInfo x).unsigned_attrs.0) ∙ some_of attribute_value _ n

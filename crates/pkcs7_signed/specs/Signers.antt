@@ -1,0 +1,165 @@
+-- Signers, what they hold, and signed data. A signer inside an attribute stands a level down, and so do the signers of
+-- signed data, which take a level themselves.
+use Rattle.std.specs.Prelude.{◌≡◌, ◌⊎◌, ℕ, List, [], map}
+use Rattle.std.proofs.Common.{inl, inr}
+use Rattle.asn1_core.specs.Der.{Format, each, within, nothing, raw, OidOctets, ElementOctets}
+use Rattle.asn1_nested.specs.EmptySets.{set_or_none}
+use Rattle.asn1_core_format.specs.Levels.{Still, no_grammar, always, less, levels}
+use Rattle.asn1_core_format.specs.Rolled.{rolled}
+use Rattle.pkcs7_signed.specs.Forest.{Forest, none, Node, nodes, forest, fold_all, fold_node, same_all, same_node}
+use Rattle.pkcs7_signed.specs.Parts.{set_of, SignerParts, signer_end, behind_signer, signer_parts, SignedParts, signed_end, behind_signed, signed_parts}
+use Rattle.pkcs7_signed.specs.Rows.{SignerRow, signer_row, SignedRow, signed_row, CertificateRow, certificate_row, AttributeValues, attribute_values, AttributeRow, attribute_row}
+use Rattle.pkcs7_signed.specs.declared.signers.Kind.{Kind}
+use Rattle.pkcs7_signed.specs.declared.signers.Kind.TheVariants.{MsCounterSign, CounterSign, Foreign}
+
+-- the values: a signer holds attributes, an attribute certificates or signers or none of these, and a certificate signers
+pub data Sort : Type 0 where
+  signers : Sort
+  attributes : Sort
+  certificates : Sort
+  nothing_inside : Sort
+
+abbrev pub Arm : Sort → Type 0
+Arm signers = Unit {0}
+Arm attributes = Kind
+Arm certificates = Unit {0}
+Arm nothing_inside = ⊥
+
+abbrev pub InAttribute : Kind → Type 0
+InAttribute MsCounterSign = OidOctets
+InAttribute CounterSign = OidOctets
+InAttribute Foreign = OidOctets × List ElementOctets
+
+abbrev pub Plain : (i : Sort) → Arm i → Type 0
+Plain signers a = SignerParts (Unit {0})
+Plain attributes a = InAttribute a
+Plain certificates a = OidOctets × SignedParts (Unit {0})
+Plain nothing_inside a = ⊥
+
+abbrev pub attribute_holds : Kind → Sort
+attribute_holds MsCounterSign = certificates
+attribute_holds CounterSign = signers
+attribute_holds Foreign = nothing_inside
+
+abbrev pub holds : (i : Sort) → Arm i → Sort
+holds signers a = attributes
+holds attributes a = attribute_holds a
+holds certificates a = signers
+holds nothing_inside a = nothing_inside
+
+abbrev pub Trees : Sort → Type 0
+Trees = Forest Arm Plain holds
+
+abbrev pub Value : Sort → Type 0
+Value = Node Arm Plain holds
+
+abbrev pub list : {i : Sort} → Trees i → List (Value i)
+list = nodes Arm Plain holds
+
+abbrev pub trees : {i : Sort} → List (Value i) → Trees i
+trees = forest Arm Plain holds
+
+abbrev pub signer_out : Value signers → SignerRow (Value attributes)
+signer_out v = signer_end v.1 (list v.2, tt)
+
+abbrev pub signer_into : SignerRow (Value attributes) → Value signers
+signer_into r = (tt, signer_end r tt, trees (behind_signer r).0)
+
+abbrev pub certificate_out : Value certificates → CertificateRow (Value signers)
+certificate_out v = (v.1.0, signed_end v.1.1 (list v.2))
+
+abbrev pub certificate_into : CertificateRow (Value signers) → Value certificates
+certificate_into r = (tt, (r.0, signed_end r.1 tt), trees (behind_signed r.1))
+
+abbrev pub attribute_out : Value attributes → AttributeRow (Value certificates) (Value signers)
+attribute_out (MsCounterSign, o, f) = (o, inl (list f))
+attribute_out (CounterSign, o, f) = (o, inr (inl (list f)))
+attribute_out (Foreign, p, f) = (p.0, inr (inr p.1))
+
+abbrev pub attribute_into : AttributeRow (Value certificates) (Value signers) → Value attributes
+attribute_into (o, inl vs) = (MsCounterSign, o, trees vs)
+attribute_into (o, inr (inl vs)) = (CounterSign, o, trees vs)
+attribute_into (o, inr (inr xs)) = (Foreign, (o, xs), none)
+
+-- the formats, over what stands for a signer a level down
+abbrev pub certificate_with : Format (Value signers) → Format (Value certificates)
+certificate_with F = rolled certificate_out certificate_into (certificate_row F)
+
+abbrev pub attribute_with : Format (Value signers) → Format (Value attributes)
+attribute_with F = rolled attribute_out attribute_into (attribute_row (certificate_with F) F)
+
+abbrev pub signer_with : Format (Value signers) → Format (Value signers)
+signer_with F = rolled signer_out signer_into (signer_row (attribute_with F))
+
+-- what is made of a node, of what was made of those inside: a text, a count
+abbrev pub as_text : Format (List ℕ)
+as_text = always (record { text = λ t. t; normal = λ t. t; IsTag = λ _. ⊥; least = λ _. 0 }) no_grammar
+
+abbrev pub as_count : Format ℕ
+as_count = always (record { text = λ _. []; normal = λ n. n; IsTag = λ _. ⊥; least = λ n. n }) no_grammar
+
+abbrev pub attribute_of : {T : Type 0} (i : Kind) → InAttribute i → List T → AttributeRow T T
+attribute_of MsCounterSign o ts = (o, inl ts)
+attribute_of CounterSign o ts = (o, inr (inl ts))
+attribute_of Foreign p ts = (p.0, inr (inr p.1))
+
+abbrev pub text_of : (i : Sort) (a : Arm i) → Plain i a → List (List ℕ) → List ℕ
+text_of signers a p ts = (signer_row as_text).text (signer_end p (ts, tt))
+text_of attributes a p ts = (attribute_row as_text as_text).text (attribute_of a p ts)
+text_of certificates a p ts = (certificate_row as_text).text (p.0, signed_end p.1 ts)
+text_of nothing_inside a p ts = []
+
+abbrev pub least_of : (i : Sort) (a : Arm i) → Plain i a → List ℕ → ℕ
+least_of signers a p ns = (signer_row as_count).least (signer_end p (ns, tt))
+least_of attributes a p ns = (attribute_row as_count as_count).least (attribute_of a p ns)
+least_of certificates a p ns = (certificate_row as_count).least (p.0, signed_end p.1 ns)
+least_of nothing_inside a p ns = 0
+
+abbrev pub normal_in_attribute : (i : Kind) → InAttribute i → InAttribute i
+normal_in_attribute MsCounterSign o = o
+normal_in_attribute CounterSign o = o
+normal_in_attribute Foreign p = (p.0, map raw.normal p.1)
+
+abbrev pub normal_of : (i : Sort) (a : Arm i) → Plain i a → Plain i a
+normal_of signers a p = (signer_parts nothing).normal p
+normal_of attributes a p = normal_in_attribute a p
+normal_of certificates a p = (p.0, (signed_parts nothing).normal p.1)
+normal_of nothing_inside a p = p
+
+abbrev pub still : (i : Unit {0}) → Still (Value signers)
+still i = record {
+  text = fold_node Arm Plain holds text_of signers;
+  normal = same_node Arm Plain holds normal_of signers;
+  IsTag = λ t. t ≡ 0x30;
+  least = fold_node Arm Plain holds least_of signers;
+}
+
+abbrev pub step : ((i : Unit {0}) → Format (Value signers)) → (i : Unit {0}) → Format (Value signers)
+step F i = signer_with (F i)
+
+abbrev pub signer : Format (Value signers)
+signer = levels {I = Unit {0}} {V = λ _. Value signers} still step tt
+
+abbrev pub attribute : Format (Value attributes)
+attribute = attribute_with (less signer)
+
+abbrev pub certificate : Format (Value certificates)
+certificate = certificate_with (less signer)
+
+abbrev pub SignedValue : Type 0
+SignedValue = SignedRow (Value signers)
+
+abbrev pub signed_data : Format SignedValue
+signed_data = signed_row (less signer)
+
+-- SignerInfos ::= SET OF SignerInfo
+abbrev pub signer_infos : Format (List (Value signers))
+signer_infos = set_of signer
+
+-- UnsignedAttributes ::= [1] IMPLICIT SET OF UnsignedAttribute
+abbrev pub unsigned_attributes : Format (List (Value attributes))
+unsigned_attributes = within 0xA1 (each attribute)
+
+-- what an attribute holds, which only writes
+abbrev pub values : Format (AttributeValues (Value certificates) (Value signers))
+values = attribute_values certificate (less signer)
