@@ -307,9 +307,9 @@ fn next_is_tag(r: &Reader<'_>, tag: u8) -> bool
 
 /// A part that may be left out, lent as it is written, and what stands behind it.
 #[derive(Drop)]
-pub struct OmittedRef<'a, A, R>(pub &'a A, pub R);
+pub struct OmittedRef<A, R>(pub A, pub R);
 
-impl<A: HasDefault, R: WriteRow> WriteRow for OmittedRef<'_, A, R> {
+impl<A: HasDefault, R: WriteRow> WriteRow for OmittedRef<&A, R> {
     ghost Value = { A.Value × R.Value };
 
     ghost value = { λ p. (A.value p.0.now, R.value p.1) };

@@ -1,17 +1,19 @@
 -- Testing signers, what they hold and signed data, one level of them.
 use Rattle.std.proofs.Common.{◌≡◌, ◌↔◌, ◌⊎◌, ℕ, zero, suc, IsTrue, true, false, List, [], ◌∷◌, map, refl, sym, ap, ◌∙◌, subst, inl, inr, rules}
 use Rattle.std.specs.List.{AllByRecursion}
-use Rattle.asn1_core.specs.Der.{Format, IsLawful, sequence, nothing, octets_of}
+use Rattle.asn1_core.specs.Der.{Format, nothing}
 use Rattle.asn1_core_format.specs.Levels.{less}
+use Rattle.asn1_nested.specs.EmptySets.{set_or_none}
 use Rattle.asn1_core_format.specs.LevelLaws.{unroll_formed}
 use Rattle.pkcs7_signed.specs.Parts.{set_of, SignerParts, signer_end, behind_signer, signer_parts, SignedParts, signed_end, behind_signed, signed_parts}
-use Rattle.pkcs7_signed.specs.Rows.{signer_row, signed_row, AttributeValues, IsOfKind, values_row}
-use Rattle.pkcs7_signed.specs.Signers.{Value, signers, attributes, certificates, still, step, signer, attribute, certificate, signed_data, unsigned_attributes, values}
+use Rattle.pkcs7_signed.specs.Rows.{SignerRow, signer_row, AttributeValues, IsOfKind, values_row}
+use Rattle.pkcs7_signed.specs.Signers.{Value, signers, attributes, certificates, still, step, signer, attribute, certificate, signed_data, signer_infos, unsigned_attributes, values}
 use Rattle.pkcs7_signed.specs.SignerLaws.{signer_step}
-use Rattle.pkcs7_signed.specs.SignerLevels.{parts_of_signer, attributes_in, parts_of_signed, out_signer}
-use Rattle.pkcs7_signed.specs.SignerValues.{signer_value}
+use Rattle.pkcs7_signed.specs.SignerLevels.{parts_of_signer, attributes_in, parts_of_signed, out_signer, value_signed}
+use Rattle.pkcs7_signed.specs.SignerValues.{signer_value, signers_value, signed_value}
 use Rattle.pkcs7_signed.specs.declared.signers.Kind.{Kind}
 use Rattle.pkcs7_signed.specs.declared.signers.Kind.TheVariants.{MsCounterSign, CounterSign, Foreign}
+use Rattle.pkcs7_signed.specs.declared.signers.SignedData.{SignedData, out-SignedData}
 use Rattle.pkcs7_signed.specs.declared.signers.SignerInfo.{SignerInfo}
 
 pub never : {P : Type 0} → (P → ⊥) → IsTrue false ↔ P
@@ -34,32 +36,44 @@ module _ {R : Type 0} (F : Format R) (k : ℕ) where
     λ h. ((h.0, (h.1.0, (h.1.1.0, (h.1.1.1.0, (h.1.1.1.1.0, tt))))), h.1.1.1.1.1),
   )
 
--- a signer
-module _ (k : ℕ) (x : SignerInfo) where
-  signer_is : ((signer_parts nothing).IsWellFormed k (parts_of_signer x tt) × unsigned_attributes.IsWellFormed k (attributes_in x)) ↔ signer.IsWellFormed k (signer_value x)
+-- a signer, of whose parts h are the first
+module _ (k : ℕ) (x : SignerInfo) {h : SignerParts (Unit {0})} (e : h ≡ parts_of_signer x tt) where
+  signer_is : ((signer_parts nothing).IsWellFormed k h × unsigned_attributes.IsWellFormed k (attributes_in x)) ↔ signer.IsWellFormed k (signer_value x)
   signer_is =
       let u = unroll_formed {I = Unit {0}} {V = λ _. Value signers} still step signer_step k tt (signer_value x) in
-      let e = out_signer x in
-      (λ h. u.1 (subst ((signer_row attribute).IsWellFormed k) (sym e) ((signer_split _ k (parts_of_signer x (attributes_in x, tt))).0 (h.0, (h.1, tt)))),
-      λ h. let s = (signer_split _ k (parts_of_signer x (attributes_in x, tt))).1 (subst ((signer_row attribute).IsWellFormed k) e (u.0 h)) in (s.0, s.1.0))
+      let r : SignerRow (Value attributes) = parts_of_signer x (attributes_in x, tt) in
+      let s : ((signer_parts nothing).IsWellFormed k (parts_of_signer x tt) × (set_or_none 0xA1 attribute).IsWellFormed k (attributes_in x, tt)) ↔ (signer_row attribute).IsWellFormed k r = signer_split (set_or_none 0xA1 attribute) k r in
+      (
+        λ w. u.1 (subst ((signer_row attribute).IsWellFormed k) (sym (out_signer x)) (s.0 (subst ((signer_parts nothing).IsWellFormed k) e w.0, (w.1, tt)))),
+        λ w. let d = s.1 (subst ((signer_row attribute).IsWellFormed k) (out_signer x) (u.0 w)) in (subst ((signer_parts nothing).IsWellFormed k) (sym e) d.0, d.1.0),
+      )
 
-  pub signer_unformed : ((signer_parts nothing).IsWellFormed k (parts_of_signer x tt) → ⊥) → IsTrue false ↔ signer.IsWellFormed k (signer_value x)
-  signer_unformed n = never (λ h. n (signer_is.1 h).0)
+  pub signer_unformed : ((signer_parts nothing).IsWellFormed k h → ⊥) → IsTrue false ↔ signer.IsWellFormed k (signer_value x)
+  signer_unformed n = never (λ w. n (signer_is.1 w).0)
 
-  pub signer_formed : {P : Type 0} → (signer_parts nothing).IsWellFormed k (parts_of_signer x tt) → P ↔ unsigned_attributes.IsWellFormed k (attributes_in x) → P ↔ signer.IsWellFormed k (signer_value x)
-  signer_formed w p = (λ h. signer_is.0 (w, p.0 h), λ h. p.1 (signer_is.1 h).1)
+  pub signer_formed : {P : Type 0} → (signer_parts nothing).IsWellFormed k h → P ↔ unsigned_attributes.IsWellFormed k (attributes_in x) → P ↔ signer.IsWellFormed k (signer_value x)
+  signer_formed w p = (λ q. signer_is.0 (w, p.0 q), λ q. p.1 (signer_is.1 q).1)
 
--- signed data, whose signers stand a level down
-pub signed_formed : {k : ℕ} (j : ℕ) → suc j ≡ k → (p : SignedParts (List (Value signers))) {P : Type 0} → (signed_parts nothing).IsWellFormed k (signed_end p tt) → P ↔ (set_of signer).IsWellFormed j (behind_signed p) → P ↔ signed_data.IsWellFormed k p
-signed_formed j e p {P} w d =
-    subst (λ i. P ↔ signed_data.IsWellFormed i p) e
-    (let s = signed_split (set_of (less signer)) (suc j) p in
-    let v : (signed_parts nothing).IsWellFormed (suc j) (signed_end p tt) = subst (λ i. (signed_parts nothing).IsWellFormed i (signed_end p tt)) (sym e) w in
-    (λ h. s.0 (v, d.0 h), λ h. d.1 (s.1 h).1))
+-- signed data, of whose parts h are the first, and whose signers stand a level down
+module _ (x : SignedData) {h : SignedParts (Unit {0})} (e : h ≡ parts_of_signed x tt) where
+  signed_is : (k : ℕ) → ((signed_parts nothing).IsWellFormed (suc k) h × signer_infos.IsWellFormed k (signers_value (out-SignedData x).signers_infos)) ↔ signed_data.IsWellFormed (suc k) (signed_value x)
+  signed_is k =
+      let r : SignedParts (List (Value signers)) = parts_of_signed x (signers_value (out-SignedData x).signers_infos) in
+      let s : ((signed_parts nothing).IsWellFormed (suc k) (parts_of_signed x tt) × (set_of (less signer)).IsWellFormed (suc k) (behind_signed r)) ↔ (signed_parts (set_of (less signer))).IsWellFormed (suc k) r = signed_split (set_of (less signer)) (suc k) r in
+      (
+        λ w. subst (signed_data.IsWellFormed (suc k)) (sym (value_signed x)) (s.0 (subst ((signed_parts nothing).IsWellFormed (suc k)) e w.0, w.1)),
+        λ w. let d = s.1 (subst (signed_data.IsWellFormed (suc k)) (value_signed x) w) in (subst ((signed_parts nothing).IsWellFormed (suc k)) (sym e) d.0, d.1),
+      )
 
-pub signed_unformed : (k : ℕ) (p : SignedParts (List (Value signers))) → ((signed_parts nothing).IsWellFormed k (signed_end p tt) → ⊥) → signed_data.IsWellFormed k p → ⊥
-signed_unformed zero p n h = h
-signed_unformed (suc k) p n h = n ((signed_split (set_of (less signer)) (suc k) p).1 h).0
+  pub signed_unformed : (k : ℕ) → ((signed_parts nothing).IsWellFormed k h → ⊥) → IsTrue false ↔ signed_data.IsWellFormed k (signed_value x)
+  signed_unformed zero n = never (λ w. w)
+  signed_unformed (suc k) n = never (λ w. n ((signed_is k).1 w).0)
+
+  pub signed_formed : {k j : ℕ} {P : Type 0} → suc j ≡ k → (signed_parts nothing).IsWellFormed k h → P ↔ signer_infos.IsWellFormed j (signers_value (out-SignedData x).signers_infos) → P ↔ signed_data.IsWellFormed k (signed_value x)
+  signed_formed {k} {j} {P} n w p =
+      subst (λ i. P ↔ signed_data.IsWellFormed i (signed_value x)) n
+      (let v : (signed_parts nothing).IsWellFormed (suc j) h = subst (λ i. (signed_parts nothing).IsWellFormed i h) (sym n) w in
+      (λ q. (signed_is j).0 (v, p.0 q), λ q. p.1 ((signed_is j).1 q).1))
 
 -- the values of an attribute, of that kind
 abbrev Values : Type 0
@@ -73,7 +87,12 @@ pub of_kind : (k : ℕ) (i : Kind) (v : Values) → IsOfKind i v → values.IsWe
 of_kind k MsCounterSign (inl v) f = arm_formed (λ u. inl u) _ (λ a b e. cc) v
 of_kind k CounterSign (inr (inl v)) f = arm_formed (λ u. inr (inl u)) _ (λ a b e. cc) v
 of_kind k Foreign (inr (inr v)) f = arm_formed (λ u. inr (inr u)) _ (λ a b e. cc) v
-of_kind k i v f = absurd f
+of_kind k MsCounterSign (inr (inl v)) f = absurd f
+of_kind k MsCounterSign (inr (inr v)) f = absurd f
+of_kind k CounterSign (inl v) f = absurd f
+of_kind k CounterSign (inr (inr v)) f = absurd f
+of_kind k Foreign (inl v) f = absurd f
+of_kind k Foreign (inr (inl v)) f = absurd f
 
 pub not_of_kind : (k : ℕ) (i : Kind) (v : Values) → (IsOfKind i v → ⊥) → (values_row certificate (less signer) i).IsWellFormed k v → ⊥
 not_of_kind k MsCounterSign (inl v) n h = n tt
@@ -89,9 +108,9 @@ pub with_first : {P Q A : Type 0} → A → P ↔ Q → P ↔ (A × Q)
 with_first a p = (λ h. (a, p.0 h), λ h. p.1 h.1)
 
 -- signers a level down
-pub none_below : {k : ℕ} → k ≡ zero → {P : Type 0} {xs : List SignerInfo} → P ↔ (xs ≡ []) → P ↔ (set_of (less signer)).IsWellFormed k (map signer_value xs)
-none_below {k} e {P} {[]} p = (λ h. tt, λ h. p.1 refl)
-none_below {k} e {P} {x ∷ xs} p = (λ h. (let n = p.0 h in cc), λ h. absurd (subst (λ j. (less signer).IsWellFormed j (signer_value x)) e h.0))
+pub none_below : {k : ℕ} → k ≡ zero → {P : Type 0} (xs : List SignerInfo) → P ↔ (xs ≡ []) → P ↔ (set_of (less signer)).IsWellFormed k (map signer_value xs)
+none_below e [] p = (λ h. tt, λ h. p.1 refl)
+none_below e (x ∷ xs) p = (λ h. (let n = p.0 h in cc), λ h. absurd (subst (λ j. (less signer).IsWellFormed j (signer_value x)) e h.0))
 
-pub some_below : {k j : ℕ} → suc j ≡ k → {P : Type 0} {vs : List (Value signers)} → P ↔ (set_of signer).IsWellFormed j vs → P ↔ (set_of (less signer)).IsWellFormed k vs
-some_below {k} {j} e {P} {vs} p = subst (λ i. P ↔ (set_of (less signer)).IsWellFormed i vs) e p
+pub some_below : {k j : ℕ} → suc j ≡ k → {P : Type 0} (vs : List (Value signers)) → P ↔ (set_of signer).IsWellFormed j vs → P ↔ (set_of (less signer)).IsWellFormed k vs
+some_below {k} {j} e {P} vs p = subst (λ i. P ↔ (set_of (less signer)).IsWellFormed i vs) e p

@@ -4,5 +4,6 @@ pub mod Parts
 pub mod Rows
 pub mod Signers
 pub mod SignerLaws
+pub mod Heads
 pub mod SignerValues
 pub mod SignerLevels

@@ -1,17 +1,19 @@
 -- The values of signers, what they hold and signed data, level by level.
 use Rattle.std.specs.Prelude.{◌≡◌, ℕ, true, false, List, [], ◌∷◌, ◌++◌, map}
 use Rattle.std.proofs.Common.{refl, sym, ap, ◌∙◌, inl, inr, rules, append-nil}
-use Rattle.asn1_core.specs.Der.{octets_of, sequence, nothing}
+use Rattle.asn1_core.specs.Der.{octets_of, nothing}
 use Rattle.asn1_core.specs.declared.lists.Asn1SetOf.{Asn1SetOf}
 use Rattle.asn1_core.specs.declared.raw.Asn1RawDer.{Asn1RawDer}
+use Rattle.asn1_core_element.specs.Element.{element}
 use Rattle.asn1_nested.specs.EmptySets.{is_nil}
 use Rattle.asn1_core_format.specs.LevelLaws.{unroll_text}
 use Rattle.asn1_core_format.specs.Omitted.{text_unless}
-use Rattle.pkcs7_signed.specs.Parts.{SignerParts, signer_parts, SignedParts, ending}
+use Rattle.pkcs7_signed.specs.Heads.{elements, signer_parts_value, signed_parts_value, signer_head_text, signed_head_text}
+use Rattle.pkcs7_signed.specs.Parts.{SignerParts, signer_parts, SignedParts, signed_parts, ending}
 use Rattle.pkcs7_signed.specs.Rows.{signer_row}
-use Rattle.pkcs7_signed.specs.Signers.{Value, signers, attributes, certificates, signer_out, signer_into, certificate_out, certificate_into, attribute_out, attribute_into, still, step, signer, attribute, unsigned_attributes}
+use Rattle.pkcs7_signed.specs.Signers.{Value, signers, attributes, certificates, signer_out, signer_into, certificate_out, certificate_into, attribute_out, attribute_into, still, step, signer, attribute, signed_data, signer_infos, unsigned_attributes}
 use Rattle.pkcs7_signed.specs.SignerLaws.{signer_there, certificate_there, attribute_there, signer_step}
-use Rattle.pkcs7_signed.specs.SignerValues.{elements, signer_parts_value, signed_parts_value, values_value, certificate_value, signed_value, signer_value, signers_value, attribute_value, attributes_value}
+use Rattle.pkcs7_signed.specs.SignerValues.{values_value, certificate_value, signed_value, signer_value, signers_value, attribute_value, attributes_value}
 use Rattle.pkcs7_signed.specs.declared.signers.Pkcs7Certificate.{Pkcs7Certificate, out-Pkcs7Certificate}
 use Rattle.pkcs7_signed.specs.declared.signers.SignedData.{SignedData, out-SignedData}
 use Rattle.pkcs7_signed.specs.declared.signers.SignerInfo.{SignerInfo, out-SignerInfo}
@@ -76,13 +78,25 @@ out_signer x = ap signer_out (value_signer x) ∙ signer_there _
 text_signer : (x : SignerInfo) → (signer_row attribute).text (parts_of_signer x (attributes_in x, tt)) ≡ signer.text (signer_value x)
 text_signer x = ap (signer_row attribute).text (sym (out_signer x)) ∙ unroll_text {I = Unit {0}} {V = λ _. Value signers} still step signer_step tt (signer_value x)
 
-pub short_text : (x : SignerInfo) → attributes_in x ≡ [] → (sequence (signer_parts nothing)).text (parts_of_signer x tt) ≡ signer.text (signer_value x)
-short_text x e = ap (λ vs. (signer_row attribute).text (parts_of_signer x (vs, tt))) (sym e) ∙ text_signer x
+module _ (x : SignerInfo) {h : SignerParts (Unit {0})} (e : h ≡ parts_of_signer x tt) where
+  pub short_text : attributes_in x ≡ [] → element 0x30 ((signer_parts nothing).text h) ≡ signer.text (signer_value x)
+  short_text n = ap (λ p. element 0x30 ((signer_parts nothing).text p)) e ∙ ap (λ vs. (signer_row attribute).text (parts_of_signer x (vs, tt))) (sym n) ∙ text_signer x
 
-pub long_text : (x : SignerInfo) → is_nil (attributes_in x) ≡ false → (sequence (signer_parts unsigned_attributes)).text (parts_of_signer x (attributes_in x)) ≡ signer.text (signer_value x)
-long_text x e =
-    let t : List ℕ = unsigned_attributes.text (attributes_in x) in
-    ap (λ u. (sequence (signer_parts (ending u 0))).text (parts_of_signer x tt)) (sym (append-nil t) ∙ ap (λ b. text_unless b t ++ []) (sym e)) ∙ text_signer x
+  pub long_text : is_nil (attributes_in x) ≡ false → element 0x30 ((signer_parts nothing).text h ++ unsigned_attributes.text (attributes_in x)) ≡ signer.text (signer_value x)
+  long_text n =
+      let t : List ℕ = unsigned_attributes.text (attributes_in x) in
+      ap (λ p. element 0x30 ((signer_parts nothing).text p ++ t)) e
+      ∙ ap (λ u. element 0x30 ((signer_parts nothing).text (parts_of_signer x tt) ++ u)) (sym (append-nil t) ∙ ap (λ b. text_unless b t ++ []) (sym n))
+      ∙ ap (element 0x30) (signer_head_text (ending (text_unless (is_nil (attributes_in x)) t ++ []) 0) tt (parts_of_signer x tt))
+      ∙ text_signer x
+
+-- the text of signed data
+pub text_signed : (x : SignedData) {h : SignedParts (Unit {0})} → h ≡ parts_of_signed x tt → element 0x30 ((signed_parts nothing).text h ++ signer_infos.text (signers_value (out-SignedData x).signers_infos)) ≡ signed_data.text (signed_value x)
+text_signed x e =
+    let v : List (Value signers) = signers_value (out-SignedData x).signers_infos in
+    ap (λ p. element 0x30 ((signed_parts nothing).text p ++ signer_infos.text v)) e
+    ∙ ap (element 0x30) (signed_head_text signer_infos v (parts_of_signed x tt))
+    ∙ ap signed_data.text (sym (value_signed x))
 
 -- whether a signer has attributes
 pub none_in : (x : SignerInfo) → (out-UnsignedAttributes (out-SignerInfo x).unsigned_attrs.0).0.items ≡ [] → attributes_in x ≡ []

@@ -1,24 +1,10 @@
 -- The values that signers, what they hold and signed data stand for.
-use Rattle.std.specs.Prelude.{◌≡◌, ◌⊎◌, ℕ, List, map}
-use Rattle.std.proofs.Common.{ap, ◌∙◌, inl, inr, Vec, Global, Option, rules}
-use Rattle.asn1_core.specs.Der.{octets_of, option_value, ElementOctets}
-use Rattle.asn1_core.specs.declared.explicit.ExplicitContextTag0.{ExplicitContextTag0}
-use Rattle.asn1_core.specs.declared.lists.Asn1SetOf.{Asn1SetOf}
-use Rattle.asn1_core.specs.declared.objects.ObjectIdentifierAsn1.{ObjectIdentifierAsn1}
-use Rattle.asn1_core.specs.declared.octets.OctetStringAsn1.{OctetStringAsn1}
-use Rattle.asn1_core.specs.declared.containers.Optional.{Optional}
-use Rattle.asn1_core.specs.declared.raw.Asn1RawDer.{Asn1RawDer}
-use Rattle.pkcs7_content.specs.Contents.{encapsulated_value}
-use Rattle.pkcs7_content.specs.Versions.{number_of}
-use Rattle.pkcs7_content.specs.declared.contents.EncapsulatedContentInfo.{EncapsulatedContentInfo}
-use Rattle.pkcs7_content.specs.declared.versions.CmsVersion.{CmsVersion}
-use Rattle.x509_base.specs.AlgorithmParts.{algorithm_value}
-use Rattle.x509_base.specs.declared.algorithms.AlgorithmIdentifier.{AlgorithmIdentifier}
-use Rattle.pkcs7_signed.specs.Parts.{SignerParts, SignedParts}
+use Rattle.std.specs.Prelude.{List}
+use Rattle.std.proofs.Common.{inl, inr}
+use Rattle.asn1_core.specs.Der.{octets_of}
+use Rattle.pkcs7_signed.specs.Heads.{elements, signer_parts_value, signed_parts_value}
 use Rattle.pkcs7_signed.specs.Rows.{AttributeValues}
 use Rattle.pkcs7_signed.specs.Signers.{signers, attributes, certificates, Value, SignedValue, signer_into, certificate_into, attribute_into}
-use Rattle.pkcs7_signed.specs.declared.stand_ins.Elements0.{Elements0}
-use Rattle.pkcs7_signed.specs.declared.stand_ins.Elements1.{Elements1}
 use Rattle.pkcs7_signed.specs.declared.signers.Pkcs7Certificate.{Pkcs7Certificate, fold-Pkcs7Certificate}
 use Rattle.pkcs7_signed.specs.declared.signers.SignedData.{SignedData, fold-SignedData}
 use Rattle.pkcs7_signed.specs.declared.signers.SignerInfo.{SignerInfo, fold-SignerInfo}
@@ -27,16 +13,6 @@ use Rattle.pkcs7_signed.specs.declared.signers.UnsignedAttribute.{UnsignedAttrib
 use Rattle.pkcs7_signed.specs.declared.signers.UnsignedAttributes.{UnsignedAttributes, fold-UnsignedAttributes}
 use Rattle.pkcs7_signed.specs.declared.signers.UnsignedAttributeValue.{UnsignedAttributeValue, fold-UnsignedAttributeValue}
 use Rattle.pkcs7_signed.specs.declared.signers.UnsignedAttributeValue.TheOpen.{UnsignedAttributeValue-F, Pkcs7Certificate-F, SignedData-F, SignerInfo-F, SignersInfos-F, UnsignedAttribute-F, UnsignedAttributes-F}
-
--- the parts, and what stands behind them
-abbrev pub elements : Vec Asn1RawDer Global → List ElementOctets
-elements v = map (λ x. x.0.items) v.items
-
-abbrev pub signer_parts_value : {R : Type 0} → CmsVersion → Asn1RawDer → AlgorithmIdentifier → Elements0 → AlgorithmIdentifier → OctetStringAsn1 → R → SignerParts R
-signer_parts_value v s d a g o r = (number_of v, (s.0.items, (algorithm_value d, (elements a.0, (algorithm_value g, (o.0.items, r))))))
-
-abbrev pub signed_parts_value : {R : Type 0} → CmsVersion → Asn1SetOf AlgorithmIdentifier → EncapsulatedContentInfo → Elements0 → Option Elements1 → R → SignedParts R
-signed_parts_value v d i c l r = (number_of v, (map algorithm_value d.0.items, (encapsulated_value i, (elements c.0, (option_value (λ x. elements x.0) l, r)))))
 
 -- one step of each: the enum, and then the structs by name
 abbrev ValuesOf : Type 0

@@ -2,6 +2,7 @@
 #![tactic(auto)]
 
 pub mod checks;
+mod heads;
 mod oids;
 pub mod signers;
 pub mod stand_ins;

@@ -1,26 +1,25 @@
 //! Signers, what they hold, and signed data: their types, and how these are read, written and tested.
 
-ghost use Rattle.std.specs.Prelude.{◌≡◌, ◌↔◌, ℕ, IsTrue, List, map, false};
+ghost use Rattle.std.specs.Prelude.{◌≡◌, ◌↔◌, ℕ, IsTrue, List, [], map, false};
 ghost use Rattle.asn1_core_oid.specs.OidValue.{octets_of};
 ghost use Rattle.asn1_core_format.specs.Levels.{less};
 ghost use Rattle.pkcs7_signed.specs.Parts.{set_of};
 ghost use Rattle.pkcs7_signed.specs.Rows.{AttributeValues, kind_of, IsOfKind};
-ghost use Rattle.pkcs7_signed.specs.Oids.{signed_data_oid};
+ghost use Rattle.pkcs7_signed.specs.Heads.{signer_head_value, signed_head_value};
+ghost use Rattle.pkcs7_signed.specs.SignerLevels.{parts_of_signer, parts_of_signed};
 ghost use Rattle.pkcs7_signed.specs.Signers.{Value, signers, attributes, certificates, SignedValue, signer, attribute, certificate, signed_data, signer_infos, unsigned_attributes, values};
 ghost use Rattle.pkcs7_signed.specs.SignerValues.{signer_value, signers_value, attribute_value, attributes_value, values_value, certificate_value, signed_value};
 
 use crate::oids::{COUNTERSIGNATURE, MS_COUNTER_SIGN, SIGNED_DATA};
 use crate::stand_ins::{Elements0, Elements1};
-use asn1_core::parts::{
-    Alone, End, Maybe, Part, WriteError, WriteRow, Writer, put_within,
-};
+use crate::heads::{SignedHead, SignerHead};
+use asn1_core::parts::{Alone, Part, WriteError, WriteRow, Writer, put_within};
 use asn1_core::{
-    Asn1RawDer, Asn1SetOf, DerSerialize, Error, ExplicitContextTag0, ObjectIdentifierAsn1,
-    OctetStringAsn1, Optional, Reader,
+    Asn1RawDer, Asn1SetOf, DerSerialize, ExplicitContextTag0, ObjectIdentifier,
+    ObjectIdentifierAsn1, OctetStringAsn1, Optional,
 };
-use asn1_nested::OmittedRef;
+use asn1_core_oid::is_oid_of;
 use pkcs7_content::{CmsVersion, EncapsulatedContentInfo};
-use std::alloc::Global;
 use x509_base::AlgorithmIdentifier;
 
 /// `SignerInfo ::= SEQUENCE { version CMSVersion, sid SignerIdentifier, digestAlgorithm DigestAlgorithmIdentifier,
@@ -115,11 +114,40 @@ impl Kind {
     }
 }
 
-/// Whether these are the contents octets of `id-signedData`.
-fn is_signed_data(oid: &[u8]) -> bool
-    ensures { IsTrue result ↔ (oid.now ≡ signed_data_oid) }
+/// Whether there are no items.
+fn is_none<T>(items: &Vec<T>) -> bool
+    ensures { IsTrue result ↔ (items.now.items ≡ []) }
 {
-    oid == SIGNED_DATA.as_slice()
+    items.is_empty()
+}
+
+impl SignerInfo {
+    fn head(&self) -> SignerHead<'_>
+        ensures { signer_head_value result ≡ parts_of_signer self.now tt }
+    {
+        SignerHead {
+            version: self.version,
+            sid: &self.sid,
+            digest_algorithm: &self.digest_algorithm,
+            signed_attrs: &self.signed_attrs.0,
+            signature_algorithm: &self.signature_algorithm,
+            signature: &self.signature,
+        }
+    }
+}
+
+impl SignedData {
+    fn head(&self) -> SignedHead<'_>
+        ensures { signed_head_value result ≡ parts_of_signed self.now tt }
+    {
+        SignedHead {
+            version: self.version,
+            digest_algorithms: &self.digest_algorithms,
+            content_info: &self.content_info,
+            certificates: &self.certificates.0,
+            crls: &self.crls,
+        }
+    }
 }
 
 impl DerSerialize for SignerInfo {
@@ -131,25 +159,15 @@ impl DerSerialize for SignerInfo {
 
     #[cycle(put)]
     fn put<W: Writer>(&self, w: &mut W) -> Result<(), WriteError> {
-        if self.unsigned_attrs.0.0.is_empty() {
-            let signature = Part(&self.signature_algorithm, Part(&self.signature, End));
-            let signed = OmittedRef(&self.signed_attrs.0, signature);
-            let row = Part(self.version, Part(&self.sid, Part(&self.digest_algorithm, signed)));
-            return put_within(0x30, &row, w);
+        if is_none(&self.unsigned_attrs.0.0) {
+            return put_within(0x30, &Alone(self.head()), w);
         }
-        let unsigned = Alone(&self.unsigned_attrs.0);
-        let signature = Part(&self.signature_algorithm, Part(&self.signature, unsigned));
-        let signed = OmittedRef(&self.signed_attrs.0, signature);
-        let row = Part(self.version, Part(&self.sid, Part(&self.digest_algorithm, signed)));
-        put_within(0x30, &row, w)
+        put_within(0x30, &Part(self.head(), Alone(&self.unsigned_attrs.0)), w)
     }
 
     #[cycle(formed)]
     fn well_formed_at(&self, limit: u8) -> bool {
-        let signature = Part(&self.signature_algorithm, Part(&self.signature, End));
-        let signed = OmittedRef(&self.signed_attrs.0, signature);
-        let row = Part(self.version, Part(&self.sid, Part(&self.digest_algorithm, signed)));
-        if !row.row_well_formed_at(limit) {
+        if !self.head().well_formed_at(limit) {
             return false;
         }
         self.unsigned_attrs.0.well_formed_at(limit)
@@ -211,7 +229,7 @@ impl DerSerialize for UnsignedAttribute {
 
     #[cycle(formed)]
     fn well_formed_at(&self, limit: u8) -> bool {
-        if !self.value.fits(Kind::with_oid(self.ty.0.octets())) {
+        if !self.value.fits(&self.ty.0) {
             return false;
         }
         self.value.well_formed_at(limit)
@@ -260,7 +278,7 @@ impl DerSerialize for Pkcs7Certificate {
 
     #[cycle(formed)]
     fn well_formed_at(&self, limit: u8) -> bool {
-        if !is_signed_data(self.oid.0.octets()) {
+        if !is_oid_of(&self.oid.0, &SIGNED_DATA) {
             return false;
         }
         self.signed_data.0.well_formed_at(limit)
@@ -276,11 +294,7 @@ impl DerSerialize for SignedData {
 
     #[cycle(put)]
     fn put<W: Writer>(&self, w: &mut W) -> Result<(), WriteError> {
-        let crls = Maybe(self.crls.as_ref(), Alone(&self.signers_infos));
-        let certificates = OmittedRef(&self.certificates.0, crls);
-        let content = Part(&self.content_info, certificates);
-        let row = Part(self.version, Part(&self.digest_algorithms, content));
-        put_within(0x30, &row, w)
+        put_within(0x30, &Part(self.head(), Alone(&self.signers_infos)), w)
     }
 
     #[cycle(formed)]
@@ -288,10 +302,7 @@ impl DerSerialize for SignedData {
         if limit == 0 {
             return false;
         }
-        let certificates = OmittedRef(&self.certificates.0, Maybe(self.crls.as_ref(), End));
-        let content = Part(&self.content_info, certificates);
-        let row = Part(self.version, Part(&self.digest_algorithms, content));
-        if !row.row_well_formed_at(limit) {
+        if !self.head().well_formed_at(limit) {
             return false;
         }
         self.signers_infos.well_formed_at(limit - 1)
@@ -299,10 +310,11 @@ impl DerSerialize for SignedData {
 }
 
 impl UnsignedAttributeValue {
-    /// Whether these are values of that kind.
-    fn fits(&self, kind: Kind) -> bool
-        ensures { IsTrue result ↔ IsOfKind kind (values_value self.now) }
+    /// Whether these are what the object identifier says.
+    fn fits(&self, oid: &ObjectIdentifier) -> bool
+        ensures { IsTrue result ↔ IsOfKind (kind_of (octets_of oid.now)) (values_value self.now) }
     {
+        let kind = Kind::with_oid(oid.octets());
         match self {
             UnsignedAttributeValue::MsCounterSign(_) => kind == Kind::MsCounterSign,
             UnsignedAttributeValue::CounterSign(_) => kind == Kind::CounterSign,
@@ -330,7 +342,7 @@ pub(crate) fn signers_formed_below(set: &Asn1SetOf<SignerInfo>, limit: u8) -> bo
     ensures { IsTrue result ↔ (set_of (less signer)).IsWellFormed limit (map signer_value set.now.0.items) }
 {
     if limit == 0 {
-        return set.0.is_empty();
+        return is_none(&set.0);
     }
     signers_formed_at(set, limit - 1)
 }

@@ -1,18 +1,19 @@
 use Rattle.std.proofs.Common.{map, sym, ap, ◌∙◌, subst, rules}
+use Rattle.std.proofs.lemmas.Bool.{iff_false}
 use Rattle.asn1_core_format.specs.Levels.{less}
 use Rattle.pkcs7_signed.specs.Rows.{attribute_row, certificate_row}
 use Rattle.pkcs7_signed.specs.Signers.{signer, attribute, certificate, signed_data, signer_infos, unsigned_attributes, values}
-use Rattle.pkcs7_signed.specs.SignerLevels.{value_ms_counter_sign, value_counter_sign, value_unknown, value_signers, value_attributes, value_signed, out_certificate, out_attribute, short_text, long_text, none_in, some_in}
+use Rattle.pkcs7_signed.specs.SignerLevels.{value_ms_counter_sign, value_counter_sign, value_unknown, value_signers, value_attributes, text_signed, out_certificate, out_attribute, short_text, long_text, none_in, some_in}
 use Rattle.pkcs7_signed.specs.SignerValues.{values_value}
 use Rattle.pkcs7_signed.proofs.signers.+put.Goals as goal
 
-pub SignerInfoDerSerialize::put-returns-then-is_empty : goal.SignerInfoDerSerialize::put-returns-then-is_empty
-SignerInfoDerSerialize::put-returns-then-is_empty g m c =
-    subst (λ t. g.W.Writer.Takes t c.args.w.now c.put_within.new.w c.put_within.result) (short_text c.args.self.now (none_in c.args.self.now (c.is_empty.ensures.0 c.if-is_empty.true))) c.put_within.ensures.text
+pub SignerInfoDerSerialize::put-returns-then-is_none : goal.SignerInfoDerSerialize::put-returns-then-is_none
+SignerInfoDerSerialize::put-returns-then-is_none g m c =
+    subst (λ t. g.W.Writer.Takes t c.args.w.now c.put_within.new.w c.put_within.result) (short_text c.args.self.now c.head.ensures (none_in c.args.self.now (c.is_none.ensures.0 c.if-is_none.true))) c.put_within.ensures.text
 
 pub SignerInfoDerSerialize::put-returns : goal.SignerInfoDerSerialize::put-returns
 SignerInfoDerSerialize::put-returns g m c =
-    subst (λ t. g.W.Writer.Takes t c.args.w.now c.put_within-2.new.w c.put_within-2.result) (long_text c.args.self.now (some_in c.args.self.now (λ e. search rules))) c.put_within-2.ensures.text
+    subst (λ t. g.W.Writer.Takes t c.args.w.now c.put_within-2.new.w c.put_within-2.result) (long_text c.args.self.now c.head-2.ensures (some_in c.args.self.now (iff_false c.is_none.ensures c.if-is_none.false))) c.put_within-2.ensures.text
 
 pub SignersInfosDerSerialize::put-returns : goal.SignersInfosDerSerialize::put-returns
 SignersInfosDerSerialize::put-returns g m c =
@@ -44,4 +45,4 @@ Pkcs7CertificateDerSerialize::put-returns g m c =
 
 pub SignedDataDerSerialize::put-returns : goal.SignedDataDerSerialize::put-returns
 SignedDataDerSerialize::put-returns g m c =
-    subst (λ v. g.W.Writer.Takes (signed_data.text v) c.args.w.now c.put_within.new.w c.put_within.result) (sym (value_signed c.args.self.now)) c.put_within.ensures.text
+    subst (λ t. g.W.Writer.Takes t c.args.w.now c.put_within.new.w c.put_within.result) (text_signed c.args.self.now c.head.ensures) c.put_within.ensures.text
