@@ -1,1 +1,2 @@
 pub mod SignerTests
+pub mod SignerReads

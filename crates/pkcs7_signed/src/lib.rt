@@ -4,6 +4,7 @@
 pub mod checks;
 mod heads;
 mod oids;
+mod reading;
 pub mod signers;
 pub mod stand_ins;
 

@@ -1,0 +1,77 @@
+-- Reading signers, what they hold and signed data, one level of them.
+use Rattle.std.proofs.Common.{◌≡◌, ℕ, zero, suc, List, map, Vec, Global, Option, ap, ◌∙◌, subst, rules}
+use Rattle.asn1_core.specs.Der.{octets_of}
+use Rattle.asn1_core.specs.declared.objects.ObjectIdentifierAsn1.{ObjectIdentifierAsn1}
+use Rattle.asn1_core.specs.declared.octets.OctetStringAsn1.{OctetStringAsn1}
+use Rattle.asn1_core.specs.declared.raw.Asn1RawDer.{Asn1RawDer}
+use Rattle.asn1_core.specs.declared.lists.Asn1SetOf.{Asn1SetOf}
+use Rattle.asn1_core_element.specs.Position.{Position}
+use Rattle.asn1_core_element.specs.declared.error.Error.{Error}
+use Rattle.asn1_core_format.specs.Format.{Took, GaveUp}
+use Rattle.asn1_core_format.specs.Levels.{less}
+use Rattle.asn1_core_format.specs.Rows.{TookRow, GaveUpRow}
+use Rattle.asn1_core_format.proofs.LevelReads.{took_level, refused_level, took_rolled, refused_rolled}
+use Rattle.pkcs7_content.specs.declared.contents.EncapsulatedContentInfo.{EncapsulatedContentInfo}
+use Rattle.pkcs7_content.specs.declared.versions.CmsVersion.{CmsVersion}
+use Rattle.x509_base.specs.declared.algorithms.AlgorithmIdentifier.{AlgorithmIdentifier}
+use Rattle.pkcs7_signed.specs.Rows.{signer_row, certificate_row, attribute_row, AttributeValues, kind_of, values_row}
+use Rattle.pkcs7_signed.specs.Signers.{Value, signers, attributes, certificates, signer_out, signer_into, certificate_out, certificate_into, attribute_out, attribute_into, still, step, signer, attribute, certificate}
+use Rattle.pkcs7_signed.specs.SignerLaws.{signer_there, certificate_there, attribute_there, signer_step}
+use Rattle.pkcs7_signed.specs.Heads.{signer_parts_value, signed_parts_value}
+use Rattle.pkcs7_signed.specs.SignerValues.{signer_value, attribute_value, values_value, certificate_value, signed_value}
+use Rattle.pkcs7_signed.specs.declared.signers.Pkcs7Certificate.{roll-Pkcs7Certificate}
+use Rattle.pkcs7_signed.specs.declared.stand_ins.Elements0.{Elements0}
+use Rattle.pkcs7_signed.specs.declared.stand_ins.Elements1.{Elements1}
+use Rattle.pkcs7_signed.specs.declared.signers.SignedData.{SignedData, roll-SignedData}
+use Rattle.pkcs7_signed.specs.declared.signers.SignerInfo.{SignerInfo, roll-SignerInfo}
+use Rattle.pkcs7_signed.specs.declared.signers.SignersInfos.{roll-SignersInfos}
+use Rattle.pkcs7_signed.specs.declared.signers.UnsignedAttribute.{UnsignedAttribute, roll-UnsignedAttribute}
+use Rattle.pkcs7_signed.specs.declared.signers.UnsignedAttributeValue.{UnsignedAttributeValue}
+use Rattle.pkcs7_signed.specs.declared.signers.UnsignedAttributes.{roll-UnsignedAttributes}
+use Rattle.pkcs7_signed.specs.declared.signers.UnsignedAttributeValue.TheFolds.{the_lemmas}
+
+module _ (k : ℕ) {old new : Position} where
+  pub signer_took : (v : Value signers) → Took (signer_row attribute) k old new (signer_out v) → Took signer k old new v
+  signer_took v t = took_level {I = Unit {0}} {V = λ _. Value signers} still step signer_step tt k (took_rolled signer_out signer_into (signer_row attribute) k v t)
+
+  pub signer_refused : {e : Error} → GaveUp (signer_row attribute) k old new e → GaveUp signer k old new e
+  signer_refused g = refused_level {I = Unit {0}} {V = λ _. Value signers} still step signer_step tt k (refused_rolled signer_out signer_into (signer_row attribute) k g)
+
+  pub attribute_took : (v : Value attributes) → Took (attribute_row certificate (less signer)) k old new (attribute_out v) → Took attribute k old new v
+  attribute_took v t = took_rolled attribute_out attribute_into (attribute_row certificate (less signer)) k v t
+
+  pub attribute_refused : {e : Error} → GaveUp (attribute_row certificate (less signer)) k old new e → GaveUp attribute k old new e
+  attribute_refused g = refused_rolled attribute_out attribute_into (attribute_row certificate (less signer)) k g
+
+  pub certificate_took : (v : Value certificates) → Took (certificate_row (less signer)) k old new (certificate_out v) → Took certificate k old new v
+  certificate_took v t = took_rolled certificate_out certificate_into (certificate_row (less signer)) k v t
+
+  pub certificate_refused : {e : Error} → GaveUp (certificate_row (less signer)) k old new e → GaveUp certificate k old new e
+  certificate_refused g = refused_rolled certificate_out certificate_into (certificate_row (less signer)) k g
+
+-- what was read
+pub made_signer : (v : CmsVersion) (s : Asn1RawDer) (d : AlgorithmIdentifier) (a : Elements0) (g : AlgorithmIdentifier) (o : OctetStringAsn1) (us : Vec UnsignedAttribute Global) → signer_out (signer_value (roll-SignerInfo record { version = v; sid = s; digest_algorithm = d; signed_attrs = record { 0 = a }; signature_algorithm = g; signature = o; unsigned_attrs = record { 0 = roll-UnsignedAttributes record { 0 = us } } })) ≡ signer_parts_value v s d a g o (map attribute_value us.items, tt)
+made_signer v s d a g o us =
+    let e : signer_value (roll-SignerInfo record { version = v; sid = s; digest_algorithm = d; signed_attrs = record { 0 = a }; signature_algorithm = g; signature = o; unsigned_attrs = record { 0 = roll-UnsignedAttributes record { 0 = us } } }) ≡ signer_into (signer_parts_value v s d a g o (map attribute_value us.items, tt)) = search (rules, the_lemmas) in
+    ap signer_out e ∙ signer_there _
+
+pub made_signed : (v : CmsVersion) (d : Asn1SetOf AlgorithmIdentifier) (i : EncapsulatedContentInfo) (c : Elements0) (l : Option Elements1) (s : Asn1SetOf SignerInfo) → signed_value (roll-SignedData record { version = v; digest_algorithms = d; content_info = i; certificates = record { 0 = c }; crls = l; signers_infos = roll-SignersInfos record { 0 = s } }) ≡ signed_parts_value v d i c l (map signer_value s.0.items)
+made_signed v d i c l s = search (rules, the_lemmas)
+
+pub made_certificate : (o : ObjectIdentifierAsn1) (s : SignedData) → certificate_out (certificate_value (roll-Pkcs7Certificate record { oid = o; signed_data = record { 0 = s } })) ≡ (octets_of o.0, signed_value s)
+made_certificate o s =
+    let e : certificate_value (roll-Pkcs7Certificate record { oid = o; signed_data = record { 0 = s } }) ≡ certificate_into (octets_of o.0, signed_value s) = search (rules, the_lemmas) in
+    ap certificate_out e ∙ certificate_there _
+
+pub made_attribute : (o : ObjectIdentifierAsn1) (v : UnsignedAttributeValue) → attribute_out (attribute_value (roll-UnsignedAttribute record { ty = o; value = v })) ≡ (octets_of o.0, values_value v)
+made_attribute o v =
+    let e : attribute_value (roll-UnsignedAttribute record { ty = o; value = v }) ≡ attribute_into (octets_of o.0, values_value v) = search (rules, the_lemmas) in
+    ap attribute_out e ∙ attribute_there _
+
+-- the values of an attribute, by the octets of its object identifier
+module _ {o p : List ℕ} (e : o ≡ p) {k : ℕ} {old new : Position} where
+  pub at_octets : {v : AttributeValues (Value certificates) (Value signers)} → TookRow (values_row certificate (less signer) (kind_of o)) k old new v → TookRow (values_row certificate (less signer) (kind_of p)) k old new v
+  at_octets {v} t = subst (λ q. TookRow (values_row certificate (less signer) (kind_of q)) k old new v) e t
+
+  pub refused_at_octets : {x : Error} → GaveUpRow (values_row certificate (less signer) (kind_of o)) k old new x → GaveUpRow (values_row certificate (less signer) (kind_of p)) k old new x
+  refused_at_octets {x} g = subst (λ q. GaveUpRow (values_row certificate (less signer) (kind_of q)) k old new x) e g

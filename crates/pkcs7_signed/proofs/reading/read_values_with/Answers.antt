@@ -1,0 +1,51 @@
+use Rattle.std.proofs.Common.{map, sym, ap, ◌∙◌, subst, refl, inl, inr, rules}
+use Rattle.std.proofs.lemmas.Result.{err_from_is_err_and}
+use Rattle.asn1_core.specs.Der.{raw}
+use Rattle.asn1_core_format.proofs.LevelReads.{gave_row}
+use Rattle.asn1_core_format.specs.Levels.{less}
+use Rattle.asn1_core_format.specs.Rows.{TookRow}
+use Rattle.asn1_defined_by.proofs.DefinedByReads.{arm_took, arm_refused, took_at, refused_at}
+use Rattle.asn1_defined_by.specs.DefinedByLaws.{itself}
+use Rattle.pkcs7_signed.specs.Parts.{set_of}
+use Rattle.pkcs7_signed.specs.Rows.{kind_of, values_row}
+use Rattle.pkcs7_signed.specs.Signers.{signer, certificate, values}
+use Rattle.pkcs7_signed.specs.SignerLaws.{lawful_signer, lawful_certificate}
+use Rattle.pkcs7_signed.specs.SignerLevels.{value_ms_counter_sign, value_counter_sign, value_unknown}
+use Rattle.pkcs7_signed.specs.SignerValues.{values_value}
+use Rattle.pkcs7_signed.proofs.reading.read_values_with.Goals as goal
+
+pub read_set_with-requires-clause-lawful : goal.read_set_with-requires-clause-lawful
+read_set_with-requires-clause-lawful g c = lawful_certificate
+
+pub read_set_below_with-requires-clause-lawful : goal.read_set_below_with-requires-clause-lawful
+read_set_below_with-requires-clause-lawful g c = lawful_signer
+
+pub returns-in_err-certificates-in-MsCounterSign : goal.returns-in_err-certificates-in-MsCounterSign
+returns-in_err-certificates-in-MsCounterSign g c =
+    gave_row values_value (values_row certificate (less signer) (kind_of c.args.oid.now)) c.args.nest (err_from_is_err_and c.from_residual.result c.from_residual.ensures.1)
+    (refused_at (values_row certificate (less signer)) (sym c.in-MsCounterSign.is ∙ c.with_oid.ensures) (arm_refused values _ (set_of certificate) c.in_err-certificates.ensures))
+
+pub returns-in_err-signers-in-CounterSign : goal.returns-in_err-signers-in-CounterSign
+returns-in_err-signers-in-CounterSign g c =
+    gave_row values_value (values_row certificate (less signer) (kind_of c.args.oid.now)) c.args.nest (err_from_is_err_and c.from_residual-in_err-signers.result c.from_residual-in_err-signers.ensures.1)
+    (refused_at (values_row certificate (less signer)) (sym c.in-CounterSign.is ∙ c.with_oid.ensures) (arm_refused values _ (set_of (less signer)) c.in_err-signers.ensures))
+
+pub returns-in_err-elements-in-Foreign : goal.returns-in_err-elements-in-Foreign
+returns-in_err-elements-in-Foreign g c =
+    gave_row values_value (values_row certificate (less signer) (kind_of c.args.oid.now)) c.args.nest (err_from_is_err_and c.from_residual-in_err-elements.result c.from_residual-in_err-elements.ensures.1)
+    (refused_at (values_row certificate (less signer)) (sym c.in-Foreign.is ∙ c.with_oid.ensures) (arm_refused values _ (set_of raw) c.in_err-elements.ensures))
+
+pub returns-in_ok-certificates-in-MsCounterSign : goal.returns-in_ok-certificates-in-MsCounterSign
+returns-in_ok-certificates-in-MsCounterSign g c =
+    subst (TookRow (values_row certificate (less signer) (kind_of c.args.oid.now)) c.args.nest c.args.r.now c.read_set_with.new.r) (sym (value_ms_counter_sign _))
+    (took_at (values_row certificate (less signer)) (sym c.in-MsCounterSign.is ∙ c.with_oid.ensures) (arm_took values _ (set_of certificate) (itself (λ a. refl) (λ a. refl) (λ a. refl)) c.in_ok-certificates.ensures))
+
+pub returns-in_ok-signers-in-CounterSign : goal.returns-in_ok-signers-in-CounterSign
+returns-in_ok-signers-in-CounterSign g c =
+    subst (TookRow (values_row certificate (less signer) (kind_of c.args.oid.now)) c.args.nest c.args.r.now c.read_set_below_with.new.r) (sym (value_counter_sign _))
+    (took_at (values_row certificate (less signer)) (sym c.in-CounterSign.is ∙ c.with_oid.ensures) (arm_took values _ (set_of (less signer)) (itself (λ a. refl) (λ a. refl) (λ a. refl)) c.in_ok-signers.ensures))
+
+pub returns-in_ok-elements-in-Foreign : goal.returns-in_ok-elements-in-Foreign
+returns-in_ok-elements-in-Foreign g c =
+    subst (TookRow (values_row certificate (less signer) (kind_of c.args.oid.now)) c.args.nest c.args.r.now c.read_row.new.r) (sym (value_unknown _))
+    (took_at (values_row certificate (less signer)) (sym c.in-Foreign.is ∙ c.with_oid.ensures) (arm_took values _ (set_of raw) (itself (λ a. refl) (λ a. refl) (λ a. refl)) c.in_ok-elements.ensures))

@@ -1,0 +1,388 @@
+//! How signers, what they hold and signed data are read. Each signer a level down is read by a closure, which only the
+//! signer's own `read` makes; so all else stands outside of the recursion.
+
+ghost use Rattle.std.specs.Prelude.{◌≡◌, ◌<◌, ℕ, List, map, false};
+ghost use Rattle.std.proofs.Common.{arith};
+ghost use Rattle.asn1_core_format.specs.Calls.{MayBelow, GivesBelow};
+ghost use Rattle.asn1_nested.specs.EmptySets.{set_or_none};
+ghost use Rattle.asn1_core_format.specs.Format.{Gives};
+ghost use Rattle.asn1_core_format.specs.Leaf.{kept};
+ghost use Rattle.asn1_core_format.specs.Levels.{less};
+ghost use Rattle.asn1_core_format.specs.Rows.{GivesRow, within};
+ghost use Rattle.asn1_core_oid.specs.OidValue.{octets_of};
+ghost use Rattle.pkcs7_signed.specs.Oids.{signed_data_oid};
+ghost use Rattle.pkcs7_signed.specs.Parts.{set_of, only_oid, lawful_only_oid};
+ghost use Rattle.pkcs7_signed.specs.Rows.{kind_of, values_row};
+ghost use Rattle.pkcs7_signed.specs.SignerLaws.{lawful_signer, lawful_attribute, lawful_certificate, lawful_signed_data, lawful_signer_infos, lawful_unsigned_attributes};
+ghost use Rattle.pkcs7_signed.specs.SignerValues.{signer_value, attribute_value, values_value, certificate_value, signed_value};
+ghost use Rattle.pkcs7_signed.specs.Signers.{Value, signers, signer, attribute, certificate, signed_data};
+
+use crate::oids::SIGNED_DATA;
+use crate::signers::{
+    Kind, Pkcs7Certificate, SignedData, SignerInfo, SignersInfos, UnsignedAttribute,
+    UnsignedAttributeValue, UnsignedAttributes, signers_formed_below,
+};
+use crate::stand_ins::{Elements0, Elements1};
+use asn1_core::parts::{
+    Alone, Leaf, Maybe, Omitted, Part, ReadRow, TagsApart, WriteError, WriteRow, Writer, read_leaf,
+    read_within,
+};
+use asn1_core::{
+    Asn1RawDer, Asn1SetOf, DerDeserialize, DerSerialize, Error, ExplicitContextTag0, ObjectIdentifier,
+    ObjectIdentifierAsn1, OctetStringAsn1, Optional, Reader,
+};
+use asn1_core_element::element::open_element;
+use asn1_nested::{
+    SetOrNone, Tail, read_row_within_with, read_set_below_with, read_set_or_none_with, read_set_with,
+};
+use pkcs7_content::{CmsVersion, EncapsulatedContentInfo};
+use std::alloc::Global;
+use x509_base::AlgorithmIdentifier;
+
+/// `id-signedData` as the only object identifier.
+#[derive(Drop)]
+struct SignedDataType(ObjectIdentifierAsn1);
+
+impl Leaf for SignedDataType {
+    ghost Value = { List ℕ };
+
+    ghost value = { λ x. octets_of x.0.0 };
+
+    ghost spelling = { kept (λ c. c ≡ signed_data_oid) };
+
+    fn from_contents(alloc: Global, contents: &[u8]) -> Result<Self, Error> {
+        if contents != SIGNED_DATA.as_slice() {
+            return Err(Error::Invalid);
+        }
+        let oid = ObjectIdentifier::from_octets(alloc, contents)?;
+        Ok(SignedDataType(ObjectIdentifierAsn1(oid)))
+    }
+}
+
+impl DerSerialize for SignedDataType {
+    ghost Value = { List ℕ };
+
+    ghost value = { λ x. octets_of x.0.0 };
+
+    ghost format = { only_oid signed_data_oid };
+
+    fn put<W: Writer>(&self, w: &mut W) -> Result<(), WriteError> {
+        self.0.put(w)
+    }
+
+    fn well_formed_at(&self, _limit: u8) -> bool {
+        self.0.0.octets() == SIGNED_DATA.as_slice()
+    }
+}
+
+impl DerDeserialize for SignedDataType {
+    fn read(alloc: Global, r: &mut Reader<'_>, nest: u8) -> Result<Self, Error> {
+        read_leaf(alloc, r, nest, 0x06)
+    }
+
+    ghost lawful = { lawful_only_oid signed_data_oid };
+}
+
+/// Signers a level down, at the end of signed data.
+#[derive(Drop)]
+struct SignersBelow(Asn1SetOf<SignerInfo>);
+
+impl WriteRow for SignersBelow {
+    ghost Value = { List (Value signers) };
+
+    ghost value = { λ x. map signer_value x.0.0.items };
+
+    ghost format = { set_of (less signer) };
+
+    fn put_row<W: Writer>(&self, w: &mut W) -> Result<(), WriteError> {
+        self.0.put(w)
+    }
+
+    fn row_well_formed_at(&self, limit: u8) -> bool {
+        signers_formed_below(&self.0, limit)
+    }
+}
+
+impl TagsApart<Tail<SignersBelow>> for Elements0 {
+    ghost apart = { λ t h e. Prim.omega arith };
+}
+
+impl TagsApart<Tail<SignersBelow>> for Elements1 {
+    ghost apart = { λ t h e. Prim.omega arith };
+}
+
+type SignerTail = Part<AlgorithmIdentifier, Part<OctetStringAsn1, Tail<SetOrNone<UnsignedAttribute>>>>;
+
+type SignerParts = Part<CmsVersion, Part<Asn1RawDer, Part<AlgorithmIdentifier, Omitted<Elements0, SignerTail>>>>;
+
+type SignedTail = Omitted<Elements0, Maybe<Elements1, Tail<SignersBelow>>>;
+
+type SignedParts = Part<CmsVersion, Part<Asn1SetOf<AlgorithmIdentifier>, Part<EncapsulatedContentInfo, SignedTail>>>;
+
+type Held = Alone<ExplicitContextTag0<SignedData>>;
+
+/// Reads a signer.
+fn read_signer_with<F: Fn(&mut Reader<'_>, u8) -> Result<SignerInfo, Error>>(
+    alloc: Global,
+    r: &mut Reader<'_>,
+    nest: u8,
+    by: &F,
+) -> Result<SignerInfo, Error>
+    requires sound { r.old.refused ≡ false }
+    requires called { MayBelow (F.pre by.now) nest }
+    requires gives { GivesBelow (F.post by.now) signer_value signer nest }
+    ensures { Gives signer_value signer nest r.old r.new result }
+{
+    let row = read_row_within_with::<SignerParts, _, _>(alloc, r, nest, 0x30, &|s: &mut Reader<'_>|
+        requires sound { s.old.refused ≡ false }
+        requires called { MayBelow (F.pre by.now) nest }
+        requires gives { GivesBelow (F.post by.now) signer_value signer nest }
+        ensures { GivesRow (λ x. (map attribute_value x.0.items, tt)) (set_or_none 0xA1 attribute) nest s.old s.new result }
+    { read_unsigned_with(alloc, s, nest, by) })?;
+    let Part(version, Part(sid, Part(digest_algorithm, Omitted(signed, rest)))) = row;
+    let Part(signature_algorithm, Part(signature, Tail(SetOrNone(unsigned)))) = rest;
+    Ok(SignerInfo {
+        version,
+        sid,
+        digest_algorithm,
+        signed_attrs: Optional(signed),
+        signature_algorithm,
+        signature,
+        unsigned_attrs: Optional(UnsignedAttributes(unsigned)),
+    })
+}
+
+/// Reads unsigned attributes, or none, at the end of a signer.
+fn read_unsigned_with<F: Fn(&mut Reader<'_>, u8) -> Result<SignerInfo, Error>>(
+    alloc: Global,
+    r: &mut Reader<'_>,
+    nest: u8,
+    by: &F,
+) -> Result<SetOrNone<UnsignedAttribute>, Error>
+    requires sound { r.old.refused ≡ false }
+    requires called { MayBelow (F.pre by.now) nest }
+    requires gives { GivesBelow (F.post by.now) signer_value signer nest }
+    ensures { GivesRow (λ x. (map attribute_value x.0.items, tt)) (set_or_none 0xA1 attribute) nest r.old r.new result }
+{
+    read_set_or_none_with(alloc, r, nest, &|s: &mut Reader<'_>|
+        requires sound { s.old.refused ≡ false }
+        requires called { MayBelow (F.pre by.now) nest }
+        requires gives { GivesBelow (F.post by.now) signer_value signer nest }
+        ensures { Gives attribute_value attribute nest s.old s.new result }
+    { read_attribute_with(alloc, s, nest, by) })
+}
+
+/// Reads an unsigned attribute.
+fn read_attribute_with<F: Fn(&mut Reader<'_>, u8) -> Result<SignerInfo, Error>>(
+    alloc: Global,
+    r: &mut Reader<'_>,
+    nest: u8,
+    by: &F,
+) -> Result<UnsignedAttribute, Error>
+    requires sound { r.old.refused ≡ false }
+    requires called { MayBelow (F.pre by.now) nest }
+    requires gives { GivesBelow (F.post by.now) signer_value signer nest }
+    ensures { Gives attribute_value attribute nest r.old r.new result }
+{
+    let outer = open_element(r, 0x30)?;
+    let ty = ObjectIdentifierAsn1::read(alloc, r, nest)?;
+    let value = read_values_with(ty.0.octets(), alloc, r, nest, by)?;
+    r.end(outer)?;
+    Ok(UnsignedAttribute { ty, value })
+}
+
+/// Reads the values of an unsigned attribute whose object identifier has these contents octets.
+fn read_values_with<F: Fn(&mut Reader<'_>, u8) -> Result<SignerInfo, Error>>(
+    oid: &[u8],
+    alloc: Global,
+    r: &mut Reader<'_>,
+    nest: u8,
+    by: &F,
+) -> Result<UnsignedAttributeValue, Error>
+    requires sound { r.old.refused ≡ false }
+    requires called { MayBelow (F.pre by.now) nest }
+    requires gives { GivesBelow (F.post by.now) signer_value signer nest }
+    ensures { GivesRow values_value (values_row certificate (less signer) (kind_of oid.now)) nest r.old r.new result }
+{
+    match Kind::with_oid(oid) {
+        Kind::MsCounterSign => {
+            let certificates = read_set_with(alloc, r, nest, &|s: &mut Reader<'_>|
+                requires sound { s.old.refused ≡ false }
+                requires called { MayBelow (F.pre by.now) nest }
+                requires gives { GivesBelow (F.post by.now) signer_value signer nest }
+                ensures { Gives certificate_value certificate nest s.old s.new result }
+            { read_certificate_with(alloc, s, nest, by) })?;
+            Ok(UnsignedAttributeValue::MsCounterSign(Asn1SetOf(certificates)))
+        }
+        Kind::CounterSign => {
+            let signers = read_set_below_with(alloc, r, nest, by)?;
+            Ok(UnsignedAttributeValue::CounterSign(Asn1SetOf(signers)))
+        }
+        Kind::Foreign => {
+            let Alone(elements) = Alone::<Asn1SetOf<Asn1RawDer>>::read_row(alloc, r, nest)?;
+            Ok(UnsignedAttributeValue::Unknown(elements))
+        }
+    }
+}
+
+/// Reads signed data with its content type.
+fn read_certificate_with<F: Fn(&mut Reader<'_>, u8) -> Result<SignerInfo, Error>>(
+    alloc: Global,
+    r: &mut Reader<'_>,
+    nest: u8,
+    by: &F,
+) -> Result<Pkcs7Certificate, Error>
+    requires sound { r.old.refused ≡ false }
+    requires called { MayBelow (F.pre by.now) nest }
+    requires gives { GivesBelow (F.post by.now) signer_value signer nest }
+    ensures { Gives certificate_value certificate nest r.old r.new result }
+{
+    let row = read_row_within_with::<Part<SignedDataType, Tail<Held>>, _, _>(alloc, r, nest, 0x30, &|s: &mut Reader<'_>|
+        requires sound { s.old.refused ≡ false }
+        requires called { MayBelow (F.pre by.now) nest }
+        requires gives { GivesBelow (F.post by.now) signer_value signer nest }
+        ensures { GivesRow (λ x. signed_value x.0.0) (within 0xA0 signed_data) nest s.old s.new result }
+    { read_held_with(alloc, s, nest, by) })?;
+    let Part(SignedDataType(oid), Tail(Alone(signed_data))) = row;
+    Ok(Pkcs7Certificate { oid, signed_data })
+}
+
+/// Reads signed data under their tag, to the end of the open contents.
+fn read_held_with<F: Fn(&mut Reader<'_>, u8) -> Result<SignerInfo, Error>>(
+    alloc: Global,
+    r: &mut Reader<'_>,
+    nest: u8,
+    by: &F,
+) -> Result<Held, Error>
+    requires sound { r.old.refused ≡ false }
+    requires called { MayBelow (F.pre by.now) nest }
+    requires gives { GivesBelow (F.post by.now) signer_value signer nest }
+    ensures { GivesRow (λ x. signed_value x.0.0) (within 0xA0 signed_data) nest r.old r.new result }
+{
+    let outer = open_element(r, 0xA0)?;
+    let signed = read_signed_with(alloc, r, nest, by)?;
+    if r.left() > 0 {
+        return Err(Error::Malformed);
+    }
+    r.end(outer)?;
+    if r.left() > 0 {
+        return Err(Error::Malformed);
+    }
+    Ok(Alone(ExplicitContextTag0(signed)))
+}
+
+/// Reads signed data.
+fn read_signed_with<F: Fn(&mut Reader<'_>, u8) -> Result<SignerInfo, Error>>(
+    alloc: Global,
+    r: &mut Reader<'_>,
+    nest: u8,
+    by: &F,
+) -> Result<SignedData, Error>
+    requires sound { r.old.refused ≡ false }
+    requires called { MayBelow (F.pre by.now) nest }
+    requires gives { GivesBelow (F.post by.now) signer_value signer nest }
+    ensures { Gives signed_value signed_data nest r.old r.new result }
+{
+    if nest == 0 {
+        return Err(Error::TooDeep);
+    }
+    let row = read_row_within_with::<SignedParts, _, _>(alloc, r, nest, 0x30, &|s: &mut Reader<'_>|
+        requires sound { s.old.refused ≡ false }
+        requires called { MayBelow (F.pre by.now) nest }
+        requires gives { GivesBelow (F.post by.now) signer_value signer nest }
+        ensures { GivesRow (λ x. map signer_value x.0.0.items) (set_of (less signer)) nest s.old s.new result }
+    { read_signers_with(alloc, s, nest, by) })?;
+    let Part(version, Part(digest_algorithms, Part(content_info, rest))) = row;
+    let Omitted(certificates, Maybe(crls, Tail(SignersBelow(signers)))) = rest;
+    Ok(SignedData {
+        version,
+        digest_algorithms,
+        content_info,
+        certificates: Optional(certificates),
+        crls,
+        signers_infos: SignersInfos(signers),
+    })
+}
+
+/// Reads the signers of signed data, to the end of the open contents.
+fn read_signers_with<F: Fn(&mut Reader<'_>, u8) -> Result<SignerInfo, Error>>(
+    alloc: Global,
+    r: &mut Reader<'_>,
+    nest: u8,
+    by: &F,
+) -> Result<SignersBelow, Error>
+    requires sound { r.old.refused ≡ false }
+    requires called { MayBelow (F.pre by.now) nest }
+    requires gives { GivesBelow (F.post by.now) signer_value signer nest }
+    ensures { GivesRow (λ x. map signer_value x.0.0.items) (set_of (less signer)) nest r.old r.new result }
+{
+    let signers = read_set_below_with(alloc, r, nest, by)?;
+    Ok(SignersBelow(Asn1SetOf(signers)))
+}
+
+impl DerDeserialize for SignerInfo {
+    #[cycle(read)]
+    fn read(alloc: Global, r: &mut Reader<'_>, nest: u8) -> Result<Self, Error> {
+        read_signer_with(alloc, r, nest, &|s: &mut Reader<'_>, below: u8|
+            requires sound { s.old.refused ≡ false }
+            requires less { below < nest }
+            ensures { Gives signer_value signer below s.old s.new result }
+        {
+            prove!(below < nest);
+            SignerInfo::read(alloc, s, below)
+        })
+    }
+
+    ghost lawful = { lawful_signer };
+}
+
+impl DerDeserialize for UnsignedAttribute {
+    fn read(alloc: Global, r: &mut Reader<'_>, nest: u8) -> Result<Self, Error> {
+        read_attribute_with(alloc, r, nest, &|s: &mut Reader<'_>, below: u8|
+            requires { s.old.refused ≡ false }
+            ensures { Gives signer_value signer below s.old s.new result }
+        { SignerInfo::read(alloc, s, below) })
+    }
+
+    ghost lawful = { lawful_attribute };
+}
+
+impl DerDeserialize for Pkcs7Certificate {
+    fn read(alloc: Global, r: &mut Reader<'_>, nest: u8) -> Result<Self, Error> {
+        read_certificate_with(alloc, r, nest, &|s: &mut Reader<'_>, below: u8|
+            requires { s.old.refused ≡ false }
+            ensures { Gives signer_value signer below s.old s.new result }
+        { SignerInfo::read(alloc, s, below) })
+    }
+
+    ghost lawful = { lawful_certificate };
+}
+
+impl DerDeserialize for SignedData {
+    fn read(alloc: Global, r: &mut Reader<'_>, nest: u8) -> Result<Self, Error> {
+        read_signed_with(alloc, r, nest, &|s: &mut Reader<'_>, below: u8|
+            requires { s.old.refused ≡ false }
+            ensures { Gives signer_value signer below s.old s.new result }
+        { SignerInfo::read(alloc, s, below) })
+    }
+
+    ghost lawful = { lawful_signed_data };
+}
+
+impl DerDeserialize for SignersInfos {
+    fn read(alloc: Global, r: &mut Reader<'_>, nest: u8) -> Result<Self, Error> {
+        let signers = Asn1SetOf::<SignerInfo>::read(alloc, r, nest)?;
+        Ok(SignersInfos(signers))
+    }
+
+    ghost lawful = { lawful_signer_infos };
+}
+
+impl DerDeserialize for UnsignedAttributes {
+    fn read(alloc: Global, r: &mut Reader<'_>, nest: u8) -> Result<Self, Error> {
+        let items = read_within::<Vec<UnsignedAttribute>>(alloc, r, nest, 0xA1)?;
+        Ok(UnsignedAttributes(items))
+    }
+
+    ghost lawful = { lawful_unsigned_attributes };
+}
