@@ -42,8 +42,7 @@ module _ (k : ℕ) (x : SignerInfo) {h : SignerParts (Unit {0})} (e : h ≡ part
   signer_is =
       let u = unroll_formed {I = Unit {0}} {V = λ _. Value signers} still step signer_step k tt (signer_value x) in
       let r : SignerRow (Value attributes) = parts_of_signer x (attributes_in x, tt) in
-      let s : ((signer_parts nothing).IsWellFormed k (parts_of_signer x tt) × (set_or_none 0xA1 attribute).IsWellFormed k (attributes_in x, tt)) ↔ (signer_row attribute).IsWellFormed k r = signer_split (set_or_none 0xA1 attribute) k r in
-      (
+      let s : ((signer_parts nothing).IsWellFormed k (parts_of_signer x tt) × (set_or_none 0xA1 attribute).IsWellFormed k (attributes_in x, tt)) ↔ (signer_row attribute).IsWellFormed k r = signer_split (set_or_none 0xA1 attribute) k r in (
         λ w. u.1 (subst ((signer_row attribute).IsWellFormed k) (sym (out_signer x)) (s.0 (subst ((signer_parts nothing).IsWellFormed k) e w.0, (w.1, tt)))),
         λ w. let d = s.1 (subst ((signer_row attribute).IsWellFormed k) (out_signer x) (u.0 w)) in (subst ((signer_parts nothing).IsWellFormed k) (sym e) d.0, d.1.0),
       )
@@ -59,8 +58,7 @@ module _ (x : SignedData) {h : SignedParts (Unit {0})} (e : h ≡ parts_of_signe
   signed_is : (k : ℕ) → ((signed_parts nothing).IsWellFormed (suc k) h × signer_infos.IsWellFormed k (signers_value (out-SignedData x).signers_infos)) ↔ signed_data.IsWellFormed (suc k) (signed_value x)
   signed_is k =
       let r : SignedParts (List (Value signers)) = parts_of_signed x (signers_value (out-SignedData x).signers_infos) in
-      let s : ((signed_parts nothing).IsWellFormed (suc k) (parts_of_signed x tt) × (set_of (less signer)).IsWellFormed (suc k) (behind_signed r)) ↔ (signed_parts (set_of (less signer))).IsWellFormed (suc k) r = signed_split (set_of (less signer)) (suc k) r in
-      (
+      let s : ((signed_parts nothing).IsWellFormed (suc k) (parts_of_signed x tt) × (set_of (less signer)).IsWellFormed (suc k) (behind_signed r)) ↔ (signed_parts (set_of (less signer))).IsWellFormed (suc k) r = signed_split (set_of (less signer)) (suc k) r in (
         λ w. subst (signed_data.IsWellFormed (suc k)) (sym (value_signed x)) (s.0 (subst ((signed_parts nothing).IsWellFormed (suc k)) e w.0, w.1)),
         λ w. let d = s.1 (subst (signed_data.IsWellFormed (suc k)) (value_signed x) w) in (subst ((signed_parts nothing).IsWellFormed (suc k)) (sym e) d.0, d.1),
       )

@@ -34,13 +34,20 @@ impl DerSerialize for SignerHead<'_> {
     fn put<W: Writer>(&self, w: &mut W) -> Result<(), WriteError> {
         let signature = Part(self.signature_algorithm, Part(self.signature, End));
         let signed = OmittedRef(self.signed_attrs, signature);
-        Part(self.version, Part(self.sid, Part(self.digest_algorithm, signed))).put_row(w)
+        Part(
+            self.version,
+            Part(self.sid, Part(self.digest_algorithm, signed)),
+        )
+        .put_row(w)
     }
 
     fn well_formed_at(&self, limit: u8) -> bool {
         let signature = Part(self.signature_algorithm, Part(self.signature, End));
         let signed = OmittedRef(self.signed_attrs, signature);
-        let row = Part(self.version, Part(self.sid, Part(self.digest_algorithm, signed)));
+        let row = Part(
+            self.version,
+            Part(self.sid, Part(self.digest_algorithm, signed)),
+        );
         row.row_well_formed_at(limit)
     }
 }

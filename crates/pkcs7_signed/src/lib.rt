@@ -9,6 +9,6 @@ pub mod signers;
 pub mod stand_ins;
 
 pub use signers::{
-    Pkcs7Certificate, SignedData, SignerInfo, SignersInfos, UnsignedAttribute, UnsignedAttributeValue,
-    UnsignedAttributes,
+    Pkcs7Certificate, SignedData, SignerInfo, SignersInfos, UnsignedAttribute,
+    UnsignedAttributeValue, UnsignedAttributes,
 };

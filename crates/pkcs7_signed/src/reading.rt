@@ -28,12 +28,13 @@ use asn1_core::parts::{
     read_within,
 };
 use asn1_core::{
-    Asn1RawDer, Asn1SetOf, DerDeserialize, DerSerialize, Error, ExplicitContextTag0, ObjectIdentifier,
-    ObjectIdentifierAsn1, OctetStringAsn1, Optional, Reader,
+    Asn1RawDer, Asn1SetOf, DerDeserialize, DerSerialize, Error, ExplicitContextTag0,
+    ObjectIdentifier, ObjectIdentifierAsn1, OctetStringAsn1, Optional, Reader,
 };
 use asn1_core_element::element::open_element;
 use asn1_nested::{
-    SetOrNone, Tail, read_row_within_with, read_set_below_with, read_set_or_none_with, read_set_with,
+    SetOrNone, Tail, read_row_within_with, read_set_below_with, read_set_or_none_with,
+    read_set_with,
 };
 use pkcs7_content::{CmsVersion, EncapsulatedContentInfo};
 use std::alloc::Global;
@@ -111,13 +112,22 @@ impl TagsApart<Tail<SignersBelow>> for Elements1 {
     ghost apart = { λ t h e. Prim.omega arith };
 }
 
-type SignerTail = Part<AlgorithmIdentifier, Part<OctetStringAsn1, Tail<SetOrNone<UnsignedAttribute>>>>;
+type SignerTail = Part<
+    AlgorithmIdentifier,
+    Part<OctetStringAsn1, Tail<SetOrNone<UnsignedAttribute>>>,
+>;
 
-type SignerParts = Part<CmsVersion, Part<Asn1RawDer, Part<AlgorithmIdentifier, Omitted<Elements0, SignerTail>>>>;
+type SignerParts = Part<
+    CmsVersion,
+    Part<Asn1RawDer, Part<AlgorithmIdentifier, Omitted<Elements0, SignerTail>>>,
+>;
 
 type SignedTail = Omitted<Elements0, Maybe<Elements1, Tail<SignersBelow>>>;
 
-type SignedParts = Part<CmsVersion, Part<Asn1SetOf<AlgorithmIdentifier>, Part<EncapsulatedContentInfo, SignedTail>>>;
+type SignedParts = Part<
+    CmsVersion,
+    Part<Asn1SetOf<AlgorithmIdentifier>, Part<EncapsulatedContentInfo, SignedTail>>,
+>;
 
 type Held = Alone<ExplicitContextTag0<SignedData>>;
 
@@ -133,12 +143,18 @@ fn read_signer_with<F: Fn(&mut Reader<'_>, u8) -> Result<SignerInfo, Error>>(
     requires gives { GivesBelow (F.post by.now) signer_value signer nest }
     ensures { Gives signer_value signer nest r.old r.new result }
 {
-    let row = read_row_within_with::<SignerParts, _, _>(alloc, r, nest, 0x30, &|s: &mut Reader<'_>|
-        requires sound { s.old.refused ≡ false }
-        requires called { MayBelow (F.pre by.now) nest }
-        requires gives { GivesBelow (F.post by.now) signer_value signer nest }
-        ensures { GivesRow (λ x. (map attribute_value x.0.items, tt)) (set_or_none 0xA1 attribute) nest s.old s.new result }
-    { read_unsigned_with(alloc, s, nest, by) })?;
+    let row = read_row_within_with::<SignerParts, _, _>(
+        alloc,
+        r,
+        nest,
+        0x30,
+        &|s: &mut Reader<'_>|
+            requires sound { s.old.refused ≡ false }
+            requires called { MayBelow (F.pre by.now) nest }
+            requires gives { GivesBelow (F.post by.now) signer_value signer nest }
+            ensures { GivesRow (λ x. (map attribute_value x.0.items, tt)) (set_or_none 0xA1 attribute) nest s.old s.new result }
+        { read_unsigned_with(alloc, s, nest, by) },
+    )?;
     let Part(version, Part(sid, Part(digest_algorithm, Omitted(signed, rest)))) = row;
     let Part(signature_algorithm, Part(signature, Tail(SetOrNone(unsigned)))) = rest;
     Ok(SignerInfo {
@@ -164,12 +180,17 @@ fn read_unsigned_with<F: Fn(&mut Reader<'_>, u8) -> Result<SignerInfo, Error>>(
     requires gives { GivesBelow (F.post by.now) signer_value signer nest }
     ensures { GivesRow (λ x. (map attribute_value x.0.items, tt)) (set_or_none 0xA1 attribute) nest r.old r.new result }
 {
-    read_set_or_none_with(alloc, r, nest, &|s: &mut Reader<'_>|
-        requires sound { s.old.refused ≡ false }
-        requires called { MayBelow (F.pre by.now) nest }
-        requires gives { GivesBelow (F.post by.now) signer_value signer nest }
-        ensures { Gives attribute_value attribute nest s.old s.new result }
-    { read_attribute_with(alloc, s, nest, by) })
+    read_set_or_none_with(
+        alloc,
+        r,
+        nest,
+        &|s: &mut Reader<'_>|
+            requires sound { s.old.refused ≡ false }
+            requires called { MayBelow (F.pre by.now) nest }
+            requires gives { GivesBelow (F.post by.now) signer_value signer nest }
+            ensures { Gives attribute_value attribute nest s.old s.new result }
+        { read_attribute_with(alloc, s, nest, by) },
+    )
 }
 
 /// Reads an unsigned attribute.
@@ -206,12 +227,17 @@ fn read_values_with<F: Fn(&mut Reader<'_>, u8) -> Result<SignerInfo, Error>>(
 {
     match Kind::with_oid(oid) {
         Kind::MsCounterSign => {
-            let certificates = read_set_with(alloc, r, nest, &|s: &mut Reader<'_>|
-                requires sound { s.old.refused ≡ false }
-                requires called { MayBelow (F.pre by.now) nest }
-                requires gives { GivesBelow (F.post by.now) signer_value signer nest }
-                ensures { Gives certificate_value certificate nest s.old s.new result }
-            { read_certificate_with(alloc, s, nest, by) })?;
+            let certificates = read_set_with(
+                alloc,
+                r,
+                nest,
+                &|s: &mut Reader<'_>|
+                    requires sound { s.old.refused ≡ false }
+                    requires called { MayBelow (F.pre by.now) nest }
+                    requires gives { GivesBelow (F.post by.now) signer_value signer nest }
+                    ensures { Gives certificate_value certificate nest s.old s.new result }
+                { read_certificate_with(alloc, s, nest, by) },
+            )?;
             Ok(UnsignedAttributeValue::MsCounterSign(Asn1SetOf(certificates)))
         }
         Kind::CounterSign => {
@@ -237,12 +263,18 @@ fn read_certificate_with<F: Fn(&mut Reader<'_>, u8) -> Result<SignerInfo, Error>
     requires gives { GivesBelow (F.post by.now) signer_value signer nest }
     ensures { Gives certificate_value certificate nest r.old r.new result }
 {
-    let row = read_row_within_with::<Part<SignedDataType, Tail<Held>>, _, _>(alloc, r, nest, 0x30, &|s: &mut Reader<'_>|
-        requires sound { s.old.refused ≡ false }
-        requires called { MayBelow (F.pre by.now) nest }
-        requires gives { GivesBelow (F.post by.now) signer_value signer nest }
-        ensures { GivesRow (λ x. signed_value x.0.0) (within 0xA0 signed_data) nest s.old s.new result }
-    { read_held_with(alloc, s, nest, by) })?;
+    let row = read_row_within_with::<Part<SignedDataType, Tail<Held>>, _, _>(
+        alloc,
+        r,
+        nest,
+        0x30,
+        &|s: &mut Reader<'_>|
+            requires sound { s.old.refused ≡ false }
+            requires called { MayBelow (F.pre by.now) nest }
+            requires gives { GivesBelow (F.post by.now) signer_value signer nest }
+            ensures { GivesRow (λ x. signed_value x.0.0) (within 0xA0 signed_data) nest s.old s.new result }
+        { read_held_with(alloc, s, nest, by) },
+    )?;
     let Part(SignedDataType(oid), Tail(Alone(signed_data))) = row;
     Ok(Pkcs7Certificate { oid, signed_data })
 }
@@ -286,12 +318,18 @@ fn read_signed_with<F: Fn(&mut Reader<'_>, u8) -> Result<SignerInfo, Error>>(
     if nest == 0 {
         return Err(Error::TooDeep);
     }
-    let row = read_row_within_with::<SignedParts, _, _>(alloc, r, nest, 0x30, &|s: &mut Reader<'_>|
-        requires sound { s.old.refused ≡ false }
-        requires called { MayBelow (F.pre by.now) nest }
-        requires gives { GivesBelow (F.post by.now) signer_value signer nest }
-        ensures { GivesRow (λ x. map signer_value x.0.0.items) (set_of (less signer)) nest s.old s.new result }
-    { read_signers_with(alloc, s, nest, by) })?;
+    let row = read_row_within_with::<SignedParts, _, _>(
+        alloc,
+        r,
+        nest,
+        0x30,
+        &|s: &mut Reader<'_>|
+            requires sound { s.old.refused ≡ false }
+            requires called { MayBelow (F.pre by.now) nest }
+            requires gives { GivesBelow (F.post by.now) signer_value signer nest }
+            ensures { GivesRow (λ x. map signer_value x.0.0.items) (set_of (less signer)) nest s.old s.new result }
+        { read_signers_with(alloc, s, nest, by) },
+    )?;
     let Part(version, Part(digest_algorithms, Part(content_info, rest))) = row;
     let Omitted(certificates, Maybe(crls, Tail(SignersBelow(signers)))) = rest;
     Ok(SignedData {
@@ -323,14 +361,19 @@ fn read_signers_with<F: Fn(&mut Reader<'_>, u8) -> Result<SignerInfo, Error>>(
 impl DerDeserialize for SignerInfo {
     #[cycle(read)]
     fn read(alloc: Global, r: &mut Reader<'_>, nest: u8) -> Result<Self, Error> {
-        read_signer_with(alloc, r, nest, &|s: &mut Reader<'_>, below: u8|
-            requires sound { s.old.refused ≡ false }
-            requires less { below < nest }
-            ensures { Gives signer_value signer below s.old s.new result }
-        {
-            prove!(below < nest);
-            SignerInfo::read(alloc, s, below)
-        })
+        read_signer_with(
+            alloc,
+            r,
+            nest,
+            &|s: &mut Reader<'_>, below: u8|
+                requires sound { s.old.refused ≡ false }
+                requires less { below < nest }
+                ensures { Gives signer_value signer below s.old s.new result }
+            {
+                prove!(below < nest);
+                SignerInfo::read(alloc, s, below)
+            },
+        )
     }
 
     ghost lawful = { lawful_signer };
@@ -338,10 +381,15 @@ impl DerDeserialize for SignerInfo {
 
 impl DerDeserialize for UnsignedAttribute {
     fn read(alloc: Global, r: &mut Reader<'_>, nest: u8) -> Result<Self, Error> {
-        read_attribute_with(alloc, r, nest, &|s: &mut Reader<'_>, below: u8|
-            requires { s.old.refused ≡ false }
-            ensures { Gives signer_value signer below s.old s.new result }
-        { SignerInfo::read(alloc, s, below) })
+        read_attribute_with(
+            alloc,
+            r,
+            nest,
+            &|s: &mut Reader<'_>, below: u8|
+                requires { s.old.refused ≡ false }
+                ensures { Gives signer_value signer below s.old s.new result }
+            { SignerInfo::read(alloc, s, below) },
+        )
     }
 
     ghost lawful = { lawful_attribute };
@@ -349,10 +397,15 @@ impl DerDeserialize for UnsignedAttribute {
 
 impl DerDeserialize for Pkcs7Certificate {
     fn read(alloc: Global, r: &mut Reader<'_>, nest: u8) -> Result<Self, Error> {
-        read_certificate_with(alloc, r, nest, &|s: &mut Reader<'_>, below: u8|
-            requires { s.old.refused ≡ false }
-            ensures { Gives signer_value signer below s.old s.new result }
-        { SignerInfo::read(alloc, s, below) })
+        read_certificate_with(
+            alloc,
+            r,
+            nest,
+            &|s: &mut Reader<'_>, below: u8|
+                requires { s.old.refused ≡ false }
+                ensures { Gives signer_value signer below s.old s.new result }
+            { SignerInfo::read(alloc, s, below) },
+        )
     }
 
     ghost lawful = { lawful_certificate };
@@ -360,10 +413,15 @@ impl DerDeserialize for Pkcs7Certificate {
 
 impl DerDeserialize for SignedData {
     fn read(alloc: Global, r: &mut Reader<'_>, nest: u8) -> Result<Self, Error> {
-        read_signed_with(alloc, r, nest, &|s: &mut Reader<'_>, below: u8|
-            requires { s.old.refused ≡ false }
-            ensures { Gives signer_value signer below s.old s.new result }
-        { SignerInfo::read(alloc, s, below) })
+        read_signed_with(
+            alloc,
+            r,
+            nest,
+            &|s: &mut Reader<'_>, below: u8|
+                requires { s.old.refused ≡ false }
+                ensures { Gives signer_value signer below s.old s.new result }
+            { SignerInfo::read(alloc, s, below) },
+        )
     }
 
     ghost lawful = { lawful_signed_data };

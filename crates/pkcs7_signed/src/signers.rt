@@ -10,9 +10,9 @@ ghost use Rattle.pkcs7_signed.specs.SignerLevels.{parts_of_signer, parts_of_sign
 ghost use Rattle.pkcs7_signed.specs.Signers.{Value, signers, attributes, certificates, SignedValue, signer, attribute, certificate, signed_data, signer_infos, unsigned_attributes, values};
 ghost use Rattle.pkcs7_signed.specs.SignerValues.{signer_value, signers_value, attribute_value, attributes_value, values_value, certificate_value, signed_value};
 
+use crate::heads::{SignedHead, SignerHead};
 use crate::oids::{COUNTERSIGNATURE, MS_COUNTER_SIGN, SIGNED_DATA};
 use crate::stand_ins::{Elements0, Elements1};
-use crate::heads::{SignedHead, SignerHead};
 use asn1_core::parts::{Alone, Part, WriteError, WriteRow, Writer, put_within};
 use asn1_core::{
     Asn1RawDer, Asn1SetOf, DerSerialize, ExplicitContextTag0, ObjectIdentifier,

@@ -26,6 +26,6 @@ returns-in_err-value g c =
 pub returns : goal.returns
 returns g c =
     let t = within_took (any_defined_by (values_defined_by certificate (less signer))) c.args.nest 0x30 c.in_ok-outer.ensures
-            (defined_took (values_defined_by certificate (less signer)) c.in_ok-ty.ensures (at_octets c.octets.ensures c.in_ok-value.ensures)) c.in_ok-end.ensures in
+    (defined_took (values_defined_by certificate (less signer)) c.in_ok-ty.ensures (at_octets c.octets.ensures c.in_ok-value.ensures)) c.in_ok-end.ensures in
     attribute_took c.args.nest _
     (subst (Took (attribute_row certificate (less signer)) c.args.nest c.args.r.now c.end.new.self) (sym (made_attribute c.in_ok-ty.ty c.in_ok-value.value)) t)
