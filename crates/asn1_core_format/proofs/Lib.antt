@@ -9,3 +9,6 @@ pub mod LooseReads
 pub mod EitherReads
 pub mod ChoiceReads
 pub mod LevelReads
+pub mod SetReads
+pub mod GateReads
+pub mod SetWrites

@@ -1,5 +1,5 @@
 -- Whole inputs.
-use Rattle.std.proofs.Common.{◌≡◌, ℕ, ◌*◌, ◌+◌, ◌<◌, ◌≤◌, [], ◌++◌, length, sym, ap, ◌∙◌, subst, append-nil, arith}
+use Rattle.std.proofs.Common.{◌≡◌, ℕ, ◌<◌, [], ◌++◌, length, sym, ap, ◌∙◌, subst, append-nil, arith}
 use Rattle.std.proofs.lemmas.List.{length-append}
 use Rattle.asn1_core_element.specs.Position.{Position}
 use Rattle.asn1_core_element.specs.declared.error.Error.{Error}

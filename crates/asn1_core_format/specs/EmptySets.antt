@@ -1,7 +1,7 @@
 -- A set at the end of contents that an empty set stands for: absent, or under its tag.
-use Rattle.std.specs.Prelude.{◌≡◌, ◌≢◌, ◌↔◌, ℕ, ◌<◌, Bool, true, false, List, [], ◌∷◌, ◌++◌, length}
-use Rattle.std.specs.List.{flat_map, AllByRecursion}
-use Rattle.std.proofs.Common.{refl, sym, ap, ◌∙◌, arith, length-append, true≢false}
+use Rattle.std.specs.Prelude.{◌≡◌, ◌↔◌, ℕ, Bool, true, false, List, [], ◌∷◌, ◌++◌, length}
+use Rattle.std.specs.List.{flat_map}
+use Rattle.std.proofs.Common.{refl, sym, ap, arith, length-append, true≢false}
 use Rattle.asn1_core_element.specs.Element.{element, IsTagByte}
 use Rattle.asn1_core_element.specs.ElementLaws.{element_cut}
 use Rattle.asn1_core_format.specs.Format.{Format, IsLawful, IsLawfulRow}

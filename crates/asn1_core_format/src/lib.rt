@@ -10,7 +10,9 @@ pub mod lists;
 pub mod numbers;
 pub mod recursive;
 pub mod rows;
+pub mod sets;
 pub mod tagged;
+pub mod tails;
 pub mod traits;
 pub mod views;
 pub mod whole;
@@ -23,10 +25,12 @@ pub use recursive::{
     read_all_with, read_below, read_below_within, read_list_with, read_then_with, read_within_with,
 };
 pub use rows::{
-    Alone, ApartFrom, End, FirstTags, HasDefault, Maybe, Omitted, Part, ReadRow, TagsApart,
-    WriteRow, put_both,
+    Alone, ApartFrom, End, FirstTags, HasDefault, Maybe, Omitted, OmittedRef, Part, ReadRow,
+    TagsApart, WriteRow, put_both,
 };
+pub use sets::{SetOrNone, has_no_text, read_set_below_with, read_set_or_none_with, read_set_with};
 pub use tagged::{DerTagged, read_retagged};
+pub use tails::{ReadRowWith, Tail, read_row_within_with};
 pub use traits::{DerDeserialize, DerSerialize, MAX_NESTING};
 pub use views::{EqualByText, TryClone, Viewed};
 pub use whole::{from_bytes, from_bytes_counted, from_bytes_limited, to_vec, write_to};

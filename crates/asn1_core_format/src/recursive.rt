@@ -17,7 +17,7 @@ use asn1_core_element::{Error, Reader};
 use std::alloc::Global;
 
 /// Reads a row by `by`.
-fn read_row_by<R: WriteRow, F: Fn(&mut Reader<'_>) -> Result<R, Error>>(
+pub(crate) fn read_row_by<R: WriteRow, F: Fn(&mut Reader<'_>) -> Result<R, Error>>(
     r: &mut Reader<'_>,
     _nest: u8,
     by: &F,

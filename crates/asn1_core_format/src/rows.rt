@@ -234,6 +234,30 @@ impl<A: HasDefault + FirstTags + TagsApart<R>, R: ReadRow> ReadRow for Omitted<A
     ghost lawful = { lawful_omitted (is_text A.DerSerialize.format A.DEFAULT) A.DEFAULT A.DerSerialize.format R.WriteRow.format A.lawful R.lawful (default_text A.DEFAULT A.DerSerialize.format A.normal_default) A.apart };
 }
 
+/// A part that may be left out, lent as it is written, and what stands behind it.
+#[derive(Drop)]
+pub struct OmittedRef<A, R>(pub A, pub R);
+
+impl<A: HasDefault, R: WriteRow> WriteRow for OmittedRef<&A, R> {
+    ghost Value = { A.Value × R.Value };
+
+    ghost value = { λ p. (A.value p.0.now, R.value p.1) };
+
+    ghost format = { omitted (is_text A.format A.DEFAULT) A.DEFAULT A.format R.format };
+
+    fn put_row<W: Writer>(&self, w: &mut W) -> Result<(), WriteError> {
+        if self.0.is_default() {
+            self.1.put_row(w)
+        } else {
+            put_both(&Alone(self.0), &self.1, w)
+        }
+    }
+
+    fn row_well_formed_at(&self, limit: u8) -> bool {
+        self.0.well_formed_at(limit) && self.1.row_well_formed_at(limit)
+    }
+}
+
 /// One text, which fills the contents.
 #[derive(Drop)]
 pub struct Alone<T>(pub T);

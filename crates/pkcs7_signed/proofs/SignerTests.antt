@@ -3,7 +3,7 @@ use Rattle.std.proofs.Common.{◌≡◌, ◌↔◌, ◌⊎◌, ℕ, zero, suc, I
 use Rattle.std.specs.List.{AllByRecursion}
 use Rattle.asn1_core.specs.Der.{Format, nothing}
 use Rattle.asn1_core_format.specs.Levels.{less}
-use Rattle.asn1_nested.specs.EmptySets.{set_or_none}
+use Rattle.asn1_core_format.specs.EmptySets.{set_or_none}
 use Rattle.asn1_core_format.specs.LevelLaws.{unroll_formed}
 use Rattle.pkcs7_signed.specs.Parts.{set_of, SignerParts, signer_end, behind_signer, signer_parts, SignedParts, signed_end, behind_signed, signed_parts}
 use Rattle.pkcs7_signed.specs.Rows.{SignerRow, signer_row, AttributeValues, IsOfKind, values_row}

@@ -3,7 +3,7 @@
 use Rattle.std.specs.Prelude.{◌≡◌, ℕ, ◌+◌, List, [], ◌∷◌, ◌++◌, map}
 use Rattle.std.specs.List.{flat_map}
 use Rattle.std.proofs.Common.{refl, ap, ap₂, ◌∙◌}
-use Rattle.asn1_nested.specs.EmptySets.{is_nil}
+use Rattle.asn1_core_format.specs.EmptySets.{is_nil}
 use Rattle.asn1_core_format.specs.Lists.{least_all}
 
 pub data Forest {I : Type 0} (A : I → Type 0) (P : (i : I) → A i → Type 0) (c : (i : I) → A i → I) : I → Type 0 where

@@ -9,8 +9,8 @@ use Rattle.std.specs.Str.{bytes_eq}
 use Rattle.std.proofs.Common.{refl, inl, inr, arith}
 use Rattle.asn1_core.specs.Der.{Format, IsLawful, IsLawfulRow, within, lawful_within, sequence, lawful_sequence, part, followed_by, raw, lawful_raw, OidOctets, ElementOctets}
 use Rattle.asn1_core_format.specs.Eithers.{either}
-use Rattle.asn1_nested.specs.EmptySets.{set_or_none, lawful_set_or_none}
-use Rattle.asn1_nested.specs.Gated.{gated, lawful_gated}
+use Rattle.asn1_core_format.specs.EmptySets.{set_or_none, lawful_set_or_none}
+use Rattle.asn1_core_format.specs.Gated.{gated, lawful_gated}
 use Rattle.asn1_defined_by.specs.DefinedBy.{DefinedBy, any_defined_by, arm, by_itself, only_written}
 use Rattle.asn1_defined_by.specs.DefinedByLaws.{IsDefinedBy, itself, lawful_arm, lawful_any_defined_by}
 use Rattle.pkcs7_signed.specs.Oids.{signed_data_oid, countersignature_oid, ms_counter_sign_oid}

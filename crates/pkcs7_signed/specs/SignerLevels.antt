@@ -5,7 +5,7 @@ use Rattle.asn1_core.specs.Der.{octets_of, nothing}
 use Rattle.asn1_core.specs.declared.lists.Asn1SetOf.{Asn1SetOf}
 use Rattle.asn1_core.specs.declared.raw.Asn1RawDer.{Asn1RawDer}
 use Rattle.asn1_core_element.specs.Element.{element}
-use Rattle.asn1_nested.specs.EmptySets.{is_nil}
+use Rattle.asn1_core_format.specs.EmptySets.{is_nil}
 use Rattle.asn1_core_format.specs.LevelLaws.{unroll_text}
 use Rattle.asn1_core_format.specs.Omitted.{text_unless}
 use Rattle.pkcs7_signed.specs.Heads.{elements, signer_parts_value, signed_parts_value, signer_head_text, signed_head_text}

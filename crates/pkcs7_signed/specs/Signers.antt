@@ -3,7 +3,7 @@
 use Rattle.std.specs.Prelude.{◌≡◌, ◌⊎◌, ℕ, List, [], map}
 use Rattle.std.proofs.Common.{inl, inr}
 use Rattle.asn1_core.specs.Der.{Format, each, within, nothing, raw, OidOctets, ElementOctets}
-use Rattle.asn1_nested.specs.EmptySets.{set_or_none}
+use Rattle.asn1_core_format.specs.EmptySets.{set_or_none}
 use Rattle.asn1_core_format.specs.Levels.{Still, no_grammar, always, less, levels}
 use Rattle.asn1_core_format.specs.Rolled.{rolled}
 use Rattle.pkcs7_signed.specs.Forest.{Forest, none, Node, nodes, forest, fold_all, fold_node, same_all, same_node}

@@ -9,7 +9,7 @@ ghost use Rattle.pkcs7_signed.specs.Heads.{signer_head_value, signed_head_value}
 use crate::stand_ins::{Elements0, Elements1};
 use asn1_core::parts::{End, Maybe, Part, WriteError, WriteRow, Writer};
 use asn1_core::{Asn1RawDer, Asn1SetOf, DerSerialize, OctetStringAsn1};
-use asn1_nested::OmittedRef;
+use asn1_core_format::OmittedRef;
 use pkcs7_content::{CmsVersion, EncapsulatedContentInfo};
 use x509_base::AlgorithmIdentifier;
 

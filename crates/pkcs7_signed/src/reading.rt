@@ -4,7 +4,7 @@
 ghost use Rattle.std.specs.Prelude.{◌≡◌, ◌<◌, ℕ, List, map, false};
 ghost use Rattle.std.proofs.Common.{arith};
 ghost use Rattle.asn1_core_format.specs.Calls.{MayBelow, GivesBelow};
-ghost use Rattle.asn1_nested.specs.EmptySets.{set_or_none};
+ghost use Rattle.asn1_core_format.specs.EmptySets.{set_or_none};
 ghost use Rattle.asn1_core_format.specs.Format.{Gives};
 ghost use Rattle.asn1_core_format.specs.Leaf.{kept};
 ghost use Rattle.asn1_core_format.specs.Levels.{less};
@@ -32,7 +32,7 @@ use asn1_core::{
     ObjectIdentifier, ObjectIdentifierAsn1, OctetStringAsn1, Optional, Reader,
 };
 use asn1_core_element::element::open_element;
-use asn1_nested::{
+use asn1_core_format::{
     SetOrNone, Tail, read_row_within_with, read_set_below_with, read_set_or_none_with,
     read_set_with,
 };

@@ -5,7 +5,7 @@ use Rattle.asn1_core_format.proofs.LevelReads.{gave}
 use Rattle.asn1_core_format.specs.Format.{Took}
 use Rattle.asn1_core_format.specs.Levels.{less}
 use Rattle.asn1_core_format.specs.LevelLaws.{lawful_less}
-use Rattle.asn1_nested.proofs.GateReads.{took_gated, refused_gated}
+use Rattle.asn1_core_format.proofs.GateReads.{took_gated, refused_gated}
 use Rattle.pkcs7_signed.specs.Parts.{set_of, lawful_set, signed_parts}
 use Rattle.pkcs7_signed.specs.Signers.{signer, signed_data}
 use Rattle.pkcs7_signed.specs.SignerLaws.{lawful_signer}

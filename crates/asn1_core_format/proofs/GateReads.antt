@@ -1,0 +1,38 @@
+-- Reading what stands nowhere where no level is left.
+use Rattle.std.proofs.Common.{◌≡◌, ℕ, zero, suc, sym, subst, arith}
+use Rattle.asn1_core_element.specs.Position.{Position}
+use Rattle.asn1_core_element.specs.declared.error.Error.{Error}
+use Rattle.asn1_core_element.specs.declared.error.Error.TheVariants.{TooDeep}
+use Rattle.asn1_core_format.specs.Format.{Format, Took, GaveUp}
+use Rattle.asn1_core_format.specs.Gated.{gated}
+
+-- no level is left
+pub none_gated : {V : Type 0} (F : Format V) {k : ℕ} → k ≡ zero → (p : Position) → GaveUp (gated F) k p p TooDeep
+none_gated F e p = record {
+  kind = λ q. cc;
+  none = λ m taken rest v s r. subst (λ i. (gated F).Reads i taken v) e r;
+  counts = omega arith;
+  at_most = omega arith;
+}
+
+-- a level is left
+module _ {V : Type 0} (F : Format V) {k j : ℕ} (some : suc j ≡ k) {old new : Position} where
+  pub took_gated : {v : V} → Took F k old new v → Took (gated F) k old new v
+  took_gated {v} t = record {
+    taken = t.taken;
+    split = t.split;
+    reads = subst (λ i. (gated F).Reads i t.taken v) some (subst (λ i. F.Reads i t.taken v) (sym some) t.reads);
+    beyond = t.beyond;
+    end = t.end;
+    refused = t.refused;
+    at_least = t.at_least;
+    at_most = t.at_most;
+  }
+
+  pub refused_gated : {e : Error} → GaveUp F k old new e → GaveUp (gated F) k old new e
+  refused_gated g = record {
+    kind = g.kind;
+    none = λ m taken rest v s r. g.none m taken rest v s (subst (λ i. F.Reads i taken v) some (subst (λ i. (gated F).Reads i taken v) (sym some) r));
+    counts = g.counts;
+    at_most = g.at_most;
+  }

@@ -1,0 +1,175 @@
+//! Sets: read by a closure, a level down, left out where they are empty.
+
+ghost use Rattle.std.specs.Prelude.{◌≡◌, ◌↔◌, List, [], IsTrue, map, false};
+ghost use Rattle.std.specs.Str.{bytes_eq};
+ghost use Rattle.asn1_core_element.specs.Element.{IsTagByte, element};
+ghost use Rattle.asn1_core_format.specs.Calls.{MayBelow, GivesBelow};
+ghost use Rattle.asn1_core_format.specs.EmptySets.{set_or_none};
+ghost use Rattle.asn1_core_format.specs.Format.{Gives, IsLawful};
+ghost use Rattle.asn1_core_format.specs.Laws.{NextIs};
+ghost use Rattle.asn1_core_format.specs.Levels.{less};
+ghost use Rattle.asn1_core_format.specs.Lists.{each};
+ghost use Rattle.asn1_core_format.specs.Rows.{GivesRow, within};
+
+use crate::lists::push_item;
+use crate::recursive::{read_below, read_list_with};
+use crate::rows::WriteRow;
+use crate::traits::DerSerialize;
+use crate::within::{put_within, row_len};
+use asn1_core_element::element::open_element;
+use asn1_core_element::{Error, Reader};
+use asn1_core_writers::{WriteError, Writer};
+use std::alloc::Global;
+
+/// Reads items to the end of the open contents, each a level down by `by`, which is told the levels that are left there.
+pub fn read_all_below_with<T: DerSerialize + Drop, F: Fn(&mut Reader<'_>, u8) -> Result<T, Error>>(
+    alloc: Global,
+    r: &mut Reader<'_>,
+    nest: u8,
+    by: &F,
+) -> Result<Vec<T>, Error>
+    requires sound { r.old.refused ≡ false }
+    requires lawful { IsLawful T.format }
+    requires called { MayBelow (F.pre by.now) nest }
+    requires gives { GivesBelow (F.post by.now) T.value T.format nest }
+    ensures { GivesRow (λ v. map T.value v.items) (each (less T.format)) nest r.old r.new result }
+{
+    let mut items = Vec::new(alloc);
+    'items: while r.left() > 0 {
+        let item = read_below(r, nest, by)?;
+        push_item(&mut items, item, r.left() == 0)?;
+    }
+    Ok(items)
+}
+
+/// Reads a SET OF items to the end of the open contents, each item by `by`.
+pub fn read_set_with<T: DerSerialize + Drop, F: Fn(&mut Reader<'_>) -> Result<T, Error>>(
+    alloc: Global,
+    r: &mut Reader<'_>,
+    nest: u8,
+    by: &F,
+) -> Result<Vec<T>, Error>
+    requires sound { r.old.refused ≡ false }
+    requires lawful { IsLawful T.format }
+    requires called { (s : _) → s.now.refused ≡ false → F.pre by.now s }
+    requires gives { (s : _) (x : _) (t : _) → F.post by.now s x t → Gives T.value T.format nest s.now t.now x }
+    ensures { GivesRow (λ v. map T.value v.items) (within 0x31 (each T.format)) nest r.old r.new result }
+{
+    let items = read_list_with(alloc, r, nest, 0x31, by)?;
+    if r.left() > 0 {
+        return Err(Error::Malformed);
+    }
+    Ok(items)
+}
+
+/// Reads an element with that tag that holds items a level down, each read by `by`.
+fn read_list_below_with<T: DerSerialize + Drop, F: Fn(&mut Reader<'_>, u8) -> Result<T, Error>>(
+    alloc: Global,
+    r: &mut Reader<'_>,
+    nest: u8,
+    tag: u8,
+    by: &F,
+) -> Result<Vec<T>, Error>
+    requires sound { r.old.refused ≡ false }
+    requires tag { IsTagByte tag }
+    requires lawful { IsLawful T.format }
+    requires called { MayBelow (F.pre by.now) nest }
+    requires gives { GivesBelow (F.post by.now) T.value T.format nest }
+    ensures { Gives (λ v. map T.value v.items) (within tag (each (less T.format))) nest r.old r.new result }
+{
+    let outer = open_element(r, tag)?;
+    let items = read_all_below_with(alloc, r, nest, by)?;
+    r.end(outer)?;
+    Ok(items)
+}
+
+/// Reads a SET OF items to the end of the open contents, each item a level down by `by`.
+pub fn read_set_below_with<T: DerSerialize + Drop, F: Fn(&mut Reader<'_>, u8) -> Result<T, Error>>(
+    alloc: Global,
+    r: &mut Reader<'_>,
+    nest: u8,
+    by: &F,
+) -> Result<Vec<T>, Error>
+    requires sound { r.old.refused ≡ false }
+    requires lawful { IsLawful T.format }
+    requires called { MayBelow (F.pre by.now) nest }
+    requires gives { GivesBelow (F.post by.now) T.value T.format nest }
+    ensures { GivesRow (λ v. map T.value v.items) (within 0x31 (each (less T.format))) nest r.old r.new result }
+{
+    let items = read_list_below_with(alloc, r, nest, 0x31, by)?;
+    if r.left() > 0 {
+        return Err(Error::Malformed);
+    }
+    Ok(items)
+}
+
+/// `[1] IMPLICIT SET OF T` at the end of contents. Absence is the empty set.
+#[derive(Drop)]
+pub struct SetOrNone<T>(pub Vec<T>);
+
+impl<T: DerSerialize> WriteRow for SetOrNone<T> {
+    ghost Value = { List T.Value × Unit {0} };
+
+    ghost value = { λ x. (map T.value x.0.items, tt) };
+
+    ghost format = { set_or_none 0xA1 T.format };
+
+    fn put_row<W: Writer>(&self, w: &mut W) -> Result<(), WriteError> {
+        if self.0.is_empty() {
+            return Ok(());
+        }
+        put_within(0xA1, &self.0, w)
+    }
+
+    fn row_well_formed_at(&self, limit: u8) -> bool {
+        self.0.row_well_formed_at(limit)
+    }
+}
+
+/// Reads such a set, or none, with items each read by `by`.
+pub fn read_set_or_none_with<T: DerSerialize + Drop, F: Fn(&mut Reader<'_>) -> Result<T, Error>>(
+    alloc: Global,
+    r: &mut Reader<'_>,
+    nest: u8,
+    by: &F,
+) -> Result<SetOrNone<T>, Error>
+    requires sound { r.old.refused ≡ false }
+    requires lawful { IsLawful T.format }
+    requires called { (s : _) → s.now.refused ≡ false → F.pre by.now s }
+    requires gives { (s : _) (x : _) (t : _) → F.post by.now s x t → Gives T.value T.format nest s.now t.now x }
+    ensures { GivesRow (λ x. (map T.value x.0.items, tt)) (set_or_none 0xA1 T.format) nest r.old r.new result }
+{
+    if next_is_tag(r, 0xA1) {
+        let items = read_list_with(alloc, r, nest, 0xA1, by)?;
+        if r.left() > 0 {
+            return Err(Error::Malformed);
+        }
+        return Ok(SetOrNone(items));
+    }
+    if r.left() > 0 {
+        return Err(Error::Malformed);
+    }
+    Ok(SetOrNone(Vec::new(alloc)))
+}
+
+/// Whether the next tag is this one.
+fn next_is_tag(r: &Reader<'_>, tag: u8) -> bool
+    requires { r.now.refused ≡ false }
+    ensures { IsTrue result ↔ NextIs (λ t. t ≡ tag) r.now.left }
+{
+    match r.peek() {
+        Some(next) => next == tag,
+        None => false,
+    }
+}
+
+/// Whether such a set has no contents. One of items that can't be written has some.
+pub fn has_no_text<T: DerSerialize>(_tag: u8, items: &Vec<T>) -> bool
+    requires tag { IsTagByte _tag }
+    ensures { result ≡ bytes_eq ((within _tag (each T.format)).text (map T.value items.now.items)) (element _tag []) }
+{
+    match row_len(items) {
+        Ok(length) => length == 0,
+        Err(_) => false,
+    }
+}

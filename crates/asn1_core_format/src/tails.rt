@@ -1,0 +1,146 @@
+//! Rows whose last part is read by a closure.
+
+ghost use Rattle.std.specs.Prelude.{◌≡◌, false};
+ghost use Rattle.asn1_core_element.specs.Element.{IsTagByte};
+ghost use Rattle.asn1_core_format.specs.Format.{Gives, IsLawfulRow};
+ghost use Rattle.asn1_core_format.specs.Omitted.{is_text, default_text, lawful_omitted};
+ghost use Rattle.asn1_core_format.specs.Rows.{GivesRow, within};
+ghost use Rattle.asn1_core_format.specs.RowLaws.{lawful_part, lawful_optional};
+
+use crate::recursive::read_row_by;
+use crate::rows::{FirstTags, HasDefault, Maybe, Omitted, Part, TagsApart, WriteRow, next_is};
+use crate::traits::DerDeserialize;
+use asn1_core_element::element::open_element;
+use asn1_core_element::{Error, Reader};
+use asn1_core_writers::{WriteError, Writer};
+use std::alloc::Global;
+
+/// Parts of which the last, `S`, is read by a closure.
+pub trait ReadRowWith<S: WriteRow>: WriteRow + Drop {
+    /// Reads the parts to the end of the open contents, the last of them by `by`.
+    fn read_row_with<F: Fn(&mut Reader<'_>) -> Result<S, Error>>(
+        alloc: Global,
+        r: &mut Reader<'_>,
+        nest: u8,
+        by: &F,
+    ) -> Result<Self, Error>
+        requires sound { r.old.refused ≡ false }
+        requires lawful { IsLawfulRow S.format }
+        requires called { (s : _) → s.now.refused ≡ false → F.pre by.now s }
+        requires gives { (s : _) (x : _) (t : _) → F.post by.now s x t → GivesRow S.value S.format nest s.now t.now x }
+        ensures { GivesRow Self.value Self.format nest r.old r.new result };
+
+    ghost keeps_laws: { IsLawfulRow S.WriteRow.format → IsLawfulRow Self.WriteRow.format };
+}
+
+/// The last part.
+#[derive(Drop)]
+pub struct Tail<S>(pub S);
+
+impl<S: WriteRow> WriteRow for Tail<S> {
+    ghost Value = { S.Value };
+
+    ghost value = { λ x. S.value x.0 };
+
+    ghost format = { S.format };
+
+    fn put_row<W: Writer>(&self, w: &mut W) -> Result<(), WriteError> {
+        self.0.put_row(w)
+    }
+
+    fn row_well_formed_at(&self, limit: u8) -> bool {
+        self.0.row_well_formed_at(limit)
+    }
+}
+
+impl<S: WriteRow + Drop> ReadRowWith<S> for Tail<S> {
+    fn read_row_with<F: Fn(&mut Reader<'_>) -> Result<S, Error>>(
+        _alloc: Global,
+        r: &mut Reader<'_>,
+        nest: u8,
+        by: &F,
+    ) -> Result<Self, Error> {
+        let row = read_row_by(r, nest, by)?;
+        Ok(Tail(row))
+    }
+
+    ghost keeps_laws = { λ s. s };
+}
+
+impl<T: TagsApart<S>, S: WriteRow> TagsApart<Tail<S>> for T {
+    ghost apart = { T.apart };
+}
+
+impl<A: DerDeserialize, S: WriteRow, R: ReadRowWith<S>> ReadRowWith<S> for Part<A, R> {
+    fn read_row_with<F: Fn(&mut Reader<'_>) -> Result<S, Error>>(
+        alloc: Global,
+        r: &mut Reader<'_>,
+        nest: u8,
+        by: &F,
+    ) -> Result<Self, Error> {
+        let first = A::read(alloc, r, nest)?;
+        let rest = R::read_row_with(alloc, r, nest, by)?;
+        Ok(Part(first, rest))
+    }
+
+    ghost keeps_laws = { λ s. lawful_part A.DerSerialize.format R.WriteRow.format A.lawful (R.keeps_laws s) };
+}
+
+impl<A: FirstTags + TagsApart<R>, S: WriteRow, R: ReadRowWith<S>> ReadRowWith<S> for Maybe<A, R> {
+    fn read_row_with<F: Fn(&mut Reader<'_>) -> Result<S, Error>>(
+        alloc: Global,
+        r: &mut Reader<'_>,
+        nest: u8,
+        by: &F,
+    ) -> Result<Self, Error> {
+        if next_is::<A>(r) {
+            let first = A::read(alloc, r, nest)?;
+            let rest = R::read_row_with(alloc, r, nest, by)?;
+            return Ok(Maybe(Some(first), rest));
+        }
+        let rest = R::read_row_with(alloc, r, nest, by)?;
+        Ok(Maybe(None, rest))
+    }
+
+    ghost keeps_laws = { λ s. lawful_optional A.DerSerialize.format R.WriteRow.format A.lawful (R.keeps_laws s) A.apart };
+}
+
+impl<A: HasDefault + FirstTags + TagsApart<R>, S: WriteRow, R: ReadRowWith<S>> ReadRowWith<S>
+    for Omitted<A, R> {
+    fn read_row_with<F: Fn(&mut Reader<'_>) -> Result<S, Error>>(
+        alloc: Global,
+        r: &mut Reader<'_>,
+        nest: u8,
+        by: &F,
+    ) -> Result<Self, Error> {
+        if next_is::<A>(r) {
+            let first = A::read(alloc, r, nest)?;
+            let rest = R::read_row_with(alloc, r, nest, by)?;
+            return Ok(Omitted(first, rest));
+        }
+        let absent = A::absent(alloc)?;
+        let others = R::read_row_with(alloc, r, nest, by)?;
+        Ok(Omitted(absent, others))
+    }
+
+    ghost keeps_laws = { λ s. lawful_omitted (is_text A.DerSerialize.format A.DEFAULT) A.DEFAULT A.DerSerialize.format R.WriteRow.format A.lawful (R.keeps_laws s) (default_text A.DEFAULT A.DerSerialize.format A.normal_default) A.apart };
+}
+
+/// Reads an element with that tag, whose contents are the parts, the last of them read by `by`.
+pub fn read_row_within_with<
+    R: ReadRowWith<S>,
+    S: WriteRow,
+    F: Fn(&mut Reader<'_>) -> Result<S, Error>,
+>(alloc: Global, r: &mut Reader<'_>, nest: u8, tag: u8, by: &F) -> Result<R, Error>
+    requires sound { r.old.refused ≡ false }
+    requires tag { IsTagByte tag }
+    requires lawful { IsLawfulRow S.format }
+    requires called { (s : _) → s.now.refused ≡ false → F.pre by.now s }
+    requires gives { (s : _) (x : _) (t : _) → F.post by.now s x t → GivesRow S.value S.format nest s.now t.now x }
+    ensures { Gives R.value (within tag R.format) nest r.old r.new result }
+{
+    let outer = open_element(r, tag)?;
+    let row = R::read_row_with(alloc, r, nest, by)?;
+    r.end(outer)?;
+    Ok(row)
+}

@@ -1,2 +1,0 @@
-pub mod SetReads
-pub mod GateReads

@@ -1,5 +1,0 @@
-use Rattle.asn1_nested.specs.EmptySets.{lawful_set_or_none}
-use Rattle.asn1_nested.proofs.laws.sets_left_out_are_lawful.Goals as goal
-
-pub returns : goal.returns
-returns g c = lawful_set_or_none c.args._tag c.requires.tag g.T.DerSerialize.format g.met.T.DerDeserialize.lawful

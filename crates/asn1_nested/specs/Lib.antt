@@ -1,2 +1,0 @@
-pub mod Gated
-pub mod EmptySets
