@@ -2,7 +2,8 @@
 use Rattle.std.proofs.Common.{rules}
 use Rattle.asn1_core.specs.Der.{two_equal}
 use Rattle.asn1_core_format.specs.Views.{SeesEqual}
-use Rattle.pkcs12_algs.specs.Equal.{in_first, in_second, raw_equal, pbes2_equal}
+use Rattle.asn1_core.specs.Equal.{same_first, same_second}
+use Rattle.pkcs12_algs.specs.Equal.{raw_equal, pbes2_equal}
 use Rattle.pkcs12_algs.specs.Encryption.{encryption_algorithm_value}
 use Rattle.pkcs12_algs.specs.Pbes1.{pbes1_value}
 use Rattle.pkcs12_algs.specs.contracts.encryptions.Pkcs12EncryptionAlgorithmPartialEq.TheImpl as Algorithm
@@ -17,12 +18,12 @@ params_equal : SeesEqual Params.ghosts.eq pbes1_value
 params_equal = search rules
 
 pub encryption_algorithm_equal : SeesEqual Algorithm.ghosts.eq encryption_algorithm_value
-encryption_algorithm_equal (Pbes1 j x) (Pbes1 k y) = in_second (in_first (two_equal (kind_equal j k) (params_equal x y)))
+encryption_algorithm_equal (Pbes1 j x) (Pbes1 k y) = same_second (same_first (two_equal (kind_equal j k) (params_equal x y)))
 encryption_algorithm_equal (Pbes1 j x) (Pbes2 y) = (λ e. cc, λ e. cc)
 encryption_algorithm_equal (Pbes1 j x) (Unknown y) = (λ e. cc, λ e. cc)
 encryption_algorithm_equal (Pbes2 x) (Pbes1 k y) = (λ e. cc, λ e. cc)
-encryption_algorithm_equal (Pbes2 x) (Pbes2 y) = in_first (pbes2_equal x y)
+encryption_algorithm_equal (Pbes2 x) (Pbes2 y) = same_first (pbes2_equal x y)
 encryption_algorithm_equal (Pbes2 x) (Unknown y) = (λ e. cc, λ e. cc)
 encryption_algorithm_equal (Unknown x) (Pbes1 k y) = (λ e. cc, λ e. cc)
 encryption_algorithm_equal (Unknown x) (Pbes2 y) = (λ e. cc, λ e. cc)
-encryption_algorithm_equal (Unknown x) (Unknown y) = in_second (in_second (raw_equal x y))
+encryption_algorithm_equal (Unknown x) (Unknown y) = same_second (same_second (raw_equal x y))

@@ -3,7 +3,7 @@ use Rattle.asn1_core.specs.Der.{two_equal, option_equal}
 use Rattle.std.specs.Prelude.{true, ◌≡◌, ◌⊎◌, ◌↔◌, ℕ, Bool, List}
 use Rattle.std.proofs.Common.{ap, inl, inr, rules}
 use Rattle.std.proofs.lemmas.Bool.Decides.{Decides-eqb}
-use Rattle.asn1_core.specs.Equal.{octets_equal, with_end}
+use Rattle.asn1_core.specs.Equal.{octets_equal, with_end, same_first, same_second}
 use Rattle.asn1_core_format.specs.Views.{SeesEqual}
 use Rattle.x509_base.specs.Algorithms.{AlgorithmValue}
 use Rattle.pkcs12_algs.specs.Algorithms.{KnownOrRaw, raw_value}
@@ -22,13 +22,6 @@ use Rattle.pkcs12_algs.specs.contracts.pbes2.Pbes2EncryptionSchemePartialEq.TheI
 use Rattle.pkcs12_algs.specs.contracts.pbes2.Pbes2ParamsPartialEq.TheImpl as Pbes2
 use Rattle.pkcs12_algs.specs.declared.pbes2.Pbes2KeyDerivationFunc.TheVariants.{Pbkdf2 as ByPbkdf2, Unknown}
 use Rattle.x509_base.specs.contracts.algorithms.RawAlgorithmIdentifierPartialEq.TheImpl as Raw
-
--- values of the same arm
-pub in_first : {A B : Type 0} {p : Bool} {a c : A} → (p ≡ true) ↔ (a ≡ c) → (p ≡ true) ↔ (◌≡◌ {A = A ⊎ B} (inl a) (inl c))
-in_first {A} {B} {p} {a} {c} f = (λ e. ap inl (f.0 e), λ e. (let h : a ≡ c = cc in f.1 h))
-
-pub in_second : {A B : Type 0} {p : Bool} {a c : B} → (p ≡ true) ↔ (a ≡ c) → (p ≡ true) ↔ (◌≡◌ {A = A ⊎ B} (inr a) (inr c))
-in_second {A} {B} {p} {a} {c} f = (λ e. ap inr (f.0 e), λ e. (let h : a ≡ c = cc in f.1 h))
 
 pub raw_equal : SeesEqual Raw.ghosts.eq raw_value
 raw_equal = search rules
@@ -77,10 +70,10 @@ pbkdf2_equal x y =
     (two_equal (option_equal _ (λ n. n) Decides-eqb x.key_length y.key_length) (with_end (option_equal Prf.ghosts.eq prf_value prf_equal x.prf y.prf))))
 
 pub kdf_equal : SeesEqual Kdf.ghosts.eq kdf_value
-kdf_equal (ByPbkdf2 x) (ByPbkdf2 y) = in_first (pbkdf2_equal x y)
+kdf_equal (ByPbkdf2 x) (ByPbkdf2 y) = same_first (pbkdf2_equal x y)
 kdf_equal (ByPbkdf2 x) (Unknown y) = (λ e. cc, λ e. cc)
 kdf_equal (Unknown x) (ByPbkdf2 y) = (λ e. cc, λ e. cc)
-kdf_equal (Unknown x) (Unknown y) = in_second (raw_equal x y)
+kdf_equal (Unknown x) (Unknown y) = same_second (raw_equal x y)
 
 scheme_equal : SeesEqual Scheme.ghosts.eq scheme_value
 scheme_equal = search rules

@@ -1,7 +1,7 @@
 -- `==` is equality of what the values contain.
 use Rattle.std.proofs.Common.{rules}
 use Rattle.asn1_core.specs.Der.{two_equal, option_equal}
-use Rattle.asn1_core.specs.Equal.{octets_equal, with_end}
+use Rattle.asn1_core.specs.Equal.{octets_equal, with_end, same_first, same_second}
 use Rattle.asn1_core_format.specs.Views.{SeesEqual}
 use Rattle.asn1_leaves_strings.specs.Octets.{contents_of}
 use Rattle.x509_base.specs.contracts.digests.DigestInfoPartialEq.TheImpl as Digest
@@ -22,7 +22,7 @@ use Rattle.pkcs7_content.specs.contracts.contents.ContentValuePartialEq.TheImpl 
 use Rattle.pkcs7_content.specs.contracts.contents.EncapsulatedContentInfoPartialEq.TheImpl as Encapsulated
 use Rattle.pkcs7_content.specs.declared.indirect_data.SpcAttributeAndOptionalValueValue.TheVariants.{SpcPeImageData, SpcSipInfo}
 use Rattle.pkcs7_content.specs.declared.contents.ContentValue.TheVariants.{SpcIndirectDataContent, OctetString, Data, CertificateTrustList}
-use Rattle.pkcs7_content_ctl.specs.Equal.{same_left, same_right, oid_equal, integer_equal, ctl_equal}
+use Rattle.pkcs7_content_ctl.specs.Equal.{oid_equal, integer_equal, ctl_equal}
 
 flags_equal : SeesEqual Flags.ghosts.eq (λ x. contents_of x.0.0)
 flags_equal x y = search rules
@@ -44,8 +44,8 @@ sip_info_equal x y =
     (with_end (integer_equal x.reserved5 y.reserved5)))))))
 
 pub spc_value_equal : SeesEqual Value.ghosts.eq spc_value
-spc_value_equal (SpcPeImageData x) (SpcPeImageData y) = same_left (pe_image_equal x y)
-spc_value_equal (SpcSipInfo x) (SpcSipInfo y) = same_right (sip_info_equal x y)
+spc_value_equal (SpcPeImageData x) (SpcPeImageData y) = same_first (pe_image_equal x y)
+spc_value_equal (SpcSipInfo x) (SpcSipInfo y) = same_second (sip_info_equal x y)
 spc_value_equal x y = (λ e. cc, λ e. cc)
 
 pub spc_attribute_equal : SeesEqual Attribute.ghosts.eq spc_attribute_value
@@ -58,10 +58,10 @@ pub indirect_data_equal : SeesEqual Indirect.ghosts.eq indirect_data_value
 indirect_data_equal x y = two_equal (spc_attribute_equal x.spc_data y.spc_data) (with_end (digest_equal x.message_digest y.message_digest))
 
 pub content_value_equal : SeesEqual Content.ghosts.eq content_value
-content_value_equal (SpcIndirectDataContent x) (SpcIndirectDataContent y) = same_left (indirect_data_equal x y)
-content_value_equal (OctetString x) (OctetString y) = same_right (same_left (octets_equal x y))
-content_value_equal (Data x) (Data y) = same_right (same_right (same_left (octets_equal x y)))
-content_value_equal (CertificateTrustList x) (CertificateTrustList y) = same_right (same_right (same_right (ctl_equal x y)))
+content_value_equal (SpcIndirectDataContent x) (SpcIndirectDataContent y) = same_first (indirect_data_equal x y)
+content_value_equal (OctetString x) (OctetString y) = same_second (same_first (octets_equal x y))
+content_value_equal (Data x) (Data y) = same_second (same_second (same_first (octets_equal x y)))
+content_value_equal (CertificateTrustList x) (CertificateTrustList y) = same_second (same_second (same_second (ctl_equal x y)))
 content_value_equal x y = (λ e. cc, λ e. cc)
 
 pub encapsulated_equal : SeesEqual Encapsulated.ghosts.eq encapsulated_value

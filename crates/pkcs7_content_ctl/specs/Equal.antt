@@ -1,9 +1,9 @@
 -- `==` is equality of what the values contain.
-use Rattle.std.specs.Prelude.{◌≡◌, ◌↔◌, ◌⊎◌, ℕ, Bool, true}
-use Rattle.std.proofs.Common.{arith, rules, ap, inl, inr}
+use Rattle.std.specs.Prelude.{◌≡◌, ◌↔◌, ℕ, Bool, true}
+use Rattle.std.proofs.Common.{arith, rules, ap}
 use Rattle.asn1_core.specs.Der.{octets_of, list_equal, two_equal}
 use Rattle.std.proofs.lemmas.Slice.Eq.{bytes_eq-Decides}
-use Rattle.asn1_core.specs.Equal.{octets_equal, raw_equal, with_end}
+use Rattle.asn1_core.specs.Equal.{octets_equal, raw_equal, with_end, same_first, same_second}
 use Rattle.asn1_core.specs.contracts.objects.ObjectIdentifierAsn1PartialEq.TheImpl as Oid
 use Rattle.asn1_core_format.specs.Views.{SeesEqual}
 use Rattle.asn1_core_oid.specs.OidValueLaws.{equal_octets}
@@ -34,13 +34,7 @@ cert_policy_equal x y =
     let q = list_equal _ _ qualifier_equal x.qualifier.0.items y.qualifier.0.items in
     search rules
 
--- a test of what an arm holds, and of what stands beside a number, is one of the whole
-pub same_left : {A B : Type 0} {p : Bool} {a c : A} → (p ≡ true) ↔ (a ≡ c) → (p ≡ true) ↔ (◌≡◌ {A = A ⊎ B} (inl a) (inl c))
-same_left {A} {B} {p} {a} {c} f = (λ e. ap inl (f.0 e), λ e. (let h : a ≡ c = cc in f.1 h))
-
-pub same_right : {A B : Type 0} {p : Bool} {a c : B} → (p ≡ true) ↔ (a ≡ c) → (p ≡ true) ↔ (◌≡◌ {A = A ⊎ B} (inr a) (inr c))
-same_right {A} {B} {p} {a} {c} f = (λ e. ap inr (f.0 e), λ e. (let h : a ≡ c = cc in f.1 h))
-
+-- a test of what stands beside a number is one of the whole
 same_number : {B : Type 0} {n : ℕ} {p : Bool} {a c : B} → (p ≡ true) ↔ (a ≡ c) → (p ≡ true) ↔ (◌≡◌ {A = ℕ × B} (n, a) (n, c))
 same_number {B} {n} f = (λ e. ap (λ x. (n, x)) (f.0 e), λ e. f.1 (ap (λ x. x.1) e))
 
@@ -56,18 +50,18 @@ number_at (inr (inr (inr (inl x)))) = 257
 number_at (inr (inr (inr (inr x)))) = 258
 
 pub values_equal : SeesEqual Values.ghosts.eq attribute_values_value
-values_equal (CertAuthRootSha256HashPropId s) (CertAuthRootSha256HashPropId t) = same_left (same_number (list_equal _ _ octets_equal s.0.items t.0.items))
-values_equal (CertDisallowedFileTimePropId s) (CertDisallowedFileTimePropId t) = same_left (same_number (list_equal _ _ octets_equal s.0.items t.0.items))
-values_equal (CertFriendlyName s) (CertFriendlyName t) = same_left (same_number (list_equal _ _ octets_equal s.0.items t.0.items))
-values_equal (CertKeyIdentifierPropId s) (CertKeyIdentifierPropId t) = same_left (same_number (list_equal _ _ octets_equal s.0.items t.0.items))
-values_equal (CertSubjectNameMd5HashPropId s) (CertSubjectNameMd5HashPropId t) = same_left (same_number (list_equal _ _ octets_equal s.0.items t.0.items))
-values_equal (UnknownReservedPropId126 s) (UnknownReservedPropId126 t) = same_left (same_number (list_equal _ _ octets_equal s.0.items t.0.items))
-values_equal (DisallowedEnhkeyUsage s) (DisallowedEnhkeyUsage t) = same_right (same_left (same_number (list_equal _ _ (λ a b. list_equal _ _ oid_equal a.0.0.items b.0.0.items) s.0.items t.0.items)))
-values_equal (CertEnhkeyUsagePropId s) (CertEnhkeyUsagePropId t) = same_right (same_left (same_number (list_equal _ _ (λ a b. list_equal _ _ oid_equal a.0.0.items b.0.0.items) s.0.items t.0.items)))
-values_equal (UnknownReservedPropId127 s) (UnknownReservedPropId127 t) = same_right (same_left (same_number (list_equal _ _ (λ a b. list_equal _ _ oid_equal a.0.0.items b.0.0.items) s.0.items t.0.items)))
-values_equal (CertRootProgramChainPolicy s) (CertRootProgramChainPolicy t) = same_right (same_right (same_left (list_equal _ _ (λ a b. chain_policy_equal a.0 b.0) s.0.items t.0.items)))
-values_equal (CertRootProgramCertPoliciesPropId s) (CertRootProgramCertPoliciesPropId t) = same_right (same_right (same_right (same_left (list_equal _ _ (λ a b. list_equal _ _ cert_policy_equal a.0.0.items b.0.0.items) s.0.items t.0.items))))
-values_equal (Unknown s) (Unknown t) = same_right (same_right (same_right (same_right (list_equal _ _ raw_equal s.0.items t.0.items))))
+values_equal (CertAuthRootSha256HashPropId s) (CertAuthRootSha256HashPropId t) = same_first (same_number (list_equal _ _ octets_equal s.0.items t.0.items))
+values_equal (CertDisallowedFileTimePropId s) (CertDisallowedFileTimePropId t) = same_first (same_number (list_equal _ _ octets_equal s.0.items t.0.items))
+values_equal (CertFriendlyName s) (CertFriendlyName t) = same_first (same_number (list_equal _ _ octets_equal s.0.items t.0.items))
+values_equal (CertKeyIdentifierPropId s) (CertKeyIdentifierPropId t) = same_first (same_number (list_equal _ _ octets_equal s.0.items t.0.items))
+values_equal (CertSubjectNameMd5HashPropId s) (CertSubjectNameMd5HashPropId t) = same_first (same_number (list_equal _ _ octets_equal s.0.items t.0.items))
+values_equal (UnknownReservedPropId126 s) (UnknownReservedPropId126 t) = same_first (same_number (list_equal _ _ octets_equal s.0.items t.0.items))
+values_equal (DisallowedEnhkeyUsage s) (DisallowedEnhkeyUsage t) = same_second (same_first (same_number (list_equal _ _ (λ a b. list_equal _ _ oid_equal a.0.0.items b.0.0.items) s.0.items t.0.items)))
+values_equal (CertEnhkeyUsagePropId s) (CertEnhkeyUsagePropId t) = same_second (same_first (same_number (list_equal _ _ (λ a b. list_equal _ _ oid_equal a.0.0.items b.0.0.items) s.0.items t.0.items)))
+values_equal (UnknownReservedPropId127 s) (UnknownReservedPropId127 t) = same_second (same_first (same_number (list_equal _ _ (λ a b. list_equal _ _ oid_equal a.0.0.items b.0.0.items) s.0.items t.0.items)))
+values_equal (CertRootProgramChainPolicy s) (CertRootProgramChainPolicy t) = same_second (same_second (same_first (list_equal _ _ (λ a b. chain_policy_equal a.0 b.0) s.0.items t.0.items)))
+values_equal (CertRootProgramCertPoliciesPropId s) (CertRootProgramCertPoliciesPropId t) = same_second (same_second (same_second (same_first (list_equal _ _ (λ a b. list_equal _ _ cert_policy_equal a.0.0.items b.0.0.items) s.0.items t.0.items))))
+values_equal (Unknown s) (Unknown t) = same_second (same_second (same_second (same_second (list_equal _ _ raw_equal s.0.items t.0.items))))
 values_equal x y = (λ e. cc, λ e. absurd (omega (arith, ap number_at e)))
 
 pub attribute_equal : SeesEqual Attribute.ghosts.eq entry_attribute_value

@@ -1,9 +1,7 @@
 -- The values of a signer's parts, and of those of signed data, before what holds further signers.
 use Rattle.std.specs.Prelude.{◌≡◌, ℕ, List, [], ◌++◌, Option, map}
 use Rattle.std.proofs.Common.{refl, ap, ◌∙◌, append_assoc, Vec, Global}
-use Rattle.asn1_core.specs.Der.{Format, nothing, number_below, octet_string, raw, option_value, ElementOctets}
-use Rattle.asn1_core.specs.declared.lists.Asn1SetOf.{Asn1SetOf}
-use Rattle.asn1_core.specs.declared.octets.OctetStringAsn1.{OctetStringAsn1}
+use Rattle.asn1_core.specs.Der.{Format, nothing, number_below, version, octet_string, option_value, ElementOctets}
 use Rattle.asn1_core.specs.declared.raw.Asn1RawDer.{Asn1RawDer}
 use Rattle.asn1_core_format.specs.Omitted.{is_text, text_unless}
 use Rattle.asn1_core_format.specs.Rows.{text_if}
@@ -13,22 +11,32 @@ use Rattle.pkcs7_content.specs.declared.contents.EncapsulatedContentInfo.{Encaps
 use Rattle.pkcs7_content.specs.declared.versions.CmsVersion.{CmsVersion}
 use Rattle.x509_base.specs.Algorithms.{algorithm_identifier}
 use Rattle.x509_base.specs.AlgorithmParts.{algorithm_value}
-use Rattle.x509_base.specs.declared.algorithms.AlgorithmIdentifier.{AlgorithmIdentifier}
-use Rattle.pkcs7_signed.specs.Parts.{set_of, elements_0, no_elements_0, elements_1, SignerParts, signer_end, signer_parts, SignedParts, signed_end, signed_parts}
+use Rattle.pkcs7_signed_crl.specs.Algorithms.{algorithms, algorithms_value}
+use Rattle.pkcs7_signed_crl.specs.Attributes.{attributes, attributes_value, no_attributes}
+use Rattle.pkcs7_signed_crl.specs.Certificates.{certificate_set, certificates_value, no_certificates}
+use Rattle.pkcs7_signed_crl.specs.Revocations.{revocations, revocations_value}
+use Rattle.pkcs7_signed_crl.specs.Signers.{signer_id, signer_id_value}
+use Rattle.pkcs7_signed_crl.specs.declared.algorithms.DigestAlgorithmIdentifier.{DigestAlgorithmIdentifier}
+use Rattle.pkcs7_signed_crl.specs.declared.algorithms.DigestAlgorithmIdentifiers.{DigestAlgorithmIdentifiers}
+use Rattle.pkcs7_signed_crl.specs.declared.algorithms.SignatureAlgorithmIdentifier.{SignatureAlgorithmIdentifier}
+use Rattle.pkcs7_signed_crl.specs.declared.attributes.Attributes.{Attributes}
+use Rattle.pkcs7_signed_crl.specs.declared.certificates.CertificateSet.{CertificateSet}
+use Rattle.pkcs7_signed_crl.specs.declared.revocations.RevocationInfoChoices.{RevocationInfoChoices}
+use Rattle.pkcs7_signed_crl.specs.declared.signers.SignatureValue.{SignatureValue}
+use Rattle.pkcs7_signed_crl.specs.declared.signers.SignerIdentifier.{SignerIdentifier}
+use Rattle.pkcs7_signed.specs.Parts.{SignerParts, signer_end, signer_parts, SignedParts, signed_end, signed_parts}
 use Rattle.pkcs7_signed.specs.declared.heads.SignedHead.{SignedHead}
 use Rattle.pkcs7_signed.specs.declared.heads.SignerHead.{SignerHead}
-use Rattle.pkcs7_signed.specs.declared.stand_ins.Elements0.{Elements0}
-use Rattle.pkcs7_signed.specs.declared.stand_ins.Elements1.{Elements1}
 
 -- the parts, and what stands behind them
 abbrev pub elements : Vec Asn1RawDer Global → List ElementOctets
 elements v = map (λ x. x.0.items) v.items
 
-abbrev pub signer_parts_value : {R : Type 0} → CmsVersion → Asn1RawDer → AlgorithmIdentifier → Elements0 → AlgorithmIdentifier → OctetStringAsn1 → R → SignerParts R
-signer_parts_value v s d a g o r = (number_of v, (s.0.items, (algorithm_value d, (elements a.0, (algorithm_value g, (o.0.items, r))))))
+abbrev pub signer_parts_value : {R : Type 0} → CmsVersion → SignerIdentifier → DigestAlgorithmIdentifier → Attributes → SignatureAlgorithmIdentifier → SignatureValue → R → SignerParts R
+signer_parts_value v s d a g o r = (number_of v, (signer_id_value s, (algorithm_value d.0, (attributes_value a, (algorithm_value g.0, (o.0.0.items, r))))))
 
-abbrev pub signed_parts_value : {R : Type 0} → CmsVersion → Asn1SetOf AlgorithmIdentifier → EncapsulatedContentInfo → Elements0 → Option Elements1 → R → SignedParts R
-signed_parts_value v d i c l r = (number_of v, (map algorithm_value d.0.items, (encapsulated_value i, (elements c.0, (option_value (λ x. elements x.0) l, r)))))
+abbrev pub signed_parts_value : {R : Type 0} → CmsVersion → DigestAlgorithmIdentifiers → EncapsulatedContentInfo → CertificateSet → Option RevocationInfoChoices → R → SignedParts R
+signed_parts_value v d i c l r = (number_of v, (algorithms_value d, (encapsulated_value i, (certificates_value c, (option_value revocations_value l, r)))))
 
 abbrev pub signer_head_value : SignerHead → SignerParts (Unit {0})
 signer_head_value x = signer_parts_value x.version x.sid.now x.digest_algorithm.now x.signed_attrs.now x.signature_algorithm.now x.signature.now tt
@@ -49,12 +57,12 @@ six_behind a b c d e f t = behind a _ t _ (five_behind b c d e f t)
 module _ {R : Type 0} (F : Format R) (r : R) where
   pub signer_head_text : (p : SignerParts (Unit {0})) → (signer_parts nothing).text p ++ F.text r ≡ (signer_parts F).text (signer_end p r)
   signer_head_text p =
-      six_behind ((number_below 6).text p.0) (raw.text p.1.0) (algorithm_identifier.text p.1.1.0)
-      (text_unless (is_text elements_0 no_elements_0 p.1.1.1.0) (elements_0.text p.1.1.1.0))
+      six_behind ((version 1).text p.0) (signer_id.text p.1.0) (algorithm_identifier.text p.1.1.0)
+      (text_unless (is_text attributes no_attributes p.1.1.1.0) (attributes.text p.1.1.1.0))
       (algorithm_identifier.text p.1.1.1.1.0) (octet_string.text p.1.1.1.1.1.0) (F.text r)
 
   pub signed_head_text : (p : SignedParts (Unit {0})) → (signed_parts nothing).text p ++ F.text r ≡ (signed_parts F).text (signed_end p r)
   signed_head_text p =
-      five_behind ((number_below 6).text p.0) ((set_of algorithm_identifier).text p.1.0) (encapsulated.text p.1.1.0)
-      (text_unless (is_text elements_0 no_elements_0 p.1.1.1.0) (elements_0.text p.1.1.1.0))
-      (text_if elements_1.text p.1.1.1.1.0) (F.text r)
+      five_behind ((number_below 6).text p.0) (algorithms.text p.1.0) (encapsulated.text p.1.1.0)
+      (text_unless (is_text certificate_set no_certificates p.1.1.1.0) (certificate_set.text p.1.1.1.0))
+      (text_if revocations.text p.1.1.1.1.0) (F.text r)

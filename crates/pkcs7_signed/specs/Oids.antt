@@ -1,7 +1,8 @@
 -- The object identifiers that are known: their contents octets, which are the constants of the code, and their arcs.
 use Rattle.std.specs.Prelude.{ℕ, List, [], ◌∷◌}
 use Rattle.std.proofs.Common.{refl}
-use Rattle.asn1_core_oid.specs.Arcs.{HasArcs}
+use Rattle.asn1_core_oid.specs.Arcs.{HasArcs, oid_by_arcs}
+use Rattle.asn1_core_oid.specs.Oid.{IsOid}
 use Rattle.pkcs7_signed.specs.declared.oids.TheConstants.{SIGNED_DATA, COUNTERSIGNATURE, MS_COUNTER_SIGN}
 
 -- id-signedData (RFC 5652, 5.1)
@@ -10,6 +11,9 @@ signed_data_oid = SIGNED_DATA
 
 pub signed_data_arcs : HasArcs signed_data_oid (1 ∷ 2 ∷ 840 ∷ 113549 ∷ 1 ∷ 7 ∷ 2 ∷ [])
 signed_data_arcs = record { allowed = refl; spelled = refl }
+
+pub signed_data_is_oid : IsOid signed_data_oid
+signed_data_is_oid = oid_by_arcs signed_data_arcs
 
 -- id-countersignature (RFC 5652, 11.4)
 abbrev pub countersignature_oid : List ℕ

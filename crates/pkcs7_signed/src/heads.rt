@@ -6,22 +6,23 @@ ghost use Rattle.asn1_defined_by.specs.DefinedBy.{only_written};
 ghost use Rattle.pkcs7_signed.specs.Parts.{SignerParts, signer_parts, SignedParts, signed_parts};
 ghost use Rattle.pkcs7_signed.specs.Heads.{signer_head_value, signed_head_value};
 
-use crate::stand_ins::{Elements0, Elements1};
-use asn1_core::parts::{End, Maybe, Part, WriteError, WriteRow, Writer};
-use asn1_core::{Asn1RawDer, Asn1SetOf, DerSerialize, OctetStringAsn1};
-use asn1_core_format::OmittedRef;
+use asn1_core::DerSerialize;
+use asn1_core::parts::{End, Maybe, OmittedRef, Part, WriteError, WriteRow, Writer};
 use pkcs7_content::{CmsVersion, EncapsulatedContentInfo};
-use x509_base::AlgorithmIdentifier;
+use pkcs7_signed_crl::{
+    Attributes, CertificateSet, DigestAlgorithmIdentifier, DigestAlgorithmIdentifiers,
+    RevocationInfoChoices, SignatureAlgorithmIdentifier, SignatureValue, SignerIdentifier,
+};
 
 /// A signer before its unsigned attributes.
 #[derive(Drop)]
 pub(crate) struct SignerHead<'a> {
     pub version: CmsVersion,
-    pub sid: &'a Asn1RawDer,
-    pub digest_algorithm: &'a AlgorithmIdentifier,
-    pub signed_attrs: &'a Elements0,
-    pub signature_algorithm: &'a AlgorithmIdentifier,
-    pub signature: &'a OctetStringAsn1,
+    pub sid: &'a SignerIdentifier,
+    pub digest_algorithm: &'a DigestAlgorithmIdentifier,
+    pub signed_attrs: &'a Attributes,
+    pub signature_algorithm: &'a SignatureAlgorithmIdentifier,
+    pub signature: &'a SignatureValue,
 }
 
 impl DerSerialize for SignerHead<'_> {
@@ -44,11 +45,12 @@ impl DerSerialize for SignerHead<'_> {
     fn well_formed_at(&self, limit: u8) -> bool {
         let signature = Part(self.signature_algorithm, Part(self.signature, End));
         let signed = OmittedRef(self.signed_attrs, signature);
-        let row = Part(
-            self.version,
-            Part(self.sid, Part(self.digest_algorithm, signed)),
-        );
-        row.row_well_formed_at(limit)
+        match self.version {
+            CmsVersion::V1 => {
+                Part(self.sid, Part(self.digest_algorithm, signed)).row_well_formed_at(limit)
+            }
+            _ => false,
+        }
     }
 }
 
@@ -56,10 +58,10 @@ impl DerSerialize for SignerHead<'_> {
 #[derive(Drop)]
 pub(crate) struct SignedHead<'a> {
     pub version: CmsVersion,
-    pub digest_algorithms: &'a Asn1SetOf<AlgorithmIdentifier>,
+    pub digest_algorithms: &'a DigestAlgorithmIdentifiers,
     pub content_info: &'a EncapsulatedContentInfo,
-    pub certificates: &'a Elements0,
-    pub crls: &'a Option<Elements1>,
+    pub certificates: &'a CertificateSet,
+    pub crls: &'a Option<RevocationInfoChoices>,
 }
 
 impl DerSerialize for SignedHead<'_> {

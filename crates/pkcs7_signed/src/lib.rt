@@ -1,12 +1,10 @@
 //! Signed data and signers, which hold one another (RFC 5652, 5).
 #![tactic(auto)]
 
-pub mod checks;
 mod heads;
 mod oids;
 mod reading;
 pub mod signers;
-pub mod stand_ins;
 
 pub use signers::{
     Pkcs7Certificate, SignedData, SignerInfo, SignersInfos, UnsignedAttribute,

@@ -22,14 +22,13 @@ use crate::signers::{
     Kind, Pkcs7Certificate, SignedData, SignerInfo, SignersInfos, UnsignedAttribute,
     UnsignedAttributeValue, UnsignedAttributes, signers_formed_below,
 };
-use crate::stand_ins::{Elements0, Elements1};
 use asn1_core::parts::{
     Alone, Leaf, Maybe, Omitted, Part, ReadRow, TagsApart, WriteError, WriteRow, Writer, read_leaf,
     read_within,
 };
 use asn1_core::{
-    Asn1RawDer, Asn1SetOf, DerDeserialize, DerSerialize, Error, ExplicitContextTag0,
-    ObjectIdentifier, ObjectIdentifierAsn1, OctetStringAsn1, Optional, Reader,
+    Asn1RawDer, Asn1SetOf, DerDeserialize, DerSerialize, Error, ExplicitContextTag0, FixedVersion,
+    ObjectIdentifier, ObjectIdentifierAsn1, Optional, Reader,
 };
 use asn1_core_element::element::open_element;
 use asn1_core_format::{
@@ -37,8 +36,11 @@ use asn1_core_format::{
     read_set_with,
 };
 use pkcs7_content::{CmsVersion, EncapsulatedContentInfo};
+use pkcs7_signed_crl::{
+    Attributes, CertificateSet, DigestAlgorithmIdentifier, DigestAlgorithmIdentifiers,
+    RevocationInfoChoices, SignatureAlgorithmIdentifier, SignatureValue, SignerIdentifier,
+};
 use std::alloc::Global;
-use x509_base::AlgorithmIdentifier;
 
 /// `id-signedData` as the only object identifier.
 #[derive(Drop)]
@@ -55,7 +57,8 @@ impl Leaf for SignedDataType {
         if contents != SIGNED_DATA.as_slice() {
             return Err(Error::Invalid);
         }
-        let oid = ObjectIdentifier::from_octets(alloc, contents)?;
+        let octets = Vec::from_slice(alloc, contents)?;
+        let oid = ObjectIdentifier::from_checked(octets);
         Ok(SignedDataType(ObjectIdentifierAsn1(oid)))
     }
 }
@@ -104,29 +107,29 @@ impl WriteRow for SignersBelow {
     }
 }
 
-impl TagsApart<Tail<SignersBelow>> for Elements0 {
+impl TagsApart<SignersBelow> for CertificateSet {
     ghost apart = { λ t h e. Prim.omega arith };
 }
 
-impl TagsApart<Tail<SignersBelow>> for Elements1 {
+impl TagsApart<SignersBelow> for RevocationInfoChoices {
     ghost apart = { λ t h e. Prim.omega arith };
 }
 
 type SignerTail = Part<
-    AlgorithmIdentifier,
-    Part<OctetStringAsn1, Tail<SetOrNone<UnsignedAttribute>>>,
+    SignatureAlgorithmIdentifier,
+    Part<SignatureValue, Tail<SetOrNone<UnsignedAttribute>>>,
 >;
 
 type SignerParts = Part<
-    CmsVersion,
-    Part<Asn1RawDer, Part<AlgorithmIdentifier, Omitted<Elements0, SignerTail>>>,
+    FixedVersion<1>,
+    Part<SignerIdentifier, Part<DigestAlgorithmIdentifier, Omitted<Attributes, SignerTail>>>,
 >;
 
-type SignedTail = Omitted<Elements0, Maybe<Elements1, Tail<SignersBelow>>>;
+type SignedTail = Omitted<CertificateSet, Maybe<RevocationInfoChoices, Tail<SignersBelow>>>;
 
 type SignedParts = Part<
     CmsVersion,
-    Part<Asn1SetOf<AlgorithmIdentifier>, Part<EncapsulatedContentInfo, SignedTail>>,
+    Part<DigestAlgorithmIdentifiers, Part<EncapsulatedContentInfo, SignedTail>>,
 >;
 
 type Held = Alone<ExplicitContextTag0<SignedData>>;
@@ -155,10 +158,10 @@ fn read_signer_with<F: Fn(&mut Reader<'_>, u8) -> Result<SignerInfo, Error>>(
             ensures { GivesRow (λ x. (map attribute_value x.0.items, tt)) (set_or_none 0xA1 attribute) nest s.old s.new result }
         { read_unsigned_with(alloc, s, nest, by) },
     )?;
-    let Part(version, Part(sid, Part(digest_algorithm, Omitted(signed, rest)))) = row;
+    let Part(_, Part(sid, Part(digest_algorithm, Omitted(signed, rest)))) = row;
     let Part(signature_algorithm, Part(signature, Tail(SetOrNone(unsigned)))) = rest;
     Ok(SignerInfo {
-        version,
+        version: CmsVersion::V1,
         sid,
         digest_algorithm,
         signed_attrs: Optional(signed),

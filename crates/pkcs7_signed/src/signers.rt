@@ -9,18 +9,22 @@ ghost use Rattle.pkcs7_signed.specs.Heads.{signer_head_value, signed_head_value}
 ghost use Rattle.pkcs7_signed.specs.SignerLevels.{parts_of_signer, parts_of_signed};
 ghost use Rattle.pkcs7_signed.specs.Signers.{Value, signers, attributes, certificates, SignedValue, signer, attribute, certificate, signed_data, signer_infos, unsigned_attributes, values};
 ghost use Rattle.pkcs7_signed.specs.SignerValues.{signer_value, signers_value, attribute_value, attributes_value, values_value, certificate_value, signed_value};
+ghost use Rattle.pkcs7_signed.specs.declared.signers.UnsignedAttributes.{out-UnsignedAttributes};
 
 use crate::heads::{SignedHead, SignerHead};
 use crate::oids::{COUNTERSIGNATURE, MS_COUNTER_SIGN, SIGNED_DATA};
-use crate::stand_ins::{Elements0, Elements1};
 use asn1_core::parts::{Alone, Part, WriteError, WriteRow, Writer, put_within};
 use asn1_core::{
     Asn1RawDer, Asn1SetOf, DerSerialize, ExplicitContextTag0, ObjectIdentifier,
-    ObjectIdentifierAsn1, OctetStringAsn1, Optional,
+    ObjectIdentifierAsn1, Optional,
 };
 use asn1_core_oid::is_oid_of;
 use pkcs7_content::{CmsVersion, EncapsulatedContentInfo};
-use x509_base::AlgorithmIdentifier;
+use pkcs7_signed_crl::{
+    Attributes, CertificateSet, DigestAlgorithmIdentifier, DigestAlgorithmIdentifiers,
+    RevocationInfoChoices, SignatureAlgorithmIdentifier, SignatureValue, SignerIdentifier,
+};
+use std::alloc::Global;
 
 /// `SignerInfo ::= SEQUENCE { version CMSVersion, sid SignerIdentifier, digestAlgorithm DigestAlgorithmIdentifier,
 /// signedAttrs [0] IMPLICIT SignedAttributes OPTIONAL, signatureAlgorithm SignatureAlgorithmIdentifier, signature
@@ -30,11 +34,11 @@ use x509_base::AlgorithmIdentifier;
 pub struct SignerInfo {
     /// 1 and no other.
     pub version: CmsVersion,
-    pub sid: Asn1RawDer,
-    pub digest_algorithm: AlgorithmIdentifier,
-    pub signed_attrs: Optional<Elements0>,
-    pub signature_algorithm: AlgorithmIdentifier,
-    pub signature: OctetStringAsn1,
+    pub sid: SignerIdentifier,
+    pub digest_algorithm: DigestAlgorithmIdentifier,
+    pub signed_attrs: Optional<Attributes>,
+    pub signature_algorithm: SignatureAlgorithmIdentifier,
+    pub signature: SignatureValue,
     pub unsigned_attrs: Optional<UnsignedAttributes>,
 }
 
@@ -84,11 +88,11 @@ pub struct Pkcs7Certificate {
 #[derive(Debug, Drop, PartialEq)]
 pub struct SignedData {
     pub version: CmsVersion,
-    pub digest_algorithms: Asn1SetOf<AlgorithmIdentifier>,
+    pub digest_algorithms: DigestAlgorithmIdentifiers,
     pub content_info: EncapsulatedContentInfo,
-    pub certificates: Optional<Elements0>,
+    pub certificates: Optional<CertificateSet>,
     /// Absent revocation lists and an empty set of them are told apart.
-    pub crls: Option<Elements1>,
+    pub crls: Option<RevocationInfoChoices>,
     pub signers_infos: SignersInfos,
 }
 
@@ -111,6 +115,15 @@ impl Kind {
         } else {
             Kind::Foreign
         }
+    }
+}
+
+impl UnsignedAttributes {
+    /// None. Takes no memory.
+    pub fn empty(alloc: Global) -> Self
+        ensures { (out-UnsignedAttributes result).0.items ≡ [] }
+    {
+        UnsignedAttributes(Vec::new(alloc))
     }
 }
 

@@ -3,12 +3,13 @@
 ghost use Rattle.std.specs.Prelude.{◌≡◌, List, []};
 ghost use Rattle.std.proofs.Common.{arith};
 ghost use Rattle.x509_base.specs.Names.{AttributeValue};
-ghost use Rattle.pkcs7_signed_crl.specs.Attributes.{attributes_value, attributes, lawful_attributes};
+ghost use Rattle.pkcs7_signed_crl.specs.Attributes.{attributes_value, attributes, lawful_attributes, no_attributes, normal_no_attributes};
 ghost use Rattle.pkcs7_signed_crl.specs.Equal.{attributes_equal};
 
 use crate::algorithms::SignatureAlgorithmIdentifier;
 use asn1_core::parts::{
-    ApartFrom, FirstTags, WriteError, WriteRow, Writer, put_within, read_within,
+    ApartFrom, FirstTags, HasDefault, WriteError, WriteRow, Writer, has_no_text, put_within,
+    read_within,
 };
 use asn1_core::{
     Asn1SequenceOf, DerDeserialize, DerSerialize, EqualByText, Error, Reader, TryClone,
@@ -58,6 +59,20 @@ impl FirstTags for Attributes {
     fn begins(tag: u8) -> bool {
         tag == 0xA0
     }
+}
+
+impl HasDefault for Attributes {
+    ghost DEFAULT = { no_attributes };
+
+    fn is_default(&self) -> bool {
+        has_no_text(0xA0, &self.0.0)
+    }
+
+    fn absent(alloc: Global) -> Result<Self, Error> {
+        Ok(Attributes::empty(alloc))
+    }
+
+    ghost normal_default = { normal_no_attributes };
 }
 
 impl ApartFrom<SignatureAlgorithmIdentifier> for Attributes {

@@ -5,10 +5,13 @@ ghost use Rattle.std.proofs.Common.{arith};
 ghost use Rattle.asn1_core_format.specs.Laws.{NextIs};
 ghost use Rattle.asn1_core_format.specs.Lists.{each};
 ghost use Rattle.asn1_core_format.specs.TaggedLaws.{within_tagged};
-ghost use Rattle.pkcs7_signed_crl.specs.Certificates.{CertificateValue, certificate_value, certificate_choice, lawful_certificate_choice, certificates_value, certificate_set, lawful_certificate_set};
+ghost use Rattle.pkcs7_signed_crl.specs.Certificates.{CertificateValue, certificate_value, certificate_choice, lawful_certificate_choice, certificates_value, certificate_set, lawful_certificate_set, no_certificates, normal_no_certificates};
 ghost use Rattle.pkcs7_signed_crl.specs.Equal.{certificate_equal, certificates_equal};
 
-use asn1_core::parts::{WriteError, WriteRow, Writer, put_within, read_row_contents, read_within};
+use asn1_core::parts::{
+    HasDefault, WriteError, WriteRow, Writer, has_no_text, put_within, read_row_contents,
+    read_within,
+};
 use asn1_core::{
     Asn1RawDer, DerDeserialize, DerSerialize, DerTagged, EqualByText, Error, Reader, TryClone,
 };
@@ -141,6 +144,20 @@ impl DerTagged for CertificateSet {
     }
 
     ghost tagged = { within_tagged 0xA0 (Prim.omega arith) (each certificate_choice) };
+}
+
+impl HasDefault for CertificateSet {
+    ghost DEFAULT = { no_certificates };
+
+    fn is_default(&self) -> bool {
+        has_no_text(0xA0, &self.0)
+    }
+
+    fn absent(alloc: Global) -> Result<Self, Error> {
+        Ok(CertificateSet::empty(alloc))
+    }
+
+    ghost normal_default = { normal_no_certificates };
 }
 
 impl EqualByText for CertificateSet {

@@ -1,8 +1,8 @@
 use Rattle.std.proofs.Common.{◌+◌, ◌*◌}
 use Rattle.pkcs7_signed.proofs.reading.+read.Given as goal
 
-abbrev pub decreases-read : goal.decreases-read
-decreases-read l = 2 * l.nest
+abbrev pub decreases-SignerInfoDerDeserialize::read : goal.decreases-SignerInfoDerDeserialize::read
+decreases-SignerInfoDerDeserialize::read l = 2 * l.nest
 
 abbrev pub decreases-read_signer_with : goal.decreases-read_signer_with
 decreases-read_signer_with l = 2 * l.below + 1

@@ -21,11 +21,11 @@ pub returns-in_err-value : goal.returns-in_err-value
 returns-in_err-value g c =
     gave attribute_value attribute c.args.nest (err_from_is_err_and c.from_residual-in_err-value.result c.from_residual-in_err-value.ensures.1)
     (attribute_refused c.args.nest (within_refused (any_defined_by (values_defined_by certificate (less signer))) c.args.nest 0x30 c.in_ok-outer.ensures
-    (row_refused (values_defined_by certificate (less signer)) c.in_ok-ty.ensures (refused_at_octets c.octets.ensures c.in_err-value.ensures))))
+    (row_refused (values_defined_by certificate (less signer)) c.in_ok-ty.ensures (refused_at_octets c.octets.ensures.value c.in_err-value.ensures))))
 
 pub returns : goal.returns
 returns g c =
     let t = within_took (any_defined_by (values_defined_by certificate (less signer))) c.args.nest 0x30 c.in_ok-outer.ensures
-    (defined_took (values_defined_by certificate (less signer)) c.in_ok-ty.ensures (at_octets c.octets.ensures c.in_ok-value.ensures)) c.in_ok-end.ensures in
+    (defined_took (values_defined_by certificate (less signer)) c.in_ok-ty.ensures (at_octets c.octets.ensures.value c.in_ok-value.ensures)) c.in_ok-end.ensures in
     attribute_took c.args.nest _
     (subst (Took (attribute_row certificate (less signer)) c.args.nest c.args.r.now c.end.new.self) (sym (made_attribute c.in_ok-ty.ty c.in_ok-value.value)) t)

@@ -3,6 +3,7 @@ use Rattle.std.proofs.lemmas.Result.{err_from_is_err_and}
 use Rattle.asn1_core_format.proofs.LevelReads.{gave}
 use Rattle.asn1_core_format.specs.Format.{Took}
 use Rattle.asn1_core_format.specs.EmptySets.{lawful_set_or_none}
+use Rattle.pkcs7_content.specs.declared.versions.CmsVersion.TheVariants.{V1}
 use Rattle.pkcs7_signed.specs.Rows.{signer_row}
 use Rattle.pkcs7_signed.specs.Signers.{signer, attribute}
 use Rattle.pkcs7_signed.specs.SignerLaws.{lawful_attribute}
@@ -20,4 +21,4 @@ pub returns : goal.returns
 returns g c =
     signer_took c.args.nest _
     (subst (Took (signer_row attribute) c.args.nest c.args.r.now c.read_row_within_with.new.r)
-    (sym (made_signer c.in_ok-row.row.0 c.in_ok-row.row.1.0 c.in_ok-row.row.1.1.0 c.in_ok-row.row.1.1.1.0 c.in_ok-row.row.1.1.1.1.0 c.in_ok-row.row.1.1.1.1.1.0 c.in_ok-row.row.1.1.1.1.1.1.0.0)) c.in_ok-row.ensures)
+    (sym (made_signer V1 c.in_ok-row.row.1.0 c.in_ok-row.row.1.1.0 c.in_ok-row.row.1.1.1.0 c.in_ok-row.row.1.1.1.1.0 c.in_ok-row.row.1.1.1.1.1.0 c.in_ok-row.row.1.1.1.1.1.1.0.0)) c.in_ok-row.ensures)

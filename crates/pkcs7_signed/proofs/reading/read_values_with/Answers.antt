@@ -23,29 +23,29 @@ read_set_below_with-requires-clause-lawful g c = lawful_signer
 pub returns-in_err-certificates-in-MsCounterSign : goal.returns-in_err-certificates-in-MsCounterSign
 returns-in_err-certificates-in-MsCounterSign g c =
     gave_row values_value (values_row certificate (less signer) (kind_of c.args.oid.now)) c.args.nest (err_from_is_err_and c.from_residual.result c.from_residual.ensures.1)
-    (refused_at (values_row certificate (less signer)) (sym c.in-MsCounterSign.is ∙ c.with_oid.ensures) (arm_refused values _ (set_of certificate) c.in_err-certificates.ensures))
+    (refused_at (values_row certificate (less signer)) (sym c.in-MsCounterSign.is ∙ c.with_oid.ensures) (arm_refused values _ (set_of certificate) c.in_err-certificates-in-MsCounterSign.ensures))
 
 pub returns-in_err-signers-in-CounterSign : goal.returns-in_err-signers-in-CounterSign
 returns-in_err-signers-in-CounterSign g c =
-    gave_row values_value (values_row certificate (less signer) (kind_of c.args.oid.now)) c.args.nest (err_from_is_err_and c.from_residual-in_err-signers.result c.from_residual-in_err-signers.ensures.1)
-    (refused_at (values_row certificate (less signer)) (sym c.in-CounterSign.is ∙ c.with_oid.ensures) (arm_refused values _ (set_of (less signer)) c.in_err-signers.ensures))
+    gave_row values_value (values_row certificate (less signer) (kind_of c.args.oid.now)) c.args.nest (err_from_is_err_and c.from_residual-in_err-signers-in-CounterSign.result c.from_residual-in_err-signers-in-CounterSign.ensures.1)
+    (refused_at (values_row certificate (less signer)) (sym c.in-CounterSign.is ∙ c.with_oid.ensures) (arm_refused values _ (set_of (less signer)) c.in_err-signers-in-CounterSign.ensures))
 
 pub returns-in_err-elements-in-Foreign : goal.returns-in_err-elements-in-Foreign
 returns-in_err-elements-in-Foreign g c =
-    gave_row values_value (values_row certificate (less signer) (kind_of c.args.oid.now)) c.args.nest (err_from_is_err_and c.from_residual-in_err-elements.result c.from_residual-in_err-elements.ensures.1)
-    (refused_at (values_row certificate (less signer)) (sym c.in-Foreign.is ∙ c.with_oid.ensures) (arm_refused values _ (set_of raw) c.in_err-elements.ensures))
+    gave_row values_value (values_row certificate (less signer) (kind_of c.args.oid.now)) c.args.nest (err_from_is_err_and c.from_residual-in_err-elements-in-Foreign.result c.from_residual-in_err-elements-in-Foreign.ensures.1)
+    (refused_at (values_row certificate (less signer)) (sym c.in-Foreign.is ∙ c.with_oid.ensures) (arm_refused values _ (set_of raw) c.in_err-elements-in-Foreign.ensures))
 
 pub returns-in_ok-certificates-in-MsCounterSign : goal.returns-in_ok-certificates-in-MsCounterSign
 returns-in_ok-certificates-in-MsCounterSign g c =
     subst (TookRow (values_row certificate (less signer) (kind_of c.args.oid.now)) c.args.nest c.args.r.now c.read_set_with.new.r) (sym (value_ms_counter_sign _))
-    (took_at (values_row certificate (less signer)) (sym c.in-MsCounterSign.is ∙ c.with_oid.ensures) (arm_took values _ (set_of certificate) (itself (λ a. refl) (λ a. refl) (λ a. refl)) c.in_ok-certificates.ensures))
+    (took_at (values_row certificate (less signer)) (sym c.in-MsCounterSign.is ∙ c.with_oid.ensures) (arm_took values _ (set_of certificate) (itself (λ a. refl) (λ a. refl) (λ a. refl)) c.in_ok-certificates-in-MsCounterSign.ensures))
 
 pub returns-in_ok-signers-in-CounterSign : goal.returns-in_ok-signers-in-CounterSign
 returns-in_ok-signers-in-CounterSign g c =
     subst (TookRow (values_row certificate (less signer) (kind_of c.args.oid.now)) c.args.nest c.args.r.now c.read_set_below_with.new.r) (sym (value_counter_sign _))
-    (took_at (values_row certificate (less signer)) (sym c.in-CounterSign.is ∙ c.with_oid.ensures) (arm_took values _ (set_of (less signer)) (itself (λ a. refl) (λ a. refl) (λ a. refl)) c.in_ok-signers.ensures))
+    (took_at (values_row certificate (less signer)) (sym c.in-CounterSign.is ∙ c.with_oid.ensures) (arm_took values _ (set_of (less signer)) (itself (λ a. refl) (λ a. refl) (λ a. refl)) c.in_ok-signers-in-CounterSign.ensures))
 
 pub returns-in_ok-elements-in-Foreign : goal.returns-in_ok-elements-in-Foreign
 returns-in_ok-elements-in-Foreign g c =
     subst (TookRow (values_row certificate (less signer) (kind_of c.args.oid.now)) c.args.nest c.args.r.now c.read_row.new.r) (sym (value_unknown _))
-    (took_at (values_row certificate (less signer)) (sym c.in-Foreign.is ∙ c.with_oid.ensures) (arm_took values _ (set_of raw) (itself (λ a. refl) (λ a. refl) (λ a. refl)) c.in_ok-elements.ensures))
+    (took_at (values_row certificate (less signer)) (sym c.in-Foreign.is ∙ c.with_oid.ensures) (arm_took values _ (set_of raw) (itself (λ a. refl) (λ a. refl) (λ a. refl)) c.in_ok-elements-in-Foreign.ensures))

@@ -1,4 +1,9 @@
+use Rattle.std.proofs.Common.{◌≡◌, sym, ◌∙◌, subst, rules}
+use Rattle.asn1_core_oid.specs.Oid.{IsOid}
+use Rattle.pkcs7_signed.specs.Oids.{signed_data_oid, signed_data_is_oid}
 use Rattle.pkcs7_signed.proofs.reading.SignedDataTypeLeaf.from_contents.Goals as goal
 
-pub returns-in_err-oid-clause-spelled : goal.returns-in_err-oid-clause-spelled
-returns-in_err-oid-clause-spelled c = ?
+pub from_checked-oid-requires : goal.from_checked-oid-requires
+from_checked-oid-requires c =
+    let e : c.args.contents.now ≡ signed_data_oid = search rules in
+    subst IsOid (sym (c.in_ok-octets.ensures.items ∙ e)) signed_data_is_oid
