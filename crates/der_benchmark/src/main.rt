@@ -6,8 +6,8 @@ ghost use Rattle.std.specs.Prelude.{None};
 
 use asn1_core::{
     Asn1RawDer, Asn1SequenceOf, Asn1SetOf, DerDeserialize, DerSerialize, Error,
-    ExplicitContextTag0, ObjectIdentifier, ObjectIdentifierAsn1, OctetStringAsn1, Sink, TryClone,
-    from_bytes, to_vec,
+    ExplicitContextTag0, ObjectIdentifier, ObjectIdentifierAsn1, OctetStringAsn1, Optional, Sink,
+    TryClone, from_bytes, to_vec,
 };
 use asn1_leaves::{BmpString, BmpStringAsn1, CharSetError, IA5String, IA5StringAsn1};
 use std::alloc::Global;
@@ -16,9 +16,10 @@ use std::{env, io};
 use thiserror::Error as ThisError;
 use x509_base::{Extension, Extensions, Name, NameValue};
 use x509_containers::{
-    AuthenticatedSafeContentInfo, CertificateBag, CertificateList, ParsedAuthenticatedSafeDataRepr,
-    Pfx, Pkcs12Attribute, RawAuthenticatedSafeContentInfo, RawPfx, RevokedCertificates, SafeBag,
-    SafeBagKind, SafeContents, SafeContentsContentInfo,
+    AuthenticatedSafeContentInfo, CertificateBag, CertificateChoices, CertificateList,
+    CertificateSet, ParsedAuthenticatedSafeDataRepr, Pfx, Pkcs12Attribute,
+    RawAuthenticatedSafeContentInfo, RawPfx, RevokedCertificates, SafeBag, SafeBagKind,
+    SafeContents, SafeContentsContentInfo, SignatureValue, SignedData, SignerInfo, SignersInfos,
 };
 
 /// How often each call is timed; the shortest time counts.
@@ -34,6 +35,15 @@ const REVOKED: &[u8] = b"\
     \x30\x2F\x02\x10\x07\x07\x07\x07\x07\x07\x07\x07\x07\x07\x07\x07\x07\x07\x07\x07\x17\x0D\x32\x31\
     \x30\x34\x32\x30\x30\x36\x35\x32\x32\x34\x5A\x30\x0C\x30\x0A\x06\x03\x55\x1D\x15\x04\x03\x0A\x01\
     \x01";
+
+/// Signed data without certificates and signers.
+const SIGNED_DATA: &[u8] = b"\
+    \x30\x14\x02\x01\x01\x31\x00\x30\x0B\x06\x09\x2A\x86\x48\x86\xF7\x0D\x01\x07\x01\x31\x00";
+
+/// A signer by a number, with a signed attribute and an empty signature.
+const SIGNER: &[u8] = b"\
+    \x30\x2A\x02\x01\x01\x30\x05\x30\x00\x02\x01\x07\x30\x05\x06\x03\x2A\x03\x04\xA0\x0E\x30\x0C\x06\
+    \x03\x2A\x03\x04\x31\x05\x06\x03\x2A\x03\x05\x30\x05\x06\x03\x2A\x03\x04\x04\x00";
 
 /// Why nothing more was measured.
 #[derive(Debug, Drop, ThisError)]
@@ -222,6 +232,23 @@ fn revocation_list(alloc: Global, count: usize) -> Result<CertificateList, Error
     Ok(list)
 }
 
+/// Signed data with so many certificates of 1,224 bytes, and as many signers.
+fn signed_data(alloc: Global, count: usize) -> Result<SignedData, Error> {
+    let mut signed: SignedData = from_bytes(alloc, SIGNED_DATA)?;
+    let mut certificates = Vec::new(alloc);
+    let mut signers = Vec::new(alloc);
+    for _ in 0..count {
+        let certificate = Asn1RawDer(to_vec(alloc, &extensions(alloc, 40)?)?);
+        certificates.push(CertificateChoices::Certificate(certificate))?;
+        let mut signer: SignerInfo = from_bytes(alloc, SIGNER)?;
+        signer.signature = SignatureValue(OctetStringAsn1(octets(alloc, 256)?));
+        signers.push(signer)?;
+    }
+    signed.certificates = Optional(CertificateSet(certificates));
+    signed.signers_infos = SignersInfos(Asn1SetOf(signers));
+    Ok(signed)
+}
+
 fn name(alloc: Global, count: usize) -> Result<Name, Error> {
     let mut sets = Vec::new(alloc);
     for _ in 0..count {
@@ -396,6 +423,7 @@ fn measure_all(rt: &HostRuntime) -> Result<(), Failure> {
         "revocation list, 20000",
         &revocation_list(alloc, 20_000)?,
     )?;
+    measure(rt, "signed data, 100", &signed_data(alloc, 100)?)?;
     measure(rt, "name, 2000 parts", &name(alloc, 2_000)?)?;
     measure(rt, "raw pfx, 1 MB", &pfx(alloc, 1_000_000)?)?;
     measure_stores(rt)?;
