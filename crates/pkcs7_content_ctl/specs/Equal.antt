@@ -1,6 +1,6 @@
 -- `==` is equality of what the values contain.
 use Rattle.std.specs.Prelude.{◌≡◌, ◌↔◌, ℕ, Bool, true}
-use Rattle.std.proofs.Common.{arith, rules, ap}
+use Rattle.std.proofs.Common.{arith, rules, ap, inl, inr}
 use Rattle.asn1_core.specs.Der.{octets_of, list_equal, two_equal}
 use Rattle.std.proofs.lemmas.Slice.Eq.{bytes_eq-Decides}
 use Rattle.asn1_core.specs.Equal.{octets_equal, raw_equal, with_end, same_first, same_second}
