@@ -1,5 +1,5 @@
-//! What the program `derbox` makes of an input, and what the crates below offer: PKCS #12 (RFC 7292), contents of
-//! PKCS #7 (RFC 2315, RFC 5652), revocation lists (RFC 5280), trust lists, X.509 and Authenticode.
+//! What the program `derbox` makes of an input, and what the crates below offer: PKCS #12 (RFC 7292), contents and
+//! signed data of PKCS #7 (RFC 2315, RFC 5652), revocation lists (RFC 5280), trust lists, X.509 and Authenticode.
 #![tactic(auto)]
 
 mod kinds;
@@ -104,6 +104,13 @@ pub use pkcs7_content::SpcString;
 pub use pkcs7_content::SpcUuid;
 pub use pkcs7_content::StringError;
 pub use pkcs7_content::Url;
+pub use pkcs7_signed::Pkcs7Certificate;
+pub use pkcs7_signed::SignedData;
+pub use pkcs7_signed::SignerInfo;
+pub use pkcs7_signed::SignersInfos;
+pub use pkcs7_signed::UnsignedAttribute;
+pub use pkcs7_signed::UnsignedAttributeValue;
+pub use pkcs7_signed::UnsignedAttributes;
 pub use pkcs7_signed_crl::Attributes;
 pub use pkcs7_signed_crl::CertificateChoices;
 pub use pkcs7_signed_crl::CertificateList;
