@@ -1,5 +1,6 @@
-//! Tests of encapsulated content, of what Authenticode signs, of trust lists, of revocation lists, certificates and signers
-//! that no row of `example_rows` can say: values that are made. Expected values are those of the standards, or of other tools.
+//! Tests of encapsulated content, of what Authenticode signs, of trust lists, of revocation lists, certificates, signers and
+//! signed data that no row of `example_rows` can say: values that are made. Expected values are those of the standards, or of
+//! other tools.
 #![tactic(auto)]
 
 #[cfg(test)]
@@ -8,6 +9,8 @@ mod built;
 mod contents;
 #[cfg(test)]
 mod indirect_data;
+#[cfg(test)]
+mod signed_data;
 #[cfg(test)]
 mod signed_parts;
 #[cfg(test)]
