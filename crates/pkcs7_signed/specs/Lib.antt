@@ -7,3 +7,4 @@ pub mod SignerLaws
 pub mod Heads
 pub mod SignerValues
 pub mod SignerLevels
+pub mod SignerEqual

@@ -1,6 +1,7 @@
 //! Signed data and signers, which hold one another (RFC 5652, 5).
 #![tactic(auto)]
 
+mod clones;
 mod heads;
 mod oids;
 mod reading;
