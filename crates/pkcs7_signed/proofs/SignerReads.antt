@@ -1,5 +1,5 @@
 -- Reading signers, what they hold and signed data, one level of them.
-use Rattle.std.proofs.Common.{◌≡◌, ℕ, zero, suc, List, map, Vec, Global, Option, ap, ◌∙◌, subst, rules}
+use Rattle.std.proofs.Common.{◌≡◌, ℕ, List, map, Vec, Global, Option, ap, ◌∙◌, subst, rules}
 use Rattle.asn1_core.specs.Der.{octets_of}
 use Rattle.asn1_core.specs.declared.objects.ObjectIdentifierAsn1.{ObjectIdentifierAsn1}
 use Rattle.asn1_core.specs.declared.lists.Asn1SetOf.{Asn1SetOf}

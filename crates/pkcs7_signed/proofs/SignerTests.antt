@@ -1,6 +1,5 @@
 -- Testing signers, what they hold and signed data, one level of them.
-use Rattle.std.proofs.Common.{◌≡◌, ◌↔◌, ◌⊎◌, ℕ, zero, suc, IsTrue, true, false, List, [], ◌∷◌, map, refl, sym, ap, ◌∙◌, subst, inl, inr, rules}
-use Rattle.std.specs.List.{AllByRecursion}
+use Rattle.std.proofs.Common.{◌≡◌, ◌↔◌, ℕ, zero, suc, IsTrue, false, List, [], ◌∷◌, map, refl, sym, subst, inl, inr, rules}
 use Rattle.asn1_core.specs.Der.{Format, nothing}
 use Rattle.asn1_core_format.specs.Levels.{less}
 use Rattle.asn1_core_format.specs.EmptySets.{set_or_none}

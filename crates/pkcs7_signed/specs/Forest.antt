@@ -2,7 +2,7 @@
 -- arms; an arm says what stands in it, and of which sort the nodes are that it holds.
 use Rattle.std.specs.Prelude.{◌≡◌, ℕ, ◌+◌, List, [], ◌∷◌, ◌++◌, map}
 use Rattle.std.specs.List.{flat_map}
-use Rattle.std.proofs.Common.{refl, ap, ap₂, ◌∙◌}
+use Rattle.std.proofs.Common.{refl, ap, ap₂}
 use Rattle.asn1_core_format.specs.EmptySets.{is_nil}
 use Rattle.asn1_core_format.specs.Lists.{least_all}
 

@@ -16,9 +16,9 @@ use Rattle.pkcs7_signed.specs.Signers.{Value, signers, certificates, signer_out,
 use Rattle.pkcs7_signed.specs.SignerLaws.{signer_there, certificate_there, attribute_there}
 use Rattle.pkcs7_signed.specs.SignerLevels.{value_unknown, value_signers, value_attributes, value_signed}
 use Rattle.pkcs7_signed.specs.SignerValues.{values_value, certificate_value, signed_value, signer_value, signers_value, attribute_value, attributes_value}
-use Rattle.pkcs7_signed.specs.declared.signers.Pkcs7Certificate.{Pkcs7Certificate, Pkcs7Certificate', out-Pkcs7Certificate}
-use Rattle.pkcs7_signed.specs.declared.signers.SignedData.{SignedData, SignedData', out-SignedData}
-use Rattle.pkcs7_signed.specs.declared.signers.SignerInfo.{SignerInfo, SignerInfo', out-SignerInfo}
+use Rattle.pkcs7_signed.specs.declared.signers.Pkcs7Certificate.{Pkcs7Certificate', out-Pkcs7Certificate}
+use Rattle.pkcs7_signed.specs.declared.signers.SignedData.{SignedData', out-SignedData}
+use Rattle.pkcs7_signed.specs.declared.signers.SignerInfo.{SignerInfo', out-SignerInfo}
 use Rattle.pkcs7_signed.specs.declared.signers.SignersInfos.{SignersInfos', out-SignersInfos, Row_of-SignerInfo, end_of-SignerInfo, more_of-SignerInfo, items-the_row-SignerInfo, items_shown-the_row-SignerInfo-1}
 use Rattle.pkcs7_signed.specs.declared.signers.UnsignedAttribute.{UnsignedAttribute, out-UnsignedAttribute}
 use Rattle.pkcs7_signed.specs.declared.signers.UnsignedAttributes.{UnsignedAttributes', out-UnsignedAttributes, Row_of-UnsignedAttribute, end_of-UnsignedAttribute, more_of-UnsignedAttribute, items-the_row-UnsignedAttribute, items_shown-the_row-UnsignedAttribute-2}

@@ -1,5 +1,5 @@
 -- The values of signers, what they hold and signed data, level by level.
-use Rattle.std.specs.Prelude.{◌≡◌, ℕ, true, false, List, [], ◌∷◌, ◌++◌, map}
+use Rattle.std.specs.Prelude.{◌≡◌, ℕ, false, List, [], ◌∷◌, ◌++◌, map}
 use Rattle.std.proofs.Common.{refl, sym, ap, ◌∙◌, inl, inr, rules, append-nil}
 use Rattle.asn1_core.specs.Der.{octets_of, nothing}
 use Rattle.asn1_core.specs.declared.lists.Asn1SetOf.{Asn1SetOf}
@@ -11,7 +11,7 @@ use Rattle.asn1_core_format.specs.Omitted.{text_unless}
 use Rattle.pkcs7_signed.specs.Heads.{elements, signer_parts_value, signed_parts_value, signer_head_text, signed_head_text}
 use Rattle.pkcs7_signed.specs.Parts.{SignerParts, signer_parts, SignedParts, signed_parts, ending}
 use Rattle.pkcs7_signed.specs.Rows.{signer_row}
-use Rattle.pkcs7_signed.specs.Signers.{Value, signers, attributes, certificates, signer_out, signer_into, certificate_out, certificate_into, attribute_out, attribute_into, still, step, signer, attribute, signed_data, signer_infos, unsigned_attributes}
+use Rattle.pkcs7_signed.specs.Signers.{Value, signers, attributes, signer_out, signer_into, certificate_out, certificate_into, attribute_out, attribute_into, still, step, signer, attribute, signed_data, signer_infos, unsigned_attributes}
 use Rattle.pkcs7_signed.specs.SignerLaws.{signer_there, certificate_there, attribute_there, signer_step}
 use Rattle.pkcs7_signed.specs.SignerValues.{values_value, certificate_value, signed_value, signer_value, signers_value, attribute_value, attributes_value}
 use Rattle.pkcs7_signed.specs.declared.signers.Pkcs7Certificate.{Pkcs7Certificate, out-Pkcs7Certificate}
@@ -20,7 +20,7 @@ use Rattle.pkcs7_signed.specs.declared.signers.SignerInfo.{SignerInfo, out-Signe
 use Rattle.pkcs7_signed.specs.declared.signers.SignersInfos.{SignersInfos, out-SignersInfos}
 use Rattle.pkcs7_signed.specs.declared.signers.UnsignedAttribute.{UnsignedAttribute, out-UnsignedAttribute}
 use Rattle.pkcs7_signed.specs.declared.signers.UnsignedAttributes.{UnsignedAttributes, out-UnsignedAttributes}
-use Rattle.pkcs7_signed.specs.declared.signers.UnsignedAttributeValue.{UnsignedAttributeValue, MsCounterSign, CounterSign, Unknown}
+use Rattle.pkcs7_signed.specs.declared.signers.UnsignedAttributeValue.{MsCounterSign, CounterSign, Unknown}
 use Rattle.pkcs7_signed.specs.declared.signers.UnsignedAttributeValue.TheFolds.{the_lemmas}
 
 pub value_ms_counter_sign : (s : Asn1SetOf Pkcs7Certificate) → values_value (MsCounterSign s) ≡ inl (map certificate_value s.0.items)

@@ -1,4 +1,4 @@
-use Rattle.std.proofs.Common.{map, sym, ap, ◌∙◌, subst, refl, inl, inr, rules}
+use Rattle.std.proofs.Common.{sym, ◌∙◌, subst, refl}
 use Rattle.std.proofs.lemmas.Result.{err_from_is_err_and}
 use Rattle.asn1_core.specs.Der.{raw}
 use Rattle.asn1_core_format.proofs.LevelReads.{gave_row}

@@ -5,12 +5,11 @@ use Rattle.asn1_core_format.proofs.ItemTests.{all_tested, one_failed}
 use Rattle.asn1_core_format.specs.Levels.{less}
 use Rattle.asn1_core_format.specs.Lists.{each}
 use Rattle.asn1_core_oid.specs.Oid.{IsOid}
-use Rattle.pkcs7_signed.specs.Parts.{set_of}
-use Rattle.pkcs7_signed.specs.Rows.{IsOfKind, kind_of, attribute_row, certificate_row}
-use Rattle.pkcs7_signed.specs.Signers.{signer, attribute, certificate, signed_data, signer_infos, unsigned_attributes, values}
-use Rattle.pkcs7_signed.specs.SignerLevels.{value_ms_counter_sign, value_counter_sign, value_unknown, value_signers, value_attributes, value_signed, out_certificate, out_attribute, parts_of_signed}
+use Rattle.pkcs7_signed.specs.Rows.{kind_of, attribute_row, certificate_row}
+use Rattle.pkcs7_signed.specs.Signers.{signer, attribute, certificate, signer_infos, unsigned_attributes, values}
+use Rattle.pkcs7_signed.specs.SignerLevels.{value_ms_counter_sign, value_counter_sign, value_unknown, value_signers, value_attributes, out_certificate, out_attribute}
 use Rattle.pkcs7_signed.specs.declared.signers.UnsignedAttribute.{out-UnsignedAttribute}
-use Rattle.pkcs7_signed.specs.SignerValues.{signer_value, attribute_value, certificate_value, values_value, signed_value}
+use Rattle.pkcs7_signed.specs.SignerValues.{signer_value, attribute_value, certificate_value, values_value}
 use Rattle.pkcs7_signed.proofs.SignerTests.{never, through, signer_unformed, signer_formed, signed_formed, signed_unformed, of_kind, not_of_kind, none_below, some_below, with_first}
 use Rattle.pkcs7_signed.proofs.signers.+formed.Goals as goal
 
