@@ -19,20 +19,14 @@ impl EqualByText for SignerInfo {
 impl TryClone for SignerInfo {
     #[cycle(copy)]
     fn try_clone(&self, alloc: Global) -> Result<Self, Error> {
-        let sid = self.sid.try_clone(alloc)?;
-        let digest_algorithm = self.digest_algorithm.try_clone(alloc)?;
-        let signed_attrs = self.signed_attrs.try_clone(alloc)?;
-        let signature_algorithm = self.signature_algorithm.try_clone(alloc)?;
-        let signature = self.signature.try_clone(alloc)?;
-        let unsigned_attrs = Optional(self.unsigned_attrs.0.try_clone(alloc)?);
         Ok(SignerInfo {
             version: self.version,
-            sid,
-            digest_algorithm,
-            signed_attrs,
-            signature_algorithm,
-            signature,
-            unsigned_attrs,
+            sid: self.sid.try_clone(alloc)?,
+            digest_algorithm: self.digest_algorithm.try_clone(alloc)?,
+            signed_attrs: self.signed_attrs.try_clone(alloc)?,
+            signature_algorithm: self.signature_algorithm.try_clone(alloc)?,
+            signature: self.signature.try_clone(alloc)?,
+            unsigned_attrs: Optional(self.unsigned_attrs.0.try_clone(alloc)?),
         })
     }
 }
@@ -70,9 +64,10 @@ impl EqualByText for UnsignedAttribute {
 impl TryClone for UnsignedAttribute {
     #[cycle(copy)]
     fn try_clone(&self, alloc: Global) -> Result<Self, Error> {
-        let ty = self.ty.try_clone(alloc)?;
-        let value = self.value.try_clone(alloc)?;
-        Ok(UnsignedAttribute { ty, value })
+        Ok(UnsignedAttribute {
+            ty: self.ty.try_clone(alloc)?,
+            value: self.value.try_clone(alloc)?,
+        })
     }
 }
 
@@ -98,9 +93,10 @@ impl EqualByText for Pkcs7Certificate {
 impl TryClone for Pkcs7Certificate {
     #[cycle(copy)]
     fn try_clone(&self, alloc: Global) -> Result<Self, Error> {
-        let oid = self.oid.try_clone(alloc)?;
-        let signed_data = ExplicitContextTag0(self.signed_data.0.try_clone(alloc)?);
-        Ok(Pkcs7Certificate { oid, signed_data })
+        Ok(Pkcs7Certificate {
+            oid: self.oid.try_clone(alloc)?,
+            signed_data: ExplicitContextTag0(self.signed_data.0.try_clone(alloc)?),
+        })
     }
 }
 
@@ -111,18 +107,13 @@ impl EqualByText for SignedData {
 impl TryClone for SignedData {
     #[cycle(copy)]
     fn try_clone(&self, alloc: Global) -> Result<Self, Error> {
-        let digest_algorithms = self.digest_algorithms.try_clone(alloc)?;
-        let content_info = self.content_info.try_clone(alloc)?;
-        let certificates = self.certificates.try_clone(alloc)?;
-        let crls = self.crls.try_clone(alloc)?;
-        let signers_infos = self.signers_infos.try_clone(alloc)?;
         Ok(SignedData {
             version: self.version,
-            digest_algorithms,
-            content_info,
-            certificates,
-            crls,
-            signers_infos,
+            digest_algorithms: self.digest_algorithms.try_clone(alloc)?,
+            content_info: self.content_info.try_clone(alloc)?,
+            certificates: self.certificates.try_clone(alloc)?,
+            crls: self.crls.try_clone(alloc)?,
+            signers_infos: self.signers_infos.try_clone(alloc)?,
         })
     }
 }
