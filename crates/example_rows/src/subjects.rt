@@ -2,6 +2,7 @@
 
 mod contents;
 mod leaves;
+mod signed_data;
 mod signed_parts;
 mod stores;
 mod wrappers;
@@ -18,6 +19,7 @@ pub fn is_so(alloc: Global, word: &str, row: &Row) -> Result<(), Fail> {
         || x509::is_so(alloc, word, row)?
         || stores::is_so(alloc, word, row)?
         || contents::is_so(alloc, word, row)?
+        || signed_data::is_so(alloc, word, row)?
         || signed_parts::is_so(alloc, word, row)?
     {
         return Ok(());

@@ -1,8 +1,7 @@
--- Revocation lists, certificates, signers and signed data, as kinds of input: their words, and what inputs are written as.
+-- Revocation lists, certificates, signers, as kinds of input: their words, and what inputs are written as.
 use Rattle.std.specs.Prelude.{ℕ, List, codes}
 use Rattle.asn1_core.specs.Octets.{octet_string}
 use Rattle.asn1_leaves.specs.Integers.{integer}
-use Rattle.pkcs7_signed.specs.Signers.{attribute, certificate, signed_data, signer, signer_infos, unsigned_attributes}
 use Rattle.pkcs7_signed_crl.specs.Algorithms.{algorithms}
 use Rattle.pkcs7_signed_crl.specs.Attributes.{attributes}
 use Rattle.pkcs7_signed_crl.specs.CertificateLists.{certificate_list, tbs_list}
@@ -13,7 +12,7 @@ use Rattle.pkcs7_signed_crl.specs.Signers.{issuer_serial, signer_id}
 use Rattle.x509_base.specs.Algorithms.{algorithm_identifier}
 use Rattle.x509_containers_engine.specs.Engine.{Rewriting, rewriting_of}
 use Rattle.x509_containers.specs.declared.kinds.signed_parts.SignedPartKind.{SignedPartKind}
-use Rattle.x509_containers.specs.declared.kinds.signed_parts.SignedPartKind.TheVariants.{Attributes, CertificateChoices, CertificateList, CertificateSerialNumber, CertificateSet, DigestAlgorithmIdentifier, DigestAlgorithmIdentifiers, IssuerAndSerialNumber, OtherRevocationInfoFormat, Pkcs7Certificate, RevocationInfoChoice, RevocationInfoChoices, RevokedCertificate, RevokedCertificates, SignatureAlgorithmIdentifier, SignatureValue, SignedData, SignerIdentifier, SignerInfo, SignersInfos, TbsCertList, UnsignedAttribute, UnsignedAttributes}
+use Rattle.x509_containers.specs.declared.kinds.signed_parts.SignedPartKind.TheVariants.{Attributes, CertificateChoices, CertificateList, CertificateSerialNumber, CertificateSet, DigestAlgorithmIdentifier, DigestAlgorithmIdentifiers, IssuerAndSerialNumber, OtherRevocationInfoFormat, RevocationInfoChoice, RevocationInfoChoices, RevokedCertificate, RevokedCertificates, SignatureAlgorithmIdentifier, SignatureValue, SignerIdentifier, TbsCertList}
 
 abbrev pub word_of : SignedPartKind → List ℕ
 word_of Attributes = codes "attributes"
@@ -25,20 +24,14 @@ word_of DigestAlgorithmIdentifier = codes "digestalgorithmidentifier"
 word_of DigestAlgorithmIdentifiers = codes "digestalgorithmidentifiers"
 word_of IssuerAndSerialNumber = codes "issuerandserialnumber"
 word_of OtherRevocationInfoFormat = codes "otherrevocationinfoformat"
-word_of Pkcs7Certificate = codes "pkcs7certificate"
 word_of RevocationInfoChoice = codes "revocationinfochoice"
 word_of RevocationInfoChoices = codes "revocationinfochoices"
 word_of RevokedCertificate = codes "revokedcertificate"
 word_of RevokedCertificates = codes "revokedcertificates"
 word_of SignatureAlgorithmIdentifier = codes "signaturealgorithmidentifier"
 word_of SignatureValue = codes "signaturevalue"
-word_of SignedData = codes "signeddata"
 word_of SignerIdentifier = codes "signeridentifier"
-word_of SignerInfo = codes "signerinfo"
-word_of SignersInfos = codes "signersinfos"
 word_of TbsCertList = codes "tbscertlist"
-word_of UnsignedAttribute = codes "unsignedattribute"
-word_of UnsignedAttributes = codes "unsignedattributes"
 
 abbrev pub rewriting_as : SignedPartKind → Rewriting
 rewriting_as Attributes = rewriting_of attributes
@@ -50,17 +43,11 @@ rewriting_as DigestAlgorithmIdentifier = rewriting_of algorithm_identifier
 rewriting_as DigestAlgorithmIdentifiers = rewriting_of algorithms
 rewriting_as IssuerAndSerialNumber = rewriting_of issuer_serial
 rewriting_as OtherRevocationInfoFormat = rewriting_of other_format
-rewriting_as Pkcs7Certificate = rewriting_of certificate
 rewriting_as RevocationInfoChoice = rewriting_of revocation
 rewriting_as RevocationInfoChoices = rewriting_of revocations
 rewriting_as RevokedCertificate = rewriting_of revoked
 rewriting_as RevokedCertificates = rewriting_of all_revoked
 rewriting_as SignatureAlgorithmIdentifier = rewriting_of algorithm_identifier
 rewriting_as SignatureValue = rewriting_of octet_string
-rewriting_as SignedData = rewriting_of signed_data
 rewriting_as SignerIdentifier = rewriting_of signer_id
-rewriting_as SignerInfo = rewriting_of signer
-rewriting_as SignersInfos = rewriting_of signer_infos
 rewriting_as TbsCertList = rewriting_of tbs_list
-rewriting_as UnsignedAttribute = rewriting_of attribute
-rewriting_as UnsignedAttributes = rewriting_of unsigned_attributes

@@ -7,6 +7,7 @@ ghost use Rattle.x509_containers.specs.Kinds.{rewriting_as};
 mod algorithms;
 mod authenticode;
 mod contents;
+mod signed_data;
 mod signed_parts;
 mod stores;
 mod trust_lists;
@@ -15,6 +16,7 @@ pub use algorithms::AlgorithmKind;
 use asn1_core_streams::{Sink, Source};
 pub use authenticode::AuthenticodeKind;
 pub use contents::ContentKind;
+pub use signed_data::SignedDataKind;
 pub use signed_parts::SignedPartKind;
 use std::alloc::Global;
 pub use stores::StoreKind;
@@ -27,6 +29,7 @@ pub enum Kind {
     Algorithm(AlgorithmKind),
     Authenticode(AuthenticodeKind),
     Content(ContentKind),
+    SignedData(SignedDataKind),
     SignedPart(SignedPartKind),
     Store(StoreKind),
     TrustList(TrustListKind),
@@ -47,6 +50,9 @@ impl Kind {
         }
         if let Some(kind) = ContentKind::from_word(word) {
             return Some(Kind::Content(kind));
+        }
+        if let Some(kind) = SignedDataKind::from_word(word) {
+            return Some(Kind::SignedData(kind));
         }
         if let Some(kind) = SignedPartKind::from_word(word) {
             return Some(Kind::SignedPart(kind));
@@ -82,6 +88,7 @@ pub fn run<R: Source, W: Sink>(
         Kind::Algorithm(kind) => kind.run(alloc, source, sink, mode),
         Kind::Authenticode(kind) => kind.run(alloc, source, sink, mode),
         Kind::Content(kind) => kind.run(alloc, source, sink, mode),
+        Kind::SignedData(kind) => kind.run(alloc, source, sink, mode),
         Kind::SignedPart(kind) => kind.run(alloc, source, sink, mode),
         Kind::Store(kind) => kind.run(alloc, source, sink, mode),
         Kind::TrustList(kind) => kind.run(alloc, source, sink, mode),

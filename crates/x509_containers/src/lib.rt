@@ -75,6 +75,7 @@ pub use kinds::AlgorithmKind;
 pub use kinds::AuthenticodeKind;
 pub use kinds::ContentKind;
 pub use kinds::Kind;
+pub use kinds::SignedDataKind;
 pub use kinds::SignedPartKind;
 pub use kinds::StoreKind;
 pub use kinds::TrustListKind;

@@ -1,4 +1,4 @@
-//! Revocation lists, certificates, signers, and signed data.
+//! Revocation lists, certificates, signers.
 
 use crate::checks::{is_so as at, is_so_under_tags as under_tags};
 use crate::rows::Row;
@@ -7,10 +7,9 @@ use std::test::Fail;
 use x509_containers::{
     Attributes, CertificateChoices, CertificateList, CertificateSerialNumber, CertificateSet,
     DigestAlgorithmIdentifier, DigestAlgorithmIdentifiers, IssuerAndSerialNumber,
-    OtherRevocationInfoFormat, Pkcs7Certificate, RevocationInfoChoice, RevocationInfoChoices,
-    RevokedCertificate, RevokedCertificates, SignatureAlgorithmIdentifier, SignatureValue,
-    SignedData, SignerIdentifier, SignerInfo, SignersInfos, TbsCertList, UnsignedAttribute,
-    UnsignedAttributes,
+    OtherRevocationInfoFormat, RevocationInfoChoice, RevocationInfoChoices, RevokedCertificate,
+    RevokedCertificates, SignatureAlgorithmIdentifier, SignatureValue, SignerIdentifier,
+    TbsCertList,
 };
 
 /// Asks what a row says, where the word names one of these types.
@@ -25,20 +24,14 @@ pub fn is_so(alloc: Global, word: &str, row: &Row) -> Result<bool, Fail> {
         "digestalgorithmidentifiers" => at::<DigestAlgorithmIdentifiers>(alloc, row)?,
         "issuerandserialnumber" => at::<IssuerAndSerialNumber>(alloc, row)?,
         "otherrevocationinfoformat" => under_tags::<OtherRevocationInfoFormat>(alloc, row)?,
-        "pkcs7certificate" => at::<Pkcs7Certificate>(alloc, row)?,
         "revocationinfochoice" => at::<RevocationInfoChoice>(alloc, row)?,
         "revocationinfochoices" => under_tags::<RevocationInfoChoices>(alloc, row)?,
         "revokedcertificate" => at::<RevokedCertificate>(alloc, row)?,
         "revokedcertificates" => at::<RevokedCertificates>(alloc, row)?,
         "signaturealgorithmidentifier" => at::<SignatureAlgorithmIdentifier>(alloc, row)?,
         "signaturevalue" => at::<SignatureValue>(alloc, row)?,
-        "signeddata" => at::<SignedData>(alloc, row)?,
         "signeridentifier" => at::<SignerIdentifier>(alloc, row)?,
-        "signerinfo" => at::<SignerInfo>(alloc, row)?,
-        "signersinfos" => at::<SignersInfos>(alloc, row)?,
         "tbscertlist" => at::<TbsCertList>(alloc, row)?,
-        "unsignedattribute" => at::<UnsignedAttribute>(alloc, row)?,
-        "unsignedattributes" => at::<UnsignedAttributes>(alloc, row)?,
         _ => return Ok(false),
     }
     Ok(true)

@@ -1,11 +1,8 @@
-//! Revocation lists, certificates, signers, and signed data.
+//! Revocation lists, certificates, signers.
 
 ghost use Rattle.x509_containers.specs.SignedPartKinds.{rewriting_as, word_of};
 
 use asn1_core_streams::{Sink, Source};
-use pkcs7_signed::{
-    Pkcs7Certificate, SignedData, SignerInfo, SignersInfos, UnsignedAttribute, UnsignedAttributes,
-};
 use pkcs7_signed_crl::{
     Attributes, CertificateChoices, CertificateList, CertificateSerialNumber, CertificateSet,
     DigestAlgorithmIdentifier, DigestAlgorithmIdentifiers, IssuerAndSerialNumber,
@@ -16,7 +13,7 @@ use pkcs7_signed_crl::{
 use std::alloc::Global;
 use x509_containers_engine::{KindOfInput, Mode, Outcome, run_at};
 
-/// Revocation lists, certificates, signers, and signed data.
+/// Revocation lists, certificates, signers.
 #[derive(Clone, Copy, Debug, PartialEq, Eq)]
 pub enum SignedPartKind {
     Attributes,
@@ -28,20 +25,14 @@ pub enum SignedPartKind {
     DigestAlgorithmIdentifiers,
     IssuerAndSerialNumber,
     OtherRevocationInfoFormat,
-    Pkcs7Certificate,
     RevocationInfoChoice,
     RevocationInfoChoices,
     RevokedCertificate,
     RevokedCertificates,
     SignatureAlgorithmIdentifier,
     SignatureValue,
-    SignedData,
     SignerIdentifier,
-    SignerInfo,
-    SignersInfos,
     TbsCertList,
-    UnsignedAttribute,
-    UnsignedAttributes,
 }
 
 impl KindOfInput for SignedPartKind {
@@ -60,20 +51,14 @@ impl KindOfInput for SignedPartKind {
             SignedPartKind::DigestAlgorithmIdentifiers,
             SignedPartKind::IssuerAndSerialNumber,
             SignedPartKind::OtherRevocationInfoFormat,
-            SignedPartKind::Pkcs7Certificate,
             SignedPartKind::RevocationInfoChoice,
             SignedPartKind::RevocationInfoChoices,
             SignedPartKind::RevokedCertificate,
             SignedPartKind::RevokedCertificates,
             SignedPartKind::SignatureAlgorithmIdentifier,
             SignedPartKind::SignatureValue,
-            SignedPartKind::SignedData,
             SignedPartKind::SignerIdentifier,
-            SignedPartKind::SignerInfo,
-            SignedPartKind::SignersInfos,
             SignedPartKind::TbsCertList,
-            SignedPartKind::UnsignedAttribute,
-            SignedPartKind::UnsignedAttributes,
         ]
     }
 
@@ -88,20 +73,14 @@ impl KindOfInput for SignedPartKind {
             "digestalgorithmidentifiers" => Some(SignedPartKind::DigestAlgorithmIdentifiers),
             "issuerandserialnumber" => Some(SignedPartKind::IssuerAndSerialNumber),
             "otherrevocationinfoformat" => Some(SignedPartKind::OtherRevocationInfoFormat),
-            "pkcs7certificate" => Some(SignedPartKind::Pkcs7Certificate),
             "revocationinfochoice" => Some(SignedPartKind::RevocationInfoChoice),
             "revocationinfochoices" => Some(SignedPartKind::RevocationInfoChoices),
             "revokedcertificate" => Some(SignedPartKind::RevokedCertificate),
             "revokedcertificates" => Some(SignedPartKind::RevokedCertificates),
             "signaturealgorithmidentifier" => Some(SignedPartKind::SignatureAlgorithmIdentifier),
             "signaturevalue" => Some(SignedPartKind::SignatureValue),
-            "signeddata" => Some(SignedPartKind::SignedData),
             "signeridentifier" => Some(SignedPartKind::SignerIdentifier),
-            "signerinfo" => Some(SignedPartKind::SignerInfo),
-            "signersinfos" => Some(SignedPartKind::SignersInfos),
             "tbscertlist" => Some(SignedPartKind::TbsCertList),
-            "unsignedattribute" => Some(SignedPartKind::UnsignedAttribute),
-            "unsignedattributes" => Some(SignedPartKind::UnsignedAttributes),
             _ => None,
         }
     }
@@ -141,9 +120,6 @@ impl KindOfInput for SignedPartKind {
             SignedPartKind::OtherRevocationInfoFormat => run_at::<OtherRevocationInfoFormat, R, W>(
                 alloc, source, sink, mode,
             ),
-            SignedPartKind::Pkcs7Certificate => run_at::<Pkcs7Certificate, R, W>(
-                alloc, source, sink, mode,
-            ),
             SignedPartKind::RevocationInfoChoice => run_at::<RevocationInfoChoice, R, W>(
                 alloc, source, sink, mode,
             ),
@@ -164,19 +140,10 @@ impl KindOfInput for SignedPartKind {
             SignedPartKind::SignatureValue => run_at::<SignatureValue, R, W>(
                 alloc, source, sink, mode,
             ),
-            SignedPartKind::SignedData => run_at::<SignedData, R, W>(alloc, source, sink, mode),
             SignedPartKind::SignerIdentifier => run_at::<SignerIdentifier, R, W>(
                 alloc, source, sink, mode,
             ),
-            SignedPartKind::SignerInfo => run_at::<SignerInfo, R, W>(alloc, source, sink, mode),
-            SignedPartKind::SignersInfos => run_at::<SignersInfos, R, W>(alloc, source, sink, mode),
             SignedPartKind::TbsCertList => run_at::<TbsCertList, R, W>(alloc, source, sink, mode),
-            SignedPartKind::UnsignedAttribute => run_at::<UnsignedAttribute, R, W>(
-                alloc, source, sink, mode,
-            ),
-            SignedPartKind::UnsignedAttributes => run_at::<UnsignedAttributes, R, W>(
-                alloc, source, sink, mode,
-            ),
         }
     }
 }
