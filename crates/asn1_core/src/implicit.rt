@@ -4,6 +4,7 @@ ghost use Rattle.std.proofs.Common.{arith};
 ghost use Rattle.asn1_core_format.specs.Tagged.{implicit, context_tag};
 ghost use Rattle.asn1_core_format.specs.TaggedLaws.{lawful_implicit, context_tag_is};
 
+use crate::lists::Asn1SetOf;
 use asn1_core_element::{Error, Reader};
 use asn1_core_format::tagged::context_tag_of;
 use asn1_core_format::{
@@ -109,5 +110,9 @@ impl<T: TryClone> TryClone for ImplicitContextTag1<T> {
 }
 
 impl<T: DerTagged, U: DerTagged> ApartFrom<ImplicitContextTag1<U>> for ImplicitContextTag0<T> {
+    ghost no_common_tag = { λ t h e. Prim.omega arith };
+}
+
+impl<T: DerTagged, U: DerSerialize> ApartFrom<Asn1SetOf<U>> for ImplicitContextTag0<T> {
     ghost no_common_tag = { λ t h e. Prim.omega arith };
 }

@@ -1,0 +1,76 @@
+//! Content under its type (RFC 5652, 3).
+
+ghost use Rattle.std.specs.Prelude.{◌≡◌};
+ghost use Rattle.asn1_core_format.specs.Whole.{AnswersInput};
+ghost use Rattle.x509_pkcs7.specs.ContentInfos.{ContentInfoValue, content_info_value, content_info, lawful_content_info};
+ghost use Rattle.x509_pkcs7.specs.Equal.{content_info_equal};
+
+use asn1_core::parts::{End, Part, WriteError, WriteRow, Writer, put_within, read_within};
+use asn1_core::{
+    Asn1RawDer, DerDeserialize, DerSerialize, EqualByText, Error, ExplicitContextTag0,
+    ObjectIdentifierAsn1, Reader, from_bytes,
+};
+use std::alloc::Global;
+
+/// `ContentType ::= OBJECT IDENTIFIER`
+pub type ContentType = ObjectIdentifierAsn1;
+
+/// `ContentInfo ::= SEQUENCE { contentType ContentType, content [0] EXPLICIT ANY DEFINED BY contentType }`
+#[derive(Debug, Drop, PartialEq)]
+pub struct ContentInfo {
+    pub content_type: ContentType,
+    /// One element, octet for octet.
+    pub content: ExplicitContextTag0<Asn1RawDer>,
+}
+
+type ContentInfoRow = Part<ContentType, Part<ExplicitContextTag0<Asn1RawDer>, End>>;
+
+impl ContentInfo {
+    /// The bytes of the content's element, its header with it, without the tag `[0]` round it.
+    pub fn content(&self) -> &[u8]
+        ensures { result.now ≡ self.now.content.0.0.items }
+    {
+        self.content.0.0.as_slice()
+    }
+
+    /// The content as a `T`, with the errors of `from_bytes` on the bytes that `content` lends. What the content type
+    /// says isn't asked.
+    pub fn content_typed<T: DerDeserialize>(&self, alloc: Global) -> Result<T, Error>
+        ensures { AnswersInput T.value T.format 64 self.now.content.0.0.items result }
+    {
+        from_bytes(alloc, self.content())
+    }
+}
+
+impl DerSerialize for ContentInfo {
+    ghost Value = { ContentInfoValue };
+
+    ghost value = { content_info_value };
+
+    ghost format = { content_info };
+
+    fn put<W: Writer>(&self, w: &mut W) -> Result<(), WriteError> {
+        put_within(0x30, &Part(&self.content_type, Part(&self.content, End)), w)
+    }
+
+    fn well_formed_at(&self, limit: u8) -> bool {
+        Part(&self.content_type, Part(&self.content, End)).row_well_formed_at(limit)
+    }
+}
+
+impl DerDeserialize for ContentInfo {
+    fn read(alloc: Global, r: &mut Reader<'_>, nest: u8) -> Result<Self, Error> {
+        let row: ContentInfoRow = read_within(alloc, r, nest, 0x30)?;
+        let Part(content_type, Part(content, End)) = row;
+        Ok(ContentInfo {
+            content_type,
+            content,
+        })
+    }
+
+    ghost lawful = { lawful_content_info };
+}
+
+impl EqualByText for ContentInfo {
+    ghost equal_by_text = { content_info_equal };
+}

@@ -1,0 +1,125 @@
+//! Protection descriptors: to whom data are protected (MS-GKDI, DPAPI-NG).
+
+ghost use Rattle.x509_pkcs7.specs.Descriptors.{DescriptorValue, descriptor_value, descriptor, lawful_descriptor, GeneralDescriptorValue, general_descriptor_value, general_descriptor, lawful_general_descriptor};
+ghost use Rattle.x509_pkcs7.specs.Equal.{descriptor_equal, general_descriptor_equal};
+
+use asn1_core::parts::{End, Part, WriteError, WriteRow, Writer, put_within, read_within};
+use asn1_core::{
+    Asn1SequenceOf, DerDeserialize, DerSerialize, EqualByText, Error, ObjectIdentifierAsn1, Reader,
+    TryClone,
+};
+use asn1_leaves::Utf8StringAsn1;
+use std::alloc::Global;
+
+/// `ProtectionDescriptor ::= SEQUENCE { descriptorType UTF8String, descriptorValue UTF8String }`, as `SID` and a security
+/// identifier.
+#[derive(Debug, Drop, PartialEq)]
+pub struct ProtectionDescriptor {
+    pub descriptor_type: Utf8StringAsn1,
+    pub descriptor_value: Utf8StringAsn1,
+}
+
+type DescriptorRow = Part<Utf8StringAsn1, Part<Utf8StringAsn1, End>>;
+
+impl DerSerialize for ProtectionDescriptor {
+    ghost Value = { DescriptorValue };
+
+    ghost value = { descriptor_value };
+
+    ghost format = { descriptor };
+
+    fn put<W: Writer>(&self, w: &mut W) -> Result<(), WriteError> {
+        let value = Part(&self.descriptor_value, End);
+        put_within(0x30, &Part(&self.descriptor_type, value), w)
+    }
+
+    fn well_formed_at(&self, limit: u8) -> bool {
+        let value = Part(&self.descriptor_value, End);
+        Part(&self.descriptor_type, value).row_well_formed_at(limit)
+    }
+}
+
+impl DerDeserialize for ProtectionDescriptor {
+    fn read(alloc: Global, r: &mut Reader<'_>, nest: u8) -> Result<Self, Error> {
+        let row: DescriptorRow = read_within(alloc, r, nest, 0x30)?;
+        let Part(descriptor_type, Part(descriptor_value, End)) = row;
+        Ok(ProtectionDescriptor {
+            descriptor_type,
+            descriptor_value,
+        })
+    }
+
+    ghost lawful = { lawful_descriptor };
+}
+
+impl EqualByText for ProtectionDescriptor {
+    ghost equal_by_text = { descriptor_equal };
+}
+
+impl TryClone for ProtectionDescriptor {
+    fn try_clone(&self, alloc: Global) -> Result<Self, Error> {
+        let descriptor_type = self.descriptor_type.try_clone(alloc)?;
+        let descriptor_value = self.descriptor_value.try_clone(alloc)?;
+        Ok(ProtectionDescriptor {
+            descriptor_type,
+            descriptor_value,
+        })
+    }
+}
+
+/// `GeneralProtectionDescriptor ::= SEQUENCE { descriptorType OBJECT IDENTIFIER, descriptors SEQUENCE OF SEQUENCE OF
+/// ProtectionDescriptor }`: the outer list has alternatives, of which each asks for all of its own.
+#[derive(Debug, Drop, PartialEq)]
+pub struct GeneralProtectionDescriptor {
+    pub descriptor_type: ObjectIdentifierAsn1,
+    pub descriptors: Asn1SequenceOf<Asn1SequenceOf<ProtectionDescriptor>>,
+}
+
+type GeneralDescriptorRow =
+    Part<ObjectIdentifierAsn1, Part<Asn1SequenceOf<Asn1SequenceOf<ProtectionDescriptor>>, End>>;
+
+impl DerSerialize for GeneralProtectionDescriptor {
+    ghost Value = { GeneralDescriptorValue };
+
+    ghost value = { general_descriptor_value };
+
+    ghost format = { general_descriptor };
+
+    fn put<W: Writer>(&self, w: &mut W) -> Result<(), WriteError> {
+        let descriptors = Part(&self.descriptors, End);
+        put_within(0x30, &Part(&self.descriptor_type, descriptors), w)
+    }
+
+    fn well_formed_at(&self, limit: u8) -> bool {
+        let descriptors = Part(&self.descriptors, End);
+        Part(&self.descriptor_type, descriptors).row_well_formed_at(limit)
+    }
+}
+
+impl DerDeserialize for GeneralProtectionDescriptor {
+    fn read(alloc: Global, r: &mut Reader<'_>, nest: u8) -> Result<Self, Error> {
+        let row: GeneralDescriptorRow = read_within(alloc, r, nest, 0x30)?;
+        let Part(descriptor_type, Part(descriptors, End)) = row;
+        Ok(GeneralProtectionDescriptor {
+            descriptor_type,
+            descriptors,
+        })
+    }
+
+    ghost lawful = { lawful_general_descriptor };
+}
+
+impl EqualByText for GeneralProtectionDescriptor {
+    ghost equal_by_text = { general_descriptor_equal };
+}
+
+impl TryClone for GeneralProtectionDescriptor {
+    fn try_clone(&self, alloc: Global) -> Result<Self, Error> {
+        let descriptor_type = self.descriptor_type.try_clone(alloc)?;
+        let descriptors = self.descriptors.try_clone(alloc)?;
+        Ok(GeneralProtectionDescriptor {
+            descriptor_type,
+            descriptors,
+        })
+    }
+}

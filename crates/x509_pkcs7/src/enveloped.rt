@@ -1,0 +1,230 @@
+//! Enveloped data (RFC 5652, 6.1).
+
+ghost use Rattle.std.specs.Prelude.{◌≡◌};
+ghost use Rattle.std.proofs.Common.{arith};
+ghost use Rattle.asn1_core_format.specs.TaggedLaws.{within_tagged};
+ghost use Rattle.x509_pkcs7.specs.Enveloped.{EncryptedContentValue, encrypted_content_value, encrypted_content, lawful_encrypted_content, OriginatorValue, originator_value, originator_row, originator, lawful_originator, EnvelopedValue, enveloped_value, enveloped, lawful_enveloped};
+ghost use Rattle.x509_pkcs7.specs.Equal.{encrypted_content_equal, originator_equal, enveloped_equal};
+
+use crate::contents::ContentType;
+use crate::recipients::RecipientInfo;
+use asn1_core::parts::{
+    End, Maybe, Part, WriteError, WriteRow, Writer, put_within, read_row_contents, read_within,
+};
+use asn1_core::{
+    Asn1SetOf, DerDeserialize, DerSerialize, DerTagged, EqualByText, Error, ImplicitContextTag0,
+    ImplicitContextTag1, OctetStringAsn1, Optional, Reader,
+};
+use pkcs7_content::CmsVersion;
+use pkcs7_signed_crl::{CertificateSet, RevocationInfoChoices};
+use std::alloc::Global;
+use x509_base::{AlgorithmIdentifier, Attribute};
+
+/// `ContentEncryptionAlgorithmIdentifier ::= AlgorithmIdentifier` (RFC 5652, 10.1.4)
+pub type ContentEncryptionAlgorithmIdentifier = AlgorithmIdentifier;
+
+/// `EncryptedContent ::= OCTET STRING`
+pub type EncryptedContent = OctetStringAsn1;
+
+/// `UnprotectedAttributes ::= SET OF Attribute`
+pub type UnprotectedAttributes = Asn1SetOf<Attribute>;
+
+/// `RecipientInfos ::= SET OF RecipientInfo`
+pub type RecipientInfos = Asn1SetOf<RecipientInfo>;
+
+/// `EncryptedContentInfo ::= SEQUENCE { contentType ContentType, contentEncryptionAlgorithm
+/// ContentEncryptionAlgorithmIdentifier, encryptedContent [0] IMPLICIT EncryptedContent OPTIONAL }`
+#[derive(Debug, Drop, PartialEq)]
+pub struct EncryptedContentInfo {
+    pub content_type: ContentType,
+    pub content_encryption_algorithm: ContentEncryptionAlgorithmIdentifier,
+    /// Absent where the content stands elsewhere.
+    pub encrypted_content: Optional<Option<ImplicitContextTag0<EncryptedContent>>>,
+}
+
+type EncryptedContentRow =
+    Part<ContentType, Part<AlgorithmIdentifier, Maybe<ImplicitContextTag0<OctetStringAsn1>, End>>>;
+
+impl DerSerialize for EncryptedContentInfo {
+    ghost Value = { EncryptedContentValue };
+
+    ghost value = { encrypted_content_value };
+
+    ghost format = { encrypted_content };
+
+    fn put<W: Writer>(&self, w: &mut W) -> Result<(), WriteError> {
+        let content = Maybe(self.encrypted_content.0.as_ref(), End);
+        let algorithm = Part(&self.content_encryption_algorithm, content);
+        put_within(0x30, &Part(&self.content_type, algorithm), w)
+    }
+
+    fn well_formed_at(&self, limit: u8) -> bool {
+        let content = Maybe(self.encrypted_content.0.as_ref(), End);
+        let algorithm = Part(&self.content_encryption_algorithm, content);
+        Part(&self.content_type, algorithm).row_well_formed_at(limit)
+    }
+}
+
+impl DerDeserialize for EncryptedContentInfo {
+    fn read(alloc: Global, r: &mut Reader<'_>, nest: u8) -> Result<Self, Error> {
+        let row: EncryptedContentRow = read_within(alloc, r, nest, 0x30)?;
+        let Part(content_type, Part(content_encryption_algorithm, Maybe(content, End))) = row;
+        Ok(EncryptedContentInfo {
+            content_type,
+            content_encryption_algorithm,
+            encrypted_content: Optional(content),
+        })
+    }
+
+    ghost lawful = { lawful_encrypted_content };
+}
+
+impl EqualByText for EncryptedContentInfo {
+    ghost equal_by_text = { encrypted_content_equal };
+}
+
+/// `OriginatorInfo ::= SEQUENCE { certs [0] IMPLICIT CertificateSet OPTIONAL, crls [1] IMPLICIT RevocationInfoChoices
+/// OPTIONAL }`. An absent set and an empty one are told apart.
+#[derive(Debug, Drop, PartialEq)]
+pub struct OriginatorInfo {
+    pub certs: Optional<Option<ImplicitContextTag0<CertificateSet>>>,
+    pub crls: Optional<Option<ImplicitContextTag1<RevocationInfoChoices>>>,
+}
+
+type OriginatorRow =
+    Maybe<ImplicitContextTag0<CertificateSet>, Maybe<ImplicitContextTag1<RevocationInfoChoices>, End>>;
+
+impl DerSerialize for OriginatorInfo {
+    ghost Value = { OriginatorValue };
+
+    ghost value = { originator_value };
+
+    ghost format = { originator };
+
+    fn put<W: Writer>(&self, w: &mut W) -> Result<(), WriteError> {
+        let lists = Maybe(self.crls.0.as_ref(), End);
+        put_within(0x30, &Maybe(self.certs.0.as_ref(), lists), w)
+    }
+
+    fn well_formed_at(&self, limit: u8) -> bool {
+        let lists = Maybe(self.crls.0.as_ref(), End);
+        Maybe(self.certs.0.as_ref(), lists).row_well_formed_at(limit)
+    }
+}
+
+impl DerDeserialize for OriginatorInfo {
+    fn read(alloc: Global, r: &mut Reader<'_>, nest: u8) -> Result<Self, Error> {
+        let row: OriginatorRow = read_within(alloc, r, nest, 0x30)?;
+        let Maybe(certs, Maybe(crls, End)) = row;
+        Ok(OriginatorInfo {
+            certs: Optional(certs),
+            crls: Optional(crls),
+        })
+    }
+
+    ghost lawful = { lawful_originator };
+}
+
+impl DerTagged for OriginatorInfo {
+    ghost TAG = { 0x30 };
+
+    const TAG: u8 = 0x30;
+
+    fn put_as<W: Writer>(&self, tag: u8, w: &mut W) -> Result<(), WriteError> {
+        let lists = Maybe(self.crls.0.as_ref(), End);
+        put_within(tag, &Maybe(self.certs.0.as_ref(), lists), w)
+    }
+
+    fn read_contents(alloc: Global, r: &mut Reader<'_>, nest: u8) -> Result<Self, Error> {
+        let row: OriginatorRow = read_row_contents(alloc, r, nest, 0x30)?;
+        let Maybe(certs, Maybe(crls, End)) = row;
+        Ok(OriginatorInfo {
+            certs: Optional(certs),
+            crls: Optional(crls),
+        })
+    }
+
+    ghost tagged = { within_tagged 0x30 (Prim.omega arith) originator_row };
+}
+
+impl EqualByText for OriginatorInfo {
+    ghost equal_by_text = { originator_equal };
+}
+
+/// `EnvelopedData ::= SEQUENCE { version CMSVersion, originatorInfo [0] IMPLICIT OriginatorInfo OPTIONAL, recipientInfos
+/// RecipientInfos, encryptedContentInfo EncryptedContentInfo, unprotectedAttrs [1] IMPLICIT UnprotectedAttributes OPTIONAL
+/// }`
+#[derive(Debug, Drop, PartialEq)]
+pub struct EnvelopedData {
+    pub version: CmsVersion,
+    pub originator_info: Optional<Option<ImplicitContextTag0<OriginatorInfo>>>,
+    pub recipient_infos: RecipientInfos,
+    pub encrypted_content_info: EncryptedContentInfo,
+    pub unprotected_attrs: Optional<Option<ImplicitContextTag1<UnprotectedAttributes>>>,
+}
+
+type EnvelopedTail = Part<
+    Asn1SetOf<RecipientInfo>,
+    Part<EncryptedContentInfo, Maybe<ImplicitContextTag1<Asn1SetOf<Attribute>>, End>>,
+>;
+
+type EnvelopedRow = Part<CmsVersion, Maybe<ImplicitContextTag0<OriginatorInfo>, EnvelopedTail>>;
+
+type EnvelopedTailRef<'a> = Part<
+    &'a Asn1SetOf<RecipientInfo>,
+    Part<&'a EncryptedContentInfo, Maybe<&'a ImplicitContextTag1<Asn1SetOf<Attribute>>, End>>,
+>;
+
+type EnvelopedRef<'a> =
+    Part<CmsVersion, Maybe<&'a ImplicitContextTag0<OriginatorInfo>, EnvelopedTailRef<'a>>>;
+
+impl EnvelopedData {
+    fn row(&self) -> EnvelopedRef<'_>
+        ensures { ⟦<EnvelopedRef<'static> as WriteRow>⟧.value result ≡ enveloped_value self.now }
+    {
+        let attributes = Maybe(self.unprotected_attrs.0.as_ref(), End);
+        let content = Part(&self.encrypted_content_info, attributes);
+        let recipients = Part(&self.recipient_infos, content);
+        Part(
+            self.version,
+            Maybe(self.originator_info.0.as_ref(), recipients),
+        )
+    }
+}
+
+impl DerSerialize for EnvelopedData {
+    ghost Value = { EnvelopedValue };
+
+    ghost value = { enveloped_value };
+
+    ghost format = { enveloped };
+
+    fn put<W: Writer>(&self, w: &mut W) -> Result<(), WriteError> {
+        put_within(0x30, &self.row(), w)
+    }
+
+    fn well_formed_at(&self, limit: u8) -> bool {
+        self.row().row_well_formed_at(limit)
+    }
+}
+
+impl DerDeserialize for EnvelopedData {
+    fn read(alloc: Global, r: &mut Reader<'_>, nest: u8) -> Result<Self, Error> {
+        let row: EnvelopedRow = read_within(alloc, r, nest, 0x30)?;
+        let Part(version, Maybe(originator, Part(recipient_infos, rest))) = row;
+        let Part(encrypted_content_info, Maybe(attributes, End)) = rest;
+        Ok(EnvelopedData {
+            version,
+            originator_info: Optional(originator),
+            recipient_infos,
+            encrypted_content_info,
+            unprotected_attrs: Optional(attributes),
+        })
+    }
+
+    ghost lawful = { lawful_enveloped };
+}
+
+impl EqualByText for EnvelopedData {
+    ghost equal_by_text = { enveloped_equal };
+}

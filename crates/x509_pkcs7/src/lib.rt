@@ -1,0 +1,21 @@
+//! Content under its type, enveloped data and protection descriptors (RFC 5652, 3 and 6), and all of the contents and
+//! signed data of PKCS #7.
+#![tactic(auto)]
+
+pub mod contents;
+pub mod descriptors;
+pub mod enveloped;
+pub mod recipients;
+
+pub use contents::{ContentInfo, ContentType};
+pub use descriptors::{GeneralProtectionDescriptor, ProtectionDescriptor};
+pub use enveloped::{
+    ContentEncryptionAlgorithmIdentifier, EncryptedContent, EncryptedContentInfo, EnvelopedData,
+    OriginatorInfo, RecipientInfos, UnprotectedAttributes,
+};
+pub use pkcs7_content as content;
+pub use pkcs7_signed as signed;
+pub use recipients::{
+    EncryptedKey, KekIdentifier, KekRecipientInfo, KeyEncryptionAlgorithmIdentifier,
+    OtherKeyAttribute, RecipientInfo,
+};

@@ -1,0 +1,274 @@
+//! Recipients of enveloped data who have a key encryption key (RFC 5652, 6.2.3).
+
+ghost use Rattle.std.specs.Prelude.{◌≡◌};
+ghost use Rattle.std.proofs.Common.{arith};
+ghost use Rattle.asn1_core_format.specs.TaggedLaws.{within_tagged};
+ghost use Rattle.x509_pkcs7.specs.Equal.{other_key_equal, kek_id_equal, kek_recipient_equal, recipient_equal};
+ghost use Rattle.x509_pkcs7.specs.Recipients.{OtherKeyValue, other_key_value, other_key, lawful_other_key, KekIdValue, kek_id_value, kek_id, lawful_kek_id, KekRecipientValue, kek_recipient_value, kek_recipient_row, kek_recipient, lawful_kek_recipient, recipient_value, recipient, lawful_recipient};
+
+use asn1_core::parts::{
+    ApartFrom, End, FirstTags, Maybe, Part, WriteError, WriteRow, Writer, put_within,
+    read_retagged, read_row_contents, read_within,
+};
+use asn1_core::{
+    Asn1RawDer, DerDeserialize, DerSerialize, DerTagged, EqualByText, Error, ObjectIdentifierAsn1,
+    OctetStringAsn1, Optional, Reader, TryClone,
+};
+use asn1_leaves::GeneralizedTimeAsn1;
+use pkcs7_content::CmsVersion;
+use std::alloc::Global;
+use x509_base::AlgorithmIdentifier;
+
+/// `KeyEncryptionAlgorithmIdentifier ::= AlgorithmIdentifier` (RFC 5652, 10.1.3)
+pub type KeyEncryptionAlgorithmIdentifier = AlgorithmIdentifier;
+
+/// `EncryptedKey ::= OCTET STRING`
+pub type EncryptedKey = OctetStringAsn1;
+
+/// `OtherKeyAttribute ::= SEQUENCE { keyAttrId OBJECT IDENTIFIER, keyAttr ANY DEFINED BY keyAttrId OPTIONAL }` (RFC 5652,
+/// 10.2.7)
+#[derive(Debug, Drop, PartialEq)]
+pub struct OtherKeyAttribute {
+    pub key_attr_id: ObjectIdentifierAsn1,
+    pub key_attr: Option<Asn1RawDer>,
+}
+
+type OtherKeyRow = Part<ObjectIdentifierAsn1, Maybe<Asn1RawDer, End>>;
+
+impl DerSerialize for OtherKeyAttribute {
+    ghost Value = { OtherKeyValue };
+
+    ghost value = { other_key_value };
+
+    ghost format = { other_key };
+
+    fn put<W: Writer>(&self, w: &mut W) -> Result<(), WriteError> {
+        let attribute = Maybe(self.key_attr.as_ref(), End);
+        put_within(0x30, &Part(&self.key_attr_id, attribute), w)
+    }
+
+    fn well_formed_at(&self, limit: u8) -> bool {
+        let attribute = Maybe(self.key_attr.as_ref(), End);
+        Part(&self.key_attr_id, attribute).row_well_formed_at(limit)
+    }
+}
+
+impl DerDeserialize for OtherKeyAttribute {
+    fn read(alloc: Global, r: &mut Reader<'_>, nest: u8) -> Result<Self, Error> {
+        let row: OtherKeyRow = read_within(alloc, r, nest, 0x30)?;
+        let Part(key_attr_id, Maybe(key_attr, End)) = row;
+        Ok(OtherKeyAttribute {
+            key_attr_id,
+            key_attr,
+        })
+    }
+
+    ghost lawful = { lawful_other_key };
+}
+
+impl FirstTags for OtherKeyAttribute {
+    fn begins(tag: u8) -> bool {
+        tag == 0x30
+    }
+}
+
+impl ApartFrom<OtherKeyAttribute> for GeneralizedTimeAsn1 {
+    ghost no_common_tag = { λ t h e. Prim.omega arith };
+}
+
+impl EqualByText for OtherKeyAttribute {
+    ghost equal_by_text = { other_key_equal };
+}
+
+impl TryClone for OtherKeyAttribute {
+    fn try_clone(&self, alloc: Global) -> Result<Self, Error> {
+        let key_attr_id = self.key_attr_id.try_clone(alloc)?;
+        let key_attr = self.key_attr.try_clone(alloc)?;
+        Ok(OtherKeyAttribute {
+            key_attr_id,
+            key_attr,
+        })
+    }
+}
+
+/// `KEKIdentifier ::= SEQUENCE { keyIdentifier OCTET STRING, date GeneralizedTime OPTIONAL, other OtherKeyAttribute
+/// OPTIONAL }`
+#[derive(Debug, Drop, PartialEq)]
+pub struct KekIdentifier {
+    pub key_identifier: OctetStringAsn1,
+    pub date: Optional<Option<GeneralizedTimeAsn1>>,
+    pub other: Optional<Option<OtherKeyAttribute>>,
+}
+
+type KekIdRow = Part<OctetStringAsn1, Maybe<GeneralizedTimeAsn1, Maybe<OtherKeyAttribute, End>>>;
+
+impl DerSerialize for KekIdentifier {
+    ghost Value = { KekIdValue };
+
+    ghost value = { kek_id_value };
+
+    ghost format = { kek_id };
+
+    fn put<W: Writer>(&self, w: &mut W) -> Result<(), WriteError> {
+        let others = Maybe(self.date.0.as_ref(), Maybe(self.other.0.as_ref(), End));
+        put_within(0x30, &Part(&self.key_identifier, others), w)
+    }
+
+    fn well_formed_at(&self, limit: u8) -> bool {
+        let others = Maybe(self.date.0.as_ref(), Maybe(self.other.0.as_ref(), End));
+        Part(&self.key_identifier, others).row_well_formed_at(limit)
+    }
+}
+
+impl DerDeserialize for KekIdentifier {
+    fn read(alloc: Global, r: &mut Reader<'_>, nest: u8) -> Result<Self, Error> {
+        let row: KekIdRow = read_within(alloc, r, nest, 0x30)?;
+        let Part(key_identifier, Maybe(date, Maybe(other, End))) = row;
+        Ok(KekIdentifier {
+            key_identifier,
+            date: Optional(date),
+            other: Optional(other),
+        })
+    }
+
+    ghost lawful = { lawful_kek_id };
+}
+
+impl EqualByText for KekIdentifier {
+    ghost equal_by_text = { kek_id_equal };
+}
+
+impl TryClone for KekIdentifier {
+    fn try_clone(&self, alloc: Global) -> Result<Self, Error> {
+        let key_identifier = self.key_identifier.try_clone(alloc)?;
+        let date = self.date.try_clone(alloc)?;
+        let other = self.other.try_clone(alloc)?;
+        Ok(KekIdentifier {
+            key_identifier,
+            date,
+            other,
+        })
+    }
+}
+
+/// `KEKRecipientInfo ::= SEQUENCE { version CMSVersion, kekid KEKIdentifier, keyEncryptionAlgorithm
+/// KeyEncryptionAlgorithmIdentifier, encryptedKey EncryptedKey }`. The standard has version 4; any of the six is kept.
+#[derive(Debug, Drop, PartialEq)]
+pub struct KekRecipientInfo {
+    pub version: CmsVersion,
+    pub kek_id: KekIdentifier,
+    pub key_encryption_algorithm: KeyEncryptionAlgorithmIdentifier,
+    pub encrypted_key: EncryptedKey,
+}
+
+type KekRecipientRow =
+    Part<CmsVersion, Part<KekIdentifier, Part<AlgorithmIdentifier, Part<OctetStringAsn1, End>>>>;
+
+type KekRecipientRef<'a> = Part<
+    CmsVersion,
+    Part<&'a KekIdentifier, Part<&'a AlgorithmIdentifier, Part<&'a OctetStringAsn1, End>>>,
+>;
+
+impl KekRecipientInfo {
+    fn row(&self) -> KekRecipientRef<'_>
+        ensures { ⟦<KekRecipientRef<'static> as WriteRow>⟧.value result ≡ kek_recipient_value self.now }
+    {
+        let key = Part(&self.key_encryption_algorithm, Part(&self.encrypted_key, End));
+        Part(self.version, Part(&self.kek_id, key))
+    }
+}
+
+fn of_row(row: KekRecipientRow) -> KekRecipientInfo
+    ensures { kek_recipient_value result ≡ ⟦<KekRecipientRow as WriteRow>⟧.value row }
+{
+    let Part(version, Part(kek_id, Part(algorithm, Part(encrypted_key, End)))) = row;
+    KekRecipientInfo {
+        version,
+        kek_id,
+        key_encryption_algorithm: algorithm,
+        encrypted_key,
+    }
+}
+
+impl DerSerialize for KekRecipientInfo {
+    ghost Value = { KekRecipientValue };
+
+    ghost value = { kek_recipient_value };
+
+    ghost format = { kek_recipient };
+
+    fn put<W: Writer>(&self, w: &mut W) -> Result<(), WriteError> {
+        put_within(0x30, &self.row(), w)
+    }
+
+    fn well_formed_at(&self, limit: u8) -> bool {
+        self.row().row_well_formed_at(limit)
+    }
+}
+
+impl DerDeserialize for KekRecipientInfo {
+    fn read(alloc: Global, r: &mut Reader<'_>, nest: u8) -> Result<Self, Error> {
+        Ok(of_row(read_within(alloc, r, nest, 0x30)?))
+    }
+
+    ghost lawful = { lawful_kek_recipient };
+}
+
+impl DerTagged for KekRecipientInfo {
+    ghost TAG = { 0x30 };
+
+    const TAG: u8 = 0x30;
+
+    fn put_as<W: Writer>(&self, tag: u8, w: &mut W) -> Result<(), WriteError> {
+        put_within(tag, &self.row(), w)
+    }
+
+    fn read_contents(alloc: Global, r: &mut Reader<'_>, nest: u8) -> Result<Self, Error> {
+        Ok(of_row(read_row_contents(alloc, r, nest, 0x30)?))
+    }
+
+    ghost tagged = { within_tagged 0x30 (Prim.omega arith) kek_recipient_row };
+}
+
+impl EqualByText for KekRecipientInfo {
+    ghost equal_by_text = { kek_recipient_equal };
+}
+
+/// `RecipientInfo ::= CHOICE { ktri .., kari [1] .., kekri [2] KEKRecipientInfo, pwri [3] .., ori [4] .. }` (RFC 5652, 6.2),
+/// of which `kekri` alone is carried: the four parts of its SEQUENCE are the whole contents of `[2]`.
+#[derive(Debug, Drop, PartialEq)]
+pub enum RecipientInfo {
+    Kek(KekRecipientInfo),
+}
+
+impl DerSerialize for RecipientInfo {
+    ghost Value = { KekRecipientValue };
+
+    ghost value = { recipient_value };
+
+    ghost format = { recipient };
+
+    fn put<W: Writer>(&self, w: &mut W) -> Result<(), WriteError> {
+        match self {
+            RecipientInfo::Kek(recipient) => recipient.put_as(0xA2, w),
+        }
+    }
+
+    fn well_formed_at(&self, limit: u8) -> bool {
+        match self {
+            RecipientInfo::Kek(recipient) => recipient.well_formed_at(limit),
+        }
+    }
+}
+
+impl DerDeserialize for RecipientInfo {
+    fn read(alloc: Global, r: &mut Reader<'_>, nest: u8) -> Result<Self, Error> {
+        Ok(RecipientInfo::Kek(read_retagged(alloc, r, nest, 0xA2)?))
+    }
+
+    ghost lawful = { lawful_recipient };
+}
+
+impl EqualByText for RecipientInfo {
+    ghost equal_by_text = { recipient_equal };
+}
