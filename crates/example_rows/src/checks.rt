@@ -9,7 +9,7 @@ use asn1_core::{
 use std::alloc::Global;
 use std::fmt::Debug;
 use std::test::Fail;
-use vector_checks::checks::{is_rewritten, is_sent};
+use vector_checks::checks::{is_rewritten, is_sent, is_written_anew};
 use x509_containers::{Kind, Mode, Outcome, run, run_at};
 
 /// Up to so many bytes, sinks that fail, beginnings and changes are tried of an input.
@@ -146,13 +146,10 @@ fn is_shown<T: Debug>(alloc: Global, value: &T, row: &Row) -> Result<(), Fail> {
     Err(Fail::new(format_args!("its value is {shown}")))
 }
 
-/// Asks of an accepted input that its value is shown as the row says, written and cloned, and of a short one that it is sent into sinks that
-/// fail, that no beginning is accepted, and what changes of one byte come to.
-fn is_kept<T: DerDeserialize + SeenByText + TryClone + Debug>(
-    alloc: Global,
-    row: &Row,
-) -> Result<(), Fail> {
-    let value: T = is_rewritten(alloc, &row.input, &row.text)?;
+/// Asks of an accepted input that its value is shown as the row says and written, and of a short one that it is sent into
+/// sinks that fail, that no beginning is accepted, and what changes of one byte come to.
+fn is_kept<T: DerDeserialize + SeenByText + Debug>(alloc: Global, row: &Row) -> Result<(), Fail> {
+    let value: T = is_written_anew(alloc, &row.input, &row.text)?;
     is_shown(alloc, &value, row)?;
     if row.input.len() <= SHORT {
         is_sent(alloc, &value, &row.text, 1)?;
@@ -163,8 +160,8 @@ fn is_kept<T: DerDeserialize + SeenByText + TryClone + Debug>(
     Ok(())
 }
 
-/// Asks what a row says of its input as the type.
-pub fn is_so<T: DerDeserialize + SeenByText + TryClone + Debug>(
+/// Asks what a row says of its input as a type without clones.
+pub fn is_so_without_clones<T: DerDeserialize + SeenByText + Debug>(
     alloc: Global,
     row: &Row,
 ) -> Result<(), Fail> {
@@ -184,16 +181,32 @@ pub fn is_so<T: DerDeserialize + SeenByText + TryClone + Debug>(
     is_kept::<T>(alloc, row)
 }
 
+/// Asks what a row says of its input as the type, and of an accepted one that its value is cloned.
+pub fn is_so<T: DerDeserialize + SeenByText + TryClone + Debug>(
+    alloc: Global,
+    row: &Row,
+) -> Result<(), Fail> {
+    is_so_without_clones::<T>(alloc, row)?;
+    if row.levels.is_none() && !row.said.starts_with(b"refused") {
+        let _value: T = is_rewritten(alloc, &row.input, &row.text)?;
+    }
+    Ok(())
+}
+
 /// A tag that no type here begins with.
 const OTHER_TAG: u8 = 0x9E;
 
-/// Asks what a row says of its input as a type with a tag of its own, and that under another tag an accepted one's text is
-/// the same but for its first byte, and is read as the same value.
+/// Asks what a row says of its input as a type with a tag of its own.
 pub fn is_so_under_tags<T: DerTagged + SeenByText + TryClone + Debug>(
     alloc: Global,
     row: &Row,
 ) -> Result<(), Fail> {
     is_so::<T>(alloc, row)?;
+    stands_under_tags::<T>(alloc, row)
+}
+
+/// Asks that under another tag an accepted input's text is the same but for its first byte, and is read as the same value.
+pub fn stands_under_tags<T: DerTagged + SeenByText>(alloc: Global, row: &Row) -> Result<(), Fail> {
     let Ok(value) = from_bytes::<T>(alloc, &row.input) else {
         return Ok(());
     };

@@ -3,8 +3,8 @@
 use std::alloc::Global;
 use std::test::Fail;
 use x509_containers::{
-    AlgorithmKind, AuthenticodeKind, ContentKind, Kind, KindOfInput, SignedDataKind,
-    SignedPartKind, StoreKind, TrustListKind,
+    AlgorithmKind, AuthenticodeKind, ContentKind, EnvelopedKind, Kind, KindOfInput,
+    SignedDataKind, SignedPartKind, StoreKind, TrustListKind,
 };
 
 /// What a check says, by its first word.
@@ -78,6 +78,9 @@ pub fn all_kinds(alloc: Global) -> Result<Vec<Kind>, Fail> {
     }
     for kind in ContentKind::all() {
         kinds.push(Kind::Content(*kind))?;
+    }
+    for kind in EnvelopedKind::all() {
+        kinds.push(Kind::Enveloped(*kind))?;
     }
     for kind in SignedDataKind::all() {
         kinds.push(Kind::SignedData(*kind))?;

@@ -1,6 +1,7 @@
 //! The types that words name.
 
 mod contents;
+mod enveloped;
 mod leaves;
 mod signed_data;
 mod signed_parts;
@@ -19,6 +20,7 @@ pub fn is_so(alloc: Global, word: &str, row: &Row) -> Result<(), Fail> {
         || x509::is_so(alloc, word, row)?
         || stores::is_so(alloc, word, row)?
         || contents::is_so(alloc, word, row)?
+        || enveloped::is_so(alloc, word, row)?
         || signed_data::is_so(alloc, word, row)?
         || signed_parts::is_so(alloc, word, row)?
     {

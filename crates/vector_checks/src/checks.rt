@@ -66,8 +66,8 @@ pub fn is_sent<T: DerSerialize>(
     Err(Fail::new("the value was never sent"))
 }
 
-/// The value of the input, of which is asked that it is well-formed, is written as the text and equals its clone.
-pub fn is_rewritten<T: DerDeserialize + SeenByText + TryClone>(
+/// The value of the input, of which is asked that it is well-formed and is written as the text.
+pub fn is_written_anew<T: DerDeserialize + SeenByText>(
     alloc: Global,
     input: &[u8],
     text: &[u8],
@@ -75,6 +75,16 @@ pub fn is_rewritten<T: DerDeserialize + SeenByText + TryClone>(
     let value: T = from_bytes(alloc, input)?;
     expect(value.well_formed(), "well-formed", text)?;
     is_written(alloc, &value, text)?;
+    Ok(value)
+}
+
+/// The value of the input, of which is asked that it is well-formed, is written as the text and equals its clone.
+pub fn is_rewritten<T: DerDeserialize + SeenByText + TryClone>(
+    alloc: Global,
+    input: &[u8],
+    text: &[u8],
+) -> Result<T, Fail> {
+    let value: T = is_written_anew(alloc, input, text)?;
     let clone = value.try_clone(alloc)?;
     expect(clone == value, "the clone", text)?;
     expect(

@@ -2,10 +2,11 @@
 use Rattle.std.specs.Prelude.{ℕ, List}
 use Rattle.x509_containers_engine.specs.Engine.{Rewriting}
 use Rattle.x509_containers.specs.declared.kinds.Kind.{Kind}
-use Rattle.x509_containers.specs.declared.kinds.Kind.TheVariants.{Algorithm, Authenticode, Content, SignedData, SignedPart, Store, TrustList}
+use Rattle.x509_containers.specs.declared.kinds.Kind.TheVariants.{Algorithm, Authenticode, Content, Enveloped, SignedData, SignedPart, Store, TrustList}
 use Rattle.x509_containers.specs.AlgorithmKinds
 use Rattle.x509_containers.specs.AuthenticodeKinds
 use Rattle.x509_containers.specs.ContentKinds
+use Rattle.x509_containers.specs.EnvelopedKinds
 use Rattle.x509_containers.specs.SignedDataKinds
 use Rattle.x509_containers.specs.SignedPartKinds
 use Rattle.x509_containers.specs.StoreKinds
@@ -15,6 +16,7 @@ abbrev pub word_of : Kind → List ℕ
 word_of (Algorithm kind) = AlgorithmKinds.word_of kind
 word_of (Authenticode kind) = AuthenticodeKinds.word_of kind
 word_of (Content kind) = ContentKinds.word_of kind
+word_of (Enveloped kind) = EnvelopedKinds.word_of kind
 word_of (SignedData kind) = SignedDataKinds.word_of kind
 word_of (SignedPart kind) = SignedPartKinds.word_of kind
 word_of (Store kind) = StoreKinds.word_of kind
@@ -25,6 +27,7 @@ abbrev pub rewriting_as : Kind → Rewriting
 rewriting_as (Algorithm kind) = AlgorithmKinds.rewriting_as kind
 rewriting_as (Authenticode kind) = AuthenticodeKinds.rewriting_as kind
 rewriting_as (Content kind) = ContentKinds.rewriting_as kind
+rewriting_as (Enveloped kind) = EnvelopedKinds.rewriting_as kind
 rewriting_as (SignedData kind) = SignedDataKinds.rewriting_as kind
 rewriting_as (SignedPart kind) = SignedPartKinds.rewriting_as kind
 rewriting_as (Store kind) = StoreKinds.rewriting_as kind

@@ -1,6 +1,7 @@
 pub mod AlgorithmKinds
 pub mod AuthenticodeKinds
 pub mod ContentKinds
+pub mod EnvelopedKinds
 pub mod SignedDataKinds
 pub mod SignedPartKinds
 pub mod StoreKinds

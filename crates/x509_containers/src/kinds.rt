@@ -7,6 +7,7 @@ ghost use Rattle.x509_containers.specs.Kinds.{rewriting_as};
 mod algorithms;
 mod authenticode;
 mod contents;
+mod enveloped;
 mod signed_data;
 mod signed_parts;
 mod stores;
@@ -16,6 +17,7 @@ pub use algorithms::AlgorithmKind;
 use asn1_core_streams::{Sink, Source};
 pub use authenticode::AuthenticodeKind;
 pub use contents::ContentKind;
+pub use enveloped::EnvelopedKind;
 pub use signed_data::SignedDataKind;
 pub use signed_parts::SignedPartKind;
 use std::alloc::Global;
@@ -29,6 +31,7 @@ pub enum Kind {
     Algorithm(AlgorithmKind),
     Authenticode(AuthenticodeKind),
     Content(ContentKind),
+    Enveloped(EnvelopedKind),
     SignedData(SignedDataKind),
     SignedPart(SignedPartKind),
     Store(StoreKind),
@@ -50,6 +53,9 @@ impl Kind {
         }
         if let Some(kind) = ContentKind::from_word(word) {
             return Some(Kind::Content(kind));
+        }
+        if let Some(kind) = EnvelopedKind::from_word(word) {
+            return Some(Kind::Enveloped(kind));
         }
         if let Some(kind) = SignedDataKind::from_word(word) {
             return Some(Kind::SignedData(kind));
@@ -88,6 +94,7 @@ pub fn run<R: Source, W: Sink>(
         Kind::Algorithm(kind) => kind.run(alloc, source, sink, mode),
         Kind::Authenticode(kind) => kind.run(alloc, source, sink, mode),
         Kind::Content(kind) => kind.run(alloc, source, sink, mode),
+        Kind::Enveloped(kind) => kind.run(alloc, source, sink, mode),
         Kind::SignedData(kind) => kind.run(alloc, source, sink, mode),
         Kind::SignedPart(kind) => kind.run(alloc, source, sink, mode),
         Kind::Store(kind) => kind.run(alloc, source, sink, mode),
