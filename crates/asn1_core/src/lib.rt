@@ -17,7 +17,7 @@ pub mod versions;
 pub use asn1_core_element::{Error, Reader};
 pub use asn1_core_format::laws::{
     limits_agree, no_accepted_input_begins_another, normal_texts_stay_normal,
-    rewriting_reaches_an_end,
+    rewriting_reaches_an_end, texts_tell_normal_values,
 };
 pub use asn1_core_format::{
     DerDeserialize, DerSerialize, DerTagged, EqualByText, MAX_NESTING, TryClone, Viewed,

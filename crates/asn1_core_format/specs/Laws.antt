@@ -72,6 +72,13 @@ module _ {V : Type 0} (F : Format V) (f : IsLawfulRow F) where
       let s = f.text_reads k (F.normal v) (f.well_formed k (F.text v) (F.normal v) r) in
       (t, f.one_value k (F.text v) (F.normal (F.normal v)) (F.normal v) (subst (λ b. F.Reads k b (F.normal (F.normal v))) t s) r)
 
+  -- texts are the same exactly where normal values are
+  pub same_texts : (k : ℕ) (u v : V) → F.IsWellFormed k u → F.IsWellFormed k v → (F.text u ≡ F.text v) ↔ (F.normal u ≡ F.normal v)
+  same_texts k u v g h = (
+    λ e. f.one_value k (F.text v) (F.normal u) (F.normal v) (subst (λ b. F.Reads k b (F.normal u)) e (f.text_reads k u g)) (f.text_reads k v h),
+    λ e. sym (normal_value k u g).0 ∙ ap F.text e ∙ (normal_value k v h).0,
+  )
+
   -- what is normal at k levels is so at one more
   pub normal_deeper : (k : ℕ) (b : List ℕ) → F.IsNormal k b → F.IsNormal (k + 1) b
   normal_deeper k b n =

@@ -1,6 +1,6 @@
 //! What holds of every type that reads and writes.
 
-ghost use Rattle.std.specs.Prelude.{◌≡◌, ◌+◌, ◌≤◌, ℕ, List, [], ◌++◌};
+ghost use Rattle.std.specs.Prelude.{◌≡◌, ◌↔◌, ◌+◌, ◌≤◌, ℕ, List, [], ◌++◌};
 ghost use Rattle.asn1_core_element.specs.Element.{IsTagByte};
 ghost use Rattle.asn1_core_format.specs.EmptySets.{set_or_none};
 ghost use Rattle.asn1_core_format.specs.Format.{IsLawful, IsLawfulRow};
@@ -19,6 +19,12 @@ pub fn no_accepted_input_begins_another<T: DerDeserialize>()
 pub fn rewriting_reaches_an_end<T: DerDeserialize>()
     ensures { (k : ℕ) (v : T.Value) → T.format.IsWellFormed k v
         → (T.format.text (T.format.normal v) ≡ T.format.text v) × (T.format.normal (T.format.normal v) ≡ T.format.normal v) }
+{}
+
+/// Two well-formed values have the same text exactly where their normal values are the same.
+pub fn texts_tell_normal_values<T: DerDeserialize>()
+    ensures { (k : ℕ) (u v : T.Value) → T.format.IsWellFormed k u → T.format.IsWellFormed k v
+        → (T.format.text u ≡ T.format.text v) ↔ (T.format.normal u ≡ T.format.normal v) }
 {}
 
 /// What is normal with nesting of at most so many levels is so with one more.
