@@ -85,10 +85,6 @@ module _ {V : Type 0} (F : Format V) (f : IsLawfulRow F) where
       let v = f.normal_reads k b n in
       (f.fixed (k + 1) b v.0 (f.deeper k b v.0 v.1)).0 ((f.fixed k b v.0 v.1).1 n)
 
-  -- well-formed values with one text have one normal value
-  pub same_texts : (k : ℕ) (u v : V) → F.IsWellFormed k u → F.IsWellFormed k v → F.text u ≡ F.text v → F.normal u ≡ F.normal v
-  same_texts k u v p q e = f.one_value k (F.text u) (F.normal u) (F.normal v) (f.text_reads k u p) (subst (λ b. F.Reads k b (F.normal v)) (sym e) (f.text_reads k v q))
-
 -- at more levels the bytes have the same value, and are normal exactly where they were
 pub record IsSameAt {V : Type 0} (F : Format V) (k j : ℕ) (b : List ℕ) (v : V) : Type 0 where
   pub reads : F.Reads j b v

@@ -29,7 +29,7 @@ impl Said {
 }
 
 /// The words of the kinds whose types have no spelling but the normal one.
-const STRICT: [&str; 35] = [
+const STRICT: [&str; 43] = [
     "attributes",
     "certificatebag",
     "certificatechoices",
@@ -37,21 +37,29 @@ const STRICT: [&str; 35] = [
     "certificateset",
     "certpolicy",
     "cmsversion",
+    "contentinfo",
     "crlbag",
     "ctl",
     "ctlentry",
     "ctlentryattribute",
     "digestalgorithmidentifier",
     "digestalgorithmidentifiers",
+    "encryptedcontentinfo",
     "file",
+    "generalprotectiondescriptor",
     "issuerandserialnumber",
+    "kekidentifier",
+    "kekrecipientinfo",
     "moniker",
+    "otherkeyattribute",
     "otherrevocationinfoformat",
     "pbes1params",
     "pkcs12attribute",
     "policyqualifier",
+    "protectiondescriptor",
     "rawauthenticatedsafecontentinfo",
     "rawauthenticatedsafedatarepr",
+    "recipientinfo",
     "rootprogramchainpolicy",
     "secretbag",
     "signaturealgorithmidentifier",

@@ -49,6 +49,7 @@ pub use asn1_core::parts;
 pub use asn1_core::read_all;
 pub use asn1_core::rewriting_reaches_an_end;
 pub use asn1_core::send;
+pub use asn1_core::texts_tell_normal_values;
 pub use asn1_core::to_vec;
 pub use asn1_core::write_to;
 pub use asn1_defined_by::AnyDefinedBy;

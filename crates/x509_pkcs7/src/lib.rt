@@ -13,8 +13,24 @@ pub use enveloped::{
     ContentEncryptionAlgorithmIdentifier, EncryptedContent, EncryptedContentInfo, EnvelopedData,
     OriginatorInfo, RecipientInfos, UnprotectedAttributes,
 };
-pub use pkcs7_content as content;
-pub use pkcs7_signed as signed;
+pub use pkcs7_content::{
+    CTLEntry, CTLEntryAttribute, CTLEntryAttributeValues, CertPolicy, CmsVersion, ContentValue,
+    Ctl, EncapsulatedContentInfo, File, Moniker, PolicyQualifier, RootProgramChainPolicy,
+    SpcAttributeAndOptionalValue, SpcAttributeAndOptionalValueValue, SpcIndirectDataContent,
+    SpcLink, SpcPeImageData, SpcPeImageFlags, SpcSerializedObject, SpcSipInfo, SpcSpOpusInfo,
+    SpcString, SpcUuid, StringError, Url,
+};
+pub use pkcs7_signed::{
+    Pkcs7Certificate, SignedData, SignerInfo, SignersInfos, UnsignedAttribute,
+    UnsignedAttributeValue, UnsignedAttributes,
+};
+pub use pkcs7_signed_crl::{
+    Attributes, CertificateChoices, CertificateList, CertificateSerialNumber, CertificateSet,
+    DigestAlgorithmIdentifier, DigestAlgorithmIdentifiers, IssuerAndSerialNumber,
+    OtherRevocationInfoFormat, RevocationInfoChoice, RevocationInfoChoices, RevokedCertificate,
+    RevokedCertificates, SignatureAlgorithmIdentifier, SignatureValue, SignerIdentifier,
+    TbsCertList,
+};
 pub use recipients::{
     EncryptedKey, KekIdentifier, KekRecipientInfo, KeyEncryptionAlgorithmIdentifier,
     OtherKeyAttribute, RecipientInfo,
