@@ -1,6 +1,7 @@
 //! Sets: read by a closure, a level down, left out where they are empty.
 
 ghost use Rattle.std.specs.Prelude.{◌≡◌, ◌↔◌, List, [], IsTrue, map, false};
+ghost use Rattle.std.specs.List.{AllByRecursion};
 ghost use Rattle.std.specs.Str.{bytes_eq};
 ghost use Rattle.asn1_core_element.specs.Element.{IsTagByte, element};
 ghost use Rattle.asn1_core_format.specs.Calls.{MayBelow, GivesBelow};
@@ -15,7 +16,7 @@ use crate::lists::push_item;
 use crate::recursive::{read_below, read_list_with};
 use crate::rows::WriteRow;
 use crate::traits::DerSerialize;
-use crate::within::{put_within, row_len};
+use crate::within::put_within;
 use asn1_core_element::element::open_element;
 use asn1_core_element::{Error, Reader};
 use asn1_core_writers::{WriteError, Writer};
@@ -163,13 +164,32 @@ fn next_is_tag(r: &Reader<'_>, tag: u8) -> bool
     }
 }
 
-/// Whether such a set has no contents. One of items that can't be written has some.
+/// Whether a value has no text. One that can't be written has some.
+fn lacks_text<T: DerSerialize>(value: &T) -> bool
+    ensures { IsTrue result ↔ (T.format.text (T.value value.now) ≡ []) }
+{
+    match value.encoded_len() {
+        Ok(length) => length == 0,
+        Err(_) => false,
+    }
+}
+
+/// Whether all items lack a text. The first that has one ends the search.
+fn all_lack_text<T: DerSerialize>(items: &Vec<T>) -> bool
+    ensures { IsTrue result ↔ AllByRecursion (λ v. T.format.text v ≡ []) (map T.value items.now.items) }
+{
+    for item in items {
+        if !lacks_text(item) {
+            return false;
+        }
+    }
+    true
+}
+
+/// Whether such a set has no contents. One with an item that can't be written has some.
 pub fn has_no_text<T: DerSerialize>(_tag: u8, items: &Vec<T>) -> bool
     requires tag { IsTagByte _tag }
     ensures { result ≡ bytes_eq ((within _tag (each T.format)).text (map T.value items.now.items)) (element _tag []) }
 {
-    match row_len(items) {
-        Ok(length) => length == 0,
-        Err(_) => false,
-    }
+    all_lack_text(items)
 }

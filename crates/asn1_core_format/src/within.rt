@@ -44,7 +44,7 @@ pub fn read_row_contents<R: ReadRow>(
 }
 
 /// The length of the text of a row.
-pub(crate) fn row_len<R: WriteRow>(row: &R) -> Result<usize, WriteError>
+fn row_len<R: WriteRow>(row: &R) -> Result<usize, WriteError>
     ensures { CountsText (R.format.text (R.value row.now)) result }
 {
     let mut w = Measure::new();
