@@ -11,12 +11,14 @@ use Rattle.asn1_core_element.specs.ElementLaws.{element_same}
 -- texts are none together exactly where each is none
 all_none : {V : Type 0} (text : V → List ℕ) (vs : List V) → AllByRecursion (λ v. text v ≡ []) vs ↔ (flat_map text vs ≡ [])
 all_none text [] = (λ h. refl, λ e. tt)
-all_none text (v ∷ vs) =
-    (λ h. ap (λ b. b ++ flat_map text vs) h.0 ∙ (all_none text vs).0 h.1,
-     λ e.
-        let l = length-append (text v) (flat_map text vs) in
-        (nil_from_length (text v) (omega (arith, ap length e, l)),
-         (all_none text vs).1 (nil_from_length (flat_map text vs) (omega (arith, ap length e, l)))))
+all_none text (v ∷ vs) = (
+  λ h. ap (λ b. b ++ flat_map text vs) h.0 ∙ (all_none text vs).0 h.1,
+  λ e.
+      let l = length-append (text v) (flat_map text vs) in (
+        nil_from_length (text v) (omega (arith, ap length e, l)),
+        (all_none text vs).1 (nil_from_length (flat_map text vs) (omega (arith, ap length e, l))),
+      ),
+)
 
 -- a set has no contents where no item has a text
 pub as_empty_by_items : {V : Type 0} (tag : ℕ) (text : V → List ℕ) (vs : List V) (b : Bool) → (IsTrue b ↔ AllByRecursion (λ v. text v ≡ []) vs) → b ≡ bytes_eq (element tag (flat_map text vs)) (element tag [])
