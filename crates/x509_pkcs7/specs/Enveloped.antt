@@ -75,9 +75,16 @@ abbrev pub EnvelopedValue : Type 0
 EnvelopedValue = ℕ × (Option OriginatorValue × (List KekRecipientValue × (EncryptedContentValue × (Option (List AttributeValue) × Unit {0}))))
 
 abbrev pub enveloped_value : EnvelopedData → EnvelopedValue
-enveloped_value x =
-    (number_of x.version, (option_value (λ o. originator_value o.0) x.originator_info.0, (map recipient_value x.recipient_infos.0.items,
-    (encrypted_content_value x.encrypted_content_info, (option_value (λ a. map attribute_value a.0.0.items) x.unprotected_attrs.0, tt)))))
+enveloped_value x = (
+  number_of x.version,
+  (
+    option_value (λ o. originator_value o.0) x.originator_info.0,
+    (
+      map recipient_value x.recipient_infos.0.items,
+      (encrypted_content_value x.encrypted_content_info, (option_value (λ a. map attribute_value a.0.0.items) x.unprotected_attrs.0, tt)),
+    ),
+  ),
+)
 
 abbrev pub enveloped : Format EnvelopedValue
 enveloped =

@@ -75,8 +75,10 @@ pub struct GeneralProtectionDescriptor {
     pub descriptors: Asn1SequenceOf<Asn1SequenceOf<ProtectionDescriptor>>,
 }
 
-type GeneralDescriptorRow =
-    Part<ObjectIdentifierAsn1, Part<Asn1SequenceOf<Asn1SequenceOf<ProtectionDescriptor>>, End>>;
+type GeneralDescriptorRow = Part<
+    ObjectIdentifierAsn1,
+    Part<Asn1SequenceOf<Asn1SequenceOf<ProtectionDescriptor>>, End>,
+>;
 
 impl DerSerialize for GeneralProtectionDescriptor {
     ghost Value = { GeneralDescriptorValue };

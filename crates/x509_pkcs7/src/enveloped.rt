@@ -42,8 +42,10 @@ pub struct EncryptedContentInfo {
     pub encrypted_content: Optional<Option<ImplicitContextTag0<EncryptedContent>>>,
 }
 
-type EncryptedContentRow =
-    Part<ContentType, Part<AlgorithmIdentifier, Maybe<ImplicitContextTag0<OctetStringAsn1>, End>>>;
+type EncryptedContentRow = Part<
+    ContentType,
+    Part<AlgorithmIdentifier, Maybe<ImplicitContextTag0<OctetStringAsn1>, End>>,
+>;
 
 impl DerSerialize for EncryptedContentInfo {
     ghost Value = { EncryptedContentValue };
@@ -91,8 +93,10 @@ pub struct OriginatorInfo {
     pub crls: Optional<Option<ImplicitContextTag1<RevocationInfoChoices>>>,
 }
 
-type OriginatorRow =
-    Maybe<ImplicitContextTag0<CertificateSet>, Maybe<ImplicitContextTag1<RevocationInfoChoices>, End>>;
+type OriginatorRow = Maybe<
+    ImplicitContextTag0<CertificateSet>,
+    Maybe<ImplicitContextTag1<RevocationInfoChoices>, End>,
+>;
 
 impl DerSerialize for OriginatorInfo {
     ghost Value = { OriginatorValue };
@@ -175,8 +179,10 @@ type EnvelopedTailRef<'a> = Part<
     Part<&'a EncryptedContentInfo, Maybe<&'a ImplicitContextTag1<Asn1SetOf<Attribute>>, End>>,
 >;
 
-type EnvelopedRef<'a> =
-    Part<CmsVersion, Maybe<&'a ImplicitContextTag0<OriginatorInfo>, EnvelopedTailRef<'a>>>;
+type EnvelopedRef<'a> = Part<
+    CmsVersion,
+    Maybe<&'a ImplicitContextTag0<OriginatorInfo>, EnvelopedTailRef<'a>>,
+>;
 
 impl EnvelopedData {
     fn row(&self) -> EnvelopedRef<'_>

@@ -161,8 +161,10 @@ pub struct KekRecipientInfo {
     pub encrypted_key: EncryptedKey,
 }
 
-type KekRecipientRow =
-    Part<CmsVersion, Part<KekIdentifier, Part<AlgorithmIdentifier, Part<OctetStringAsn1, End>>>>;
+type KekRecipientRow = Part<
+    CmsVersion,
+    Part<KekIdentifier, Part<AlgorithmIdentifier, Part<OctetStringAsn1, End>>>,
+>;
 
 type KekRecipientRef<'a> = Part<
     CmsVersion,
@@ -173,20 +175,11 @@ impl KekRecipientInfo {
     fn row(&self) -> KekRecipientRef<'_>
         ensures { ⟦<KekRecipientRef<'static> as WriteRow>⟧.value result ≡ kek_recipient_value self.now }
     {
-        let key = Part(&self.key_encryption_algorithm, Part(&self.encrypted_key, End));
+        let key = Part(
+            &self.key_encryption_algorithm,
+            Part(&self.encrypted_key, End),
+        );
         Part(self.version, Part(&self.kek_id, key))
-    }
-}
-
-fn of_row(row: KekRecipientRow) -> KekRecipientInfo
-    ensures { kek_recipient_value result ≡ ⟦<KekRecipientRow as WriteRow>⟧.value row }
-{
-    let Part(version, Part(kek_id, Part(algorithm, Part(encrypted_key, End)))) = row;
-    KekRecipientInfo {
-        version,
-        kek_id,
-        key_encryption_algorithm: algorithm,
-        encrypted_key,
     }
 }
 
@@ -208,7 +201,14 @@ impl DerSerialize for KekRecipientInfo {
 
 impl DerDeserialize for KekRecipientInfo {
     fn read(alloc: Global, r: &mut Reader<'_>, nest: u8) -> Result<Self, Error> {
-        Ok(of_row(read_within(alloc, r, nest, 0x30)?))
+        let row: KekRecipientRow = read_within(alloc, r, nest, 0x30)?;
+        let Part(version, Part(kek_id, Part(algorithm, Part(encrypted_key, End)))) = row;
+        Ok(KekRecipientInfo {
+            version,
+            kek_id,
+            key_encryption_algorithm: algorithm,
+            encrypted_key,
+        })
     }
 
     ghost lawful = { lawful_kek_recipient };
@@ -224,7 +224,14 @@ impl DerTagged for KekRecipientInfo {
     }
 
     fn read_contents(alloc: Global, r: &mut Reader<'_>, nest: u8) -> Result<Self, Error> {
-        Ok(of_row(read_row_contents(alloc, r, nest, 0x30)?))
+        let row: KekRecipientRow = read_row_contents(alloc, r, nest, 0x30)?;
+        let Part(version, Part(kek_id, Part(algorithm, Part(encrypted_key, End)))) = row;
+        Ok(KekRecipientInfo {
+            version,
+            kek_id,
+            key_encryption_algorithm: algorithm,
+            encrypted_key,
+        })
     }
 
     ghost tagged = { within_tagged 0x30 (Prim.omega arith) kek_recipient_row };
