@@ -31,7 +31,10 @@ fn refusal<T: DerDeserialize>(alloc: Global, info: &ContentInfo) -> Option<Error
 fn content_as_a_type(rt: HostRuntime) -> Result<(), Fail> {
     let alloc = rt.alloc();
     let mut info: ContentInfo = from_bytes(alloc, &hex(alloc, &[CONTENT])?)?;
-    expect(info.content() == hex(alloc, &["04 02 30 00"])?.as_slice(), "content")?;
+    expect(
+        info.content() == hex(alloc, &["04 02 30 00"])?.as_slice(),
+        "content",
+    )?;
     let octets: OctetStringAsn1 = info.content_typed(alloc)?;
     expect(octets.0 == hex(alloc, &["30 00"])?, "as octets")?;
     let contents: OctetStringAsn1Container<SafeContents> = info.content_typed(alloc)?;
@@ -39,10 +42,14 @@ fn content_as_a_type(rt: HostRuntime) -> Result<(), Fail> {
     let refused = refusal::<SafeContents>(alloc, &info);
     expect(refused == Some(Error::Invalid), "as SafeContents")?;
     for (content, text, error) in [
-        ("04 02 30 00 05", LEFT_OVER, Error::Malformed),
-        ("", NOTHING, Error::Missing),
+        (
+            b"\x04\x02\x30\x00\x05".as_slice(),
+            LEFT_OVER,
+            Error::Malformed,
+        ),
+        (b"".as_slice(), NOTHING, Error::Missing),
     ] {
-        info.content = ExplicitContextTag0(Asn1RawDer(hex(alloc, &[content])?));
+        info.content = ExplicitContextTag0(Asn1RawDer(Vec::from_slice(alloc, content)?));
         written_and_read(alloc, &info, false, text, Again::Refused)?;
         let refused = refusal::<OctetStringAsn1>(alloc, &info);
         expect(refused == Some(error), text)?;
@@ -55,8 +62,10 @@ fn content_as_a_type(rt: HostRuntime) -> Result<(), Fail> {
 fn other_attributes_of_two_elements(rt: HostRuntime) -> Result<(), Fail> {
     let alloc = rt.alloc();
     let text = "30 09 06 03 2A 03 04 05 00 05 00";
-    let mut other: OtherKeyAttribute =
-        from_bytes(alloc, &hex(alloc, &["30 07 06 03 2A 03 04 05 00"])?)?;
+    let mut other: OtherKeyAttribute = from_bytes(
+        alloc,
+        &hex(alloc, &["30 07 06 03 2A 03 04 05 00"])?,
+    )?;
     other.key_attr = Some(Asn1RawDer(hex(alloc, &["05 00 05 00"])?));
     made_and_read(alloc, &other, false, text, Again::Refused)?;
     let key = KekIdentifier {

@@ -3,8 +3,8 @@
 use std::alloc::Global;
 use std::test::Fail;
 use x509_containers::{
-    AlgorithmKind, AuthenticodeKind, ContentKind, EnvelopedKind, Kind, KindOfInput,
-    SignedDataKind, SignedPartKind, StoreKind, TrustListKind,
+    AlgorithmKind, AuthenticodeKind, ContentKind, EnvelopedKind, Kind, KindOfInput, SignedDataKind,
+    SignedPartKind, StoreKind, TrustListKind,
 };
 
 /// What a check says, by its first word.

@@ -70,15 +70,35 @@ impl KindOfInput for EnvelopedKind {
     ) -> Outcome {
         match self {
             EnvelopedKind::ContentInfo => run_at::<ContentInfo, R, W>(alloc, source, sink, mode),
-            EnvelopedKind::EncryptedContentInfo => run_at::<EncryptedContentInfo, R, W>(alloc, source, sink, mode),
-            EnvelopedKind::EnvelopedData => run_at::<EnvelopedData, R, W>(alloc, source, sink, mode),
-            EnvelopedKind::GeneralProtectionDescriptor => run_at::<GeneralProtectionDescriptor, R, W>(alloc, source, sink, mode),
-            EnvelopedKind::KekIdentifier => run_at::<KekIdentifier, R, W>(alloc, source, sink, mode),
-            EnvelopedKind::KekRecipientInfo => run_at::<KekRecipientInfo, R, W>(alloc, source, sink, mode),
-            EnvelopedKind::OriginatorInfo => run_at::<OriginatorInfo, R, W>(alloc, source, sink, mode),
-            EnvelopedKind::OtherKeyAttribute => run_at::<OtherKeyAttribute, R, W>(alloc, source, sink, mode),
-            EnvelopedKind::ProtectionDescriptor => run_at::<ProtectionDescriptor, R, W>(alloc, source, sink, mode),
-            EnvelopedKind::RecipientInfo => run_at::<RecipientInfo, R, W>(alloc, source, sink, mode),
+            EnvelopedKind::EncryptedContentInfo => run_at::<EncryptedContentInfo, R, W>(
+                alloc, source, sink, mode,
+            ),
+            EnvelopedKind::EnvelopedData => run_at::<EnvelopedData, R, W>(
+                alloc, source, sink, mode,
+            ),
+            EnvelopedKind::GeneralProtectionDescriptor => run_at::<
+                GeneralProtectionDescriptor,
+                R,
+                W,
+            >(alloc, source, sink, mode),
+            EnvelopedKind::KekIdentifier => run_at::<KekIdentifier, R, W>(
+                alloc, source, sink, mode,
+            ),
+            EnvelopedKind::KekRecipientInfo => run_at::<KekRecipientInfo, R, W>(
+                alloc, source, sink, mode,
+            ),
+            EnvelopedKind::OriginatorInfo => run_at::<OriginatorInfo, R, W>(
+                alloc, source, sink, mode,
+            ),
+            EnvelopedKind::OtherKeyAttribute => run_at::<OtherKeyAttribute, R, W>(
+                alloc, source, sink, mode,
+            ),
+            EnvelopedKind::ProtectionDescriptor => run_at::<ProtectionDescriptor, R, W>(
+                alloc, source, sink, mode,
+            ),
+            EnvelopedKind::RecipientInfo => run_at::<RecipientInfo, R, W>(
+                alloc, source, sink, mode,
+            ),
         }
     }
 }
