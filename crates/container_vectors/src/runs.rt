@@ -4,7 +4,7 @@ use asn1_core::{Sink, Source, StdSink, StdSource};
 use std::alloc::Global;
 use std::process::Abort;
 use std::test::Fail;
-use vector_checks::fakes::{Narrow, Trickle};
+use vector_checks::fakes::{Full, Narrow, Trickle};
 use vector_checks::texts::hex;
 use x509_containers::{Error, Kind, Mode, Outcome, run};
 
@@ -109,13 +109,13 @@ fn each_read_fails_in_turn(rt: HostRuntime) -> Result<(), Fail> {
     Ok(())
 }
 
-/// Asks that each write of a run fails in turn, with a beginning of what is written, and at last all is.
+/// Asks that each write of a run fails in turn, or takes nothing, with a beginning of what is written, and at last all is.
 fn writes_fail_in_turn(
     rt: &impl Abort,
     alloc: Global,
     case: &Case,
     mode: Mode,
-    width: usize,
+    (width, full): (usize, Full),
 ) -> Result<(), Fail> {
     let kind = kind_of(case.kind)?;
     let input = hex(alloc, &[case.input])?;
@@ -123,6 +123,7 @@ fn writes_fail_in_turn(
     for writes_left in 0..=written.len() {
         let mut source = StdSource::new(input.as_slice());
         let mut sink = Narrow::new(alloc, width, writes_left);
+        sink.full = full;
         let ran = run(alloc, &mut source, &mut sink, mode, kind);
         assert_eq!(rt; source.failures(), 0);
         if ran != Outcome::WriteFailed {
@@ -143,7 +144,9 @@ fn each_write_fails_in_turn(rt: HostRuntime) -> Result<(), Fail> {
     for case in &CASES {
         for mode in [Mode::Check, Mode::Rewrite] {
             for width in [1, usize::MAX] {
-                writes_fail_in_turn(&rt, rt.alloc(), case, mode, width)?;
+                for full in [Full::Fails, Full::TakesNone] {
+                    writes_fail_in_turn(&rt, rt.alloc(), case, mode, (width, full))?;
+                }
             }
         }
     }
