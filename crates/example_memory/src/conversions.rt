@@ -1,0 +1,72 @@
+//! Values made from others.
+
+use crate::rounds::{Stop, expect, has_text, is_written};
+use crate::texts;
+use std::alloc::Global;
+use x509_containers::{
+    BitString, BitStringAsn1, ContentInfo, EncapsulatedContentInfo, ObjectIdentifier,
+    OctetStringAsn1, Pbes1AlgorithmKind, Pbes2AesCbcEncryption, Pbkdf2Prf, Pkcs12DigestAlgorithm,
+    SpcLink, SpcPeImageFlags, SpcSerializedObject, SpcString,
+};
+
+/// The octets of 1.2.3.4.
+const OID: &[u8] = b"\x2A\x03\x04";
+
+/// Object identifiers, from octets and text, and to text.
+pub fn of_objects(alloc: Global) -> Result<(), Stop> {
+    let of_octets = ObjectIdentifier::from_octets(alloc, OID)?;
+    expect(
+        of_octets.octets() == OID,
+        "the octets of an object identifier",
+    )?;
+    let of_text = ObjectIdentifier::from_text(alloc, "1.2.3.4")?;
+    expect(of_text == of_octets, "an object identifier of a text")?;
+    let text = of_text.to_text(alloc);
+    expect(of_text == of_octets, "a lent object identifier")?;
+    expect(
+        text?.as_str() == "1.2.3.4",
+        "the text of an object identifier",
+    )
+}
+
+/// Algorithms' own object identifiers and identifiers.
+pub fn of_algorithms(alloc: Global) -> Result<(), Stop> {
+    let oid = Pbes1AlgorithmKind::ShaAnd3Key3DesCbc.to_oid(alloc)?;
+    expect(
+        oid.octets() == texts::TRIPLE_DES,
+        "an object identifier of PBES1",
+    )?;
+    let oid = Pbes2AesCbcEncryption::Aes256.to_oid(alloc)?;
+    expect(
+        oid.octets() == texts::AES_256,
+        "an object identifier of PBES2",
+    )?;
+    let raw = Pkcs12DigestAlgorithm::Sha256.into_raw(alloc)?;
+    has_text(&raw, texts::SHA_256)?;
+    let raw = Pbkdf2Prf::HmacWithSha256.into_raw(alloc)?;
+    has_text(&raw, texts::HMAC_WITH_SHA_256)
+}
+
+/// Defaults and strings of Authenticode.
+pub fn of_authenticode(alloc: Global) -> Result<(), Stop> {
+    has_text(&SpcLink::default_in(alloc)?, texts::OBSOLETE_FILE)?;
+    has_text(&SpcSerializedObject::default_in(alloc)?, texts::PAGE_HASHES)?;
+    has_text(&SpcPeImageFlags::default_in(alloc)?, b"\x03\x02\x05\x80")?;
+    let text = String::from_str(alloc, "A\u{263A}")?;
+    has_text(
+        &SpcString::try_from_string(alloc, text)?,
+        b"\x80\x04\x00A\x26\x3A",
+    )?;
+    let bits = BitStringAsn1(BitString::with_len(alloc, 12)?);
+    has_text(&bits, b"\x03\x03\x04\x00\x00")
+}
+
+/// Content, made and read as a type.
+pub fn of_contents(alloc: Global) -> Result<(), Stop> {
+    let data = EncapsulatedContentInfo::new_pkcs7_data(alloc, None)?;
+    has_text(&data, texts::NO_DATA)?;
+    let info: ContentInfo = is_written(alloc, texts::CONTENT, texts::CONTENT)?;
+    let outcome = info.content_typed::<OctetStringAsn1>(alloc);
+    has_text(&info, texts::CONTENT)?;
+    has_text(&outcome?, b"\x04\x02\x30\x00")
+}

@@ -1,0 +1,79 @@
+//! Runs of the program's calls over a source and a sink that take no memory.
+
+ghost use Rattle.std.specs.Prelude.{None};
+
+use crate::rounds::{Stop, expect};
+use crate::texts;
+use std::alloc::Global;
+use std::io;
+use x509_containers::{Error, Kind, Mode, Outcome, Sink, StdSource, run};
+
+/// Holds the first 80 bytes of what it gets.
+#[derive(Drop)]
+struct Held {
+    bytes: [u8; 80],
+    len: usize,
+}
+
+impl Held {
+    fn bytes(&self) -> &[u8] {
+        &self.bytes[..self.len.min(80)]
+    }
+}
+
+impl Sink for Held {
+    ghost held = { λ _. None };
+
+    ghost failed = { λ _. 0 };
+
+    fn write(&mut self, buf: &[u8]) -> io::Result<usize> {
+        for byte in buf {
+            if self.len < 80 {
+                self.bytes[self.len] = *byte;
+                self.len += 1;
+            }
+        }
+        Ok(buf.len())
+    }
+
+    fn failures(&self) -> u64 {
+        0
+    }
+}
+
+/// Asks of a run over the loose file that it writes the bytes with that outcome, and where memory is refused the line.
+fn is_run(
+    alloc: Global,
+    mode: Mode,
+    outcome: Outcome,
+    wanted: &[u8],
+    line: &[u8],
+) -> Result<(), Stop> {
+    let mut source = StdSource::new(texts::LOOSE_STORE);
+    let mut sink = Held {
+        bytes: [0; 80],
+        len: 0,
+    };
+    let Some(kind) = Kind::from_word("pfx") else {
+        return Err(Stop::Other("a kind has no word"));
+    };
+    let came = run(alloc, &mut source, &mut sink, mode, kind);
+    if came == Outcome::Refused(Error::Memory) {
+        expect(sink.bytes() == line, "what is written without memory")?;
+        return Err(Stop::Memory);
+    }
+    expect(came == outcome, "another outcome of a run")?;
+    expect(sink.bytes() == wanted, "a run writes something else")
+}
+
+/// Both modes.
+pub fn runs(alloc: Global) -> Result<(), Stop> {
+    is_run(
+        alloc,
+        Mode::Check,
+        Outcome::Loose,
+        b"loose 64 -> 66\n",
+        b"refused: no memory\n",
+    )?;
+    is_run(alloc, Mode::Rewrite, Outcome::Written, texts::STORE, b"")
+}
