@@ -7,7 +7,7 @@ pub mod strings;
 pub mod times;
 
 pub use asn1_leaves_strings::{
-    BMPString, BitString, BmpString, CharSetError, IA5String, Utf8String,
+    BMPString, BitString, BmpString, CharSetError, IA5String, StringError, Utf8String,
 };
 pub use asn1_leaves_times::{GeneralizedTime, UTCTime};
 pub use bits::BitStringAsn1;

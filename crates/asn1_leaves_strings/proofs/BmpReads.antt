@@ -28,7 +28,7 @@ length_units : (units : List ℕ) → length (flat_map unit_octets units) ≡ 2 
 length_units [] = refl
 length_units (u ∷ us) = omega (arith, length_units us)
 
-is_even : (octets : List ℕ) → IsBmp octets → length octets % 2 ≡ 0
+pub is_even : (octets : List ℕ) → IsBmp octets → length octets % 2 ≡ 0
 is_even octets b = omega (arith, ap length b.is, length_units b.units)
 
 in_pairs : (n : ℕ) (octets : List ℕ) → length octets ≡ 2 * n → ((i : ℕ) → get_or octets i 0 < 256) → All IsCharacter (first_chunks 2 n octets) ↔ IsBmp octets

@@ -1,11 +1,17 @@
 //! BMPString: characters of the Basic Multilingual Plane, in two octets each.
 
-ghost use Rattle.std.specs.Prelude.{◌≡◌, ◌↔◌, ℕ, List, IsTrue};
+ghost use Rattle.std.specs.Prelude.{◌≡◌, ◌↔◌, ℕ, List, IsTrue, MatchResult, string_bytes};
 ghost use Rattle.std.proofs.Common.{rules};
-ghost use Rattle.asn1_leaves_strings.specs.Bmp.{IsBmp, IsSurrogate};
+ghost use Rattle.std.specs.List.{flat_map};
+ghost use Rattle.std.specs.Str.{chars};
+ghost use Rattle.asn1_core_element.specs.declared.error.Error.TheVariants.{Memory};
+ghost use Rattle.asn1_leaves_strings.specs.Bmp.{IsBmp, IsBmpUnit, IsSurrogate, unit_octets};
+ghost use Rattle.asn1_leaves_strings.specs.BmpLaws.{unit_of};
+ghost use Rattle.asn1_leaves_strings.specs.BmpTexts.{IsOneUnit, HoldsUnits, WhyRefused};
 ghost use Rattle.asn1_leaves_strings.specs.CharSet.{TakesOctets};
 
 use crate::char_set::CharSetError;
+use crate::string_error::StringError;
 use asn1_core_element::Error;
 use asn1_core_format::{TryClone, Viewed};
 use std::alloc::Global;
@@ -57,6 +63,59 @@ impl BmpString {
     {
         self.octets.as_slice()
     }
+
+    /// The string of a text, a unit for each character. Refused are characters above U+FFFF, and want of memory.
+    pub fn from_text(alloc: Global, text: &str) -> Result<Self, StringError>
+        ensures { MatchResult result (λ s. HoldsUnits (chars text.now) (octets_of_bmp s)) (WhyRefused (chars text.now)) }
+    {
+        let octets = units(alloc, text)?;
+        Ok(BmpString { octets })
+    }
+
+    /// The text, a character for each unit. Refuses by `Memory` alone.
+    pub fn to_text(&self, alloc: Global) -> Result<String, Error>
+        ensures { MatchResult result (λ text. octets_of_bmp self.now ≡ flat_map unit_octets (chars (string_bytes text))) (λ e. e ≡ Memory) }
+    {
+        let mut text = String::new(alloc);
+        let mut rest = self.as_bytes();
+        while let [high, low, after @ ..] = rest {
+            text.push(character_of(*high, *low))?;
+            rest = after;
+        }
+        Ok(text)
+    }
+}
+
+/// The octets of the characters, two for each.
+fn units(alloc: Global, text: &str) -> Result<Vec<u8>, StringError>
+    ensures { MatchResult result (λ v. HoldsUnits (chars text.now) v.items) (WhyRefused (chars text.now)) }
+{
+    let mut octets = Vec::new(alloc);
+    for character in text.chars() {
+        let Ok(unit) = unit_of(character) else {
+            return Err(StringError::CharSet(CharSetError));
+        };
+        octets.extend_from_slice(&unit)?;
+    }
+    Ok(octets)
+}
+
+/// The two octets of a character, the high one first.
+fn unit_of(character: char) -> Result<[u8; 2], CharSetError>
+    ensures { MatchResult result (λ unit. (unit ≡ unit_octets character) × IsOneUnit character) (λ _. ¬ (IsOneUnit character)) }
+{
+    match u16::try_from(u32::from(character)) {
+        Ok(unit) => Ok(unit.to_be_bytes()),
+        Err(_) => Err(CharSetError),
+    }
+}
+
+/// The character of two octets, the high one first.
+fn character_of(high: u8, low: u8) -> char
+    requires { IsBmpUnit (unit_of high low) }
+    ensures { result ≡ unit_of high low }
+{
+    char::from_u32(u32::from(u16::from_be_bytes([high, low]))).unwrap()
 }
 
 impl Viewed for BmpString {

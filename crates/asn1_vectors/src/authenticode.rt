@@ -1,7 +1,7 @@
 //! The types of Authenticode that are made: strings of a text, and defaults.
 
 use crate::values::is_value;
-use asn1_leaves::CharSetError;
+use asn1_leaves::{BmpString, CharSetError};
 use std::alloc::Global;
 use std::test::Fail;
 use x509_base::spc::{File, SpcLink, SpcSerializedObject, SpcString, SpcUuid, StringError};
@@ -27,12 +27,13 @@ fn strings_of_texts(rt: HostRuntime) -> Result<(), Fail> {
         ("<<<Obsolete>>>", OBSOLETE),
     ] {
         is_value(alloc, octets, &from_text(alloc, text)?)?;
+        let string = BmpString::from_text(alloc, text)?;
+        assert_eq!(rt; string.to_text(alloc)?.as_str(), text);
     }
     for text in ["\u{10000}", "\u{1F600}"] {
-        assert_eq!(rt;
-            from_text(alloc, text),
-            Err(StringError::CharSet(CharSetError))
-        );
+        let refused = Err(StringError::CharSet(CharSetError));
+        assert_eq!(rt; from_text(alloc, text), refused);
+        assert!(rt; BmpString::from_text(alloc, text).is_err());
     }
     Ok(())
 }

@@ -4,10 +4,9 @@
 pub mod links;
 pub mod objects;
 pub mod opus_info;
-pub mod string_error;
 pub mod texts;
 
+pub use asn1_leaves::StringError;
 pub use links::{File, Moniker, SpcLink, SpcString, Url};
 pub use objects::{SpcSerializedObject, SpcUuid};
 pub use opus_info::SpcSpOpusInfo;
-pub use string_error::StringError;

@@ -1,8 +1,8 @@
 use Rattle.std.proofs.Common.{rules}
 use Rattle.std.proofs.lemmas.Iterator.{YieldsList-from_chars}
 use Rattle.std.proofs.lemmas.Iterator.Consumers.{YieldsList-turn, YieldsList-end}
-use Rattle.x509_base_spc.proofs.Units.{no_unit, units_held}
-use Rattle.x509_base_spc.proofs.texts.units.Goals as goal
+use Rattle.asn1_leaves_strings.proofs.BmpTextReads.{no_unit, units_held}
+use Rattle.asn1_leaves_strings.proofs.bmp_string.units.Goals as goal
 
 pub returns-in_default : goal.returns-in_default
 returns-in_default c =

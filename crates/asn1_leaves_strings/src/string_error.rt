@@ -1,9 +1,9 @@
 //! Why no string is made from a text.
 
 ghost use Rattle.std.specs.Prelude.{◌≡◌};
-ghost use Rattle.x509_base_spc.specs.declared.string_error.StringError.TheVariants.{Memory};
+ghost use Rattle.asn1_leaves_strings.specs.declared.string_error.StringError.TheVariants.{Memory};
 
-use asn1_leaves::CharSetError;
+use crate::char_set::CharSetError;
 use std::alloc::AllocError;
 use thiserror::Error;
 
