@@ -9,3 +9,4 @@ pub mod Pbes2
 pub mod Encryption
 pub mod Equal
 pub mod EncryptionEqual
+pub mod Names

@@ -1,11 +1,12 @@
 //! Digests with their algorithms.
 
-ghost use Rattle.std.specs.Prelude.{◌≡◌, Bool, true, MatchResult};
+ghost use Rattle.std.specs.Prelude.{◌≡◌, Bool, true, MatchResult, Some};
 ghost use Rattle.std.proofs.Common.{refl, rules};
 ghost use Rattle.asn1_core_element.specs.declared.error.Error.TheVariants.{Memory};
 ghost use Rattle.pkcs12_algs.specs.Algorithms.{raw_value, from_raw, into_raw};
 ghost use Rattle.pkcs12_algs.specs.Digests.{digest_oids, DigestValue, digest_value, DigestInfoValue, digest_info_value, digest_info, lawful_digest_info};
 ghost use Rattle.pkcs12_algs.specs.Equal.{digest_equal, digest_info_equal};
+ghost use Rattle.pkcs12_algs.specs.Names.{digest_name};
 
 use crate::algorithms::{
     Algorithm, AlgorithmPart, AlgorithmRef, algorithm_from_raw, clone_algorithm, raw_of_algorithm,
@@ -18,6 +19,7 @@ use asn1_core::{
     WriteError, Writer,
 };
 use std::alloc::Global;
+use std::fmt;
 use x509_base::RawAlgorithmIdentifier;
 
 /// `DigestAlgorithmIdentifier ::= AlgorithmIdentifier` (RFC 2315, 6.3), as the digest algorithm of a MAC (RFC 7292, 4):
@@ -89,6 +91,28 @@ impl Pkcs12DigestAlgorithm {
             Self::Unknown(raw) => Ok(raw),
             known => raw_of_algorithm(alloc, &known),
         }
+    }
+
+    /// The word for it as OpenSSL writes it, which `Display` writes too; `unknown` for any other.
+    pub fn name(&self) -> &'static str
+        ensures { result.now ≡ digest_name self.now }
+    {
+        match self {
+            Self::Sha1 => "SHA1",
+            Self::Sha224 => "SHA224",
+            Self::Sha256 => "SHA256",
+            Self::Sha384 => "SHA384",
+            Self::Sha512 => "SHA512",
+            Self::Unknown(_) => "unknown",
+        }
+    }
+}
+
+impl fmt::Display for Pkcs12DigestAlgorithm {
+    ghost output = { λ x. Some (digest_name x) };
+
+    fn fmt<W: fmt::Write>(&self, f: &mut fmt::Formatter<W>) -> fmt::Result {
+        f.write_str(self.name())
     }
 }
 

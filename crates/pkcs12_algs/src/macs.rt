@@ -1,5 +1,6 @@
 //! MACs with what they were made from.
 
+ghost use Rattle.std.specs.Prelude.{◌≡◌, unwrap_or};
 ghost use Rattle.std.proofs.Common.{rules};
 ghost use Rattle.pkcs12_algs.specs.Digests.{MacValue, mac_value, mac_data, lawful_mac_data};
 ghost use Rattle.pkcs12_algs.specs.Equal.{mac_equal};
@@ -23,6 +24,15 @@ pub struct MacData {
     pub salt: OctetStringAsn1,
     /// How often the key derivation hashes; 1 where it is left out.
     pub iterations: Option<u32>,
+}
+
+impl MacData {
+    /// How often the key derivation hashes: 1 where the count is left out (`DEFAULT 1` in RFC 7292, 4).
+    pub fn effective_iterations(&self) -> u32
+        ensures { result ≡ unwrap_or self.now.iterations 1 }
+    {
+        self.iterations.unwrap_or(1)
+    }
 }
 
 type MacRow = Part<Pkcs12DigestInfo, Part<OctetStringAsn1, Maybe<u32, End>>>;

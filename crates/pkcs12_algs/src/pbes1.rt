@@ -1,11 +1,12 @@
 //! Encryption by a password with parameters of the first kind.
 
-ghost use Rattle.std.specs.Prelude.{◌≡◌, MatchResult};
+ghost use Rattle.std.specs.Prelude.{◌≡◌, MatchResult, Some};
 ghost use Rattle.std.proofs.Common.{rules};
 ghost use Rattle.asn1_core_element.specs.declared.error.Error.TheVariants.{Memory};
 ghost use Rattle.asn1_core_oid.specs.OidValue.{octets_of};
 ghost use Rattle.pkcs12_algs.specs.Pbes1.{pbe_oid, pbe_table, pbe_is_table, pbe_valid, Pbes1Value, pbes1_value, pbes1_params, lawful_pbes1_params};
 ghost use Rattle.pkcs12_algs.specs.declared.pbes1.Pbes1AlgorithmKind.{Pbes1AlgorithmKind};
+ghost use Rattle.pkcs12_algs.specs.Names.{pbe_name};
 
 use crate::kinds::{Kind, oid_of_kind};
 use crate::oids::{SHA_AND_3_KEY_3_DES_CBC, SHA_AND_40_BIT_RC2_CBC};
@@ -17,6 +18,7 @@ use asn1_core::{
     TryClone, Viewed, WriteError, Writer,
 };
 use std::alloc::Global;
+use std::fmt;
 
 /// The algorithms of `pkcs-12PbeIds` (RFC 7292, appendix C) that are known.
 #[derive(Clone, Copy, Debug, PartialEq, Eq)]
@@ -62,6 +64,24 @@ impl Pbes1AlgorithmKind {
         ensures { MatchResult result (λ oid. octets_of oid ≡ pbe_oid self.now) (λ e. e ≡ Memory) }
     {
         oid_of_kind(alloc, *self)
+    }
+
+    /// The word for it as OpenSSL writes it, which `Display` writes too.
+    pub fn name(&self) -> &'static str
+        ensures { result.now ≡ pbe_name self.now }
+    {
+        match self {
+            Self::ShaAnd40BitRc2Cbc => "pbeWithSHA1And40BitRC2-CBC",
+            Self::ShaAnd3Key3DesCbc => "pbeWithSHA1And3-KeyTripleDES-CBC",
+        }
+    }
+}
+
+impl fmt::Display for Pbes1AlgorithmKind {
+    ghost output = { λ x. Some (pbe_name x) };
+
+    fn fmt<W: fmt::Write>(&self, f: &mut fmt::Formatter<W>) -> fmt::Result {
+        f.write_str(self.name())
     }
 }
 

@@ -1,12 +1,13 @@
 //! Encryption by PBES2: key derivation, and then an encryption scheme.
 
-ghost use Rattle.std.specs.Prelude.{◌≡◌, MatchResult};
+ghost use Rattle.std.specs.Prelude.{◌≡◌, MatchResult, Some};
 ghost use Rattle.std.proofs.Common.{rules};
 ghost use Rattle.asn1_core_element.specs.declared.error.Error.TheVariants.{Memory};
 ghost use Rattle.asn1_core_oid.specs.OidValue.{octets_of};
 ghost use Rattle.pkcs12_algs.specs.Pbes2.{aes_oid, aes_table, aes_is_table, aes_valid, KdfValue, kdf_value, kdf, lawful_kdf, SchemeValue, scheme_value, scheme, lawful_scheme, Pbes2Value, pbes2_value, pbes2_params, lawful_pbes2_params};
 ghost use Rattle.pkcs12_algs.specs.declared.pbes2.Pbes2AesCbcEncryption.{Pbes2AesCbcEncryption};
 ghost use Rattle.pkcs12_algs.specs.Equal.{kdf_equal, pbes2_equal};
+ghost use Rattle.pkcs12_algs.specs.Names.{aes_name};
 
 use crate::kinds::{Kind, oid_of_kind};
 use crate::oids::{AES128_CBC_PAD, AES192_CBC_PAD, AES256_CBC_PAD, Pbkdf2};
@@ -19,6 +20,7 @@ use asn1_core::{
     TryClone, Viewed, WriteError, Writer,
 };
 use std::alloc::Global;
+use std::fmt;
 use x509_base::RawAlgorithmIdentifier;
 
 /// `AlgorithmIdentifier {{PBES2-KDFs}}` (RFC 8018, appendix A.4). PBKDF2 with other parameters, or with none, is refused
@@ -134,6 +136,25 @@ impl Pbes2AesCbcEncryption {
         ensures { MatchResult result (λ oid. octets_of oid ≡ aes_oid self.now) (λ e. e ≡ Memory) }
     {
         oid_of_kind(alloc, *self)
+    }
+
+    /// The word for it as OpenSSL writes it, which `Display` writes too.
+    pub fn name(&self) -> &'static str
+        ensures { result.now ≡ aes_name self.now }
+    {
+        match self {
+            Self::Aes128 => "AES-128-CBC",
+            Self::Aes192 => "AES-192-CBC",
+            Self::Aes256 => "AES-256-CBC",
+        }
+    }
+}
+
+impl fmt::Display for Pbes2AesCbcEncryption {
+    ghost output = { λ x. Some (aes_name x) };
+
+    fn fmt<W: fmt::Write>(&self, f: &mut fmt::Formatter<W>) -> fmt::Result {
+        f.write_str(self.name())
     }
 }
 

@@ -1,12 +1,13 @@
 //! The pseudorandom functions of PBKDF2.
 
-ghost use Rattle.std.specs.Prelude.{◌≡◌, Bool, true, MatchResult};
+ghost use Rattle.std.specs.Prelude.{◌≡◌, Bool, true, MatchResult, Some};
 ghost use Rattle.std.proofs.Common.{refl};
 ghost use Rattle.asn1_core_element.specs.declared.error.Error.TheVariants.{Memory};
 ghost use Rattle.pkcs12_algs.specs.Algorithms.{raw_value, from_raw, into_raw};
 ghost use Rattle.pkcs12_algs.specs.Pbkdf2.{prf_oids, PrfValue, prf_value};
 ghost use Rattle.pkcs12_algs.specs.declared.prfs.Pbkdf2Prf.TheVariants.{HmacWithSha1};
 ghost use Rattle.pkcs12_algs.specs.Equal.{prf_equal};
+ghost use Rattle.pkcs12_algs.specs.Names.{prf_name};
 
 use crate::algorithms::{Algorithm, algorithm_from_raw, clone_algorithm, raw_of_algorithm};
 use crate::oids::{
@@ -15,6 +16,7 @@ use crate::oids::{
 use crate::rows::{arm_by_rows, parts_by_rows};
 use asn1_core::{Error, TryClone, Viewed};
 use std::alloc::Global;
+use std::fmt;
 use x509_base::RawAlgorithmIdentifier;
 
 /// `prf AlgorithmIdentifier {{PBKDF2-PRFs}}` (RFC 8018, appendices A.2 and B.1): a function that is known by its object
@@ -95,6 +97,28 @@ impl Pbkdf2Prf {
             Self::Unknown(raw) => Ok(raw),
             known => raw_of_algorithm(alloc, &known),
         }
+    }
+
+    /// The word for it as OpenSSL writes it, which `Display` writes too; `unknown` for any other.
+    pub fn name(&self) -> &'static str
+        ensures { result.now ≡ prf_name self.now }
+    {
+        match self {
+            Self::HmacWithSha1 => "hmacWithSHA1",
+            Self::HmacWithSha224 => "hmacWithSHA224",
+            Self::HmacWithSha256 => "hmacWithSHA256",
+            Self::HmacWithSha384 => "hmacWithSHA384",
+            Self::HmacWithSha512 => "hmacWithSHA512",
+            Self::Unknown(_) => "unknown",
+        }
+    }
+}
+
+impl fmt::Display for Pbkdf2Prf {
+    ghost output = { λ x. Some (prf_name x) };
+
+    fn fmt<W: fmt::Write>(&self, f: &mut fmt::Formatter<W>) -> fmt::Result {
+        f.write_str(self.name())
     }
 }
 
