@@ -8,3 +8,4 @@ pub mod Measured
 pub mod MacRanges
 pub mod Parsed
 pub mod Equal
+pub mod Walks

@@ -9,6 +9,7 @@ pub mod parsed;
 pub mod pfxs;
 pub mod raw;
 pub mod representations;
+mod walks;
 
 pub use auth_safes::AuthenticatedSafeContentInfo;
 pub use contents::SafeContentsContentInfo;
