@@ -9,7 +9,8 @@ use Rattle.asn1_core_oid.specs.Oid.{IsOid}
 use Rattle.x509_pkcs12_bags.specs.Bags.{Bag, safe_contents}
 use Rattle.x509_pkcs12_bags.specs.BagValues.{contents_value}
 use Rattle.x509_pkcs12_parts.specs.Contents.{EncryptedContentsValue, encrypted_contents_value, encrypted_contents, lawful_encrypted_contents}
-use Rattle.x509_pkcs12_parts.specs.Oids.{data_oid, encrypted_data_oid}
+use Rattle.x509_pkcs12_parts.specs.Oids.{data_oid, oid}
+use Rattle.x509_pkcs12_parts.specs.declared.oids.TheConstants.{ENCRYPTED_DATA}
 use Rattle.x509_pkcs12.specs.declared.contents.SafeContentsContentInfo.{SafeContentsContentInfo}
 use Rattle.x509_pkcs12.specs.declared.contents.SafeContentsContentInfo.TheVariants.{Data, EncryptedData, Unknown}
 use Rattle.x509_pkcs12_bags.specs.BagsLaws.{lawful_safe_contents}
@@ -44,7 +45,7 @@ content_info_value (EncryptedData c) = inr (inl (0, (encrypted_contents_value c,
 content_info_value (Unknown t c) = inr (inr (octets_of t, (option_value (λ x. x.0.items) c, tt)))
 
 abbrev pub encrypted_or_unknown : Choice (EncryptedValue ⊎ (List ℕ × AnyContentValue))
-encrypted_or_unknown = known encrypted_data_oid encrypted_content unknown_content
+encrypted_or_unknown = known (oid ENCRYPTED_DATA) encrypted_content unknown_content
 
 abbrev pub content_choice : Choice ContentInfoValue
 content_choice = known data_oid (data_content safe_contents) encrypted_or_unknown
@@ -67,7 +68,7 @@ lawful_unknown_content = lawful_otherwise IsOid any_content lawful_any_content
 pub lawful_content_choice : IsLawfulChoice content_choice
 lawful_content_choice =
     lawful_known data_oid (data_content safe_contents) encrypted_or_unknown (lawful_data_content safe_contents lawful_safe_contents).row
-    (lawful_known encrypted_data_oid encrypted_content unknown_content lawful_encrypted_content.row lawful_unknown_content)
+    (lawful_known (oid ENCRYPTED_DATA) encrypted_content unknown_content lawful_encrypted_content.row lawful_unknown_content)
 
 pub lawful_content_info : IsLawful content_info
 lawful_content_info = lawful_sequence lawful_content_choice.row

@@ -17,7 +17,7 @@ use asn1_core::{
 };
 use asn1_core_format::{Alone, Either, FirstTags, put_within, read_within};
 use std::alloc::Global;
-use x509_pkcs12_parts::oids::Data;
+use x509_pkcs12_parts::oids::{Known, PKCS7_DATA};
 
 /// The `authSafe` of a PFX, a `ContentInfo ::= SEQUENCE { contentType ContentType, content [0] EXPLICIT ANY DEFINED BY
 /// contentType OPTIONAL }` (RFC 2315, 7; RFC 7292, 4).
@@ -34,12 +34,12 @@ pub enum AuthenticatedSafeContentInfo<R: AuthenticatedSafeDataRepr> {
 }
 
 type AuthSafeChoice<R> = Either<
-    Arm<Data, Alone<ExplicitContextTag0<OctetStringAsn1Container<R>>>>,
+    Arm<Known<PKCS7_DATA>, Alone<ExplicitContextTag0<OctetStringAsn1Container<R>>>>,
     AnyOid<AnyContent>,
 >;
 
 type AuthSafeRef<'a, R> = Either<
-    Arm<Data, Alone<ExplicitContextTag0<OctetStringAsn1Container<ReprRef<'a, R>>>>>,
+    Arm<Known<PKCS7_DATA>, Alone<ExplicitContextTag0<OctetStringAsn1Container<ReprRef<'a, R>>>>>,
     AnyOidRef<'a, AnyContentRef<'a>>,
 >;
 

@@ -18,7 +18,7 @@ use asn1_core_writers::{WriteError, Writer};
 use std::alloc::Global;
 use x509_pkcs12_bags::SafeContents;
 use x509_pkcs12_parts::EncryptedSafeContents;
-use x509_pkcs12_parts::oids::{Data, EncryptedData};
+use x509_pkcs12_parts::oids::{ENCRYPTED_DATA, Known, PKCS7_DATA};
 
 /// An item of `AuthenticatedSafe`, a `ContentInfo ::= SEQUENCE { contentType ContentType, content [0] EXPLICIT ANY
 /// DEFINED BY contentType OPTIONAL }` (RFC 2315, 7; RFC 7292, 4.1).
@@ -133,13 +133,13 @@ impl<R: ReadRow> DerDeserialize for Asn1Sequence<R> {
 }
 
 type ContentChoice = Either<
-    Arm<Data, Alone<ExplicitContextTag0<OctetStringAsn1Container<SafeContents>>>>,
-    Either<Arm<EncryptedData, Alone<EncryptedRow>>, AnyOid<AnyContent>>,
+    Arm<Known<PKCS7_DATA>, Alone<ExplicitContextTag0<OctetStringAsn1Container<SafeContents>>>>,
+    Either<Arm<Known<ENCRYPTED_DATA>, Alone<EncryptedRow>>, AnyOid<AnyContent>>,
 >;
 
 type ContentRef<'a> = Either<
-    Arm<Data, Alone<ExplicitContextTag0<OctetStringAsn1Container<&'a SafeContents>>>>,
-    Either<Arm<EncryptedData, Alone<EncryptedRef<'a>>>, AnyOidRef<'a, AnyContentRef<'a>>>,
+    Arm<Known<PKCS7_DATA>, Alone<ExplicitContextTag0<OctetStringAsn1Container<&'a SafeContents>>>>,
+    Either<Arm<Known<ENCRYPTED_DATA>, Alone<EncryptedRef<'a>>>, AnyOidRef<'a, AnyContentRef<'a>>>,
 >;
 
 impl SafeContentsContentInfo {

@@ -8,17 +8,18 @@ ghost use Rattle.asn1_core_format.specs.declared.eithers.Either.TheVariants.{Fir
 ghost use Rattle.x509_pkcs12_parts.specs.Attributes.{attributes_value};
 ghost use Rattle.asn1_core_element.specs.Element.{element};
 ghost use Rattle.asn1_core_oid.specs.OidValue.{octets_of};
-ghost use Rattle.x509_pkcs12_parts.specs.Oids.{key_bag_oid, shrouded_key_bag_oid, certificate_bag_oid, crl_bag_oid, secret_bag_oid, safe_contents_bag_oid};
+ghost use Rattle.x509_pkcs12_parts.specs.Oids.{oid};
+ghost use Rattle.x509_pkcs12_parts.specs.declared.oids.TheConstants.{KEY_BAG, SHROUDED_KEY_BAG, CERTIFICATE_BAG, CRL_BAG, SECRET_BAG, SAFE_CONTENTS_BAG};
 ghost use Rattle.x509_pkcs12_bags.specs.PlainBags.{bag_arm};
 ghost use Rattle.x509_pkcs12_bags.specs.Bags.{Bag, BagRow, bag_out, safe_bag, safe_contents, held_choice};
 ghost use Rattle.x509_pkcs12_bags.specs.BagEqual.{bag_equal, kind_equal, contents_equal};
 ghost use Rattle.x509_pkcs12_bags.specs.BagsLaws.{lawful_safe_bag, lawful_safe_contents};
 ghost use Rattle.x509_pkcs12_bags.specs.BagValues.{Kind, bag_value, kind_value, contents_value};
 
-use asn1_choices::{AnyOid, Arm, Named, WriteChoice, read_nested_or};
+use asn1_choices::{AnyOid, Arm, WriteChoice, read_nested_or};
 use asn1_core::{
     Asn1RawDer, DerDeserialize, DerSerialize, EqualByText, Error, ExplicitContextTag0, KnownOid,
-    ObjectIdentifier, Reader, TryClone, Viewed,
+    ObjectIdentifier, OidRef, Reader, TryClone, Viewed,
 };
 use asn1_core_element::element::open_element;
 use asn1_core_format::Either::{self, First, Second};
@@ -26,8 +27,8 @@ use asn1_core_format::{Less, Part, WriteRow, put_within, read_list_with};
 use asn1_core_writers::{WriteError, Writer};
 use std::alloc::Global;
 use x509_pkcs12_parts::oids::{
-    CERTIFICATE_BAG, CRL_BAG, Certificate, Crl, KEY_BAG, Key, Nested, SAFE_CONTENTS_BAG,
-    SECRET_BAG, SHROUDED_KEY_BAG, Secret, ShroudedKey, is_oid_of,
+    CERTIFICATE_BAG, CRL_BAG, KEY_BAG, Known, SAFE_CONTENTS_BAG, SECRET_BAG, SHROUDED_KEY_BAG,
+    is_oid_of, octets_of_known,
 };
 use x509_pkcs12_parts::{
     BagAttributes, BagAttributesRef, CertificateBag, CrlBag, EncryptedKeyBag, KeyBag,
@@ -71,16 +72,18 @@ pub struct SafeContents(pub Vec<SafeBag>);
 /// What stands behind the object identifier of a bag.
 type Held<T> = Part<ExplicitContextTag0<T>, BagAttributes>;
 
+type Nested = Known<SAFE_CONTENTS_BAG>;
+
 /// A bag that holds no bags.
-type SecretOr = Either<Arm<Secret, Held<SecretBag>>, AnyOid<Held<Asn1RawDer>>>;
+type SecretOr = Either<Arm<Known<SECRET_BAG>, Held<SecretBag>>, AnyOid<Held<Asn1RawDer>>>;
 
-type CrlOr = Either<Arm<Crl, Held<CrlBag>>, SecretOr>;
+type CrlOr = Either<Arm<Known<CRL_BAG>, Held<CrlBag>>, SecretOr>;
 
-type CertificateOr = Either<Arm<Certificate, Held<CertificateBag>>, CrlOr>;
+type CertificateOr = Either<Arm<Known<CERTIFICATE_BAG>, Held<CertificateBag>>, CrlOr>;
 
-type ShroudedOr = Either<Arm<ShroudedKey, Held<EncryptedKeyBag>>, CertificateOr>;
+type ShroudedOr = Either<Arm<Known<SHROUDED_KEY_BAG>, Held<EncryptedKeyBag>>, CertificateOr>;
 
-type PlainBag = Either<Arm<Key, Held<KeyBag>>, ShroudedOr>;
+type PlainBag = Either<Arm<Known<KEY_BAG>, Held<KeyBag>>, ShroudedOr>;
 
 impl SafeBag {
     /// The bag that was read.
@@ -126,31 +129,31 @@ fn made(kind: SafeBagKind, attributes: BagAttributes) -> SafeBag
 }
 
 /// Whether the object identifier is that of a kind of bag that isn't `Unknown`.
-fn is_bag_oid(oid: &ObjectIdentifier) -> bool
-    ensures { IsTrue result ↔ ((octets_of oid.now ≡ key_bag_oid) ⊎ (octets_of oid.now ≡ shrouded_key_bag_oid)
-        ⊎ (octets_of oid.now ≡ certificate_bag_oid) ⊎ (octets_of oid.now ≡ crl_bag_oid)
-        ⊎ (octets_of oid.now ≡ secret_bag_oid) ⊎ (octets_of oid.now ≡ safe_contents_bag_oid)) }
+fn is_bag_oid(type_id: &ObjectIdentifier) -> bool
+    ensures { IsTrue result ↔ ((octets_of type_id.now ≡ oid KEY_BAG) ⊎ (octets_of type_id.now ≡ oid SHROUDED_KEY_BAG)
+        ⊎ (octets_of type_id.now ≡ oid CERTIFICATE_BAG) ⊎ (octets_of type_id.now ≡ oid CRL_BAG)
+        ⊎ (octets_of type_id.now ≡ oid SECRET_BAG) ⊎ (octets_of type_id.now ≡ oid SAFE_CONTENTS_BAG)) }
 {
-    is_oid_of(oid, &KEY_BAG)
-        || is_oid_of(oid, &SHROUDED_KEY_BAG)
-        || is_oid_of(oid, &CERTIFICATE_BAG)
-        || is_oid_of(oid, &CRL_BAG)
-        || is_oid_of(oid, &SECRET_BAG)
-        || is_oid_of(oid, &SAFE_CONTENTS_BAG)
+    is_oid_of(type_id, octets_of_known(KEY_BAG))
+        || is_oid_of(type_id, octets_of_known(SHROUDED_KEY_BAG))
+        || is_oid_of(type_id, octets_of_known(CERTIFICATE_BAG))
+        || is_oid_of(type_id, octets_of_known(CRL_BAG))
+        || is_oid_of(type_id, octets_of_known(SECRET_BAG))
+        || is_oid_of(type_id, octets_of_known(SAFE_CONTENTS_BAG))
 }
 
-/// Writes what stands in a bag: its object identifier, its value and its attributes.
+/// Writes what stands in a bag: the object identifier with that number, its value and its attributes.
 fn put_bag<T: DerSerialize, W: Writer>(
-    oid: &[u8],
+    number: usize,
     value: &T,
     attributes: &Option<Vec<Pkcs12Attribute>>,
     w: &mut W,
 ) -> Result<(), WriteError>
     requires { W.MayTake w.old }
-    ensures { W.Takes (element 0x06 oid.now ++ (bag_arm T.format).text (T.value value.now, attributes_value attributes.now)) w.old w.new result }
+    ensures { W.Takes (element 0x06 (oid number) ++ (bag_arm T.format).text (T.value value.now, attributes_value attributes.now)) w.old w.new result }
 {
     let row = Part(ExplicitContextTag0(value), BagAttributesRef(attributes));
-    Part(KnownOid(oid), row).put_row(w)
+    Part(KnownOid(octets_of_known(number)), row).put_row(w)
 }
 
 impl WriteRow for SafeBag {
@@ -164,16 +167,17 @@ impl WriteRow for SafeBag {
     fn put_row<W: Writer>(&self, w: &mut W) -> Result<(), WriteError> {
         let attributes = &self.attributes;
         match &self.kind {
-            SafeBagKind::Key(bag) => put_bag(&KEY_BAG, bag, attributes, w),
-            SafeBagKind::EncryptedKey(bag) => put_bag(&SHROUDED_KEY_BAG, bag, attributes, w),
-            SafeBagKind::Certificate(bag) => put_bag(&CERTIFICATE_BAG, bag, attributes, w),
-            SafeBagKind::Crl(bag) => put_bag(&CRL_BAG, bag, attributes, w),
-            SafeBagKind::Secret(bag) => put_bag(&SECRET_BAG, bag, attributes, w),
+            SafeBagKind::Key(bag) => put_bag(KEY_BAG, bag, attributes, w),
+            SafeBagKind::EncryptedKey(bag) => put_bag(SHROUDED_KEY_BAG, bag, attributes, w),
+            SafeBagKind::Certificate(bag) => put_bag(CERTIFICATE_BAG, bag, attributes, w),
+            SafeBagKind::Crl(bag) => put_bag(CRL_BAG, bag, attributes, w),
+            SafeBagKind::Secret(bag) => put_bag(SECRET_BAG, bag, attributes, w),
             SafeBagKind::SafeContents(bags) => {
-                put_bag(&SAFE_CONTENTS_BAG, &Less(bags), attributes, w)
+                put_bag(SAFE_CONTENTS_BAG, &Less(bags), attributes, w)
             }
             SafeBagKind::Unknown { type_id, value } => {
-                put_bag(type_id.octets(), value, attributes, w)
+                let row = Part(ExplicitContextTag0(value), BagAttributesRef(attributes));
+                Part(OidRef(type_id), row).put_row(w)
             }
         }
     }

@@ -7,7 +7,8 @@ use Rattle.asn1_core_format.specs.Choices.{Choice, known, otherwise, IsLawfulCho
 use Rattle.asn1_core_oid.specs.Oid.{IsOid}
 use Rattle.asn1_leaves.specs.Strings.{bmp_string, lawful_bmp_string}
 use Rattle.asn1_leaves_strings.specs.Octets.{octets_of_bmp}
-use Rattle.x509_pkcs12_parts.specs.Oids.{friendly_name_oid, local_key_id_oid}
+use Rattle.x509_pkcs12_parts.specs.Oids.{oid}
+use Rattle.x509_pkcs12_parts.specs.declared.oids.TheConstants.{FRIENDLY_NAME, LOCAL_KEY_ID}
 use Rattle.x509_pkcs12_parts.specs.declared.attributes.Pkcs12Attribute.{Pkcs12Attribute}
 use Rattle.x509_pkcs12_parts.specs.declared.attributes.Pkcs12Attribute.TheVariants.{FriendlyName, LocalKeyId, Unknown}
 
@@ -31,10 +32,10 @@ abbrev pub unknown_attribute : Choice (List ℕ × List (List ℕ))
 unknown_attribute = otherwise IsOid any_values
 
 abbrev pub local_key_id : Choice (List ℕ ⊎ (List ℕ × List (List ℕ)))
-local_key_id = known local_key_id_oid (set_of_one octet_string) unknown_attribute
+local_key_id = known (oid LOCAL_KEY_ID) (set_of_one octet_string) unknown_attribute
 
 abbrev pub attribute_choice : Choice AttributeValue
-attribute_choice = known friendly_name_oid (set_of_one bmp_string) local_key_id
+attribute_choice = known (oid FRIENDLY_NAME) (set_of_one bmp_string) local_key_id
 
 abbrev pub pkcs12_attribute : Format AttributeValue
 pkcs12_attribute = sequence attribute_choice.row
@@ -57,8 +58,8 @@ lawful_any_values = lawful_within (each raw) (lawful_each raw lawful_raw) 0x31 (
 
 pub lawful_attribute_choice : IsLawfulChoice attribute_choice
 lawful_attribute_choice =
-    lawful_known friendly_name_oid (set_of_one bmp_string) local_key_id (lawful_set_of_one bmp_string lawful_bmp_string).row
-    (lawful_known local_key_id_oid (set_of_one octet_string) unknown_attribute (lawful_set_of_one octet_string lawful_octet_string).row
+    lawful_known (oid FRIENDLY_NAME) (set_of_one bmp_string) local_key_id (lawful_set_of_one bmp_string lawful_bmp_string).row
+    (lawful_known (oid LOCAL_KEY_ID) (set_of_one octet_string) unknown_attribute (lawful_set_of_one octet_string lawful_octet_string).row
     (lawful_otherwise IsOid any_values lawful_any_values.row))
 
 pub lawful_pkcs12_attribute : IsLawful pkcs12_attribute

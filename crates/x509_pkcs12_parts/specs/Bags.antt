@@ -8,7 +8,8 @@ use Rattle.std.proofs.Common.{inl, inr, arith}
 use Rattle.asn1_core_format.specs.Choices.{Choice, known, otherwise, IsLawfulChoice, lawful_known, lawful_otherwise}
 use Rattle.asn1_core_oid.specs.Oid.{IsOid}
 use Rattle.pkcs12_algs.specs.Encryption.{EncryptionAlgorithmValue, encryption_algorithm_value, encryption_algorithm, lawful_encryption_algorithm}
-use Rattle.x509_pkcs12_parts.specs.Oids.{x509_certificate_oid, x509_crl_oid}
+use Rattle.x509_pkcs12_parts.specs.Oids.{oid}
+use Rattle.x509_pkcs12_parts.specs.declared.oids.TheConstants.{X509_CERTIFICATE, X509_CRL}
 use Rattle.x509_pkcs12_parts.specs.declared.bags.CertificateBag.{CertificateBag}
 use Rattle.x509_pkcs12_parts.specs.declared.bags.CertificateBag.TheVariants as Certificate
 use Rattle.x509_pkcs12_parts.specs.declared.bags.CrlBag.{CrlBag}
@@ -32,10 +33,10 @@ abbrev pub any_value : Choice (List ℕ × List ℕ)
 any_value = otherwise IsOid (within 0xA0 raw)
 
 abbrev pub certificate_choice : Choice OctetsOrAny
-certificate_choice = known x509_certificate_oid (within 0xA0 octet_string) any_value
+certificate_choice = known (oid X509_CERTIFICATE) (within 0xA0 octet_string) any_value
 
 abbrev pub crl_choice : Choice OctetsOrAny
-crl_choice = known x509_crl_oid (within 0xA0 octet_string) any_value
+crl_choice = known (oid X509_CRL) (within 0xA0 octet_string) any_value
 
 abbrev pub certificate_bag : Format OctetsOrAny
 certificate_bag = sequence certificate_choice.row
@@ -71,10 +72,10 @@ lawful_any_value : IsLawfulChoice any_value
 lawful_any_value = lawful_otherwise IsOid (within 0xA0 raw) lawful_any.row
 
 pub lawful_certificate_choice : IsLawfulChoice certificate_choice
-lawful_certificate_choice = lawful_known x509_certificate_oid (within 0xA0 octet_string) any_value lawful_octets.row lawful_any_value
+lawful_certificate_choice = lawful_known (oid X509_CERTIFICATE) (within 0xA0 octet_string) any_value lawful_octets.row lawful_any_value
 
 pub lawful_crl_choice : IsLawfulChoice crl_choice
-lawful_crl_choice = lawful_known x509_crl_oid (within 0xA0 octet_string) any_value lawful_octets.row lawful_any_value
+lawful_crl_choice = lawful_known (oid X509_CRL) (within 0xA0 octet_string) any_value lawful_octets.row lawful_any_value
 
 pub lawful_certificate_bag : IsLawful certificate_bag
 lawful_certificate_bag = lawful_sequence lawful_certificate_choice.row

@@ -6,7 +6,7 @@ ghost use Rattle.asn1_leaves_strings.specs.Octets.{octets_of_bmp};
 ghost use Rattle.x509_pkcs12_parts.specs.Attributes.{AttributeValue, attribute_value, pkcs12_attribute, AttributesValue, attributes_value, attributes, lawful_pkcs12_attribute, lawful_attributes};
 ghost use Rattle.x509_pkcs12_parts.specs.AttributesEqual.{attribute_equal};
 
-use crate::oids::{FriendlyName, LocalKeyId};
+use crate::oids::{FRIENDLY_NAME, Known, LOCAL_KEY_ID};
 use crate::sets::{SetOfOne, SetRef};
 use asn1_choices::{AnyOid, AnyOidRef, Arm, Chosen, WriteChoice};
 use asn1_core::{
@@ -55,14 +55,17 @@ impl DerSerialize for BmpRef<'_> {
 }
 
 type AttributeChoice = Either<
-    Arm<FriendlyName, Alone<SetOfOne<BmpStringAsn1>>>,
-    Either<Arm<LocalKeyId, Alone<SetOfOne<OctetStringAsn1>>>, AnyOid<Alone<Asn1SetOf<Asn1RawDer>>>>,
+    Arm<Known<FRIENDLY_NAME>, Alone<SetOfOne<BmpStringAsn1>>>,
+    Either<
+        Arm<Known<LOCAL_KEY_ID>, Alone<SetOfOne<OctetStringAsn1>>>,
+        AnyOid<Alone<Asn1SetOf<Asn1RawDer>>>,
+    >,
 >;
 
 type AttributeRef<'a> = Either<
-    Arm<FriendlyName, Alone<SetOfOne<BmpRef<'a>>>>,
+    Arm<Known<FRIENDLY_NAME>, Alone<SetOfOne<BmpRef<'a>>>>,
     Either<
-        Arm<LocalKeyId, Alone<SetOfOne<&'a OctetStringAsn1>>>,
+        Arm<Known<LOCAL_KEY_ID>, Alone<SetOfOne<&'a OctetStringAsn1>>>,
         AnyOidRef<'a, Alone<SetRef<'a, Asn1RawDer>>>,
     >,
 >;

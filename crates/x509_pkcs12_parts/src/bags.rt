@@ -4,7 +4,7 @@ ghost use Rattle.std.specs.Prelude.{◌≡◌};
 ghost use Rattle.x509_pkcs12_parts.specs.Bags.{OctetsOrAny, certificate_value, certificate_bag, crl_value, crl_bag, SecretValue, secret_value, secret_bag, EncryptedKeyValue, encrypted_key_value, encrypted_key_bag, lawful_certificate_bag, lawful_crl_bag, lawful_secret_bag, lawful_encrypted_key_bag};
 ghost use Rattle.x509_pkcs12_parts.specs.BagsEqual.{certificate_equal, crl_equal, secret_equal, encrypted_key_equal};
 
-use crate::oids::{X509Certificate, X509Crl};
+use crate::oids::{Known, X509_CERTIFICATE, X509_CRL};
 use asn1_choices::{AnyOid, AnyOidRef, Arm, Chosen, WriteChoice};
 use asn1_core::{
     Asn1RawDer, DerDeserialize, DerSerialize, EqualByText, Error, ExplicitContextTag0,
@@ -42,8 +42,8 @@ pub enum CertificateBag {
 }
 
 impl CertificateBag {
-    fn choice(&self) -> OctetsOrAnyRef<'_, X509Certificate>
-        ensures { ⟦<OctetsOrAnyRef<'static, X509Certificate> as WriteChoice>⟧.value result ≡ certificate_value self.now }
+    fn choice(&self) -> OctetsOrAnyRef<'_, Known<X509_CERTIFICATE>>
+        ensures { ⟦<OctetsOrAnyRef<'static, Known<X509_CERTIFICATE>> as WriteChoice>⟧.value result ≡ certificate_value self.now }
     {
         match self {
             Self::X509(octets) => Either::First(Arm::new(Alone(ExplicitContextTag0(octets)))),
@@ -72,7 +72,7 @@ impl DerSerialize for CertificateBag {
 
 impl DerDeserialize for CertificateBag {
     fn read(alloc: Global, r: &mut Reader<'_>, nest: u8) -> Result<Self, Error> {
-        let Chosen(choice) = read_within::<Chosen<OctetsOrAny<X509Certificate>>>(
+        let Chosen(choice) = read_within::<Chosen<OctetsOrAny<Known<X509_CERTIFICATE>>>>(
             alloc, r, nest, 0x30,
         )?;
         match choice {
@@ -117,8 +117,8 @@ pub enum CrlBag {
 }
 
 impl CrlBag {
-    fn choice(&self) -> OctetsOrAnyRef<'_, X509Crl>
-        ensures { ⟦<OctetsOrAnyRef<'static, X509Crl> as WriteChoice>⟧.value result ≡ crl_value self.now }
+    fn choice(&self) -> OctetsOrAnyRef<'_, Known<X509_CRL>>
+        ensures { ⟦<OctetsOrAnyRef<'static, Known<X509_CRL>> as WriteChoice>⟧.value result ≡ crl_value self.now }
     {
         match self {
             Self::X509(octets) => Either::First(Arm::new(Alone(ExplicitContextTag0(octets)))),
@@ -147,7 +147,9 @@ impl DerSerialize for CrlBag {
 
 impl DerDeserialize for CrlBag {
     fn read(alloc: Global, r: &mut Reader<'_>, nest: u8) -> Result<Self, Error> {
-        let Chosen(choice) = read_within::<Chosen<OctetsOrAny<X509Crl>>>(alloc, r, nest, 0x30)?;
+        let Chosen(choice) = read_within::<Chosen<OctetsOrAny<Known<X509_CRL>>>>(
+            alloc, r, nest, 0x30,
+        )?;
         match choice {
             Either::First(arm) => Ok(Self::X509(arm.into_row().0.0)),
             Either::Second(other) => {
