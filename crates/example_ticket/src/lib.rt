@@ -1,0 +1,181 @@
+//! Two more types of a caller's own, whole: a SEQUENCE with an optional part under an explicit tag, and a choice by
+//! object identifier.
+#![tactic(auto)]
+
+ghost use Rattle.std.specs.Prelude.{◌≡◌};
+ghost use Rattle.std.proofs.Common.{arith, rules};
+ghost use Rattle.asn1_core.specs.Der.{option_value};
+ghost use Rattle.asn1_core_oid.specs.Arcs.{oid_by_arcs};
+ghost use Rattle.example_ticket.specs.Tickets.{token_oid, token_arcs, HolderValue, holder_value, holder, lawful_holder, TicketValue, ticket, lawful_ticket};
+
+use asn1_choices::{AnyOid, AnyOidRef, Arm, Chosen, Named, WriteChoice};
+use asn1_core::parts::{
+    Alone, ApartFrom, Either, End, FirstTags, Maybe, Part, WriteError, WriteRow, Writer,
+    put_within, read_within,
+};
+use asn1_core::{
+    Asn1RawDer, DerDeserialize, DerSerialize, EqualByText, Error, ExplicitContextTag0,
+    ObjectIdentifier, OctetStringAsn1, Reader, TryClone,
+};
+use std::alloc::Global;
+
+/// 1.3.6.1.4.1.32473.1, by its contents octets.
+pub const TOKEN: [u8; 9] = [0x2B, 0x06, 0x01, 0x04, 0x01, 0x81, 0xFD, 0x59, 0x01];
+
+/// The object identifier of a token.
+#[derive(Drop)]
+pub struct Token;
+
+impl Named for Token {
+    ghost OID = { token_oid };
+
+    fn octets() -> &'static [u8] {
+        &TOKEN
+    }
+
+    ghost valid = { oid_by_arcs token_arcs };
+}
+
+/// `Holder ::= SEQUENCE { type OBJECT IDENTIFIER, value ANY DEFINED BY type }`
+#[derive(Debug, Drop, PartialEq, Eq)]
+pub enum Holder {
+    Token(OctetStringAsn1),
+    Unknown {
+        type_id: ObjectIdentifier,
+        value: Asn1RawDer,
+    },
+}
+
+type HolderChoice = Either<Arm<Token, Alone<OctetStringAsn1>>, AnyOid<Alone<Asn1RawDer>>>;
+
+type HolderRef<'a> = Either<
+    Arm<Token, Alone<&'a OctetStringAsn1>>,
+    AnyOidRef<'a, Alone<&'a Asn1RawDer>>,
+>;
+
+impl Holder {
+    fn choice(&self) -> HolderRef<'_>
+        ensures { ⟦<HolderRef<'static> as WriteChoice>⟧.value result ≡ holder_value self.now }
+    {
+        match self {
+            Holder::Token(octets) => Either::First(Arm::new(Alone(octets))),
+            Holder::Unknown { type_id, value } => Either::Second(AnyOidRef(type_id, Alone(value))),
+        }
+    }
+}
+
+impl DerSerialize for Holder {
+    ghost Value = { HolderValue };
+
+    ghost value = { holder_value };
+
+    ghost format = { holder };
+
+    fn put<W: Writer>(&self, w: &mut W) -> Result<(), WriteError> {
+        put_within(0x30, &Chosen(self.choice()), w)
+    }
+
+    fn well_formed_at(&self, limit: u8) -> bool {
+        self.choice().choice_well_formed_at(limit)
+    }
+}
+
+impl DerDeserialize for Holder {
+    fn read(alloc: Global, r: &mut Reader<'_>, nest: u8) -> Result<Self, Error> {
+        let Chosen(choice) = read_within::<Chosen<HolderChoice>>(alloc, r, nest, 0x30)?;
+        match choice {
+            Either::First(arm) => Ok(Holder::Token(arm.into_row().0)),
+            Either::Second(other) => {
+                let AnyOid(type_id, Alone(value)) = other;
+                Ok(Holder::Unknown { type_id, value })
+            }
+        }
+    }
+
+    ghost lawful = { lawful_holder };
+}
+
+impl FirstTags for Holder {
+    fn begins(tag: u8) -> bool {
+        tag == 0x30
+    }
+}
+
+impl ApartFrom<Holder> for ExplicitContextTag0<OctetStringAsn1> {
+    ghost no_common_tag = { λ t h e. Prim.omega arith };
+}
+
+/// `Ticket ::= SEQUENCE { serial INTEGER (0..4294967295), note [0] EXPLICIT OCTET STRING OPTIONAL, holder Holder }`
+#[derive(Debug, Drop, PartialEq, Eq)]
+pub struct Ticket {
+    pub serial: u32,
+    pub note: Option<ExplicitContextTag0<OctetStringAsn1>>,
+    pub holder: Holder,
+}
+
+type TicketRow = Part<u32, Maybe<ExplicitContextTag0<OctetStringAsn1>, Part<Holder, End>>>;
+
+impl DerSerialize for Ticket {
+    ghost Value = { TicketValue };
+
+    ghost value = { λ x. (x.serial, (option_value (λ n. n.0.0.items) x.note, (holder_value x.holder, tt))) };
+
+    ghost format = { ticket };
+
+    fn put<W: Writer>(&self, w: &mut W) -> Result<(), WriteError> {
+        let rest = Maybe(self.note.as_ref(), Part(&self.holder, End));
+        put_within(0x30, &Part(self.serial, rest), w)
+    }
+
+    fn well_formed_at(&self, limit: u8) -> bool {
+        let rest = Maybe(self.note.as_ref(), Part(&self.holder, End));
+        Part(self.serial, rest).row_well_formed_at(limit)
+    }
+}
+
+impl DerDeserialize for Ticket {
+    fn read(alloc: Global, r: &mut Reader<'_>, nest: u8) -> Result<Self, Error> {
+        let row: TicketRow = read_within(alloc, r, nest, 0x30)?;
+        let Part(serial, Maybe(note, Part(holder, End))) = row;
+        Ok(Ticket {
+            serial,
+            note,
+            holder,
+        })
+    }
+
+    ghost lawful = { lawful_ticket };
+}
+
+impl EqualByText for Holder {
+    ghost equal_by_text = { Prim.search rules };
+}
+
+impl EqualByText for Ticket {
+    ghost equal_by_text = { Prim.search rules };
+}
+
+impl TryClone for Holder {
+    fn try_clone(&self, alloc: Global) -> Result<Self, Error> {
+        match self {
+            Holder::Token(octets) => Ok(Holder::Token(octets.try_clone(alloc)?)),
+            Holder::Unknown { type_id, value } => {
+                let type_id = type_id.try_clone(alloc)?;
+                let value = value.try_clone(alloc)?;
+                Ok(Holder::Unknown { type_id, value })
+            }
+        }
+    }
+}
+
+impl TryClone for Ticket {
+    fn try_clone(&self, alloc: Global) -> Result<Self, Error> {
+        let note = self.note.try_clone(alloc)?;
+        let holder = self.holder.try_clone(alloc)?;
+        Ok(Ticket {
+            serial: self.serial,
+            note,
+            holder,
+        })
+    }
+}
