@@ -1,0 +1,117 @@
+//! Lists what a PKCS #12 file on standard input holds, without its password: each bag, those in bags too, the contents
+//! that are encrypted, and the MAC.
+#![tactic(auto)]
+
+use std::alloc::Global;
+use std::io;
+use std::process::ExitCode;
+use thiserror::Error as ThisError;
+use x509_containers::{
+    AuthenticatedSafeContentInfo, CertificateBag, CrlBag, Error, ParsedAuthenticatedSafeDataRepr,
+    Pbes2EncryptionScheme, Pbes2KeyDerivationFunc, Pbes2Params, Pfx, Pkcs12EncryptionAlgorithm,
+    SafeBag, SafeBagKind, SafeContentsContentInfo, StdSource, from_bytes, read_all,
+};
+
+/// Why a list ended.
+#[derive(Debug, Drop, ThisError)]
+enum ListError {
+    #[error("standard input can't be read")]
+    Read,
+    #[error("refused: {0}")]
+    Refused(#[from] Error),
+    #[error("standard output: {0}")]
+    Write(#[from] io::Error),
+}
+
+fn pbes2_text(alloc: Global, params: &Pbes2Params) -> Result<String, Error> {
+    let scheme = match &params.encryption_scheme {
+        Pbes2EncryptionScheme::AesCbc { kind, .. } => kind.name(),
+        Pbes2EncryptionScheme::Unknown(_) => "unknown scheme",
+    };
+    let Pbes2KeyDerivationFunc::Pbkdf2(derivation) = &params.key_derivation_func else {
+        return Ok(format!(in alloc; "{scheme}, unknown key derivation")?);
+    };
+    let count = derivation.iteration_count;
+    match &derivation.prf {
+        Some(prf) => Ok(format!(in alloc; "{scheme}, PBKDF2 with {prf}, {count} iterations")?),
+        None => Ok(format!(in alloc; "{scheme}, PBKDF2, {count} iterations")?),
+    }
+}
+
+fn algorithm_text(alloc: Global, algorithm: &Pkcs12EncryptionAlgorithm) -> Result<String, Error> {
+    match algorithm {
+        Pkcs12EncryptionAlgorithm::Pbes1 { kind, params } => {
+            let count = params.iterations;
+            Ok(format!(in alloc; "{kind}, {count} iterations")?)
+        }
+        Pkcs12EncryptionAlgorithm::Pbes2(params) => pbes2_text(alloc, params),
+        Pkcs12EncryptionAlgorithm::Unknown(_) => Ok(String::from_str(alloc, "unknown")?),
+    }
+}
+
+/// The kind of a bag, and how many octets it holds.
+fn kind_text(alloc: Global, kind: &SafeBagKind) -> Result<String, Error> {
+    let (word, count) = match kind {
+        SafeBagKind::Key(key) => ("key", key.0.len()),
+        SafeBagKind::EncryptedKey(key) => {
+            let text = algorithm_text(alloc, &key.algorithm)?;
+            let count = key.encrypted_data.0.len();
+            return Ok(format!(in alloc; "encrypted key: {count} octets, {text}")?);
+        }
+        SafeBagKind::Certificate(CertificateBag::X509(held)) => ("certificate", held.0.len()),
+        SafeBagKind::Crl(CrlBag::X509(held)) => ("revocation list", held.0.len()),
+        SafeBagKind::Secret(secret) => ("secret", secret.value.0.len()),
+        SafeBagKind::SafeContents(_) => return Ok(String::from_str(alloc, "bags:")?),
+        SafeBagKind::Unknown { value, .. } => ("unknown", value.0.len()),
+        _ => return Ok(String::from_str(alloc, "certificate or list of another type")?),
+    };
+    Ok(format!(in alloc; "{word}: {count} octets")?)
+}
+
+fn list_bag(rt: &HostRuntime, bag: &SafeBag) -> Result<(), ListError> {
+    let kind = kind_text(rt.alloc(), &bag.kind)?;
+    println!(rt; "{kind}")?;
+    if let Some(name) = bag.friendly_name() {
+        let text = name.to_text(rt.alloc())?;
+        println!(rt; "  friendly name: {text}")?;
+    }
+    if let Some(octets) = bag.local_key_id() {
+        print!(rt; "  key identifier: ")?;
+        for octet in octets {
+            print!(rt; "{octet:02x}")?;
+        }
+        println!(rt)?;
+    }
+    Ok(())
+}
+
+fn list(rt: &HostRuntime) -> Result<(), ListError> {
+    let Ok(file) = read_all(rt.alloc(), &mut StdSource::new(rt.stdin())) else {
+        return Err(ListError::Read);
+    };
+    let pfx: Pfx<ParsedAuthenticatedSafeDataRepr> = from_bytes(rt.alloc(), &file)?;
+    for bag in &pfx.all_bags(rt.alloc())? {
+        list_bag(rt, bag)?;
+    }
+    if let AuthenticatedSafeContentInfo::Data(contents) = &pfx.auth_safe {
+        for content in contents {
+            if let SafeContentsContentInfo::EncryptedData(encrypted) = content {
+                let text = algorithm_text(rt.alloc(), &encrypted.algorithm)?;
+                println!(rt; "encrypted contents: {text}")?;
+            }
+        }
+    }
+    if let Some(mac) = &pfx.mac_data {
+        let (digest, count) = (&mac.mac.digest_algorithm, mac.effective_iterations());
+        println!(rt; "MAC: {digest}, {count} iterations")?;
+    }
+    Ok(())
+}
+
+fn main(rt: HostRuntime) -> ExitCode {
+    let Err(error) = list(&rt) else {
+        return ExitCode::SUCCESS;
+    };
+    let _ = eprintln!(rt; "example_list: {error}");
+    ExitCode::FAILURE
+}
