@@ -10,7 +10,7 @@ use std::alloc::Global;
 use std::fmt::Debug;
 use std::test::Fail;
 use vector_checks::checks::{is_rewritten, is_sent, is_written_anew};
-use x509_containers::{Kind, Mode, Outcome, run, run_at};
+use x509_containers::{Kind, Mode, Outcome, check, check_as, rewrite, rewrite_as, run};
 
 /// Up to so many bytes, sinks that fail, beginnings and changes are tried of an input.
 const SHORT: usize = 100;
@@ -51,23 +51,61 @@ fn ran_as(alloc: Global, kind: Kind, input: &[u8], mode: Mode) -> (Outcome, Vec<
     (outcome, sink.into_inner())
 }
 
-/// Asks what a row says of a run over its input as the kind.
-pub fn is_said_by_kind(alloc: Global, kind: Kind, row: &Row) -> Result<(), Fail> {
-    let checked = ran_as(alloc, kind, &row.input, Mode::Check);
-    is_said(row, checked, ran_as(alloc, kind, &row.input, Mode::Rewrite))
+/// What a check over the input in memory says.
+fn line_of(
+    alloc: Global,
+    size: usize,
+    checked: Result<(bool, usize), Error>,
+) -> Result<String, Fail> {
+    match checked {
+        Ok((true, _)) => Ok(format!(in alloc; "normal {size}")?),
+        Ok((false, len)) => Ok(format!(in alloc; "loose {size} -> {len}")?),
+        Err(error) => {
+            let word = error.word();
+            Ok(format!(in alloc; "refused: {word}")?)
+        }
+    }
 }
 
-/// The outcome of a run over the bytes as the type, and what is written.
-fn ran<T: DerDeserialize>(alloc: Global, input: &[u8], mode: Mode) -> (Outcome, Vec<u8>) {
-    let mut source = StdSource::new(input);
-    let mut sink = StdSink::new(Vec::new(alloc));
-    let outcome = run_at::<T, StdSource<&[u8]>, StdSink<Vec<u8>>>(
+/// An octet that stands before what is rewritten.
+const BEFORE: u8 = 0x5A;
+
+/// Asks that a check and a rewriting over the input in memory say what the row does, and that the rewriting stands behind
+/// the octet that was there.
+fn is_told(
+    alloc: Global,
+    row: &Row,
+    checked: Result<(bool, usize), Error>,
+    rewritten: Result<(), Error>,
+    out: &[u8],
+) -> Result<(), Fail> {
+    let line = line_of(alloc, row.input.len(), checked)?;
+    expect(line.as_bytes() == row.said.as_slice(), "a check in memory")?;
+    expect(out.first() == Some(&BEFORE), "what there was")?;
+    let text = out.get(1..).unwrap_or(&[]);
+    match (checked, rewritten) {
+        (Ok((_, len)), Ok(())) => expect(
+            text == row.text.as_slice() && len == text.len(),
+            "its text",
+        ),
+        (Err(error), Err(again)) => expect(again == error && text.is_empty(), "its refusal"),
+        _ => Err(Fail::new("a rewriting in memory")),
+    }
+}
+
+/// Asks what a row says of its input as the kind, of runs and in memory.
+pub fn is_said_by_kind(alloc: Global, kind: Kind, row: &Row) -> Result<(), Fail> {
+    let checked = ran_as(alloc, kind, &row.input, Mode::Check);
+    is_said(row, checked, ran_as(alloc, kind, &row.input, Mode::Rewrite))?;
+    let mut out = Vec::from_slice(alloc, &[BEFORE])?;
+    let rewritten = rewrite(alloc, kind, &row.input, &mut out);
+    is_told(
         alloc,
-        &mut source,
-        &mut sink,
-        mode,
-    );
-    (outcome, sink.into_inner())
+        row,
+        check(alloc, kind, &row.input),
+        rewritten,
+        out.as_slice(),
+    )
 }
 
 /// Asks that each proper beginning of an accepted input is refused.
@@ -94,11 +132,11 @@ fn reaches_an_end<T: DerDeserialize>(alloc: Global, input: &[u8]) -> Result<(), 
     )?;
     expect(value.well_formed(), "a well-formed change")?;
     let text = to_vec(alloc, &value)?;
-    let (again, _) = ran::<T>(alloc, &text, Mode::Check);
-    expect(again == Outcome::Normal, "a fixed point")?;
-    let (checked, _) = ran::<T>(alloc, input, Mode::Check);
+    let again = check_as::<T>(alloc, &text)?;
+    expect(again == (true, text.len()), "a fixed point")?;
+    let checked = check_as::<T>(alloc, input)?;
     expect(
-        (checked == Outcome::Normal) == (text.as_slice() == input),
+        checked == (text.as_slice() == input, text.len()),
         "a normal change",
     )
 }
@@ -168,8 +206,10 @@ pub fn is_so_without_clones<T: DerDeserialize + SeenByText + Debug>(
     if let Some(levels) = row.levels {
         return is_said_within::<T>(alloc, levels, row);
     }
-    let checked = ran::<T>(alloc, &row.input, Mode::Check);
-    is_said(row, checked, ran::<T>(alloc, &row.input, Mode::Rewrite))?;
+    let mut out = Vec::from_slice(alloc, &[BEFORE])?;
+    let rewritten = rewrite_as::<T>(alloc, &row.input, &mut out);
+    let checked = check_as::<T>(alloc, &row.input);
+    is_told(alloc, row, checked, rewritten, out.as_slice())?;
     let (outcome, headers) = from_bytes_counted::<T>(alloc, &row.input);
     if row.headers.is_some_and(|wanted| wanted != headers) {
         return Err(Fail::new(format_args!("it reads {headers} headers")));

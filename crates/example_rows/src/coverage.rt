@@ -1,11 +1,7 @@
 //! Which kinds have rows.
 
-use std::alloc::Global;
 use std::test::Fail;
-use x509_containers::{
-    AlgorithmKind, AuthenticodeKind, ContentKind, EnvelopedKind, Kind, KindOfInput, SignedDataKind,
-    SignedPartKind, StoreKind, TrustListKind,
-};
+use x509_containers::Kind;
 
 /// What a check says, by its first word.
 #[derive(Clone, Copy, Debug, PartialEq, Eq)]
@@ -74,36 +70,6 @@ const STRICT: [&str; 43] = [
     "spcuuid",
     "url",
 ];
-
-/// All kinds.
-pub fn all_kinds(alloc: Global) -> Result<Vec<Kind>, Fail> {
-    let mut kinds = Vec::new(alloc);
-    for kind in AlgorithmKind::all() {
-        kinds.push(Kind::Algorithm(*kind))?;
-    }
-    for kind in AuthenticodeKind::all() {
-        kinds.push(Kind::Authenticode(*kind))?;
-    }
-    for kind in ContentKind::all() {
-        kinds.push(Kind::Content(*kind))?;
-    }
-    for kind in EnvelopedKind::all() {
-        kinds.push(Kind::Enveloped(*kind))?;
-    }
-    for kind in SignedDataKind::all() {
-        kinds.push(Kind::SignedData(*kind))?;
-    }
-    for kind in SignedPartKind::all() {
-        kinds.push(Kind::SignedPart(*kind))?;
-    }
-    for kind in StoreKind::all() {
-        kinds.push(Kind::Store(*kind))?;
-    }
-    for kind in TrustListKind::all() {
-        kinds.push(Kind::TrustList(*kind))?;
-    }
-    Ok(kinds)
-}
 
 /// Asks that there are rows of the kind that are normal, refused, and, where its type has such a spelling, loose.
 pub fn has_rows(kind: Kind, rows: &[(Kind, Said)]) -> Result<(), Fail> {

@@ -1,5 +1,5 @@
 -- Algorithms of PKCS #12 and of encryption by passwords, as kinds of input: their words, and what inputs are written as.
-use Rattle.std.specs.Prelude.{ℕ, List, codes}
+use Rattle.std.specs.Prelude.{ℕ, List, [], ◌∷◌, codes}
 use Rattle.pkcs12_algs.specs.Digests.{digest_info, mac_data}
 use Rattle.pkcs12_algs.specs.Encryption.{encryption_algorithm}
 use Rattle.pkcs12_algs.specs.Pbes1.{pbes1_params}
@@ -28,3 +28,6 @@ rewriting_as Pbes2Params = rewriting_of pbes2_params
 rewriting_as Pbkdf2Params = rewriting_of pbkdf2_params
 rewriting_as Pkcs12DigestInfo = rewriting_of digest_info
 rewriting_as Pkcs12EncryptionAlgorithm = rewriting_of encryption_algorithm
+
+abbrev pub kinds : List AlgorithmKind
+kinds = MacData ∷ Pbes1Params ∷ Pbes2EncryptionScheme ∷ Pbes2KeyDerivationFunc ∷ Pbes2Params ∷ Pbkdf2Params ∷ Pkcs12DigestInfo ∷ Pkcs12EncryptionAlgorithm ∷ []

@@ -1,5 +1,5 @@
 -- What Authenticode signs, as kinds of input: their words, and what inputs are written as.
-use Rattle.std.specs.Prelude.{ℕ, List, codes}
+use Rattle.std.specs.Prelude.{ℕ, List, [], ◌∷◌, codes}
 use Rattle.asn1_core.specs.Octets.{octet_string}
 use Rattle.asn1_leaves.specs.Strings.{bit_string}
 use Rattle.pkcs7_content.specs.IndirectData.{indirect_data, spc_attribute}
@@ -40,3 +40,6 @@ rewriting_as SpcSpOpusInfo = rewriting_of opus_info
 rewriting_as SpcString = rewriting_of spc_string
 rewriting_as SpcUuid = rewriting_of octet_string
 rewriting_as Url = rewriting_of url
+
+abbrev pub kinds : List AuthenticodeKind
+kinds = File ∷ Moniker ∷ SpcAttributeAndOptionalValue ∷ SpcIndirectDataContent ∷ SpcLink ∷ SpcPeImageData ∷ SpcPeImageFlags ∷ SpcSerializedObject ∷ SpcSipInfo ∷ SpcSpOpusInfo ∷ SpcString ∷ SpcUuid ∷ Url ∷ []

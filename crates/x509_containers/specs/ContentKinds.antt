@@ -1,5 +1,5 @@
 -- Contents of PKCS #7, as kinds of input: their words, and what inputs are written as.
-use Rattle.std.specs.Prelude.{ℕ, List, codes}
+use Rattle.std.specs.Prelude.{ℕ, List, [], ◌∷◌, codes}
 use Rattle.asn1_core.specs.Der.{number_below}
 use Rattle.pkcs7_content.specs.Contents.{encapsulated}
 use Rattle.x509_containers_engine.specs.Engine.{Rewriting, rewriting_of}
@@ -13,3 +13,6 @@ word_of EncapsulatedContentInfo = codes "encapsulatedcontentinfo"
 abbrev pub rewriting_as : ContentKind → Rewriting
 rewriting_as CmsVersion = rewriting_of (number_below 6)
 rewriting_as EncapsulatedContentInfo = rewriting_of encapsulated
+
+abbrev pub kinds : List ContentKind
+kinds = CmsVersion ∷ EncapsulatedContentInfo ∷ []

@@ -1,6 +1,6 @@
 -- Content under its type, enveloped data and protection descriptors, as kinds of input: their words, and what inputs are
 -- written as.
-use Rattle.std.specs.Prelude.{ℕ, List, codes}
+use Rattle.std.specs.Prelude.{ℕ, List, [], ◌∷◌, codes}
 use Rattle.x509_containers_engine.specs.Engine.{Rewriting, rewriting_of}
 use Rattle.x509_pkcs7.specs.ContentInfos.{content_info}
 use Rattle.x509_pkcs7.specs.Descriptors.{descriptor, general_descriptor}
@@ -32,3 +32,6 @@ rewriting_as OriginatorInfo = rewriting_of originator
 rewriting_as OtherKeyAttribute = rewriting_of other_key
 rewriting_as ProtectionDescriptor = rewriting_of descriptor
 rewriting_as RecipientInfo = rewriting_of recipient
+
+abbrev pub kinds : List EnvelopedKind
+kinds = ContentInfo ∷ EncryptedContentInfo ∷ EnvelopedData ∷ GeneralProtectionDescriptor ∷ KekIdentifier ∷ KekRecipientInfo ∷ OriginatorInfo ∷ OtherKeyAttribute ∷ ProtectionDescriptor ∷ RecipientInfo ∷ []

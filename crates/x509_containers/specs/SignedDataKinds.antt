@@ -1,5 +1,5 @@
 -- Signed data, signers and what they hold, as kinds of input: their words, and what inputs are written as.
-use Rattle.std.specs.Prelude.{ℕ, List, codes}
+use Rattle.std.specs.Prelude.{ℕ, List, [], ◌∷◌, codes}
 use Rattle.pkcs7_signed.specs.Signers.{attribute, certificate, signed_data, signer, signer_infos, unsigned_attributes}
 use Rattle.x509_containers_engine.specs.Engine.{Rewriting, rewriting_of}
 use Rattle.x509_containers.specs.declared.kinds.signed_data.SignedDataKind.{SignedDataKind}
@@ -20,3 +20,6 @@ rewriting_as SignerInfo = rewriting_of signer
 rewriting_as SignersInfos = rewriting_of signer_infos
 rewriting_as UnsignedAttribute = rewriting_of attribute
 rewriting_as UnsignedAttributes = rewriting_of unsigned_attributes
+
+abbrev pub kinds : List SignedDataKind
+kinds = Pkcs7Certificate ∷ SignedData ∷ SignerInfo ∷ SignersInfos ∷ UnsignedAttribute ∷ UnsignedAttributes ∷ []

@@ -1,5 +1,5 @@
 -- Revocation lists, certificates, signers, as kinds of input: their words, and what inputs are written as.
-use Rattle.std.specs.Prelude.{ℕ, List, codes}
+use Rattle.std.specs.Prelude.{ℕ, List, [], ◌∷◌, codes}
 use Rattle.asn1_core.specs.Octets.{octet_string}
 use Rattle.asn1_leaves.specs.Integers.{integer}
 use Rattle.pkcs7_signed_crl.specs.Algorithms.{algorithms}
@@ -51,3 +51,6 @@ rewriting_as SignatureAlgorithmIdentifier = rewriting_of algorithm_identifier
 rewriting_as SignatureValue = rewriting_of octet_string
 rewriting_as SignerIdentifier = rewriting_of signer_id
 rewriting_as TbsCertList = rewriting_of tbs_list
+
+abbrev pub kinds : List SignedPartKind
+kinds = Attributes ∷ CertificateChoices ∷ CertificateList ∷ CertificateSerialNumber ∷ CertificateSet ∷ DigestAlgorithmIdentifier ∷ DigestAlgorithmIdentifiers ∷ IssuerAndSerialNumber ∷ OtherRevocationInfoFormat ∷ RevocationInfoChoice ∷ RevocationInfoChoices ∷ RevokedCertificate ∷ RevokedCertificates ∷ SignatureAlgorithmIdentifier ∷ SignatureValue ∷ SignerIdentifier ∷ TbsCertList ∷ []

@@ -1,5 +1,5 @@
 -- PKCS #12 files and their parts, as kinds of input: their words, and what inputs are written as.
-use Rattle.std.specs.Prelude.{ℕ, List, codes}
+use Rattle.std.specs.Prelude.{ℕ, List, [], ◌∷◌, codes}
 use Rattle.asn1_core.specs.Raw.{raw}
 use Rattle.x509_pkcs12.specs.AuthSafes.{auth_safe}
 use Rattle.x509_pkcs12.specs.Contents.{content_info}
@@ -46,3 +46,6 @@ rewriting_as SafeBag = rewriting_of safe_bag
 rewriting_as SafeContents = rewriting_of safe_contents
 rewriting_as SafeContentsContentInfo = rewriting_of content_info
 rewriting_as SecretBag = rewriting_of secret_bag
+
+abbrev pub kinds : List StoreKind
+kinds = AuthenticatedSafeContentInfo ∷ CertificateBag ∷ CrlBag ∷ EncryptedKeyBag ∷ EncryptedSafeContents ∷ ParsedAuthenticatedSafeDataRepr ∷ Pfx ∷ Pkcs12Attribute ∷ RawAuthenticatedSafeContentInfo ∷ RawAuthenticatedSafeDataRepr ∷ RawPfx ∷ SafeBag ∷ SafeContents ∷ SafeContentsContentInfo ∷ SecretBag ∷ []

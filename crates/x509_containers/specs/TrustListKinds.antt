@@ -1,5 +1,5 @@
 -- Trust lists and their parts, as kinds of input: their words, and what inputs are written as.
-use Rattle.std.specs.Prelude.{ℕ, List, codes}
+use Rattle.std.specs.Prelude.{ℕ, List, [], ◌∷◌, codes}
 use Rattle.pkcs7_content_ctl.specs.Policies.{cert_policy, chain_policy, policy_qualifier}
 use Rattle.pkcs7_content_ctl.specs.TrustLists.{ctl, entry, entry_attribute}
 use Rattle.x509_containers_engine.specs.Engine.{Rewriting, rewriting_of}
@@ -21,3 +21,6 @@ rewriting_as CTLEntry = rewriting_of entry
 rewriting_as CTLEntryAttribute = rewriting_of entry_attribute
 rewriting_as PolicyQualifier = rewriting_of policy_qualifier
 rewriting_as RootProgramChainPolicy = rewriting_of chain_policy
+
+abbrev pub kinds : List TrustListKind
+kinds = CertPolicy ∷ Ctl ∷ CTLEntry ∷ CTLEntryAttribute ∷ PolicyQualifier ∷ RootProgramChainPolicy ∷ []

@@ -1,8 +1,9 @@
 //! What the program says of an input of each kind: the kinds of all layers together.
 
-ghost use Rattle.std.specs.Prelude.{◌≡◌, ◌≢◌, ◌+◌, ◌<◌, MatchOption};
+ghost use Rattle.std.specs.Prelude.{◌≡◌, ◌≢◌, ◌↔◌, ◌+◌, ◌<◌, IsTrue, MatchOption};
 ghost use Rattle.x509_containers_engine.specs.Engine.{Runs, read_failures, write_failures};
-ghost use Rattle.x509_containers.specs.Kinds.{rewriting_as};
+ghost use Rattle.x509_containers_engine.specs.Steps.{Checks, RewritesBehind};
+ghost use Rattle.x509_containers.specs.Kinds.{rewriting_as, word_of};
 
 mod algorithms;
 mod authenticode;
@@ -14,6 +15,7 @@ mod stores;
 mod trust_lists;
 
 pub use algorithms::AlgorithmKind;
+use asn1_core::Error;
 use asn1_core_streams::{Sink, Source};
 pub use authenticode::AuthenticodeKind;
 pub use contents::ContentKind;
@@ -39,38 +41,167 @@ pub enum Kind {
 }
 
 impl Kind {
-    ghost use Rattle.x509_containers.specs.Kinds.{word_of};
+    ghost use Rattle.x509_containers.specs.Kinds.{IsAmong, kinds};
+
+    /// All kinds, layer by layer.
+    pub fn all() -> &'static [Kind]
+        ensures list { result.now ≡ kinds }
+        ensures every { (kind : Kind) → IsAmong result.now kind }
+    {
+        &[
+            Kind::Algorithm(AlgorithmKind::MacData),
+            Kind::Algorithm(AlgorithmKind::Pbes1Params),
+            Kind::Algorithm(AlgorithmKind::Pbes2EncryptionScheme),
+            Kind::Algorithm(AlgorithmKind::Pbes2KeyDerivationFunc),
+            Kind::Algorithm(AlgorithmKind::Pbes2Params),
+            Kind::Algorithm(AlgorithmKind::Pbkdf2Params),
+            Kind::Algorithm(AlgorithmKind::Pkcs12DigestInfo),
+            Kind::Algorithm(AlgorithmKind::Pkcs12EncryptionAlgorithm),
+            Kind::Authenticode(AuthenticodeKind::File),
+            Kind::Authenticode(AuthenticodeKind::Moniker),
+            Kind::Authenticode(AuthenticodeKind::SpcAttributeAndOptionalValue),
+            Kind::Authenticode(AuthenticodeKind::SpcIndirectDataContent),
+            Kind::Authenticode(AuthenticodeKind::SpcLink),
+            Kind::Authenticode(AuthenticodeKind::SpcPeImageData),
+            Kind::Authenticode(AuthenticodeKind::SpcPeImageFlags),
+            Kind::Authenticode(AuthenticodeKind::SpcSerializedObject),
+            Kind::Authenticode(AuthenticodeKind::SpcSipInfo),
+            Kind::Authenticode(AuthenticodeKind::SpcSpOpusInfo),
+            Kind::Authenticode(AuthenticodeKind::SpcString),
+            Kind::Authenticode(AuthenticodeKind::SpcUuid),
+            Kind::Authenticode(AuthenticodeKind::Url),
+            Kind::Content(ContentKind::CmsVersion),
+            Kind::Content(ContentKind::EncapsulatedContentInfo),
+            Kind::Enveloped(EnvelopedKind::ContentInfo),
+            Kind::Enveloped(EnvelopedKind::EncryptedContentInfo),
+            Kind::Enveloped(EnvelopedKind::EnvelopedData),
+            Kind::Enveloped(EnvelopedKind::GeneralProtectionDescriptor),
+            Kind::Enveloped(EnvelopedKind::KekIdentifier),
+            Kind::Enveloped(EnvelopedKind::KekRecipientInfo),
+            Kind::Enveloped(EnvelopedKind::OriginatorInfo),
+            Kind::Enveloped(EnvelopedKind::OtherKeyAttribute),
+            Kind::Enveloped(EnvelopedKind::ProtectionDescriptor),
+            Kind::Enveloped(EnvelopedKind::RecipientInfo),
+            Kind::SignedData(SignedDataKind::Pkcs7Certificate),
+            Kind::SignedData(SignedDataKind::SignedData),
+            Kind::SignedData(SignedDataKind::SignerInfo),
+            Kind::SignedData(SignedDataKind::SignersInfos),
+            Kind::SignedData(SignedDataKind::UnsignedAttribute),
+            Kind::SignedData(SignedDataKind::UnsignedAttributes),
+            Kind::SignedPart(SignedPartKind::Attributes),
+            Kind::SignedPart(SignedPartKind::CertificateChoices),
+            Kind::SignedPart(SignedPartKind::CertificateList),
+            Kind::SignedPart(SignedPartKind::CertificateSerialNumber),
+            Kind::SignedPart(SignedPartKind::CertificateSet),
+            Kind::SignedPart(SignedPartKind::DigestAlgorithmIdentifier),
+            Kind::SignedPart(SignedPartKind::DigestAlgorithmIdentifiers),
+            Kind::SignedPart(SignedPartKind::IssuerAndSerialNumber),
+            Kind::SignedPart(SignedPartKind::OtherRevocationInfoFormat),
+            Kind::SignedPart(SignedPartKind::RevocationInfoChoice),
+            Kind::SignedPart(SignedPartKind::RevocationInfoChoices),
+            Kind::SignedPart(SignedPartKind::RevokedCertificate),
+            Kind::SignedPart(SignedPartKind::RevokedCertificates),
+            Kind::SignedPart(SignedPartKind::SignatureAlgorithmIdentifier),
+            Kind::SignedPart(SignedPartKind::SignatureValue),
+            Kind::SignedPart(SignedPartKind::SignerIdentifier),
+            Kind::SignedPart(SignedPartKind::TbsCertList),
+            Kind::Store(StoreKind::AuthenticatedSafeContentInfo),
+            Kind::Store(StoreKind::CertificateBag),
+            Kind::Store(StoreKind::CrlBag),
+            Kind::Store(StoreKind::EncryptedKeyBag),
+            Kind::Store(StoreKind::EncryptedSafeContents),
+            Kind::Store(StoreKind::ParsedAuthenticatedSafeDataRepr),
+            Kind::Store(StoreKind::Pfx),
+            Kind::Store(StoreKind::Pkcs12Attribute),
+            Kind::Store(StoreKind::RawAuthenticatedSafeContentInfo),
+            Kind::Store(StoreKind::RawAuthenticatedSafeDataRepr),
+            Kind::Store(StoreKind::RawPfx),
+            Kind::Store(StoreKind::SafeBag),
+            Kind::Store(StoreKind::SafeContents),
+            Kind::Store(StoreKind::SafeContentsContentInfo),
+            Kind::Store(StoreKind::SecretBag),
+            Kind::TrustList(TrustListKind::CertPolicy),
+            Kind::TrustList(TrustListKind::Ctl),
+            Kind::TrustList(TrustListKind::CTLEntry),
+            Kind::TrustList(TrustListKind::CTLEntryAttribute),
+            Kind::TrustList(TrustListKind::PolicyQualifier),
+            Kind::TrustList(TrustListKind::RootProgramChainPolicy),
+        ]
+    }
 
     /// The kind that a word names: the name of its type in lower case.
     pub fn from_word(word: &str) -> Option<Kind>
         ensures { MatchOption result ((kind : Kind) → word.now ≢ word_of kind) (λ kind. word.now ≡ word_of kind) }
     {
-        if let Some(kind) = AlgorithmKind::from_word(word) {
-            return Some(Kind::Algorithm(kind));
-        }
-        if let Some(kind) = AuthenticodeKind::from_word(word) {
-            return Some(Kind::Authenticode(kind));
-        }
-        if let Some(kind) = ContentKind::from_word(word) {
-            return Some(Kind::Content(kind));
-        }
-        if let Some(kind) = EnvelopedKind::from_word(word) {
-            return Some(Kind::Enveloped(kind));
-        }
-        if let Some(kind) = SignedDataKind::from_word(word) {
-            return Some(Kind::SignedData(kind));
-        }
-        if let Some(kind) = SignedPartKind::from_word(word) {
-            return Some(Kind::SignedPart(kind));
-        }
-        if let Some(kind) = StoreKind::from_word(word) {
-            return Some(Kind::Store(kind));
-        }
-        if let Some(kind) = TrustListKind::from_word(word) {
-            return Some(Kind::TrustList(kind));
+        Kind::from_octets(word.as_bytes())
+    }
+
+    /// The kind that a word names, by the octets of the word.
+    pub fn from_octets(word: &[u8]) -> Option<Kind>
+        ensures { MatchOption result ((kind : Kind) → word.now ≢ word_of kind) (λ kind. word.now ≡ word_of kind) }
+    {
+        for kind in Kind::all() {
+            if is_word(*kind, word) {
+                return Some(*kind);
+            }
         }
         None
     }
+}
+
+fn is_word(kind: Kind, word: &[u8]) -> bool
+    ensures { IsTrue result ↔ (word.now ≡ word_of kind) }
+{
+    kind.word().as_bytes() == word
+}
+
+/// Calls a method of the kind of its layer.
+macro_rules! by_layer {
+    ($kind:expr, $call:ident($($argument:expr),*)) => {
+        match $kind {
+            Kind::Algorithm(kind) => kind.$call($($argument),*),
+            Kind::Authenticode(kind) => kind.$call($($argument),*),
+            Kind::Content(kind) => kind.$call($($argument),*),
+            Kind::Enveloped(kind) => kind.$call($($argument),*),
+            Kind::SignedData(kind) => kind.$call($($argument),*),
+            Kind::SignedPart(kind) => kind.$call($($argument),*),
+            Kind::Store(kind) => kind.$call($($argument),*),
+            Kind::TrustList(kind) => kind.$call($($argument),*),
+        }
+    };
+}
+
+impl KindOfInput for Kind {
+    ghost word_of = { word_of };
+
+    ghost rewriting_as = { rewriting_as };
+
+    fn word(self) -> &'static str {
+        by_layer!(self, word())
+    }
+
+    fn check(self, alloc: Global, input: &[u8]) -> Result<(bool, usize), Error> {
+        by_layer!(self, check(alloc, input))
+    }
+
+    fn rewrite(self, alloc: Global, input: &[u8], out: &mut Vec<u8>) -> Result<(), Error> {
+        by_layer!(self, rewrite(alloc, input, out))
+    }
+}
+
+/// Whether an input of the kind is normal, and how many bytes the text of its value has. Refuses as `from_bytes` does,
+/// and by `TooLong`.
+pub fn check(alloc: Global, kind: Kind, input: &[u8]) -> Result<(bool, usize), Error>
+    ensures { Checks (rewriting_as kind) input.now result }
+{
+    kind.check(alloc, input)
+}
+
+/// Appends the text of the value of an input of the kind. A refusal leaves what the vector holds as it was.
+pub fn rewrite(alloc: Global, kind: Kind, input: &[u8], out: &mut Vec<u8>) -> Result<(), Error>
+    ensures { RewritesBehind (rewriting_as kind) input.now out.old.items out.new.items result }
+{
+    kind.rewrite(alloc, input, out)
 }
 
 /// Reads a source to its end as a value of the kind, and writes what is asked of it: in check a line, in rewrite the
@@ -90,14 +221,5 @@ pub fn run<R: Source, W: Sink>(
     ensures reads { R.failed source.new ≡ R.failed source.old + read_failures result }
     ensures writes { W.failed sink.new ≡ W.failed sink.old + write_failures result }
 {
-    match kind {
-        Kind::Algorithm(kind) => kind.run(alloc, source, sink, mode),
-        Kind::Authenticode(kind) => kind.run(alloc, source, sink, mode),
-        Kind::Content(kind) => kind.run(alloc, source, sink, mode),
-        Kind::Enveloped(kind) => kind.run(alloc, source, sink, mode),
-        Kind::SignedData(kind) => kind.run(alloc, source, sink, mode),
-        Kind::SignedPart(kind) => kind.run(alloc, source, sink, mode),
-        Kind::Store(kind) => kind.run(alloc, source, sink, mode),
-        Kind::TrustList(kind) => kind.run(alloc, source, sink, mode),
-    }
+    x509_containers_engine::run(alloc, source, sink, mode, kind)
 }

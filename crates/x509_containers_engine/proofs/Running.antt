@@ -1,11 +1,9 @@
 -- From what was delivered to what was told.
-use Rattle.std.proofs.Common.{◌≡◌, ◌≤◌, ◌^◌, ℕ, List, [], length, refl, sym, subst, ⊎_elim, rules, arith}
+use Rattle.std.proofs.Common.{◌≡◌, ℕ, List, [], refl, sym, subst, ⊎_elim, rules, arith}
 use Rattle.std.specs.Prelude.{Option, Some, None, IfSome, unwrap_or}
 use Rattle.asn1_core_element.specs.declared.error.Error.{Error}
-use Rattle.asn1_core_element.specs.declared.error.Error.TheVariants.{TooLong, Memory}
-use Rattle.asn1_core_format.specs.Format.{Format}
-use Rattle.asn1_core_format.specs.Whole.{HasNoValue}
-use Rattle.x509_containers_engine.specs.Engine.{Rewriting, rewriting_of, IsRefusal}
+use Rattle.asn1_core_element.specs.declared.error.Error.TheVariants.{Memory}
+use Rattle.x509_containers_engine.specs.Engine.{Rewriting, IsRefusal}
 use Rattle.x509_containers_engine.specs.Lines.{refusal_line}
 use Rattle.x509_containers_engine.specs.Steps.{Delivered, CutOff, Delivers, Tells}
 use Rattle.x509_containers_engine.specs.declared.outcome.Mode.{Mode}
@@ -31,14 +29,6 @@ module _ {S : Type 0} (K : Rewriting) (b : List ℕ) (e : Error) (mode : Mode) (
 
   pub refused : IsRefusal K b e → Delivers (Refused e) (refusal_line mode e) (held old) (held new) failed failed_now result → Tells K b mode held old new failed failed_now result
   refused r d = ⊎_elim (whole r) (part r) d
-
--- an input with no value has no text
-pub no_value : {V : Type 0} (F : Format V) {b : List ℕ} {e : Error} → HasNoValue F 64 b e → IsRefusal (rewriting_of F) b e
-no_value F g = record { long = λ h. absurd (g.kind h); none = λ n m t r. g.none m r.value r.reads }
-
--- the text of its value doesn't fit
-pub too_long : {V : Type 0} (F : Format V) {b : List ℕ} {v : V} → F.Reads 64 b v → 2 ^ 64 ≤ length (F.text v) → IsRefusal (rewriting_of F) b TooLong
-too_long F {b} {v} r l = record { long = λ _. (F.text v, record { value = v; reads = r; text = refl }, l); none = λ n. absurd (n refl) }
 
 -- want of memory says nothing of b
 pub no_memory : (K : Rewriting) (b : List ℕ) → IsRefusal K b Memory

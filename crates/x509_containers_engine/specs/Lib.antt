@@ -2,4 +2,3 @@ pub mod Modes
 pub mod Lines
 pub mod Engine
 pub mod Steps
-pub mod Kinds

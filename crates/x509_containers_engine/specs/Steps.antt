@@ -1,24 +1,34 @@
--- What the steps of a run do.
-use Rattle.std.specs.Prelude.{◌≡◌, ◌⊎◌, ◌↔◌, ℕ, ◌+◌, List, [], length, Option, Some, Result, MatchResult}
+-- What is told of an input in memory, and what the steps of a run do.
+use Rattle.std.specs.Prelude.{◌≡◌, ◌⊎◌, ◌↔◌, ℕ, ◌+◌, Bool, List, ◌++◌, length, Option, Result, MatchResult, IsTrue}
 use Rattle.std.specs.Io.KnownBytes.{Appends}
 use Rattle.asn1_core_element.specs.declared.error.Error.{Error}
 use Rattle.asn1_core_streams.specs.Streams.{AppendsBeginning}
-use Rattle.asn1_core_writers.specs.Comparing.{Comparison}
 use Rattle.x509_containers_engine.specs.Engine.{Rewriting, IsRefusal, Says, Leaves, read_failures, write_failures}
 use Rattle.x509_containers_engine.specs.declared.outcome.Mode.{Mode}
 use Rattle.x509_containers_engine.specs.declared.outcome.Outcome.{Outcome}
 use Rattle.x509_containers_engine.specs.declared.outcome.Outcome.TheVariants.{WriteFailed}
 
--- what a comparison tells of the text of a value of b: its length, and that it is b, which it is exactly where b is normal
-pub record IsCompared (K : Rewriting) (b : List ℕ) (w : Comparison) : Type 0 where
+-- the text of the value of b, the only one, has so many bytes, and is b exactly where b is normal
+pub record IsChecked (K : Rewriting) (b : List ℕ) (is_normal : Bool) (size : ℕ) : Type 0 where
   pub text : List ℕ
   pub to : K.To b text
-  pub total : w.total ≡ length text
-  pub same : (w.before ≡ Some []) ↔ (text ≡ b)
+  pub only : (t : List ℕ) → K.To b t → t ≡ text
+  pub long : size ≡ length text
+  pub same : IsTrue is_normal ↔ (text ≡ b)
   pub back : (text ≡ b) ↔ K.IsNormal b
 
-abbrev pub Compares : Rewriting → List ℕ → Result Comparison Error → Type 0
-Compares K b r = MatchResult r (λ w. IsCompared K b w) (λ e. IsRefusal K b e)
+abbrev pub Checks : Rewriting → List ℕ → Result (Bool × ℕ) Error → Type 0
+Checks K b r = MatchResult r (λ p. IsChecked K b p.0 p.1) (λ e. IsRefusal K b e)
+
+-- the text of the value of b, the only one, stands behind what there was
+pub record IsRewritten (K : Rewriting) (b old new : List ℕ) : Type 0 where
+  pub text : List ℕ
+  pub to : K.To b text
+  pub only : (t : List ℕ) → K.To b t → t ≡ text
+  pub appended : new ≡ old ++ text
+
+abbrev pub RewritesBehind : Rewriting → List ℕ → List ℕ → List ℕ → Result (Unit {0}) Error → Type 0
+RewritesBehind K b old new r = MatchResult r (λ _. IsRewritten K b old new) (λ e. IsRefusal K b e × (new ≡ old))
 
 -- what is to be written, and with which outcome
 abbrev pub Answers : {A : Type 0} → (A → List ℕ) → Rewriting → List ℕ → Mode → Result (Outcome × A) Error → Type 0

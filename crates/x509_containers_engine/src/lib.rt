@@ -5,9 +5,11 @@
 pub mod kind;
 pub mod lines;
 pub mod outcome;
-pub mod run;
+pub mod runs;
+pub mod slices;
 
 pub use kind::KindOfInput;
 pub use lines::refusal;
 pub use outcome::{Mode, Outcome};
-pub use run::run_at;
+pub use runs::run;
+pub use slices::{check_as, rewrite_as};

@@ -4,6 +4,7 @@
 use crate::checks::{is_so as at, is_so_under_tags as under_tags};
 use crate::rows::Row;
 use example_stamp::Stamp;
+use example_ticket::{Holder, Ticket};
 use std::alloc::Global;
 use std::test::Fail;
 use x509_containers::{
@@ -38,7 +39,9 @@ fn is_so_of_a_list(alloc: Global, word: &str, row: &Row) -> Result<bool, Fail> {
             at::<OctetStringAsn1Container<OctetStringAsn1>>(alloc, row)?
         }
         "octetstringasn1container-u8" => at::<OctetStringAsn1Container<u8>>(alloc, row)?,
+        "holder" => at::<Holder>(alloc, row)?,
         "stamp" => at::<Stamp>(alloc, row)?,
+        "ticket" => at::<Ticket>(alloc, row)?,
         _ => return Ok(false),
     }
     Ok(true)

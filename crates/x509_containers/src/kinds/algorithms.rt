@@ -2,9 +2,9 @@
 
 ghost use Rattle.x509_containers.specs.AlgorithmKinds.{rewriting_as, word_of};
 
-use asn1_core_streams::{Sink, Source};
+use asn1_core::Error;
 use std::alloc::Global;
-use x509_containers_engine::{KindOfInput, Mode, Outcome, run_at};
+use x509_containers_engine::{KindOfInput, check_as, rewrite_as};
 use x509_pkcs12::{
     MacData, Pbes1Params, Pbes2EncryptionScheme, Pbes2KeyDerivationFunc, Pbes2Params, Pbkdf2Params,
     Pkcs12DigestInfo, Pkcs12EncryptionAlgorithm,
@@ -23,62 +23,45 @@ pub enum AlgorithmKind {
     Pkcs12EncryptionAlgorithm,
 }
 
+/// The type of each kind, for a call at that type.
+macro_rules! by_type {
+    ($kind:expr, $call:ident($($argument:expr),*)) => {
+        match $kind {
+            AlgorithmKind::MacData => $call::<MacData>($($argument),*),
+            AlgorithmKind::Pbes1Params => $call::<Pbes1Params>($($argument),*),
+            AlgorithmKind::Pbes2EncryptionScheme => $call::<Pbes2EncryptionScheme>($($argument),*),
+            AlgorithmKind::Pbes2KeyDerivationFunc => $call::<Pbes2KeyDerivationFunc>($($argument),*),
+            AlgorithmKind::Pbes2Params => $call::<Pbes2Params>($($argument),*),
+            AlgorithmKind::Pbkdf2Params => $call::<Pbkdf2Params>($($argument),*),
+            AlgorithmKind::Pkcs12DigestInfo => $call::<Pkcs12DigestInfo>($($argument),*),
+            AlgorithmKind::Pkcs12EncryptionAlgorithm => $call::<Pkcs12EncryptionAlgorithm>($($argument),*),
+        }
+    };
+}
+
 impl KindOfInput for AlgorithmKind {
     ghost word_of = { word_of };
 
     ghost rewriting_as = { rewriting_as };
 
-    fn all() -> &'static [Self] {
-        &[
-            AlgorithmKind::MacData,
-            AlgorithmKind::Pbes1Params,
-            AlgorithmKind::Pbes2EncryptionScheme,
-            AlgorithmKind::Pbes2KeyDerivationFunc,
-            AlgorithmKind::Pbes2Params,
-            AlgorithmKind::Pbkdf2Params,
-            AlgorithmKind::Pkcs12DigestInfo,
-            AlgorithmKind::Pkcs12EncryptionAlgorithm,
-        ]
-    }
-
-    fn from_word(word: &str) -> Option<Self> {
-        match word {
-            "macdata" => Some(AlgorithmKind::MacData),
-            "pbes1params" => Some(AlgorithmKind::Pbes1Params),
-            "pbes2encryptionscheme" => Some(AlgorithmKind::Pbes2EncryptionScheme),
-            "pbes2keyderivationfunc" => Some(AlgorithmKind::Pbes2KeyDerivationFunc),
-            "pbes2params" => Some(AlgorithmKind::Pbes2Params),
-            "pbkdf2params" => Some(AlgorithmKind::Pbkdf2Params),
-            "pkcs12digestinfo" => Some(AlgorithmKind::Pkcs12DigestInfo),
-            "pkcs12encryptionalgorithm" => Some(AlgorithmKind::Pkcs12EncryptionAlgorithm),
-            _ => None,
-        }
-    }
-
-    fn run<R: Source, W: Sink>(
-        self,
-        alloc: Global,
-        source: &mut R,
-        sink: &mut W,
-        mode: Mode,
-    ) -> Outcome {
+    fn word(self) -> &'static str {
         match self {
-            AlgorithmKind::MacData => run_at::<MacData, R, W>(alloc, source, sink, mode),
-            AlgorithmKind::Pbes1Params => run_at::<Pbes1Params, R, W>(alloc, source, sink, mode),
-            AlgorithmKind::Pbes2EncryptionScheme => run_at::<Pbes2EncryptionScheme, R, W>(
-                alloc, source, sink, mode,
-            ),
-            AlgorithmKind::Pbes2KeyDerivationFunc => run_at::<Pbes2KeyDerivationFunc, R, W>(
-                alloc, source, sink, mode,
-            ),
-            AlgorithmKind::Pbes2Params => run_at::<Pbes2Params, R, W>(alloc, source, sink, mode),
-            AlgorithmKind::Pbkdf2Params => run_at::<Pbkdf2Params, R, W>(alloc, source, sink, mode),
-            AlgorithmKind::Pkcs12DigestInfo => run_at::<Pkcs12DigestInfo, R, W>(
-                alloc, source, sink, mode,
-            ),
-            AlgorithmKind::Pkcs12EncryptionAlgorithm => run_at::<Pkcs12EncryptionAlgorithm, R, W>(
-                alloc, source, sink, mode,
-            ),
+            AlgorithmKind::MacData => "macdata",
+            AlgorithmKind::Pbes1Params => "pbes1params",
+            AlgorithmKind::Pbes2EncryptionScheme => "pbes2encryptionscheme",
+            AlgorithmKind::Pbes2KeyDerivationFunc => "pbes2keyderivationfunc",
+            AlgorithmKind::Pbes2Params => "pbes2params",
+            AlgorithmKind::Pbkdf2Params => "pbkdf2params",
+            AlgorithmKind::Pkcs12DigestInfo => "pkcs12digestinfo",
+            AlgorithmKind::Pkcs12EncryptionAlgorithm => "pkcs12encryptionalgorithm",
         }
+    }
+
+    fn check(self, alloc: Global, input: &[u8]) -> Result<(bool, usize), Error> {
+        by_type!(self, check_as(alloc, input))
+    }
+
+    fn rewrite(self, alloc: Global, input: &[u8], out: &mut Vec<u8>) -> Result<(), Error> {
+        by_type!(self, rewrite_as(alloc, input, out))
     }
 }

@@ -2,13 +2,13 @@
 
 ghost use Rattle.x509_containers.specs.AuthenticodeKinds.{rewriting_as, word_of};
 
-use asn1_core_streams::{Sink, Source};
+use asn1_core::Error;
 use pkcs7_content::{
     File, Moniker, SpcAttributeAndOptionalValue, SpcIndirectDataContent, SpcLink, SpcPeImageData,
     SpcPeImageFlags, SpcSerializedObject, SpcSipInfo, SpcSpOpusInfo, SpcString, SpcUuid, Url,
 };
 use std::alloc::Global;
-use x509_containers_engine::{KindOfInput, Mode, Outcome, run_at};
+use x509_containers_engine::{KindOfInput, check_as, rewrite_as};
 
 /// What Authenticode signs.
 #[derive(Clone, Copy, Debug, PartialEq, Eq)]
@@ -28,83 +28,55 @@ pub enum AuthenticodeKind {
     Url,
 }
 
+/// The type of each kind, for a call at that type.
+macro_rules! by_type {
+    ($kind:expr, $call:ident($($argument:expr),*)) => {
+        match $kind {
+            AuthenticodeKind::File => $call::<File>($($argument),*),
+            AuthenticodeKind::Moniker => $call::<Moniker>($($argument),*),
+            AuthenticodeKind::SpcAttributeAndOptionalValue => $call::<SpcAttributeAndOptionalValue>($($argument),*),
+            AuthenticodeKind::SpcIndirectDataContent => $call::<SpcIndirectDataContent>($($argument),*),
+            AuthenticodeKind::SpcLink => $call::<SpcLink>($($argument),*),
+            AuthenticodeKind::SpcPeImageData => $call::<SpcPeImageData>($($argument),*),
+            AuthenticodeKind::SpcPeImageFlags => $call::<SpcPeImageFlags>($($argument),*),
+            AuthenticodeKind::SpcSerializedObject => $call::<SpcSerializedObject>($($argument),*),
+            AuthenticodeKind::SpcSipInfo => $call::<SpcSipInfo>($($argument),*),
+            AuthenticodeKind::SpcSpOpusInfo => $call::<SpcSpOpusInfo>($($argument),*),
+            AuthenticodeKind::SpcString => $call::<SpcString>($($argument),*),
+            AuthenticodeKind::SpcUuid => $call::<SpcUuid>($($argument),*),
+            AuthenticodeKind::Url => $call::<Url>($($argument),*),
+        }
+    };
+}
+
 impl KindOfInput for AuthenticodeKind {
     ghost word_of = { word_of };
 
     ghost rewriting_as = { rewriting_as };
 
-    fn all() -> &'static [Self] {
-        &[
-            AuthenticodeKind::File,
-            AuthenticodeKind::Moniker,
-            AuthenticodeKind::SpcAttributeAndOptionalValue,
-            AuthenticodeKind::SpcIndirectDataContent,
-            AuthenticodeKind::SpcLink,
-            AuthenticodeKind::SpcPeImageData,
-            AuthenticodeKind::SpcPeImageFlags,
-            AuthenticodeKind::SpcSerializedObject,
-            AuthenticodeKind::SpcSipInfo,
-            AuthenticodeKind::SpcSpOpusInfo,
-            AuthenticodeKind::SpcString,
-            AuthenticodeKind::SpcUuid,
-            AuthenticodeKind::Url,
-        ]
-    }
-
-    fn from_word(word: &str) -> Option<Self> {
-        match word {
-            "file" => Some(AuthenticodeKind::File),
-            "moniker" => Some(AuthenticodeKind::Moniker),
-            "spcattributeandoptionalvalue" => Some(AuthenticodeKind::SpcAttributeAndOptionalValue),
-            "spcindirectdatacontent" => Some(AuthenticodeKind::SpcIndirectDataContent),
-            "spclink" => Some(AuthenticodeKind::SpcLink),
-            "spcpeimagedata" => Some(AuthenticodeKind::SpcPeImageData),
-            "spcpeimageflags" => Some(AuthenticodeKind::SpcPeImageFlags),
-            "spcserializedobject" => Some(AuthenticodeKind::SpcSerializedObject),
-            "spcsipinfo" => Some(AuthenticodeKind::SpcSipInfo),
-            "spcspopusinfo" => Some(AuthenticodeKind::SpcSpOpusInfo),
-            "spcstring" => Some(AuthenticodeKind::SpcString),
-            "spcuuid" => Some(AuthenticodeKind::SpcUuid),
-            "url" => Some(AuthenticodeKind::Url),
-            _ => None,
-        }
-    }
-
-    fn run<R: Source, W: Sink>(
-        self,
-        alloc: Global,
-        source: &mut R,
-        sink: &mut W,
-        mode: Mode,
-    ) -> Outcome {
+    fn word(self) -> &'static str {
         match self {
-            AuthenticodeKind::File => run_at::<File, R, W>(alloc, source, sink, mode),
-            AuthenticodeKind::Moniker => run_at::<Moniker, R, W>(alloc, source, sink, mode),
-            AuthenticodeKind::SpcAttributeAndOptionalValue => run_at::<
-                SpcAttributeAndOptionalValue,
-                R,
-                W,
-            >(alloc, source, sink, mode),
-            AuthenticodeKind::SpcIndirectDataContent => run_at::<SpcIndirectDataContent, R, W>(
-                alloc, source, sink, mode,
-            ),
-            AuthenticodeKind::SpcLink => run_at::<SpcLink, R, W>(alloc, source, sink, mode),
-            AuthenticodeKind::SpcPeImageData => run_at::<SpcPeImageData, R, W>(
-                alloc, source, sink, mode,
-            ),
-            AuthenticodeKind::SpcPeImageFlags => run_at::<SpcPeImageFlags, R, W>(
-                alloc, source, sink, mode,
-            ),
-            AuthenticodeKind::SpcSerializedObject => run_at::<SpcSerializedObject, R, W>(
-                alloc, source, sink, mode,
-            ),
-            AuthenticodeKind::SpcSipInfo => run_at::<SpcSipInfo, R, W>(alloc, source, sink, mode),
-            AuthenticodeKind::SpcSpOpusInfo => run_at::<SpcSpOpusInfo, R, W>(
-                alloc, source, sink, mode,
-            ),
-            AuthenticodeKind::SpcString => run_at::<SpcString, R, W>(alloc, source, sink, mode),
-            AuthenticodeKind::SpcUuid => run_at::<SpcUuid, R, W>(alloc, source, sink, mode),
-            AuthenticodeKind::Url => run_at::<Url, R, W>(alloc, source, sink, mode),
+            AuthenticodeKind::File => "file",
+            AuthenticodeKind::Moniker => "moniker",
+            AuthenticodeKind::SpcAttributeAndOptionalValue => "spcattributeandoptionalvalue",
+            AuthenticodeKind::SpcIndirectDataContent => "spcindirectdatacontent",
+            AuthenticodeKind::SpcLink => "spclink",
+            AuthenticodeKind::SpcPeImageData => "spcpeimagedata",
+            AuthenticodeKind::SpcPeImageFlags => "spcpeimageflags",
+            AuthenticodeKind::SpcSerializedObject => "spcserializedobject",
+            AuthenticodeKind::SpcSipInfo => "spcsipinfo",
+            AuthenticodeKind::SpcSpOpusInfo => "spcspopusinfo",
+            AuthenticodeKind::SpcString => "spcstring",
+            AuthenticodeKind::SpcUuid => "spcuuid",
+            AuthenticodeKind::Url => "url",
         }
+    }
+
+    fn check(self, alloc: Global, input: &[u8]) -> Result<(bool, usize), Error> {
+        by_type!(self, check_as(alloc, input))
+    }
+
+    fn rewrite(self, alloc: Global, input: &[u8], out: &mut Vec<u8>) -> Result<(), Error> {
+        by_type!(self, rewrite_as(alloc, input, out))
     }
 }

@@ -2,12 +2,12 @@
 
 ghost use Rattle.x509_containers.specs.SignedDataKinds.{rewriting_as, word_of};
 
-use asn1_core_streams::{Sink, Source};
+use asn1_core::Error;
 use pkcs7_signed::{
     Pkcs7Certificate, SignedData, SignerInfo, SignersInfos, UnsignedAttribute, UnsignedAttributes,
 };
 use std::alloc::Global;
-use x509_containers_engine::{KindOfInput, Mode, Outcome, run_at};
+use x509_containers_engine::{KindOfInput, check_as, rewrite_as};
 
 /// Signed data, signers, and what they hold.
 #[derive(Clone, Copy, Debug, PartialEq, Eq)]
@@ -20,54 +20,41 @@ pub enum SignedDataKind {
     UnsignedAttributes,
 }
 
+/// The type of each kind, for a call at that type.
+macro_rules! by_type {
+    ($kind:expr, $call:ident($($argument:expr),*)) => {
+        match $kind {
+            SignedDataKind::Pkcs7Certificate => $call::<Pkcs7Certificate>($($argument),*),
+            SignedDataKind::SignedData => $call::<SignedData>($($argument),*),
+            SignedDataKind::SignerInfo => $call::<SignerInfo>($($argument),*),
+            SignedDataKind::SignersInfos => $call::<SignersInfos>($($argument),*),
+            SignedDataKind::UnsignedAttribute => $call::<UnsignedAttribute>($($argument),*),
+            SignedDataKind::UnsignedAttributes => $call::<UnsignedAttributes>($($argument),*),
+        }
+    };
+}
+
 impl KindOfInput for SignedDataKind {
     ghost word_of = { word_of };
 
     ghost rewriting_as = { rewriting_as };
 
-    fn all() -> &'static [Self] {
-        &[
-            SignedDataKind::Pkcs7Certificate,
-            SignedDataKind::SignedData,
-            SignedDataKind::SignerInfo,
-            SignedDataKind::SignersInfos,
-            SignedDataKind::UnsignedAttribute,
-            SignedDataKind::UnsignedAttributes,
-        ]
-    }
-
-    fn from_word(word: &str) -> Option<Self> {
-        match word {
-            "pkcs7certificate" => Some(SignedDataKind::Pkcs7Certificate),
-            "signeddata" => Some(SignedDataKind::SignedData),
-            "signerinfo" => Some(SignedDataKind::SignerInfo),
-            "signersinfos" => Some(SignedDataKind::SignersInfos),
-            "unsignedattribute" => Some(SignedDataKind::UnsignedAttribute),
-            "unsignedattributes" => Some(SignedDataKind::UnsignedAttributes),
-            _ => None,
-        }
-    }
-
-    fn run<R: Source, W: Sink>(
-        self,
-        alloc: Global,
-        source: &mut R,
-        sink: &mut W,
-        mode: Mode,
-    ) -> Outcome {
+    fn word(self) -> &'static str {
         match self {
-            SignedDataKind::Pkcs7Certificate => run_at::<Pkcs7Certificate, R, W>(
-                alloc, source, sink, mode,
-            ),
-            SignedDataKind::SignedData => run_at::<SignedData, R, W>(alloc, source, sink, mode),
-            SignedDataKind::SignerInfo => run_at::<SignerInfo, R, W>(alloc, source, sink, mode),
-            SignedDataKind::SignersInfos => run_at::<SignersInfos, R, W>(alloc, source, sink, mode),
-            SignedDataKind::UnsignedAttribute => run_at::<UnsignedAttribute, R, W>(
-                alloc, source, sink, mode,
-            ),
-            SignedDataKind::UnsignedAttributes => run_at::<UnsignedAttributes, R, W>(
-                alloc, source, sink, mode,
-            ),
+            SignedDataKind::Pkcs7Certificate => "pkcs7certificate",
+            SignedDataKind::SignedData => "signeddata",
+            SignedDataKind::SignerInfo => "signerinfo",
+            SignedDataKind::SignersInfos => "signersinfos",
+            SignedDataKind::UnsignedAttribute => "unsignedattribute",
+            SignedDataKind::UnsignedAttributes => "unsignedattributes",
         }
+    }
+
+    fn check(self, alloc: Global, input: &[u8]) -> Result<(bool, usize), Error> {
+        by_type!(self, check_as(alloc, input))
+    }
+
+    fn rewrite(self, alloc: Global, input: &[u8], out: &mut Vec<u8>) -> Result<(), Error> {
+        by_type!(self, rewrite_as(alloc, input, out))
     }
 }

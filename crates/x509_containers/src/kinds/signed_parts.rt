@@ -2,7 +2,7 @@
 
 ghost use Rattle.x509_containers.specs.SignedPartKinds.{rewriting_as, word_of};
 
-use asn1_core_streams::{Sink, Source};
+use asn1_core::Error;
 use pkcs7_signed_crl::{
     Attributes, CertificateChoices, CertificateList, CertificateSerialNumber, CertificateSet,
     DigestAlgorithmIdentifier, DigestAlgorithmIdentifiers, IssuerAndSerialNumber,
@@ -11,7 +11,7 @@ use pkcs7_signed_crl::{
     TbsCertList,
 };
 use std::alloc::Global;
-use x509_containers_engine::{KindOfInput, Mode, Outcome, run_at};
+use x509_containers_engine::{KindOfInput, check_as, rewrite_as};
 
 /// Revocation lists, certificates, signers.
 #[derive(Clone, Copy, Debug, PartialEq, Eq)]
@@ -35,115 +35,63 @@ pub enum SignedPartKind {
     TbsCertList,
 }
 
+/// The type of each kind, for a call at that type.
+macro_rules! by_type {
+    ($kind:expr, $call:ident($($argument:expr),*)) => {
+        match $kind {
+            SignedPartKind::Attributes => $call::<Attributes>($($argument),*),
+            SignedPartKind::CertificateChoices => $call::<CertificateChoices>($($argument),*),
+            SignedPartKind::CertificateList => $call::<CertificateList>($($argument),*),
+            SignedPartKind::CertificateSerialNumber => $call::<CertificateSerialNumber>($($argument),*),
+            SignedPartKind::CertificateSet => $call::<CertificateSet>($($argument),*),
+            SignedPartKind::DigestAlgorithmIdentifier => $call::<DigestAlgorithmIdentifier>($($argument),*),
+            SignedPartKind::DigestAlgorithmIdentifiers => $call::<DigestAlgorithmIdentifiers>($($argument),*),
+            SignedPartKind::IssuerAndSerialNumber => $call::<IssuerAndSerialNumber>($($argument),*),
+            SignedPartKind::OtherRevocationInfoFormat => $call::<OtherRevocationInfoFormat>($($argument),*),
+            SignedPartKind::RevocationInfoChoice => $call::<RevocationInfoChoice>($($argument),*),
+            SignedPartKind::RevocationInfoChoices => $call::<RevocationInfoChoices>($($argument),*),
+            SignedPartKind::RevokedCertificate => $call::<RevokedCertificate>($($argument),*),
+            SignedPartKind::RevokedCertificates => $call::<RevokedCertificates>($($argument),*),
+            SignedPartKind::SignatureAlgorithmIdentifier => $call::<SignatureAlgorithmIdentifier>($($argument),*),
+            SignedPartKind::SignatureValue => $call::<SignatureValue>($($argument),*),
+            SignedPartKind::SignerIdentifier => $call::<SignerIdentifier>($($argument),*),
+            SignedPartKind::TbsCertList => $call::<TbsCertList>($($argument),*),
+        }
+    };
+}
+
 impl KindOfInput for SignedPartKind {
     ghost word_of = { word_of };
 
     ghost rewriting_as = { rewriting_as };
 
-    fn all() -> &'static [Self] {
-        &[
-            SignedPartKind::Attributes,
-            SignedPartKind::CertificateChoices,
-            SignedPartKind::CertificateList,
-            SignedPartKind::CertificateSerialNumber,
-            SignedPartKind::CertificateSet,
-            SignedPartKind::DigestAlgorithmIdentifier,
-            SignedPartKind::DigestAlgorithmIdentifiers,
-            SignedPartKind::IssuerAndSerialNumber,
-            SignedPartKind::OtherRevocationInfoFormat,
-            SignedPartKind::RevocationInfoChoice,
-            SignedPartKind::RevocationInfoChoices,
-            SignedPartKind::RevokedCertificate,
-            SignedPartKind::RevokedCertificates,
-            SignedPartKind::SignatureAlgorithmIdentifier,
-            SignedPartKind::SignatureValue,
-            SignedPartKind::SignerIdentifier,
-            SignedPartKind::TbsCertList,
-        ]
-    }
-
-    fn from_word(word: &str) -> Option<Self> {
-        match word {
-            "attributes" => Some(SignedPartKind::Attributes),
-            "certificatechoices" => Some(SignedPartKind::CertificateChoices),
-            "certificatelist" => Some(SignedPartKind::CertificateList),
-            "certificateserialnumber" => Some(SignedPartKind::CertificateSerialNumber),
-            "certificateset" => Some(SignedPartKind::CertificateSet),
-            "digestalgorithmidentifier" => Some(SignedPartKind::DigestAlgorithmIdentifier),
-            "digestalgorithmidentifiers" => Some(SignedPartKind::DigestAlgorithmIdentifiers),
-            "issuerandserialnumber" => Some(SignedPartKind::IssuerAndSerialNumber),
-            "otherrevocationinfoformat" => Some(SignedPartKind::OtherRevocationInfoFormat),
-            "revocationinfochoice" => Some(SignedPartKind::RevocationInfoChoice),
-            "revocationinfochoices" => Some(SignedPartKind::RevocationInfoChoices),
-            "revokedcertificate" => Some(SignedPartKind::RevokedCertificate),
-            "revokedcertificates" => Some(SignedPartKind::RevokedCertificates),
-            "signaturealgorithmidentifier" => Some(SignedPartKind::SignatureAlgorithmIdentifier),
-            "signaturevalue" => Some(SignedPartKind::SignatureValue),
-            "signeridentifier" => Some(SignedPartKind::SignerIdentifier),
-            "tbscertlist" => Some(SignedPartKind::TbsCertList),
-            _ => None,
-        }
-    }
-
-    fn run<R: Source, W: Sink>(
-        self,
-        alloc: Global,
-        source: &mut R,
-        sink: &mut W,
-        mode: Mode,
-    ) -> Outcome {
+    fn word(self) -> &'static str {
         match self {
-            SignedPartKind::Attributes => run_at::<Attributes, R, W>(alloc, source, sink, mode),
-            SignedPartKind::CertificateChoices => run_at::<CertificateChoices, R, W>(
-                alloc, source, sink, mode,
-            ),
-            SignedPartKind::CertificateList => run_at::<CertificateList, R, W>(
-                alloc, source, sink, mode,
-            ),
-            SignedPartKind::CertificateSerialNumber => run_at::<CertificateSerialNumber, R, W>(
-                alloc, source, sink, mode,
-            ),
-            SignedPartKind::CertificateSet => run_at::<CertificateSet, R, W>(
-                alloc, source, sink, mode,
-            ),
-            SignedPartKind::DigestAlgorithmIdentifier => run_at::<DigestAlgorithmIdentifier, R, W>(
-                alloc, source, sink, mode,
-            ),
-            SignedPartKind::DigestAlgorithmIdentifiers => run_at::<
-                DigestAlgorithmIdentifiers,
-                R,
-                W,
-            >(alloc, source, sink, mode),
-            SignedPartKind::IssuerAndSerialNumber => run_at::<IssuerAndSerialNumber, R, W>(
-                alloc, source, sink, mode,
-            ),
-            SignedPartKind::OtherRevocationInfoFormat => run_at::<OtherRevocationInfoFormat, R, W>(
-                alloc, source, sink, mode,
-            ),
-            SignedPartKind::RevocationInfoChoice => run_at::<RevocationInfoChoice, R, W>(
-                alloc, source, sink, mode,
-            ),
-            SignedPartKind::RevocationInfoChoices => run_at::<RevocationInfoChoices, R, W>(
-                alloc, source, sink, mode,
-            ),
-            SignedPartKind::RevokedCertificate => run_at::<RevokedCertificate, R, W>(
-                alloc, source, sink, mode,
-            ),
-            SignedPartKind::RevokedCertificates => run_at::<RevokedCertificates, R, W>(
-                alloc, source, sink, mode,
-            ),
-            SignedPartKind::SignatureAlgorithmIdentifier => run_at::<
-                SignatureAlgorithmIdentifier,
-                R,
-                W,
-            >(alloc, source, sink, mode),
-            SignedPartKind::SignatureValue => run_at::<SignatureValue, R, W>(
-                alloc, source, sink, mode,
-            ),
-            SignedPartKind::SignerIdentifier => run_at::<SignerIdentifier, R, W>(
-                alloc, source, sink, mode,
-            ),
-            SignedPartKind::TbsCertList => run_at::<TbsCertList, R, W>(alloc, source, sink, mode),
+            SignedPartKind::Attributes => "attributes",
+            SignedPartKind::CertificateChoices => "certificatechoices",
+            SignedPartKind::CertificateList => "certificatelist",
+            SignedPartKind::CertificateSerialNumber => "certificateserialnumber",
+            SignedPartKind::CertificateSet => "certificateset",
+            SignedPartKind::DigestAlgorithmIdentifier => "digestalgorithmidentifier",
+            SignedPartKind::DigestAlgorithmIdentifiers => "digestalgorithmidentifiers",
+            SignedPartKind::IssuerAndSerialNumber => "issuerandserialnumber",
+            SignedPartKind::OtherRevocationInfoFormat => "otherrevocationinfoformat",
+            SignedPartKind::RevocationInfoChoice => "revocationinfochoice",
+            SignedPartKind::RevocationInfoChoices => "revocationinfochoices",
+            SignedPartKind::RevokedCertificate => "revokedcertificate",
+            SignedPartKind::RevokedCertificates => "revokedcertificates",
+            SignedPartKind::SignatureAlgorithmIdentifier => "signaturealgorithmidentifier",
+            SignedPartKind::SignatureValue => "signaturevalue",
+            SignedPartKind::SignerIdentifier => "signeridentifier",
+            SignedPartKind::TbsCertList => "tbscertlist",
         }
+    }
+
+    fn check(self, alloc: Global, input: &[u8]) -> Result<(bool, usize), Error> {
+        by_type!(self, check_as(alloc, input))
+    }
+
+    fn rewrite(self, alloc: Global, input: &[u8], out: &mut Vec<u8>) -> Result<(), Error> {
+        by_type!(self, rewrite_as(alloc, input, out))
     }
 }

@@ -2,9 +2,9 @@
 
 ghost use Rattle.x509_containers.specs.StoreKinds.{rewriting_as, word_of};
 
-use asn1_core_streams::{Sink, Source};
+use asn1_core::Error;
 use std::alloc::Global;
-use x509_containers_engine::{KindOfInput, Mode, Outcome, run_at};
+use x509_containers_engine::{KindOfInput, check_as, rewrite_as};
 use x509_pkcs12::{
     AuthenticatedSafeContentInfo, CertificateBag, CrlBag, EncryptedKeyBag, EncryptedSafeContents,
     ParsedAuthenticatedSafeDataRepr, Pfx, Pkcs12Attribute, RawAuthenticatedSafeContentInfo,
@@ -32,99 +32,59 @@ pub enum StoreKind {
     SecretBag,
 }
 
+/// The type of each kind, for a call at that type.
+macro_rules! by_type {
+    ($kind:expr, $call:ident($($argument:expr),*)) => {
+        match $kind {
+            StoreKind::AuthenticatedSafeContentInfo => $call::<AuthenticatedSafeContentInfo<ParsedAuthenticatedSafeDataRepr>>($($argument),*),
+            StoreKind::CertificateBag => $call::<CertificateBag>($($argument),*),
+            StoreKind::CrlBag => $call::<CrlBag>($($argument),*),
+            StoreKind::EncryptedKeyBag => $call::<EncryptedKeyBag>($($argument),*),
+            StoreKind::EncryptedSafeContents => $call::<EncryptedSafeContents>($($argument),*),
+            StoreKind::ParsedAuthenticatedSafeDataRepr => $call::<ParsedAuthenticatedSafeDataRepr>($($argument),*),
+            StoreKind::Pfx => $call::<Pfx<ParsedAuthenticatedSafeDataRepr>>($($argument),*),
+            StoreKind::Pkcs12Attribute => $call::<Pkcs12Attribute>($($argument),*),
+            StoreKind::RawAuthenticatedSafeContentInfo => $call::<RawAuthenticatedSafeContentInfo>($($argument),*),
+            StoreKind::RawAuthenticatedSafeDataRepr => $call::<RawAuthenticatedSafeDataRepr>($($argument),*),
+            StoreKind::RawPfx => $call::<RawPfx>($($argument),*),
+            StoreKind::SafeBag => $call::<SafeBag>($($argument),*),
+            StoreKind::SafeContents => $call::<SafeContents>($($argument),*),
+            StoreKind::SafeContentsContentInfo => $call::<SafeContentsContentInfo>($($argument),*),
+            StoreKind::SecretBag => $call::<SecretBag>($($argument),*),
+        }
+    };
+}
+
 impl KindOfInput for StoreKind {
     ghost word_of = { word_of };
 
     ghost rewriting_as = { rewriting_as };
 
-    fn all() -> &'static [Self] {
-        &[
-            StoreKind::AuthenticatedSafeContentInfo,
-            StoreKind::CertificateBag,
-            StoreKind::CrlBag,
-            StoreKind::EncryptedKeyBag,
-            StoreKind::EncryptedSafeContents,
-            StoreKind::ParsedAuthenticatedSafeDataRepr,
-            StoreKind::Pfx,
-            StoreKind::Pkcs12Attribute,
-            StoreKind::RawAuthenticatedSafeContentInfo,
-            StoreKind::RawAuthenticatedSafeDataRepr,
-            StoreKind::RawPfx,
-            StoreKind::SafeBag,
-            StoreKind::SafeContents,
-            StoreKind::SafeContentsContentInfo,
-            StoreKind::SecretBag,
-        ]
-    }
-
-    fn from_word(word: &str) -> Option<Self> {
-        match word {
-            "authenticatedsafecontentinfo" => Some(StoreKind::AuthenticatedSafeContentInfo),
-            "certificatebag" => Some(StoreKind::CertificateBag),
-            "crlbag" => Some(StoreKind::CrlBag),
-            "encryptedkeybag" => Some(StoreKind::EncryptedKeyBag),
-            "encryptedsafecontents" => Some(StoreKind::EncryptedSafeContents),
-            "parsedauthenticatedsafedatarepr" => Some(StoreKind::ParsedAuthenticatedSafeDataRepr),
-            "pfx" => Some(StoreKind::Pfx),
-            "pkcs12attribute" => Some(StoreKind::Pkcs12Attribute),
-            "rawauthenticatedsafecontentinfo" => Some(StoreKind::RawAuthenticatedSafeContentInfo),
-            "rawauthenticatedsafedatarepr" => Some(StoreKind::RawAuthenticatedSafeDataRepr),
-            "rawpfx" => Some(StoreKind::RawPfx),
-            "safebag" => Some(StoreKind::SafeBag),
-            "safecontents" => Some(StoreKind::SafeContents),
-            "safecontentscontentinfo" => Some(StoreKind::SafeContentsContentInfo),
-            "secretbag" => Some(StoreKind::SecretBag),
-            _ => None,
-        }
-    }
-
-    fn run<R: Source, W: Sink>(
-        self,
-        alloc: Global,
-        source: &mut R,
-        sink: &mut W,
-        mode: Mode,
-    ) -> Outcome {
+    fn word(self) -> &'static str {
         match self {
-            StoreKind::AuthenticatedSafeContentInfo => run_at::<
-                AuthenticatedSafeContentInfo<ParsedAuthenticatedSafeDataRepr>,
-                R,
-                W,
-            >(alloc, source, sink, mode),
-            StoreKind::CertificateBag => run_at::<CertificateBag, R, W>(alloc, source, sink, mode),
-            StoreKind::CrlBag => run_at::<CrlBag, R, W>(alloc, source, sink, mode),
-            StoreKind::EncryptedKeyBag => run_at::<EncryptedKeyBag, R, W>(
-                alloc, source, sink, mode,
-            ),
-            StoreKind::EncryptedSafeContents => run_at::<EncryptedSafeContents, R, W>(
-                alloc, source, sink, mode,
-            ),
-            StoreKind::ParsedAuthenticatedSafeDataRepr => run_at::<
-                ParsedAuthenticatedSafeDataRepr,
-                R,
-                W,
-            >(alloc, source, sink, mode),
-            StoreKind::Pfx => run_at::<Pfx<ParsedAuthenticatedSafeDataRepr>, R, W>(
-                alloc, source, sink, mode,
-            ),
-            StoreKind::Pkcs12Attribute => run_at::<Pkcs12Attribute, R, W>(
-                alloc, source, sink, mode,
-            ),
-            StoreKind::RawAuthenticatedSafeContentInfo => run_at::<
-                RawAuthenticatedSafeContentInfo,
-                R,
-                W,
-            >(alloc, source, sink, mode),
-            StoreKind::RawAuthenticatedSafeDataRepr => run_at::<RawAuthenticatedSafeDataRepr, R, W>(
-                alloc, source, sink, mode,
-            ),
-            StoreKind::RawPfx => run_at::<RawPfx, R, W>(alloc, source, sink, mode),
-            StoreKind::SafeBag => run_at::<SafeBag, R, W>(alloc, source, sink, mode),
-            StoreKind::SafeContents => run_at::<SafeContents, R, W>(alloc, source, sink, mode),
-            StoreKind::SafeContentsContentInfo => run_at::<SafeContentsContentInfo, R, W>(
-                alloc, source, sink, mode,
-            ),
-            StoreKind::SecretBag => run_at::<SecretBag, R, W>(alloc, source, sink, mode),
+            StoreKind::AuthenticatedSafeContentInfo => "authenticatedsafecontentinfo",
+            StoreKind::CertificateBag => "certificatebag",
+            StoreKind::CrlBag => "crlbag",
+            StoreKind::EncryptedKeyBag => "encryptedkeybag",
+            StoreKind::EncryptedSafeContents => "encryptedsafecontents",
+            StoreKind::ParsedAuthenticatedSafeDataRepr => "parsedauthenticatedsafedatarepr",
+            StoreKind::Pfx => "pfx",
+            StoreKind::Pkcs12Attribute => "pkcs12attribute",
+            StoreKind::RawAuthenticatedSafeContentInfo => "rawauthenticatedsafecontentinfo",
+            StoreKind::RawAuthenticatedSafeDataRepr => "rawauthenticatedsafedatarepr",
+            StoreKind::RawPfx => "rawpfx",
+            StoreKind::SafeBag => "safebag",
+            StoreKind::SafeContents => "safecontents",
+            StoreKind::SafeContentsContentInfo => "safecontentscontentinfo",
+            StoreKind::SecretBag => "secretbag",
         }
+    }
+
+    fn check(self, alloc: Global, input: &[u8]) -> Result<(bool, usize), Error> {
+        by_type!(self, check_as(alloc, input))
+    }
+
+    fn rewrite(self, alloc: Global, input: &[u8], out: &mut Vec<u8>) -> Result<(), Error> {
+        by_type!(self, rewrite_as(alloc, input, out))
     }
 }

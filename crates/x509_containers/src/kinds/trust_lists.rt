@@ -2,12 +2,12 @@
 
 ghost use Rattle.x509_containers.specs.TrustListKinds.{rewriting_as, word_of};
 
-use asn1_core_streams::{Sink, Source};
+use asn1_core::Error;
 use pkcs7_content::{
     CTLEntry, CTLEntryAttribute, CertPolicy, Ctl, PolicyQualifier, RootProgramChainPolicy,
 };
 use std::alloc::Global;
-use x509_containers_engine::{KindOfInput, Mode, Outcome, run_at};
+use x509_containers_engine::{KindOfInput, check_as, rewrite_as};
 
 /// Trust lists and their parts.
 #[derive(Clone, Copy, Debug, PartialEq, Eq)]
@@ -20,54 +20,41 @@ pub enum TrustListKind {
     RootProgramChainPolicy,
 }
 
+/// The type of each kind, for a call at that type.
+macro_rules! by_type {
+    ($kind:expr, $call:ident($($argument:expr),*)) => {
+        match $kind {
+            TrustListKind::CertPolicy => $call::<CertPolicy>($($argument),*),
+            TrustListKind::Ctl => $call::<Ctl>($($argument),*),
+            TrustListKind::CTLEntry => $call::<CTLEntry>($($argument),*),
+            TrustListKind::CTLEntryAttribute => $call::<CTLEntryAttribute>($($argument),*),
+            TrustListKind::PolicyQualifier => $call::<PolicyQualifier>($($argument),*),
+            TrustListKind::RootProgramChainPolicy => $call::<RootProgramChainPolicy>($($argument),*),
+        }
+    };
+}
+
 impl KindOfInput for TrustListKind {
     ghost word_of = { word_of };
 
     ghost rewriting_as = { rewriting_as };
 
-    fn all() -> &'static [Self] {
-        &[
-            TrustListKind::CertPolicy,
-            TrustListKind::Ctl,
-            TrustListKind::CTLEntry,
-            TrustListKind::CTLEntryAttribute,
-            TrustListKind::PolicyQualifier,
-            TrustListKind::RootProgramChainPolicy,
-        ]
-    }
-
-    fn from_word(word: &str) -> Option<Self> {
-        match word {
-            "certpolicy" => Some(TrustListKind::CertPolicy),
-            "ctl" => Some(TrustListKind::Ctl),
-            "ctlentry" => Some(TrustListKind::CTLEntry),
-            "ctlentryattribute" => Some(TrustListKind::CTLEntryAttribute),
-            "policyqualifier" => Some(TrustListKind::PolicyQualifier),
-            "rootprogramchainpolicy" => Some(TrustListKind::RootProgramChainPolicy),
-            _ => None,
-        }
-    }
-
-    fn run<R: Source, W: Sink>(
-        self,
-        alloc: Global,
-        source: &mut R,
-        sink: &mut W,
-        mode: Mode,
-    ) -> Outcome {
+    fn word(self) -> &'static str {
         match self {
-            TrustListKind::CertPolicy => run_at::<CertPolicy, R, W>(alloc, source, sink, mode),
-            TrustListKind::Ctl => run_at::<Ctl, R, W>(alloc, source, sink, mode),
-            TrustListKind::CTLEntry => run_at::<CTLEntry, R, W>(alloc, source, sink, mode),
-            TrustListKind::CTLEntryAttribute => run_at::<CTLEntryAttribute, R, W>(
-                alloc, source, sink, mode,
-            ),
-            TrustListKind::PolicyQualifier => run_at::<PolicyQualifier, R, W>(
-                alloc, source, sink, mode,
-            ),
-            TrustListKind::RootProgramChainPolicy => run_at::<RootProgramChainPolicy, R, W>(
-                alloc, source, sink, mode,
-            ),
+            TrustListKind::CertPolicy => "certpolicy",
+            TrustListKind::Ctl => "ctl",
+            TrustListKind::CTLEntry => "ctlentry",
+            TrustListKind::CTLEntryAttribute => "ctlentryattribute",
+            TrustListKind::PolicyQualifier => "policyqualifier",
+            TrustListKind::RootProgramChainPolicy => "rootprogramchainpolicy",
         }
+    }
+
+    fn check(self, alloc: Global, input: &[u8]) -> Result<(bool, usize), Error> {
+        by_type!(self, check_as(alloc, input))
+    }
+
+    fn rewrite(self, alloc: Global, input: &[u8], out: &mut Vec<u8>) -> Result<(), Error> {
+        by_type!(self, rewrite_as(alloc, input, out))
     }
 }

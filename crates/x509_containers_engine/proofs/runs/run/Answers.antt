@@ -1,12 +1,11 @@
 use Rattle.std.proofs.Common.{refl}
-use Rattle.x509_containers_engine.specs.Engine.{rewriting_of}
 use Rattle.x509_containers_engine.proofs.Running.{refused, no_memory, some_input}
-use Rattle.x509_containers_engine.proofs.run.run_at.Goals as goal
+use Rattle.x509_containers_engine.proofs.runs.run.Goals as goal
 
 pub returns-in-Err-Failed-clause-answer : goal.returns-in-Err-Failed-clause-answer
 returns-in-Err-Failed-clause-answer g c = record { input = _; is_all = some_input _; leaves = refl }
 
 pub returns-in-Err-Memory-clause-answer : goal.returns-in-Err-Memory-clause-answer
 returns-in-Err-Memory-clause-answer g c =
-    let told = refused (rewriting_of g.T.DerSerialize.format) _ _ _ _ _ _ _ _ _ (no_memory _ _) c.refuse.ensures in
+    let told = refused (g.K.KindOfInput.rewriting_as c.args.kind) _ _ _ _ _ _ _ _ _ (no_memory _ _) c.refuse.ensures in
     record { input = _; is_all = some_input _; leaves = told.leaves }
