@@ -1,0 +1,64 @@
+//! Says of a file what `derbox check KIND` does, from Rust, over the static library `der_c`.
+use std::io::Read;
+use std::process::ExitCode;
+
+unsafe extern "C" {
+    fn der_check_word(word: *const u8, word_len: usize, input: *const u8, input_len: usize, normal_len: *mut usize) -> u32;
+    fn der_rewrite_word(
+        word: *const u8,
+        word_len: usize,
+        input: *const u8,
+        input_len: usize,
+        out: *mut u8,
+        out_len: usize,
+        written: *mut usize,
+    ) -> u32;
+}
+
+/// Why an input has no text, by the status of the library.
+const WORDS: [&str; 11] = [
+    "normal", "loose", "unknown kind", "malformed", "missing", "invalid", "too deep", "too long", "no memory", "no room",
+    "no range",
+];
+
+/// Whether the input is normal, and its normal text.
+fn rewritten(kind: &str, input: &[u8]) -> Result<(bool, Vec<u8>), &'static str> {
+    let mut len = 0;
+    // SAFETY: a slice's pointer isn't null and has its length; `len` is lent for the call alone
+    let status = unsafe { der_check_word(kind.as_ptr(), kind.len(), input.as_ptr(), input.len(), &mut len) };
+    if status > 1 {
+        return Err(WORDS[status as usize]);
+    }
+    let mut out = vec![0; len];
+    let mut written = 0;
+    // SAFETY: as above, and `out` is lent for the call alone
+    let again = unsafe {
+        der_rewrite_word(kind.as_ptr(), kind.len(), input.as_ptr(), input.len(), out.as_mut_ptr(), out.len(), &mut written)
+    };
+    match again {
+        0 if written == len => Ok((status == 0, out)),
+        again => Err(WORDS[again as usize]),
+    }
+}
+
+fn main() -> ExitCode {
+    let mut input = Vec::new();
+    let (Some(kind), Ok(_)) = (std::env::args().nth(1), std::io::stdin().read_to_end(&mut input)) else {
+        return ExitCode::from(2);
+    };
+    match rewritten(&kind, &input) {
+        Ok((is_normal, text)) if is_normal != (text == input) => ExitCode::from(4),
+        Ok((true, _)) => {
+            println!("normal {}", input.len());
+            ExitCode::SUCCESS
+        }
+        Ok((false, text)) => {
+            println!("loose {} -> {}", input.len(), text.len());
+            ExitCode::from(3)
+        }
+        Err(word) => {
+            println!("refused: {word}");
+            ExitCode::from(1)
+        }
+    }
+}

@@ -1,0 +1,16 @@
+/* mac < FILE writes the octets of a PKCS #12 file that its MAC covers, as they stand in the file. */
+#include "der.h"
+
+#include <stdio.h>
+
+static uint8_t input[1 << 22];
+
+int main(void) {
+  size_t len = fread(input, 1, sizeof input, stdin), start, covered;
+  der_status status = (der_status)der_mac_range(input, len, &start, &covered);
+  if (status != DER_NORMAL) {
+    fprintf(stderr, "%s\n", der_status_word(status));
+    return 1;
+  }
+  return fwrite(input + start, 1, covered, stdout) != covered;
+}

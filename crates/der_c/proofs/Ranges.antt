@@ -1,0 +1,38 @@
+-- From the range of a MAC to its status.
+use Rattle.std.proofs.Common.{◌≡◌, ℕ, ◌+◌, ◌-◌, ◌≤◌, List, ap, subst, sym, arith}
+use Rattle.std.specs.Prelude.{Some}
+use Rattle.asn1_core.specs.Raw.{raw}
+use Rattle.asn1_core_element.specs.declared.error.Error.{Error}
+use Rattle.asn1_core_element.specs.declared.error.Error.TheVariants.{Malformed, Missing, Invalid, TooDeep, TooLong, Memory}
+use Rattle.asn1_core_format.specs.Whole.{HasNoValue}
+use Rattle.x509_pkcs12.specs.MacRanges.{IsMacRange}
+use Rattle.x509_pkcs12.specs.Pfxs.{pfx}
+use Rattle.der_c.specs.Calls.{status_of, FindsRange}
+
+pub found : (b : List ℕ) (start end : ℕ) → IsMacRange b (Some (start, end)) → FindsRange b start (end - start) 0
+found b start end is =
+    let inside : start ≤ end = is.stands.inside.0 in
+    let sum : start + (end - start) ≡ end = omega (arith, inside) in
+    record {
+      found = λ h. subst (λ (e : ℕ). IsMacRange b (Some (start, e))) (sym sum) is;
+      none = λ h. absurd (omega (arith, h));
+      refused = λ h. absurd (omega (arith, h));
+    }
+
+-- the statuses of refusals
+in_range : (e : Error) → (3 ≤ status_of e) × (status_of e ≤ 8)
+in_range Malformed = (omega arith, omega arith)
+in_range Missing = (omega arith, omega arith)
+in_range Invalid = (omega arith, omega arith)
+in_range TooDeep = (omega arith, omega arith)
+in_range TooLong = (omega arith, omega arith)
+in_range Memory = (omega arith, omega arith)
+
+pub not_found : (b : List ℕ) (e : Error) (status : ℕ) → status ≡ status_of e → HasNoValue (pfx raw) 64 b e → FindsRange b 0 0 status
+not_found b e status is why =
+    let range = in_range e in
+    record {
+      found = λ h. absurd (omega (arith, h, is, range.0));
+      none = λ h. absurd (omega (arith, h, is, range.1));
+      refused = λ h low. why.none (λ memory. let eight : status_of e ≡ 8 = ap status_of memory in omega (arith, low, is, eight));
+    }

@@ -1,0 +1,81 @@
+-- What the calls from C say of an input, by their status.
+use Rattle.std.specs.Prelude.{◌≡◌, ◌≢◌, ◌≤◌, ◌<◌, ◌⊎◌, ◌+◌, ◌^◌, ℕ, List, ◌++◌, length, drop, get_or, Some, None}
+use Rattle.asn1_core.specs.Raw.{raw}
+use Rattle.asn1_core_element.specs.declared.error.Error.{Error}
+use Rattle.asn1_core_element.specs.declared.error.Error.TheVariants.{Malformed, Missing, Invalid, TooDeep, TooLong, Memory}
+use Rattle.asn1_core_format.specs.Whole.{IsValueOf}
+use Rattle.x509_containers_engine.specs.Engine.{Rewriting}
+use Rattle.x509_containers.specs.Kinds.{kinds, rewriting_as, word_of}
+use Rattle.x509_containers.specs.declared.kinds.Kind.{Kind}
+use Rattle.x509_pkcs12.specs.MacRanges.{IsMacRange}
+use Rattle.x509_pkcs12.specs.Pfxs.{PfxValue, pfx}
+
+-- the status of a refusal
+abbrev pub status_of : Error → ℕ
+status_of Malformed = 3
+status_of Missing = 4
+status_of Invalid = 5
+status_of TooDeep = 6
+status_of TooLong = 7
+status_of Memory = 8
+
+-- k is the kind with that index
+abbrev pub IsKindAt : ℕ → Kind → Type 0
+IsKindAt index k = (index < length kinds) × (k ≡ get_or kinds index k)
+
+-- a kind with that word, of whose inputs P holds
+abbrev pub OfKind : List ℕ → (Rewriting → Type 0) → Type 0
+OfKind word P = (k : Kind) × (word ≡ word_of k) × P (rewriting_as k)
+
+-- t is the text of the value of b, the only one
+pub record IsTextOf (K : Rewriting) (b t : List ℕ) : Type 0 where
+  pub to : K.To b t
+  pub only : (u : List ℕ) → K.To b u → u ≡ t
+
+-- what a status says of why there is no text; of want of memory, 8, it says nothing
+pub record SaysWhy (word b : List ℕ) (status : ℕ) : Type 0 where
+  -- DER_UNKNOWN_KIND
+  pub unknown : status ≡ 2 → (k : Kind) → word ≢ word_of k
+  -- DER_MALFORMED, DER_MISSING, DER_INVALID, DER_TOO_DEEP
+  pub none : 3 ≤ status → status ≤ 6 → OfKind word (λ K. (t : List ℕ) → K.To b t → ⊥)
+  -- DER_TOO_LONG
+  pub long : status ≡ 7 → OfKind word (λ K. (t : List ℕ) × K.To b t × (2 ^ 64 ≤ length t))
+
+-- what der_check_word answers of the input b
+pub record ChecksWord (word b : List ℕ) (len status : ℕ) : Type 0 where
+  -- DER_NORMAL: b is the text of its value
+  pub normal : status ≡ 0 → OfKind word (λ K. IsTextOf K b b × K.IsNormal b × (len ≡ length b))
+  -- DER_LOOSE: another is
+  pub loose : status ≡ 1 → OfKind word (λ K. (¬ K.IsNormal b) × ((t : List ℕ) × IsTextOf K b t × (len ≡ length t)))
+  pub why : SaysWhy word b status
+  pub range : status ≤ 8
+
+-- what der_rewrite_word answers of the input b and a buffer
+pub record RewritesWord (word b old new : List ℕ) (len status : ℕ) : Type 0 where
+  -- DER_NORMAL: the text stands at the front of the buffer, and the rest of it is as it was
+  pub written : status ≡ 0 → OfKind word (λ K. (t : List ℕ) × IsTextOf K b t × (len ≡ length t) × (new ≡ t ++ drop len old))
+  -- DER_NO_ROOM: the text needs that many bytes
+  pub no_room : status ≡ 9 → OfKind word (λ K. (t : List ℕ) × IsTextOf K b t × (len ≡ length t) × (length old < len))
+  pub why : SaysWhy word b status
+  pub kept : status ≢ 0 → new ≡ old
+  pub range : (status ≢ 1) × (status ≤ 9)
+
+-- what der_mac_range answers of the input b
+pub record FindsRange (b : List ℕ) (start len status : ℕ) : Type 0 where
+  -- DER_NORMAL: these octets of the file the MAC covers
+  pub found : status ≡ 0 → IsMacRange b (Some (start, start + len))
+  -- DER_NO_RANGE: authSafe isn't data
+  pub none : status ≡ 10 → IsMacRange b None
+  -- DER_MALFORMED, DER_MISSING, DER_INVALID, DER_TOO_DEEP: no raw PFX
+  pub refused : 3 ≤ status → status ≤ 6 → (v : PfxValue (List ℕ)) → (pfx raw).Reads 64 b v → ⊥
+
+-- what der_kind_word answers of the index of a kind and a buffer
+pub record NamesKind (index : ℕ) (old new : List ℕ) (len status : ℕ) : Type 0 where
+  -- DER_NORMAL: its word stands at the front of the buffer
+  pub named : status ≡ 0 → (k : Kind) × IsKindAt index k × (len ≡ length (word_of k)) × (new ≡ word_of k ++ drop len old)
+  -- DER_UNKNOWN_KIND: there are fewer kinds
+  pub unknown : status ≡ 2 → length kinds ≤ index
+  -- DER_NO_ROOM: the word needs that many bytes
+  pub no_room : status ≡ 9 → length old < len
+  pub kept : status ≢ 0 → new ≡ old
+  pub range : (status ≡ 0) ⊎ ((status ≡ 2) ⊎ (status ≡ 9))
