@@ -4,8 +4,7 @@ use asn1_core::{StdSink, TryClone, from_bytes, to_vec};
 use std::test::Fail;
 use x509_containers::{
     AuthenticatedSafeContentInfo, AuthenticatedSafeDataRepr, ParsedAuthenticatedSafeDataRepr, Pfx,
-    Pkcs12Attribute, RawAuthenticatedSafeDataRepr, RawPfx, SafeBag, SafeContentsContentInfo,
-    mac_range,
+    RawAuthenticatedSafeDataRepr, RawPfx, SafeBag, mac_range,
 };
 
 type Parsed = ParsedAuthenticatedSafeDataRepr;
@@ -122,13 +121,10 @@ const KEY_NAME: &[u8] = b"\
 
 const SECOND_NAME: &[u8] = b"\x00\xC4\x00\x72\x00\x67\x00\x65\x00\x72";
 
-/// Whether the bag has that friendly name.
-fn is_named(bag: &SafeBag, octets: &[u8]) -> bool {
-    let Some(attributes) = &bag.attributes else {
-        return false;
-    };
-    for attribute in attributes {
-        if let Pkcs12Attribute::FriendlyName(name) = attribute {
+/// Whether one of the bags has that friendly name.
+fn has_name(bags: &[&SafeBag], octets: &[u8]) -> bool {
+    for bag in bags {
+        if let Some(name) = bag.friendly_name() {
             if name.as_bytes() == octets {
                 return true;
             }
@@ -137,34 +133,20 @@ fn is_named(bag: &SafeBag, octets: &[u8]) -> bool {
     false
 }
 
-/// Whether a bag of the file has that friendly name.
-fn has_name(pfx: &ParsedPfx, octets: &[u8]) -> bool {
-    let AuthenticatedSafeContentInfo::Data(contents) = &pfx.auth_safe else {
-        return false;
-    };
-    for info in contents {
-        if let SafeContentsContentInfo::Data(bags) = info {
-            for bag in &bags.0 {
-                if is_named(bag, octets) {
-                    return true;
-                }
-            }
-        }
-    }
-    false
-}
-
-/// Names in a file, and what a MAC covers in files, which the parsed representation writes as the raw one keeps it.
+/// All bags of a file and their names, and what a MAC covers in files, which the parsed representation writes as the raw
+/// one keeps it.
 #[test]
 fn names_and_representations(rt: HostRuntime) -> Result<(), Fail> {
     let alloc = rt.alloc();
-    for (file, is_plain, place) in [
-        (OPENSSL_DEFAULT, false, (30, 957)),
-        (OPENSSL_PLAIN, true, (30, 1245)),
+    for (file, count, is_plain, place) in [
+        (OPENSSL_DEFAULT, 1, false, (30, 957)),
+        (OPENSSL_PLAIN, 3, true, (30, 1245)),
     ] {
         let parsed: ParsedPfx = from_bytes(alloc, file)?;
-        assert_eq!(rt; has_name(&parsed, KEY_NAME), is_plain);
-        assert_eq!(rt; has_name(&parsed, SECOND_NAME), is_plain);
+        let bags = parsed.all_bags(alloc)?;
+        assert_eq!(rt; bags.len(), count);
+        assert_eq!(rt; has_name(&bags, KEY_NAME), is_plain);
+        assert_eq!(rt; has_name(&bags, SECOND_NAME), is_plain);
         assert!(rt; parsed.try_clone(alloc)? == parsed);
         let raw: RawPfx = from_bytes(alloc, file)?;
         let Some(covered) = raw.mac_octets() else {

@@ -38,6 +38,8 @@ fn built_levels(rt: HostRuntime) -> Result<(), Fail> {
             assert!(rt; !contents.well_formed_at(levels - 1), "{levels}");
         }
         assert!(rt; contents.try_clone(alloc)? == contents, "{levels}");
+        let bags = contents.all_bags(alloc)?;
+        assert_eq!(rt; bags.len(), usize::from(levels), "{levels}");
         let text = to_vec(alloc, &contents)?;
         assert_eq!(rt; text.len(), size, "{levels}");
         let (read, headers) = from_bytes_counted::<SafeContents>(alloc, &text);
