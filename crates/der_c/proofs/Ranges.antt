@@ -1,5 +1,5 @@
 -- From the range of a MAC to its status.
-use Rattle.std.proofs.Common.{◌≡◌, ℕ, ◌+◌, ◌-◌, ◌≤◌, List, ap, subst, sym, arith}
+use Rattle.std.proofs.Common.{◌≡◌, ℕ, ◌+◌, ◌-◌, ◌≤◌, List, ap, subst, sym, arith, inl, inr, refl}
 use Rattle.std.specs.Prelude.{Some}
 use Rattle.asn1_core.specs.Raw.{raw}
 use Rattle.asn1_core_element.specs.declared.error.Error.{Error}
@@ -17,6 +17,7 @@ found b start end is =
       found = λ h. subst (λ (e : ℕ). IsMacRange b (Some (start, e))) (sym sum) is;
       none = λ h. absurd (omega (arith, h));
       refused = λ h. absurd (omega (arith, h));
+      range = inl refl;
     }
 
 -- the statuses of refusals
@@ -35,4 +36,5 @@ not_found b e status is why =
       found = λ h. absurd (omega (arith, h, is, range.0));
       none = λ h. absurd (omega (arith, h, is, range.1));
       refused = λ h low. why.none (λ memory. let eight : status_of e ≡ 8 = ap status_of memory in omega (arith, low, is, eight));
+      range = inr (inr (omega (arith, is, range.0), omega (arith, is, range.1)));
     }

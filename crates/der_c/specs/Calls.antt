@@ -48,6 +48,7 @@ pub record ChecksWord (word b : List ℕ) (len status : ℕ) : Type 0 where
   -- DER_LOOSE: another is
   pub loose : status ≡ 1 → OfKind word (λ K. (¬ K.IsNormal b) × ((t : List ℕ) × IsTextOf K b t × (len ≡ length t)))
   pub why : SaysWhy word b status
+  pub no_len : 2 ≤ status → len ≡ 0
   pub range : status ≤ 8
 
 -- what der_rewrite_word answers of the input b and a buffer
@@ -57,6 +58,7 @@ pub record RewritesWord (word b old new : List ℕ) (len status : ℕ) : Type 0 
   -- DER_NO_ROOM: the text needs that many bytes
   pub no_room : status ≡ 9 → OfKind word (λ K. (t : List ℕ) × IsTextOf K b t × (len ≡ length t) × (length old < len))
   pub why : SaysWhy word b status
+  pub no_len : 2 ≤ status → status ≤ 8 → len ≡ 0
   pub kept : status ≢ 0 → new ≡ old
   pub range : (status ≢ 1) × (status ≤ 9)
 
@@ -68,6 +70,7 @@ pub record FindsRange (b : List ℕ) (start len status : ℕ) : Type 0 where
   pub none : status ≡ 10 → IsMacRange b None
   -- DER_MALFORMED, DER_MISSING, DER_INVALID, DER_TOO_DEEP: no raw PFX
   pub refused : 3 ≤ status → status ≤ 6 → (v : PfxValue (List ℕ)) → (pfx raw).Reads 64 b v → ⊥
+  pub range : (status ≡ 0) ⊎ ((status ≡ 10) ⊎ ((3 ≤ status) × (status ≤ 8)))
 
 -- what der_kind_word answers of the index of a kind and a buffer
 pub record NamesKind (index : ℕ) (old new : List ℕ) (len status : ℕ) : Type 0 where
@@ -76,6 +79,6 @@ pub record NamesKind (index : ℕ) (old new : List ℕ) (len status : ℕ) : Typ
   -- DER_UNKNOWN_KIND: there are fewer kinds
   pub unknown : status ≡ 2 → length kinds ≤ index
   -- DER_NO_ROOM: the word needs that many bytes
-  pub no_room : status ≡ 9 → length old < len
+  pub no_room : status ≡ 9 → (k : Kind) × IsKindAt index k × (len ≡ length (word_of k)) × (length old < len)
   pub kept : status ≢ 0 → new ≡ old
   pub range : (status ≡ 0) ⊎ ((status ≡ 2) ⊎ (status ≡ 9))
