@@ -1,21 +1,16 @@
 -- Ticket ::= SEQUENCE { serial INTEGER (0..4294967295), note [0] EXPLICIT OCTET STRING OPTIONAL, holder Holder }
 -- Holder ::= SEQUENCE { type OBJECT IDENTIFIER, value ANY DEFINED BY type }; under 1.3.6.1.4.1.32473.1 a token, an OCTET STRING
 use Rattle.std.specs.Prelude.{◌⊎◌, ℕ, ◌^◌, List, [], ◌∷◌, Option}
-use Rattle.std.proofs.Common.{refl, inl, inr, arith}
+use Rattle.std.proofs.Common.{inl, inr, arith}
 use Rattle.asn1_core.specs.Der.{Format, IsLawful, sequence, part, optional, nothing, within, octet_string, raw, number_below, octets_of, Octets, OidOctets, ElementOctets, lawful_sequence, followed_by, perhaps, lawful_nothing, lawful_within, lawful_octet_string, lawful_raw, lawful_number}
 use Rattle.asn1_core_format.specs.Choices.{Choice, known, otherwise, lawful_known, lawful_otherwise}
-use Rattle.asn1_core_oid.specs.Arcs.{HasArcs}
+use Rattle.asn1_core_oid.specs.Arcs.{arcs}
 use Rattle.asn1_core_oid.specs.Oid.{IsOid}
-use Rattle.example_ticket.specs.declared.TheConstants.{TOKEN}
 use Rattle.example_ticket.specs.declared.Holder.{Holder}
 use Rattle.example_ticket.specs.declared.Holder.TheVariants as Arm
 
--- the octets of the code, and their arcs
 abbrev pub token_oid : List ℕ
-token_oid = TOKEN
-
-pub token_arcs : HasArcs token_oid (1 ∷ 3 ∷ 6 ∷ 1 ∷ 4 ∷ 1 ∷ 32473 ∷ 1 ∷ [])
-token_arcs = record { allowed = refl; spelled = refl }
+token_oid = arcs (1 ∷ 3 ∷ 6 ∷ 1 ∷ 4 ∷ 1 ∷ 32473 ∷ 1 ∷ [])
 
 abbrev pub HolderValue : Type 0
 HolderValue = Octets ⊎ (OidOctets × ElementOctets)

@@ -3,10 +3,10 @@
 #![tactic(auto)]
 
 ghost use Rattle.std.specs.Prelude.{◌≡◌};
-ghost use Rattle.std.proofs.Common.{arith, rules};
+ghost use Rattle.std.proofs.Common.{arith, refl, rules};
 ghost use Rattle.asn1_core.specs.Der.{option_value};
-ghost use Rattle.asn1_core_oid.specs.Arcs.{oid_by_arcs};
-ghost use Rattle.example_ticket.specs.Tickets.{token_oid, token_arcs, HolderValue, holder_value, holder, lawful_holder, TicketValue, ticket, lawful_ticket};
+ghost use Rattle.asn1_core_oid.specs.OidTestLaws.{oid_from_test};
+ghost use Rattle.example_ticket.specs.Tickets.{token_oid, HolderValue, holder_value, holder, lawful_holder, TicketValue, ticket, lawful_ticket};
 
 use asn1_choices::{AnyOid, AnyOidRef, Arm, Chosen, Named, WriteChoice};
 use asn1_core::parts::{
@@ -33,7 +33,7 @@ impl Named for Token {
         &TOKEN
     }
 
-    ghost valid = { oid_by_arcs token_arcs };
+    ghost valid = { oid_from_test token_oid refl };
 }
 
 /// `Holder ::= SEQUENCE { type OBJECT IDENTIFIER, value ANY DEFINED BY type }`

@@ -1,11 +1,12 @@
 //! Known object identifiers, each by its contents octets, and making one of them.
 
 ghost use Rattle.std.specs.Prelude.{◌≡◌, MatchResult};
+ghost use Rattle.std.proofs.Common.{refl};
 ghost use Rattle.asn1_core_element.specs.declared.error.Error.TheVariants.{Memory};
-ghost use Rattle.asn1_core_oid.specs.Arcs.{oid_by_arcs};
 ghost use Rattle.asn1_core_oid.specs.Oid.{IsOid};
+ghost use Rattle.asn1_core_oid.specs.OidTestLaws.{oid_from_test};
 ghost use Rattle.asn1_core_oid.specs.OidValue.{octets_of};
-ghost use Rattle.pkcs12_algs.specs.Oids.{pbes2_oid, pbes2_arcs, pbkdf2_oid, pbkdf2_arcs};
+ghost use Rattle.pkcs12_algs.specs.Oids.{pbes2_oid, pbkdf2_oid};
 
 use asn1_choices::Named;
 use asn1_core::{Error, ObjectIdentifier};
@@ -85,7 +86,7 @@ impl Named for Pbkdf2 {
         PBKDF2
     }
 
-    ghost valid = { oid_by_arcs pbkdf2_arcs };
+    ghost valid = { oid_from_test pbkdf2_oid refl };
 }
 
 /// `id-PBES2`
@@ -99,5 +100,5 @@ impl Named for Pbes2 {
         PBES2
     }
 
-    ghost valid = { oid_by_arcs pbes2_arcs };
+    ghost valid = { oid_from_test pbes2_oid refl };
 }

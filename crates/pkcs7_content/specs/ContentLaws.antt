@@ -3,19 +3,19 @@ use Rattle.std.specs.Prelude.{◌≡◌, ℕ, ◌+◌, List, [], ◌++◌, Some,
 use Rattle.std.proofs.Common.{arith, refl, sym, ap, subst, inl, inr}
 use Rattle.asn1_core.specs.Der.{IsLawful, IsLawfulRow, part, nothing, within, octet_string, lawful_sequence, followed_by, perhaps, lawful_nothing, lawful_within, lawful_octet_string}
 use Rattle.asn1_core_element.specs.Element.{element}
-use Rattle.asn1_core_oid.specs.Arcs.{oid_by_arcs}
 use Rattle.asn1_core_oid.specs.Oid.{IsOid}
+use Rattle.asn1_core_oid.specs.OidTestLaws.{oid_from_test}
 use Rattle.asn1_defined_by.specs.DefinedBy.{Arm}
 use Rattle.asn1_defined_by.specs.DefinedByLaws.{IsDefinedBy, IsArm, itself, lawful_arm, lawful_any_defined_by}
 use Rattle.pkcs7_content.specs.Contents.{ContentValues, content_values, ContentRow, written_content, kind_of, as_data, as_octets, OctetsRow, octets_row, to_data, to_octets, perhaps_in, data_arm, octets_arm, content_row, content_defined_by, encapsulated}
 use Rattle.pkcs7_content.specs.IndirectData.{indirect_data, lawful_indirect_data}
-use Rattle.pkcs7_content.specs.Oids.{data_oid, data_arcs}
+use Rattle.pkcs7_content.specs.Oids.{data_oid}
 use Rattle.pkcs7_content.specs.declared.contents.Kind.{Kind}
 use Rattle.pkcs7_content.specs.declared.contents.Kind.TheVariants.{IndirectData, TrustList, PlainData, Foreign}
 use Rattle.pkcs7_content_ctl.specs.TrustLists.{ctl, lawful_ctl}
 
 pub data_oid_is : (octets : List ℕ) → octets ≡ data_oid → IsOid octets
-data_oid_is octets e = subst IsOid (sym e) (oid_by_arcs data_arcs)
+data_oid_is octets e = subst IsOid (sym e) (oid_from_test data_oid refl)
 
 lawful_octets_row : IsLawfulRow octets_row
 lawful_octets_row = perhaps (lawful_within octet_string lawful_octet_string.row 0xA0 (omega arith)) (λ t h e. e) lawful_nothing

@@ -2,9 +2,11 @@
 use Rattle.std.specs.Prelude.{◌≡◌, ℕ, zero, suc, Bool, true, List, [], ◌∷◌, ◌&&◌}
 use Rattle.std.proofs.Common.{refl}
 use Rattle.std.proofs.lemmas.Bool.{and_parts}
-use Rattle.asn1_core_oid.specs.Arcs.{arcs, are_arcs, oid_by_arcs}
+use Rattle.asn1_core_oid.specs.Arcs.{arcs}
+pub use Rattle.asn1_core_oid.specs.Known.{data_oid}
 use Rattle.asn1_core_oid.specs.Oid.{IsOid}
-pub use Rattle.asn1_core_oid.specs.Known.{data_oid, data_arcs}
+use Rattle.asn1_core_oid.specs.OidTest.{is_oid}
+use Rattle.asn1_core_oid.specs.OidTestLaws.{oid_from_test}
 
 abbrev pkcs : List ℕ → List ℕ
 pkcs further = 1 ∷ 2 ∷ 840 ∷ 113549 ∷ 1 ∷ further
@@ -36,14 +38,14 @@ row_at (row ∷ rows) (suc n) = row_at rows n
 abbrev pub oid : ℕ → List ℕ
 oid n = arcs (row_at known_arcs n)
 
-abbrev all_arcs : List (List ℕ) → Bool
-all_arcs [] = true
-all_arcs (row ∷ rows) = are_arcs row && all_arcs rows
+abbrev all_oids : List (List ℕ) → Bool
+all_oids [] = true
+all_oids (row ∷ rows) = is_oid (arcs row) && all_oids rows
 
-row_valid : (rows : List (List ℕ)) (n : ℕ) → all_arcs rows ≡ true → IsOid (arcs (row_at rows n))
-row_valid [] n h = oid_by_arcs {numbers = pkcs (7 ∷ 1 ∷ [])} record { allowed = refl; spelled = refl }
-row_valid (row ∷ rows) zero h = oid_by_arcs {numbers = row} record { allowed = (and_parts (are_arcs row) (all_arcs rows) h).0; spelled = refl }
-row_valid (row ∷ rows) (suc n) h = row_valid rows n (and_parts (are_arcs row) (all_arcs rows) h).1
+row_valid : (rows : List (List ℕ)) (n : ℕ) → all_oids rows ≡ true → IsOid (arcs (row_at rows n))
+row_valid [] n h = oid_from_test data_oid refl
+row_valid (row ∷ rows) zero h = oid_from_test (arcs row) (and_parts (is_oid (arcs row)) (all_oids rows) h).0
+row_valid (row ∷ rows) (suc n) h = row_valid rows n (and_parts (is_oid (arcs row)) (all_oids rows) h).1
 
 pub oid_valid : (n : ℕ) → IsOid (oid n)
 oid_valid n = row_valid known_arcs n refl
