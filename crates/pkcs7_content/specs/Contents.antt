@@ -68,21 +68,21 @@ as_octets (inr (inr (inr x))) = inr (inr (inr x))
 
 -- plain octets, or none
 abbrev pub OctetsRow : Type 0
-OctetsRow = Option (List ℕ) × Unit {0}
+OctetsRow = Option Octets × Unit {0}
 
 abbrev pub octets_row : Format OctetsRow
 octets_row = optional (within 0xA0 octet_string) nothing
 
 -- Octets are written alike under both arms. They are read under that of data behind its object identifier, and under
 -- that of octets behind a foreign one.
-abbrev pub to_data : Arm (List ℕ) ContentValues
+abbrev pub to_data : Arm Octets ContentValues
 to_data = record { put = λ x. inr (inr (inl x)); brought = as_data }
 
-abbrev pub to_octets : Arm (List ℕ) ContentValues
+abbrev pub to_octets : Arm Octets ContentValues
 to_octets = record { put = λ x. inr (inl x); brought = as_octets }
 
 -- the same with the content that may be absent
-abbrev pub perhaps_in : Arm (List ℕ) ContentValues → Arm OctetsRow ContentRow
+abbrev pub perhaps_in : Arm Octets ContentValues → Arm OctetsRow ContentRow
 perhaps_in m = record { put = λ p. (option_value m.put p.0, p.1); brought = λ c. (option_value m.brought c.0, c.1) }
 
 abbrev pub data_arm : Arm OctetsRow ContentRow

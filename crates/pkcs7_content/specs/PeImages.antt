@@ -15,7 +15,7 @@ use Rattle.asn1_leaves_strings.specs.Octets.{contents_of}
 use Rattle.pkcs7_content.specs.declared.pe_images.SpcPeImageData.{SpcPeImageData}
 
 -- the bits 1 0 0
-abbrev pub default_flags : List ℕ
+abbrev pub default_flags : BitStringOctets
 default_flags = 5 ∷ 0x80 ∷ []
 
 abbrev pub PeImageValue : Type 0
@@ -28,10 +28,10 @@ abbrev pub file_row : Format (LinkValue × Unit {0})
 file_row = part (within 0xA0 spc_link) nothing
 
 -- with the flags as they are spelled, there or not
-abbrev pub pe_image_spelled : Format (Option (List ℕ) × (LinkValue × Unit {0}))
+abbrev pub pe_image_spelled : Format (Option BitStringOctets × (LinkValue × Unit {0}))
 pe_image_spelled = sequence (optional bit_string file_row)
 
-abbrev pub flags_or_default : Option (List ℕ) → List ℕ
+abbrev pub flags_or_default : Option BitStringOctets → BitStringOctets
 flags_or_default (Some flags) = flags
 flags_or_default None = default_flags
 
@@ -39,7 +39,7 @@ flags_or_default None = default_flags
 abbrev pub HasFlags : List ℕ → Type 0
 HasFlags b = (c : List ℕ) × (b ≡ element 0x30 c) × NextIs (λ t. t ≡ 0x03) c
 
-abbrev pub flags_written : Loosening (Option (List ℕ) × (LinkValue × Unit {0})) PeImageValue
+abbrev pub flags_written : Loosening (Option BitStringOctets × (LinkValue × Unit {0})) PeImageValue
 flags_written = record {
   read = λ a. (flags_or_default a.0, a.1);
   written = λ v. (Some v.0, v.1);

@@ -27,7 +27,7 @@ use Rattle.pkcs7_content_ctl.specs.declared.properties.TheConstants.{ROOT_SHA256
 use Rattle.pkcs7_content_ctl.specs.declared.values.CTLEntryAttributeValues.{CTLEntryAttributeValues}
 use Rattle.pkcs7_content_ctl.specs.declared.values.CTLEntryAttributeValues.TheVariants.{CertAuthRootSha256HashPropId, CertDisallowedFileTimePropId, CertFriendlyName, CertKeyIdentifierPropId, CertSubjectNameMd5HashPropId, UnknownReservedPropId126, DisallowedEnhkeyUsage, CertEnhkeyUsagePropId, UnknownReservedPropId127, CertRootProgramChainPolicy, CertRootProgramCertPoliciesPropId, Unknown}
 
-abbrev pub octets_set : Format (List (List ℕ))
+abbrev pub octets_set : Format (List Words.Octets)
 octets_set = within 0x31 (each octet_string)
 
 abbrev pub UsageValue : Type 0
@@ -42,14 +42,14 @@ chain_policies_set = within 0x31 (each (within 0x04 chain_policy))
 abbrev pub cert_policies_set : Format (List (List CertPolicyValue))
 cert_policies_set = within 0x31 (each (within 0x04 (sequence (each cert_policy))))
 
-abbrev pub raws_set : Format (List (List ℕ))
+abbrev pub raws_set : Format (List ElementOctets)
 raws_set = within 0x31 (each raw)
 
 -- octets and usages stand beside the number of their property, as several have them
 abbrev pub AttributeValues : Type 0
 AttributeValues = (ℕ × List Words.Octets) ⊎ ((ℕ × List UsageValue) ⊎ (List ChainPolicyValue ⊎ (List (List CertPolicyValue) ⊎ List ElementOctets)))
 
-abbrev pub octets_in : Asn1SetOf OctetStringAsn1 → List (List ℕ)
+abbrev pub octets_in : Asn1SetOf OctetStringAsn1 → List Words.Octets
 octets_in s = map (λ x. x.0.items) s.0.items
 
 abbrev pub usages_in : Asn1SetOf (OctetStringAsn1Container (Asn1SequenceOf ObjectIdentifierAsn1)) → List UsageValue
@@ -61,7 +61,7 @@ chain_policies_in s = map (λ x. chain_policy_value x.0) s.0.items
 abbrev pub cert_policies_in : Asn1SetOf (OctetStringAsn1Container (Asn1SequenceOf CertPolicy)) → List (List CertPolicyValue)
 cert_policies_in s = map (λ x. map cert_policy_value x.0.0.items) s.0.items
 
-abbrev pub raws_in : Asn1SetOf Asn1RawDer → List (List ℕ)
+abbrev pub raws_in : Asn1SetOf Asn1RawDer → List ElementOctets
 raws_in s = map (λ x. x.0.items) s.0.items
 
 -- each arm by the number of its property

@@ -29,10 +29,10 @@ abbrev pub string_value : SpcString → StringValue
 string_value (Unicode s) = inl (octets_of_bmp s.0.0.0)
 string_value (Ancii s) = inr (octets_of_ia5 s.0.0.0)
 
-abbrev pub unicode : Format (List ℕ)
+abbrev pub unicode : Format StringOctets
 unicode = implicit 0x80 0x1E bmp_string
 
-abbrev pub ascii : Format (List ℕ)
+abbrev pub ascii : Format StringOctets
 ascii = implicit 0x81 0x16 ia5_string
 
 abbrev pub spc_string : Format StringValue
@@ -47,7 +47,7 @@ link_value (Url u) = inl (octets_of_ia5 u.0.0.0.0)
 link_value (Moniker m) = inr (inl (m.0.0.0.class_id.0.0.items, (m.0.0.0.serialized_data.0.items, tt)))
 link_value (File f) = inr (inr (string_value f.0.0))
 
-abbrev pub url : Format (List ℕ)
+abbrev pub url : Format StringOctets
 url = implicit 0x80 0x16 ia5_string
 
 abbrev pub moniker : Format SerializedObjectValue

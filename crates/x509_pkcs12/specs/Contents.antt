@@ -32,7 +32,7 @@ AnyContentValue = Option ElementOctets × Unit {0}
 abbrev pub any_content : Format AnyContentValue
 any_content = optional (within 0xA0 raw) nothing
 
-abbrev pub unknown_content : Choice (List ℕ × AnyContentValue)
+abbrev pub unknown_content : Choice (OidOctets × AnyContentValue)
 unknown_content = otherwise IsOid any_content
 
 -- bags; encrypted bags; or an object identifier and its content
@@ -44,7 +44,7 @@ content_info_value (Data c) = inl (contents_value c)
 content_info_value (EncryptedData c) = inr (inl (0, (encrypted_contents_value c, tt)))
 content_info_value (Unknown t c) = inr (inr (octets_of t, (option_value (λ x. x.0.items) c, tt)))
 
-abbrev pub encrypted_or_unknown : Choice (EncryptedValue ⊎ (List ℕ × AnyContentValue))
+abbrev pub encrypted_or_unknown : Choice (EncryptedValue ⊎ (OidOctets × AnyContentValue))
 encrypted_or_unknown = known (oid ENCRYPTED_DATA) encrypted_content unknown_content
 
 abbrev pub content_choice : Choice ContentInfoValue

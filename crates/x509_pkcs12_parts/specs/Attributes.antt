@@ -25,13 +25,13 @@ attribute_value (Unknown o vs) = inr (inr (octets_of o, map (λ v. v.0.items) vs
 abbrev pub set_of_one : {V : Type 0} → Format V → Format V
 set_of_one F = within 0x31 F
 
-abbrev pub any_values : Format (List (List ℕ))
+abbrev pub any_values : Format (List ElementOctets)
 any_values = within 0x31 (each raw)
 
-abbrev pub unknown_attribute : Choice (List ℕ × List (List ℕ))
+abbrev pub unknown_attribute : Choice (OidOctets × List ElementOctets)
 unknown_attribute = otherwise IsOid any_values
 
-abbrev pub local_key_id : Choice (List ℕ ⊎ (List ℕ × List (List ℕ)))
+abbrev pub local_key_id : Choice (Octets ⊎ (OidOctets × List ElementOctets))
 local_key_id = known (oid LOCAL_KEY_ID) (set_of_one octet_string) unknown_attribute
 
 abbrev pub attribute_choice : Choice AttributeValue

@@ -26,7 +26,7 @@ EncryptedContentsValue = Unit {0} × (EncryptionAlgorithmValue × (Option Octets
 abbrev pub encrypted_contents_value : EncryptedSafeContents → EncryptedContentsValue
 encrypted_contents_value c = (tt, (encryption_algorithm_value c.algorithm, (option_value (λ o. o.0.items) c.encrypted_content, tt)))
 
-abbrev pub encrypted_octets : Format (List ℕ)
+abbrev pub encrypted_octets : Format Octets
 encrypted_octets = implicit (context_tag 0 0x04) 0x04 octet_string
 
 abbrev pub encrypted_contents : Format EncryptedContentsValue
