@@ -199,6 +199,7 @@ pub use x509_pkcs12::SafeBagKind;
 pub use x509_pkcs12::SafeContents;
 pub use x509_pkcs12::SafeContentsContentInfo;
 pub use x509_pkcs12::SecretBag;
+pub use x509_pkcs12::X509Bag;
 pub use x509_pkcs12::mac_octets_stand_in_the_input;
 pub use x509_pkcs12::mac_octets_stand_in_the_text;
 pub use x509_pkcs12::mac_octets_survive_where_normal;

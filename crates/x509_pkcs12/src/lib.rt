@@ -30,5 +30,5 @@ pub use representations::AuthenticatedSafeDataRepr;
 pub use x509_pkcs12_bags::{SafeBag, SafeBagKind, SafeContents};
 pub use x509_pkcs12_parts::{
     CertificateBag, CrlBag, EncryptedKeyBag, EncryptedSafeContents, KeyBag, Pkcs12Attribute,
-    SecretBag,
+    SecretBag, X509Bag,
 };

@@ -10,39 +10,31 @@ use Rattle.asn1_core_oid.specs.Oid.{IsOid}
 use Rattle.pkcs12_algs.specs.Encryption.{EncryptionAlgorithmValue, encryption_algorithm_value, encryption_algorithm, lawful_encryption_algorithm}
 use Rattle.x509_pkcs12_parts.specs.Oids.{oid}
 use Rattle.x509_pkcs12_parts.specs.declared.oids.TheConstants.{X509_CERTIFICATE, X509_CRL}
-use Rattle.x509_pkcs12_parts.specs.declared.bags.CertificateBag.{CertificateBag}
-use Rattle.x509_pkcs12_parts.specs.declared.bags.CertificateBag.TheVariants as Certificate
-use Rattle.x509_pkcs12_parts.specs.declared.bags.CrlBag.{CrlBag}
-use Rattle.x509_pkcs12_parts.specs.declared.bags.CrlBag.TheVariants as Crl
 use Rattle.x509_pkcs12_parts.specs.declared.bags.EncryptedKeyBag.{EncryptedKeyBag}
 use Rattle.x509_pkcs12_parts.specs.declared.bags.SecretBag.{SecretBag}
+use Rattle.x509_pkcs12_parts.specs.declared.bags.X509Bag.{X509Bag}
+use Rattle.x509_pkcs12_parts.specs.declared.bags.X509Bag.TheVariants.{X509, Unknown}
 
 -- the octets of an X.509 one; or an object identifier and any element
 abbrev pub OctetsOrAny : Type 0
 OctetsOrAny = Octets ⊎ (OidOctets × ElementOctets)
 
-abbrev pub certificate_value : CertificateBag → OctetsOrAny
-certificate_value (Certificate.X509 o) = inl o.0.items
-certificate_value (Certificate.Unknown t v) = inr (octets_of t, v.0.items)
+abbrev pub x509_value : {known : ℕ} → X509Bag known → OctetsOrAny
+x509_value (X509 o) = inl o.0.items
+x509_value (Unknown t v) = inr (octets_of t, v.0.items)
 
-abbrev pub crl_value : CrlBag → OctetsOrAny
-crl_value (Crl.X509 o) = inl o.0.items
-crl_value (Crl.Unknown t v) = inr (octets_of t, v.0.items)
-
-abbrev pub any_value : Choice (List ℕ × List ℕ)
+abbrev pub any_value : Choice (OidOctets × ElementOctets)
 any_value = otherwise IsOid (within 0xA0 raw)
 
-abbrev pub certificate_choice : Choice OctetsOrAny
-certificate_choice = known (oid X509_CERTIFICATE) (within 0xA0 octet_string) any_value
-
-abbrev pub crl_choice : Choice OctetsOrAny
-crl_choice = known (oid X509_CRL) (within 0xA0 octet_string) any_value
+-- where X.509's is known by the object identifier with that number
+abbrev pub x509_bag : ℕ → Format OctetsOrAny
+x509_bag number = sequence (known (oid number) (within 0xA0 octet_string) any_value).row
 
 abbrev pub certificate_bag : Format OctetsOrAny
-certificate_bag = sequence certificate_choice.row
+certificate_bag = x509_bag X509_CERTIFICATE
 
 abbrev pub crl_bag : Format OctetsOrAny
-crl_bag = sequence crl_choice.row
+crl_bag = x509_bag X509_CRL
 
 abbrev pub SecretValue : Type 0
 SecretValue = OidOctets × (ElementOctets × Unit {0})
@@ -71,17 +63,9 @@ lawful_any = lawful_within raw lawful_raw.row 0xA0 (omega arith)
 lawful_any_value : IsLawfulChoice any_value
 lawful_any_value = lawful_otherwise IsOid (within 0xA0 raw) lawful_any.row
 
-pub lawful_certificate_choice : IsLawfulChoice certificate_choice
-lawful_certificate_choice = lawful_known (oid X509_CERTIFICATE) (within 0xA0 octet_string) any_value lawful_octets.row lawful_any_value
-
-pub lawful_crl_choice : IsLawfulChoice crl_choice
-lawful_crl_choice = lawful_known (oid X509_CRL) (within 0xA0 octet_string) any_value lawful_octets.row lawful_any_value
-
-pub lawful_certificate_bag : IsLawful certificate_bag
-lawful_certificate_bag = lawful_sequence lawful_certificate_choice.row
-
-pub lawful_crl_bag : IsLawful crl_bag
-lawful_crl_bag = lawful_sequence lawful_crl_choice.row
+pub lawful_x509_bag : (number : ℕ) → IsLawful (x509_bag number)
+lawful_x509_bag number =
+    lawful_sequence (lawful_known (oid number) (within 0xA0 octet_string) any_value lawful_octets.row lawful_any_value).row
 
 pub lawful_secret_bag : IsLawful secret_bag
 lawful_secret_bag = lawful_sequence (followed_by lawful_object_identifier (followed_by lawful_any lawful_nothing))

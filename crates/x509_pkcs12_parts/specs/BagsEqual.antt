@@ -1,19 +1,17 @@
 -- `==` of certificates, revocation lists, secrets and encrypted keys sees what they contain.
+use denote.Param.{value_of}
+use denote.RattleType.{RattleType}
 use Rattle.std.proofs.Common.{rules}
 use Rattle.asn1_core.specs.Equal.{octets_equal, with_end}
 use Rattle.asn1_core_format.specs.Views.{SeesEqual, two_equal}
 use Rattle.pkcs12_algs.specs.EncryptionEqual.{encryption_algorithm_equal}
-use Rattle.x509_pkcs12_parts.specs.Bags.{certificate_value, crl_value, secret_value, encrypted_key_value}
-use Rattle.x509_pkcs12_parts.specs.contracts.bags.CertificateBagPartialEq.TheImpl as Certificate
-use Rattle.x509_pkcs12_parts.specs.contracts.bags.CrlBagPartialEq.TheImpl as Crl
+use Rattle.x509_pkcs12_parts.specs.Bags.{x509_value, secret_value, encrypted_key_value}
 use Rattle.x509_pkcs12_parts.specs.contracts.bags.EncryptedKeyBagPartialEq.TheImpl as EncryptedKey
 use Rattle.x509_pkcs12_parts.specs.contracts.bags.SecretBagPartialEq.TheImpl as Secret
+use Rattle.x509_pkcs12_parts.specs.contracts.bags.X509BagPartialEq.TheImpl as X509
 
-pub certificate_equal : SeesEqual Certificate.ghosts.eq certificate_value
-certificate_equal = search rules
-
-pub crl_equal : SeesEqual Crl.ghosts.eq crl_value
-crl_equal = search rules
+pub x509_equal : (N : RattleType) → SeesEqual (X509.ghosts N).eq (x509_value {known = value_of N})
+x509_equal N = search rules
 
 pub secret_equal : SeesEqual Secret.ghosts.eq secret_value
 secret_equal = search rules

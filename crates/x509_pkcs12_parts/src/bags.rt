@@ -1,8 +1,9 @@
 //! Certificates, revocation lists, secrets and encrypted keys, as bags hold them.
 
 ghost use Rattle.std.specs.Prelude.{◌≡◌};
-ghost use Rattle.x509_pkcs12_parts.specs.Bags.{OctetsOrAny, certificate_value, certificate_bag, crl_value, crl_bag, SecretValue, secret_value, secret_bag, EncryptedKeyValue, encrypted_key_value, encrypted_key_bag, lawful_certificate_bag, lawful_crl_bag, lawful_secret_bag, lawful_encrypted_key_bag};
-ghost use Rattle.x509_pkcs12_parts.specs.BagsEqual.{certificate_equal, crl_equal, secret_equal, encrypted_key_equal};
+ghost use Rattle.std.proofs.Common.{rules};
+ghost use Rattle.x509_pkcs12_parts.specs.Bags.{OctetsOrAny, x509_value, x509_bag, SecretValue, secret_value, secret_bag, EncryptedKeyValue, encrypted_key_value, encrypted_key_bag, lawful_x509_bag, lawful_secret_bag, lawful_encrypted_key_bag};
+ghost use Rattle.x509_pkcs12_parts.specs.BagsEqual.{secret_equal, encrypted_key_equal};
 
 use crate::oids::{Known, X509_CERTIFICATE, X509_CRL};
 use asn1_choices::{AnyOid, AnyOidRef, Arm, Chosen, WriteChoice};
@@ -30,95 +31,27 @@ type OctetsOrAnyRef<'a, N> = Either<
 >;
 
 /// `CertBag ::= SEQUENCE { certId BAG-TYPE.&id, certValue [0] EXPLICIT BAG-TYPE.&Type }` (RFC 7292, 4.2.3).
-#[derive(Debug, Drop, PartialEq, Eq)]
-pub enum CertificateBag {
-    /// The DER of an X.509 certificate, which is not looked into.
-    X509(OctetStringAsn1),
-    /// Any other certificate.
-    Unknown {
-        type_id: ObjectIdentifier,
-        value: Asn1RawDer,
-    },
-}
-
-impl CertificateBag {
-    fn choice(&self) -> OctetsOrAnyRef<'_, Known<X509_CERTIFICATE>>
-        ensures { ⟦<OctetsOrAnyRef<'static, Known<X509_CERTIFICATE>> as WriteChoice>⟧.value result ≡ certificate_value self.now }
-    {
-        match self {
-            Self::X509(octets) => Either::First(Arm::new(Alone(ExplicitContextTag0(octets)))),
-            Self::Unknown { type_id, value } => {
-                Either::Second(AnyOidRef(type_id, Alone(ExplicitContextTag0(value))))
-            }
-        }
-    }
-}
-
-impl DerSerialize for CertificateBag {
-    ghost Value = { OctetsOrAny };
-
-    ghost value = { certificate_value };
-
-    ghost format = { certificate_bag };
-
-    fn put<W: Writer>(&self, w: &mut W) -> Result<(), WriteError> {
-        put_within(0x30, &Chosen(self.choice()), w)
-    }
-
-    fn well_formed_at(&self, limit: u8) -> bool {
-        self.choice().choice_well_formed_at(limit)
-    }
-}
-
-impl DerDeserialize for CertificateBag {
-    fn read(alloc: Global, r: &mut Reader<'_>, nest: u8) -> Result<Self, Error> {
-        let Chosen(choice) = read_within::<Chosen<OctetsOrAny<Known<X509_CERTIFICATE>>>>(
-            alloc, r, nest, 0x30,
-        )?;
-        match choice {
-            Either::First(arm) => Ok(Self::X509(arm.into_row().0.0)),
-            Either::Second(other) => {
-                let AnyOid(type_id, Alone(ExplicitContextTag0(value))) = other;
-                Ok(Self::Unknown { type_id, value })
-            }
-        }
-    }
-
-    ghost lawful = { lawful_certificate_bag };
-}
-
-impl EqualByText for CertificateBag {
-    ghost equal_by_text = { certificate_equal };
-}
-
-impl TryClone for CertificateBag {
-    fn try_clone(&self, alloc: Global) -> Result<Self, Error> {
-        match self {
-            CertificateBag::X509(octets) => Ok(CertificateBag::X509(octets.try_clone(alloc)?)),
-            CertificateBag::Unknown { type_id, value } => {
-                let type_id = type_id.try_clone(alloc)?;
-                let value = value.try_clone(alloc)?;
-                Ok(CertificateBag::Unknown { type_id, value })
-            }
-        }
-    }
-}
+pub type CertificateBag = X509Bag<X509_CERTIFICATE>;
 
 /// `CRLBag ::= SEQUENCE { crlId BAG-TYPE.&id, crlValue [0] EXPLICIT BAG-TYPE.&Type }` (RFC 7292, 4.2.4).
+pub type CrlBag = X509Bag<X509_CRL>;
+
+/// A certificate or a revocation list as a bag holds it: `CertificateBag` or `CrlBag`, by the number of the object
+/// identifier under which X.509's stands.
 #[derive(Debug, Drop, PartialEq, Eq)]
-pub enum CrlBag {
-    /// The DER of an X.509 revocation list, which is not looked into.
+pub enum X509Bag<const KNOWN: usize> {
+    /// The DER of an X.509 certificate or revocation list, which is not looked into.
     X509(OctetStringAsn1),
-    /// Any other revocation list.
+    /// Any other.
     Unknown {
         type_id: ObjectIdentifier,
         value: Asn1RawDer,
     },
 }
 
-impl CrlBag {
-    fn choice(&self) -> OctetsOrAnyRef<'_, Known<X509_CRL>>
-        ensures { ⟦<OctetsOrAnyRef<'static, Known<X509_CRL>> as WriteChoice>⟧.value result ≡ crl_value self.now }
+impl<const KNOWN: usize> X509Bag<KNOWN> {
+    fn choice(&self) -> OctetsOrAnyRef<'_, Known<KNOWN>>
+        ensures { ⟦<OctetsOrAnyRef<'static, Known<KNOWN>> as WriteChoice>⟧.value result ≡ x509_value self.now }
     {
         match self {
             Self::X509(octets) => Either::First(Arm::new(Alone(ExplicitContextTag0(octets)))),
@@ -129,12 +62,12 @@ impl CrlBag {
     }
 }
 
-impl DerSerialize for CrlBag {
+impl<const KNOWN: usize> DerSerialize for X509Bag<KNOWN> {
     ghost Value = { OctetsOrAny };
 
-    ghost value = { crl_value };
+    ghost value = { x509_value };
 
-    ghost format = { crl_bag };
+    ghost format = { x509_bag KNOWN };
 
     fn put<W: Writer>(&self, w: &mut W) -> Result<(), WriteError> {
         put_within(0x30, &Chosen(self.choice()), w)
@@ -145,9 +78,9 @@ impl DerSerialize for CrlBag {
     }
 }
 
-impl DerDeserialize for CrlBag {
+impl<const KNOWN: usize> DerDeserialize for X509Bag<KNOWN> {
     fn read(alloc: Global, r: &mut Reader<'_>, nest: u8) -> Result<Self, Error> {
-        let Chosen(choice) = read_within::<Chosen<OctetsOrAny<Known<X509_CRL>>>>(
+        let Chosen(choice) = read_within::<Chosen<OctetsOrAny<Known<KNOWN>>>>(
             alloc, r, nest, 0x30,
         )?;
         match choice {
@@ -159,21 +92,21 @@ impl DerDeserialize for CrlBag {
         }
     }
 
-    ghost lawful = { lawful_crl_bag };
+    ghost lawful = { lawful_x509_bag KNOWN };
 }
 
-impl EqualByText for CrlBag {
-    ghost equal_by_text = { crl_equal };
+impl<const KNOWN: usize> EqualByText for X509Bag<KNOWN> {
+    ghost equal_by_text = { Prim.search rules };
 }
 
-impl TryClone for CrlBag {
+impl<const KNOWN: usize> TryClone for X509Bag<KNOWN> {
     fn try_clone(&self, alloc: Global) -> Result<Self, Error> {
         match self {
-            CrlBag::X509(octets) => Ok(CrlBag::X509(octets.try_clone(alloc)?)),
-            CrlBag::Unknown { type_id, value } => {
+            Self::X509(octets) => Ok(Self::X509(octets.try_clone(alloc)?)),
+            Self::Unknown { type_id, value } => {
                 let type_id = type_id.try_clone(alloc)?;
                 let value = value.try_clone(alloc)?;
-                Ok(CrlBag::Unknown { type_id, value })
+                Ok(Self::Unknown { type_id, value })
             }
         }
     }

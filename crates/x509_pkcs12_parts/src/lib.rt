@@ -9,6 +9,6 @@ pub mod oids;
 pub mod sets;
 
 pub use attributes::{BagAttributes, BagAttributesRef, Pkcs12Attribute};
-pub use bags::{CertificateBag, CrlBag, EncryptedKeyBag, KeyBag, SecretBag};
+pub use bags::{CertificateBag, CrlBag, EncryptedKeyBag, KeyBag, SecretBag, X509Bag};
 pub use contents::EncryptedSafeContents;
 pub use sets::{SetOfOne, SetRef};
