@@ -1,18 +1,11 @@
 -- Bags that are appended to a list, one after another.
-use Rattle.std.proofs.Common.{◌≡◌, ℕ, ◌+◌, ◌<◌, ◌≤◌, List, [], ◌∷◌, ◌++◌, length, map, drop, get_or, sym, ap, ◌∙◌}
+use Rattle.std.proofs.Common.{◌≡◌, ℕ, ◌≤◌, List, [], ◌∷◌, ◌++◌, length, map, drop, sym, ap, ◌∙◌}
 use Rattle.std.proofs.Math.ListN.{drop_of_length-le}
-use Rattle.std.proofs.lemmas.List.{drop_more, append_assoc, append-nil, map-append}
+use Rattle.std.proofs.lemmas.List.{append_assoc, append-nil, map-append}
 use Rattle.x509_pkcs12_bags.specs.Bags.{Bag}
 use Rattle.x509_pkcs12_bags.specs.Walks.{bag_walk, walk}
 
 module _ {T : Type 0} (f : T → Bag) (xs : List T) (i : ℕ) (old held : List Bag) (so_far : held ++ walk (map f (drop i xs)) ≡ old ++ walk (map f xs)) where
-  -- one bag more
-  pub walked_on : {new : List Bag} (x : T) → i < length xs → x ≡ get_or xs i x → new ≡ held ++ bag_walk (f x) → new ++ walk (map f (drop (i + 1) xs)) ≡ old ++ walk (map f xs)
-  walked_on x l e step =
-      let d : drop i xs ≡ x ∷ drop (i + 1) xs = drop_more xs i x l ∙ ap (λ y. y ∷ drop (i + 1) xs) (sym e) in
-      ap (λ t. t ++ walk (map f (drop (i + 1) xs))) step ∙ append_assoc held (bag_walk (f x)) (walk (map f (drop (i + 1) xs)))
-      ∙ ap (λ ys. held ++ walk (map f ys)) (sym d) ∙ so_far
-
   -- all bags
   pub walked_all : length xs ≤ i → held ≡ old ++ walk (map f xs)
   walked_all l = sym (append-nil held) ∙ ap (λ ys. held ++ walk (map f ys)) (sym (drop_of_length-le xs l)) ∙ so_far
