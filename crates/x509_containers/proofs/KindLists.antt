@@ -1,9 +1,10 @@
 -- That the list of all kinds leaves none out, and what is asked of each of a list.
+use Rattle.std.specs.Prelude.{zero, suc}
 use Rattle.std.proofs.Common.{◌≡◌, ◌≢◌, ◌↔◌, ◌∙◌, ℕ, ◌+◌, ◌<◌, ◌≤◌, Bool, false, true≢false, IsTrue, List, [], ◌∷◌, ◌++◌, map, length, take, get_or, inl, inr, ap, subst, sym, rules}
-use Rattle.std.specs.List.{All}
+use Rattle.std.specs.List.{All, flat_map}
 use Rattle.std.proofs.lemmas.List.{take_all}
 use Rattle.std.proofs.lemmas.List.Elements.{All-head, All-tail, All-more}
-use Rattle.x509_containers.specs.Kinds.{IsAmong, kinds, word_of}
+use Rattle.x509_containers.specs.Kinds.{IsAmong, kinds, layers, word_of}
 use Rattle.x509_containers.specs.declared.kinds.Kind.{Kind}
 use Rattle.x509_containers.specs.declared.kinds.Kind.TheVariants.{Algorithm, Authenticode, Content, Enveloped, SignedData, SignedPart, Store, TrustList}
 use Rattle.x509_containers.specs.AlgorithmKinds
@@ -23,58 +24,26 @@ use Rattle.x509_containers.specs.declared.kinds.signed_parts.SignedPartKind.{Sig
 use Rattle.x509_containers.specs.declared.kinds.stores.StoreKind.{StoreKind}
 use Rattle.x509_containers.specs.declared.kinds.trust_lists.TrustListKind.{TrustListKind}
 
--- among the first of two lists, and among the second
-here : {A B : Type 0} (f : A → B) (xs : List A) (ys : List B) (x : A) → IsAmong xs x → IsAmong (map f xs ++ ys) (f x)
-here f [] ys x i = absurd i
-here f (a ∷ rest) ys x (inl e) = inl (ap f e)
-here f (a ∷ rest) ys x (inr i) = inr (here f rest ys x i)
+-- among a list with another behind it, and among one with another before it
+here : {B : Type 0} (xs ys : List B) (y : B) → IsAmong xs y → IsAmong (xs ++ ys) y
+here [] ys y i = absurd i
+here (a ∷ rest) ys y (inl e) = inl e
+here (a ∷ rest) ys y (inr i) = inr (here rest ys y i)
 
-past : {A B : Type 0} (f : A → B) (xs : List A) (ys : List B) (y : B) → IsAmong ys y → IsAmong (map f xs ++ ys) y
-past f [] ys y i = i
-past f (a ∷ rest) ys y i = inr (past f rest ys y i)
+past : {B : Type 0} (xs ys : List B) (y : B) → IsAmong ys y → IsAmong (xs ++ ys) y
+past [] ys y i = i
+past (a ∷ rest) ys y i = inr (past rest ys y i)
 
--- what is left of the list from each layer on
-abbrev trust_lists_on : List Kind
-trust_lists_on = map TrustList TrustListKinds.kinds ++ []
+-- among one of several lists
+among : {B : Type 0} (lists : List (List B)) (n : ℕ) (y : B) → IsAmong (get_or lists n []) y → IsAmong (flat_map (λ list. list) lists) y
+among [] n y i = absurd i
+among (list ∷ lists) zero y i = here list (flat_map (λ list. list) lists) y i
+among (list ∷ lists) (suc n) y i = past list (flat_map (λ list. list) lists) y (among lists n y i)
 
-abbrev stores_on : List Kind
-stores_on = map Store StoreKinds.kinds ++ trust_lists_on
-
-abbrev signed_parts_on : List Kind
-signed_parts_on = map SignedPart SignedPartKinds.kinds ++ stores_on
-
-abbrev signed_data_on : List Kind
-signed_data_on = map SignedData SignedDataKinds.kinds ++ signed_parts_on
-
-abbrev enveloped_on : List Kind
-enveloped_on = map Enveloped EnvelopedKinds.kinds ++ signed_data_on
-
-abbrev contents_on : List Kind
-contents_on = map Content ContentKinds.kinds ++ enveloped_on
-
-abbrev authenticode_on : List Kind
-authenticode_on = map Authenticode AuthenticodeKinds.kinds ++ contents_on
-
-from_authenticode : (kind : Kind) → IsAmong authenticode_on kind → IsAmong kinds kind
-from_authenticode kind among = past Algorithm AlgorithmKinds.kinds authenticode_on kind among
-
-from_contents : (kind : Kind) → IsAmong contents_on kind → IsAmong kinds kind
-from_contents kind among = from_authenticode kind (past Authenticode AuthenticodeKinds.kinds contents_on kind among)
-
-from_enveloped : (kind : Kind) → IsAmong enveloped_on kind → IsAmong kinds kind
-from_enveloped kind among = from_contents kind (past Content ContentKinds.kinds enveloped_on kind among)
-
-from_signed_data : (kind : Kind) → IsAmong signed_data_on kind → IsAmong kinds kind
-from_signed_data kind among = from_enveloped kind (past Enveloped EnvelopedKinds.kinds signed_data_on kind among)
-
-from_signed_parts : (kind : Kind) → IsAmong signed_parts_on kind → IsAmong kinds kind
-from_signed_parts kind among = from_signed_data kind (past SignedData SignedDataKinds.kinds signed_parts_on kind among)
-
-from_stores : (kind : Kind) → IsAmong stores_on kind → IsAmong kinds kind
-from_stores kind among = from_signed_parts kind (past SignedPart SignedPartKinds.kinds stores_on kind among)
-
-from_trust_lists : (kind : Kind) → IsAmong trust_lists_on kind → IsAmong kinds kind
-from_trust_lists kind among = from_stores kind (past Store StoreKinds.kinds trust_lists_on kind among)
+mapped : {A B : Type 0} (f : A → B) (xs : List A) (x : A) → IsAmong xs x → IsAmong (map f xs) (f x)
+mapped f [] x i = absurd i
+mapped f (a ∷ rest) x (inl e) = inl (ap f e)
+mapped f (a ∷ rest) x (inr i) = inr (mapped f rest x i)
 
 algorithms : (kind : AlgorithmKind) → IsAmong AlgorithmKinds.kinds kind
 algorithms = search rules
@@ -101,14 +70,14 @@ trust_lists : (kind : TrustListKind) → IsAmong TrustListKinds.kinds kind
 trust_lists = search rules
 
 pub every : (kind : Kind) → IsAmong kinds kind
-every (Algorithm kind) = here Algorithm AlgorithmKinds.kinds authenticode_on kind (algorithms kind)
-every (Authenticode kind) = from_authenticode (Authenticode kind) (here Authenticode AuthenticodeKinds.kinds contents_on kind (authenticode kind))
-every (Content kind) = from_contents (Content kind) (here Content ContentKinds.kinds enveloped_on kind (contents kind))
-every (Enveloped kind) = from_enveloped (Enveloped kind) (here Enveloped EnvelopedKinds.kinds signed_data_on kind (enveloped kind))
-every (SignedData kind) = from_signed_data (SignedData kind) (here SignedData SignedDataKinds.kinds signed_parts_on kind (signed_data kind))
-every (SignedPart kind) = from_signed_parts (SignedPart kind) (here SignedPart SignedPartKinds.kinds stores_on kind (signed_parts kind))
-every (Store kind) = from_stores (Store kind) (here Store StoreKinds.kinds trust_lists_on kind (stores kind))
-every (TrustList kind) = from_trust_lists (TrustList kind) (here TrustList TrustListKinds.kinds [] kind (trust_lists kind))
+every (Algorithm kind) = among layers 0 (Algorithm kind) (mapped Algorithm AlgorithmKinds.kinds kind (algorithms kind))
+every (Authenticode kind) = among layers 1 (Authenticode kind) (mapped Authenticode AuthenticodeKinds.kinds kind (authenticode kind))
+every (Content kind) = among layers 2 (Content kind) (mapped Content ContentKinds.kinds kind (contents kind))
+every (Enveloped kind) = among layers 3 (Enveloped kind) (mapped Enveloped EnvelopedKinds.kinds kind (enveloped kind))
+every (SignedData kind) = among layers 4 (SignedData kind) (mapped SignedData SignedDataKinds.kinds kind (signed_data kind))
+every (SignedPart kind) = among layers 5 (SignedPart kind) (mapped SignedPart SignedPartKinds.kinds kind (signed_parts kind))
+every (Store kind) = among layers 6 (Store kind) (mapped Store StoreKinds.kinds kind (stores kind))
+every (TrustList kind) = among layers 7 (TrustList kind) (mapped TrustList TrustListKinds.kinds kind (trust_lists kind))
 
 of_all : {A : Type 0} (P : A → Type 0) (xs : List A) (x : A) → All P xs → IsAmong xs x → P x
 of_all P [] x all i = absurd i

@@ -1,5 +1,6 @@
 -- The kinds of input that the program knows, of all layers, by the words that name them.
-use Rattle.std.specs.Prelude.{◌≡◌, ◌⊎◌, ℕ, List, [], ◌∷◌, ◌++◌, map}
+use Rattle.std.specs.Prelude.{◌≡◌, ◌⊎◌, ℕ, List, [], ◌∷◌, map}
+use Rattle.std.specs.List.{flat_map}
 use Rattle.x509_containers_engine.specs.Engine.{Rewriting}
 use Rattle.x509_containers.specs.declared.kinds.Kind.{Kind}
 use Rattle.x509_containers.specs.declared.kinds.Kind.TheVariants.{Algorithm, Authenticode, Content, Enveloped, SignedData, SignedPart, Store, TrustList}
@@ -33,10 +34,14 @@ rewriting_as (SignedPart kind) = SignedPartKinds.rewriting_as kind
 rewriting_as (Store kind) = StoreKinds.rewriting_as kind
 rewriting_as (TrustList kind) = TrustListKinds.rewriting_as kind
 
+-- those of each layer
+abbrev pub layers : List (List Kind)
+layers =
+    map Algorithm AlgorithmKinds.kinds ∷ map Authenticode AuthenticodeKinds.kinds ∷ map Content ContentKinds.kinds ∷ map Enveloped EnvelopedKinds.kinds
+    ∷ map SignedData SignedDataKinds.kinds ∷ map SignedPart SignedPartKinds.kinds ∷ map Store StoreKinds.kinds ∷ map TrustList TrustListKinds.kinds ∷ []
+
 abbrev pub kinds : List Kind
-kinds =
-    map Algorithm AlgorithmKinds.kinds ++ (map Authenticode AuthenticodeKinds.kinds ++ (map Content ContentKinds.kinds ++ (map Enveloped EnvelopedKinds.kinds
-    ++ (map SignedData SignedDataKinds.kinds ++ (map SignedPart SignedPartKinds.kinds ++ (map Store StoreKinds.kinds ++ (map TrustList TrustListKinds.kinds ++ [])))))))
+kinds = flat_map (λ layer. layer) layers
 
 -- x is one of the list
 abbrev pub IsAmong : {A : Type 0} → List A → A → Type 0
