@@ -4,9 +4,10 @@ use crate::rounds::{Stop, expect, has_text, is_written};
 use crate::texts;
 use std::alloc::Global;
 use x509_containers::{
-    BitString, BitStringAsn1, ContentInfo, EncapsulatedContentInfo, ObjectIdentifier,
-    OctetStringAsn1, Pbes1AlgorithmKind, Pbes2AesCbcEncryption, Pbkdf2Prf, Pkcs12DigestAlgorithm,
-    SpcLink, SpcPeImageFlags, SpcSerializedObject, SpcString,
+    BitString, BitStringAsn1, BmpString, ContentInfo, EncapsulatedContentInfo, ObjectIdentifier,
+    OctetStringAsn1, ParsedAuthenticatedSafeDataRepr, Pbes1AlgorithmKind, Pbes2AesCbcEncryption,
+    Pbkdf2Prf, Pfx, Pkcs12DigestAlgorithm, SafeBag, SpcLink, SpcPeImageFlags, SpcSerializedObject,
+    SpcString, from_bytes, mac_range,
 };
 
 /// The octets of 1.2.3.4.
@@ -69,4 +70,35 @@ pub fn of_contents(alloc: Global) -> Result<(), Stop> {
     let outcome = info.content_typed::<OctetStringAsn1>(alloc);
     has_text(&info, texts::CONTENT)?;
     has_text(&outcome?, b"\x04\x02\x30\x00")
+}
+
+/// Which octets of a file its MAC covers.
+pub fn of_ranges(alloc: Global) -> Result<(), Stop> {
+    let Some(range) = mac_range(alloc, texts::NAMED_KEY)? else {
+        return Err(Stop::Other("a file has nothing that a MAC covers"));
+    };
+    expect(
+        range.start == 22 && range.end == texts::NAMED_KEY.len(),
+        "a MAC covers other octets",
+    )
+}
+
+fn is_named(bags: &[&SafeBag], name: &BmpString) -> bool {
+    match bags {
+        [bag] => bag.friendly_name() == Some(name),
+        _ => false,
+    }
+}
+
+/// All bags of a file, and their names, from text and to text.
+pub fn of_bags(alloc: Global) -> Result<(), Stop> {
+    let pfx: Pfx<ParsedAuthenticatedSafeDataRepr> = from_bytes(alloc, texts::NAMED_KEY)?;
+    let outcome = pfx.all_bags(alloc);
+    has_text(&pfx, texts::NAMED_KEY)?;
+    let bags = outcome?;
+    let name = BmpString::from_text(alloc, "AB")?;
+    expect(is_named(&bags, &name), "a file has other bags")?;
+    let text = name.to_text(alloc);
+    expect(is_named(&bags, &name), "a lent name")?;
+    expect(text?.as_str() == "AB", "the text of a name")
 }
