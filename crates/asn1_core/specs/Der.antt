@@ -6,7 +6,7 @@ pub use Rattle.asn1_core_format.specs.ListLaws.{lawful_each}
 pub use Rattle.asn1_core_format.specs.Numbers.{number_below, lawful_number}
 pub use Rattle.asn1_core_format.specs.Rows.{nothing, part, optional, within, option_value}
 pub use Rattle.asn1_core_format.specs.RowLaws.{lawful_nothing, lawful_part, lawful_optional, lawful_within}
-pub use Rattle.asn1_core_format.specs.Sequences.{sequence, followed_by, perhaps, lawful_sequence}
+pub use Rattle.asn1_core_format.specs.Sequences.{sequence, followed_by, perhaps, lawful_sequence, set_of, lawful_set}
 pub use Rattle.asn1_core_format.specs.Views.{list_equal, option_equal, two_equal}
 pub use Rattle.asn1_core_oid.specs.OidValue.{octets_of}
 pub use Rattle.asn1_core.specs.Nulls.{null_element, lawful_null_element}

@@ -6,6 +6,7 @@ ghost use Rattle.asn1_core_format.specs.Lists.{each};
 ghost use Rattle.asn1_core_format.specs.ListLaws.{lawful_each};
 ghost use Rattle.asn1_core_format.specs.Rows.{within};
 ghost use Rattle.asn1_core_format.specs.RowLaws.{lawful_within};
+ghost use Rattle.asn1_core_format.specs.Sequences.{set_of, lawful_set};
 ghost use Rattle.asn1_core_format.specs.TaggedLaws.{within_tagged};
 ghost use Rattle.asn1_core_format.specs.Views.{list_equal};
 
@@ -86,7 +87,7 @@ impl<T: DerSerialize> DerSerialize for Asn1SetOf<T> {
 
     ghost value = { λ s. map T.value s.0.items };
 
-    ghost format = { within 0x31 (each T.format) };
+    ghost format = { set_of T.format };
 
     fn put<W: Writer>(&self, w: &mut W) -> Result<(), WriteError> {
         put_within(0x31, &self.0, w)
@@ -103,7 +104,7 @@ impl<T: DerDeserialize> DerDeserialize for Asn1SetOf<T> {
         Ok(Asn1SetOf(items))
     }
 
-    ghost lawful = { lawful_within (each T.DerSerialize.format) (lawful_each T.DerSerialize.format T.lawful) 0x31 (Prim.omega arith) };
+    ghost lawful = { lawful_set T.DerSerialize.format T.lawful };
 }
 
 impl<T: DerDeserialize> DerTagged for Asn1SetOf<T> {

@@ -2,7 +2,7 @@
 
 pub use asn1_core_format::{
     Alone, ApartFrom, Either, End, FirstTags, HasDefault, Leaf, Maybe, Omitted, OmittedRef, Part,
-    ReadRow, TagsApart, WriteRow, has_no_text, put_both, put_within, read_leaf, read_leaf_contents,
+    ReadRow, TagsApart, WriteRow, is_left_out, put_both, put_within, read_leaf, read_leaf_contents,
     read_retagged, read_row_contents, read_within,
 };
 pub use asn1_core_writers::{WriteError, Writer, put_element, put_unsigned};

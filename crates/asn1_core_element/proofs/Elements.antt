@@ -1,16 +1,12 @@
 -- Reading one element.
 use Rattle.std.proofs.Common.{◌≡◌, ℕ, ◌-◌, ◌≤◌, List, ◌++◌, length, take, drop, sym, ap, subst, ◌∙◌, arith, append_assoc, length-append, length-take, length-drop}
-use Rattle.asn1_core_element.specs.Element.{head, element, IsTagByte}
+use Rattle.asn1_core_element.specs.Element.{head, element}
 use Rattle.asn1_core_element.specs.ElementLaws.{head_cut}
 use Rattle.asn1_core_element.specs.Position.{Position}
-use Rattle.asn1_core_element.specs.Reading.{TookHeader, RefusedHeader, TookContents, TookWholeElement, Opened, RefusedElement, OpenedElement}
+use Rattle.asn1_core_element.specs.Reading.{TookHeader, TookContents, TookWholeElement, Opened, RefusedElement, OpenedElement}
 use Rattle.std.proofs.lemmas.List.{take-append-drop, length-take-le}
 use Rattle.std.proofs.Math.Seq.{take-append_seam}
-use Rattle.asn1_core_element.specs.declared.error.Error.{Error}
 use Rattle.asn1_core_element.specs.declared.error.Error.TheVariants.{Invalid}
-
-pub header_refused : {tag : ℕ} {old new : Position} {e : Error} → IsTagByte tag → RefusedHeader old new e → RefusedElement tag old new e
-header_refused {tag} t h = record { long = h.long; memory = h.memory; none = λ c r s. h.none tag c r t s; headers = h.headers }
 
 pub other_tag : {tag : ℕ} {old new : Position} {found n : ℕ} → TookHeader old new found n → (found ≡ tag → ⊥) → RefusedElement tag old new Invalid
 other_tag {tag} {old} {new} {found} {n} h d = record {

@@ -96,10 +96,6 @@ pub retag_element : (t u : ℕ) (c : List ℕ) → retag t (element u c) ≡ ele
 unfolding head
 retag_element t u c = refl
 
-pub retag_twice : (t u : ℕ) (b : List ℕ) → retag t (retag u b) ≡ retag t b
-retag_twice t u [] = refl
-retag_twice t u (x ∷ b) = refl
-
 pub length_retag : (t : ℕ) (b : List ℕ) → length (retag t b) ≡ length b
 length_retag t [] = refl
 length_retag t (x ∷ b) = refl

@@ -110,16 +110,6 @@ module _ {V W : Type 0} (o : List ℕ) (R : Format V) (C : Choice W) where
 pub record HasOids {V : Type 0} (IsOid : List ℕ → Type 0) (C : Choice V) : Type 0 where
   pub valid : (k : ℕ) (b : List ℕ) (v : V) → C.row.Reads k b v → IsOid (C.oid_of v)
 
-pub otherwise_oids : {V : Type 0} (IsOid : List ℕ → Type 0) (R : Format V) → HasOids IsOid (otherwise IsOid R)
-otherwise_oids IsOid R = record { valid = λ k b v s. s.3.1 }
-
-valid_known : {V W : Type 0} (IsOid : List ℕ → Type 0) (o : List ℕ) (R : Format V) (C : Choice W) → IsOid o → HasOids IsOid C → (k : ℕ) (b : List ℕ) (v : V ⊎ W) → (known o R C).row.Reads k b v → IsOid ((known o R C).oid_of v)
-valid_known IsOid o R C i h k b (inl v) s = i
-valid_known IsOid o R C i h k b (inr w) s = h.valid k b w s.0
-
-pub known_oids : {V W : Type 0} (IsOid : List ℕ → Type 0) (o : List ℕ) (R : Format V) (C : Choice W) → IsOid o → HasOids IsOid C → HasOids IsOid (known o R C)
-known_oids IsOid o R C i h = record { valid = valid_known IsOid o R C i h }
-
 -- the whole choice, of which no object identifier was read, or an arm was refused
 module _ {V : Type 0} (IsOid : List ℕ → Type 0) (C : Choice V) (c : IsLawfulChoice C) where
   pub oid_refused : {k : ℕ} {old new : Position} {e : Error} → HasOids IsOid C → GaveUp (leaf 0x06 (kept IsOid)) k old new e → GaveUpRow C.row k old new e

@@ -3,17 +3,11 @@ use Rattle.std.proofs.Common.{◌≡◌, ◌≢◌, ◌⊎◌, ℕ, List, ◌++�
 use Rattle.asn1_core_element.specs.Position.{Position}
 use Rattle.asn1_core_element.specs.declared.error.Error.{Error}
 use Rattle.asn1_core_element.specs.declared.error.Error.TheVariants.{Memory}
-use Rattle.asn1_core_format.specs.Format.{Format, IsLawful, Took, GaveUp}
+use Rattle.asn1_core_format.specs.Format.{Format, IsLawful, GaveUp}
 use Rattle.asn1_core_format.specs.Laws.{NextIs, begins_next, next_apart}
 use Rattle.asn1_core_format.specs.Eithers.{either}
 
 module _ {V W : Type 0} (F : Format V) (G : Format W) (f : IsLawful F) (g : IsLawful G) (apart : (t : ℕ) → F.IsTag t → G.IsTag t → ⊥) (k : ℕ) where
-  pub first_took : {old new : Position} {v : V} → Took F k old new v → Took (either F G) k old new (inl v)
-  first_took t = record { taken = t.taken; split = t.split; reads = t.reads; beyond = t.beyond; end = t.end; refused = t.refused; at_least = t.at_least; at_most = t.at_most }
-
-  pub second_took : {old new : Position} {w : W} → Took G k old new w → Took (either F G) k old new (inr w)
-  second_took t = record { taken = t.taken; split = t.split; reads = t.reads; beyond = t.beyond; end = t.end; refused = t.refused; at_least = t.at_least; at_most = t.at_most }
-
   -- where the next tag is one of F's, no text of G begins there
   no_second : {l : List ℕ} {e : Error} → NextIs F.IsTag l → (e ≢ Memory → (taken rest : List ℕ) (v : V) → l ≡ taken ++ rest → F.Reads k taken v → ⊥) → e ≢ Memory → (taken rest : List ℕ) (x : V ⊎ W) → l ≡ taken ++ rest → (either F G).Reads k taken x → ⊥
   no_second n none m taken rest (inl v) s r = none m taken rest v s r

@@ -1,19 +1,9 @@
 -- Reading what stands nowhere where no level is left.
-use Rattle.std.proofs.Common.{◌≡◌, ℕ, zero, suc, sym, subst, arith}
+use Rattle.std.proofs.Common.{◌≡◌, ℕ, suc, sym, subst}
 use Rattle.asn1_core_element.specs.Position.{Position}
 use Rattle.asn1_core_element.specs.declared.error.Error.{Error}
-use Rattle.asn1_core_element.specs.declared.error.Error.TheVariants.{TooDeep}
 use Rattle.asn1_core_format.specs.Format.{Format, Took, GaveUp}
 use Rattle.asn1_core_format.specs.Gated.{gated}
-
--- no level is left
-pub none_gated : {V : Type 0} (F : Format V) {k : ℕ} → k ≡ zero → (p : Position) → GaveUp (gated F) k p p TooDeep
-none_gated F e p = record {
-  kind = λ q. cc;
-  none = λ m taken rest v s r. subst (λ i. (gated F).Reads i taken v) e r;
-  counts = omega arith;
-  at_most = omega arith;
-}
 
 -- a level is left
 module _ {V : Type 0} (F : Format V) {k j : ℕ} (some : suc j ≡ k) {old new : Position} where

@@ -1,5 +1,5 @@
 -- Reading items one after another.
-use Rattle.std.proofs.Common.{◌≡◌, ◌≢◌, ℕ, ◌+◌, ◌<◌, false, List, [], ◌∷◌, ◌++◌, length, refl, sym, ap, ◌∙◌, subst, arith, append_assoc, append-nil, length-append}
+use Rattle.std.proofs.Common.{◌≡◌, ◌≢◌, ℕ, ◌+◌, ◌<◌, List, [], ◌∷◌, ◌++◌, length, refl, sym, ap, ◌∙◌, subst, arith, append_assoc, append-nil, length-append}
 use Rattle.asn1_core_element.specs.Position.{Position}
 use Rattle.asn1_core_element.specs.declared.error.Error.{Error}
 use Rattle.asn1_core_element.specs.declared.error.Error.TheVariants.{Memory}
@@ -25,9 +25,6 @@ module _ {V : Type 0} (F : Format V) (f : IsLawful F) where
   reads_rest k a l (v ∷ vs) (u ∷ us) r s =
       let e = texts_cut F f k r.0 s.0 (r.1 ++ l) s.1 v u r.3 s.3 (sym (append_assoc r.0 r.1 l) ∙ ap (λ x. x ++ l) (sym r.2) ∙ s.2) in
       reads_rest k r.1 l vs us r.4 (subst (λ c. ReadsAll (F.Reads k) c us) (sym e.1) s.4)
-
-  pub took_none : (k : ℕ) (p : Position) → p.refused ≡ false → TookItems F k p p []
-  took_none k p s = record { taken = []; split = refl; reads = refl; beyond = refl; end = refl; refused = s; at_least = omega arith; at_most = omega arith }
 
   pub took_more : (k : ℕ) {old mid new : Position} {vs : List V} {v : V} → TookItems F k old mid vs → Took F k mid new v → TookItems F k old new (vs ++ v ∷ [])
   took_more k {old} {mid} {new} {vs} {v} i t = record {

@@ -1,5 +1,5 @@
 -- Reading types that hold themselves.
-use Rattle.std.proofs.Common.{◌≡◌, ℕ, zero, suc, [], ◌++◌, length, Result, Err, sym, ap, ◌∙◌, subst, arith, append-nil}
+use Rattle.std.proofs.Common.{◌≡◌, ℕ, zero, [], ◌++◌, length, Result, Err, sym, ap, ◌∙◌, subst, arith, append-nil}
 use Rattle.std.proofs.lemmas.List.{nil_from_length}
 use Rattle.asn1_core_element.specs.Position.{Position}
 use Rattle.asn1_core_element.specs.Reading.{RefusedElement}
@@ -10,27 +10,6 @@ use Rattle.asn1_core_format.specs.Rows.{within, TookRow, GaveUpRow, GivesRow}
 use Rattle.asn1_core_format.specs.Levels.{less, Still, levels}
 use Rattle.asn1_core_format.specs.LevelLaws.{IsStep, unroll, unroll_least}
 use Rattle.asn1_core_format.specs.Rolled.{rolled}
-
-module _ {V : Type 0} (F : Format V) {k j : ℕ} (one : suc j ≡ k) where
-  pub took_less : {old new : Position} {v : V} → Took F j old new v → Took (less F) k old new v
-  took_less {old} {new} {v} t = record {
-    taken = t.taken;
-    split = t.split;
-    reads = subst (λ m. (less F).Reads m t.taken v) one t.reads;
-    beyond = t.beyond;
-    end = t.end;
-    refused = t.refused;
-    at_least = t.at_least;
-    at_most = t.at_most;
-  }
-
-  pub refused_less : {old new : Position} {e : Error} → GaveUp F j old new e → GaveUp (less F) k old new e
-  refused_less g = record {
-    kind = g.kind;
-    none = λ m taken rest v s r. g.none m taken rest v s (subst (λ i. (less F).Reads i taken v) (sym one) r);
-    counts = g.counts;
-    at_most = g.at_most;
-  }
 
 -- no level is left
 pub none_left : {V : Type 0} (F : Format V) {k : ℕ} → k ≡ zero → (p : Position) → GaveUp (less F) k p p TooDeep

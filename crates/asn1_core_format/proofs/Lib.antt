@@ -11,4 +11,3 @@ pub mod ChoiceReads
 pub mod LevelReads
 pub mod SetReads
 pub mod GateReads
-pub mod SetWrites

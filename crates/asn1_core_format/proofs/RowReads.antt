@@ -1,5 +1,5 @@
 -- Reading rows.
-use Rattle.std.proofs.Common.{◌≡◌, ◌≢◌, ℕ, ◌-◌, ◌<◌, ◌≤◌, Bool, true, false, List, [], ◌++◌, length, take, drop, Option, None, Some, refl, sym, ap, ◌∙◌, subst, arith, inl, inr, append-nil, length-append}
+use Rattle.std.proofs.Common.{◌≡◌, ◌≢◌, ℕ, ◌-◌, ◌<◌, ◌≤◌, Bool, List, [], ◌++◌, length, take, drop, Option, None, Some, refl, sym, ap, ◌∙◌, subst, arith, inl, inr, append-nil, length-append}
 use Rattle.std.proofs.lemmas.List.{take_at, drop_at}
 use Rattle.asn1_core_element.specs.Element.{element}
 use Rattle.asn1_core_element.specs.ElementLaws.{element_cut, element_long}
@@ -61,16 +61,6 @@ module _ {V W : Type 0} (F : Format V) (R : Format W) (f : IsLawful F) (r : IsLa
   pub absent_refused : {old new : Position} {e : Error} → (NextIs F.IsTag old.left → ⊥) → GaveUpRow R k old new e → GaveUpRow (optional F R) k old new e
   absent_refused {old} {new} {e} n g = record { kind = g.kind; none = absent {e = e} n g.none; counts = g.counts; at_most = g.at_most }
 
-  pub optional_some : {old new : Position} {v : V} {w : W} → TookRow (part F R) k old new (v, w) → TookRow (optional F R) k old new (Some v, w)
-  optional_some t = record { reads = t.reads; done = t.done; beyond = t.beyond; end = t.end; refused = t.refused; at_least = t.at_least; at_most = t.at_most }
-
-  pub optional_none : {old new : Position} {w : W} → TookRow R k old new w → TookRow (optional F R) k old new (None, w)
-  optional_none t = record { reads = t.reads; done = t.done; beyond = t.beyond; end = t.end; refused = t.refused; at_least = omega (arith, t.at_least); at_most = t.at_most }
-
-unless_le : (t : Bool) (n : ℕ) → least_unless t n ≤ n
-unless_le true n = omega arith
-unless_le false n = omega arith
-
 module _ {V W : Type 0} (o : V → Bool) (d : List ℕ) (F : Format V) (R : Format W) (f : IsLawful F) (r : IsLawfulRow R) (n : IsDefault o d F) (apart : (t : ℕ) → F.IsTag t → R.IsTag t → ⊥) (k : ℕ) where
   left_out : {l : List ℕ} {e : Error} → NextIs F.IsTag l → (e ≢ Memory → (p : V × W) → (part F R).Reads k l p → ⊥) → e ≢ Memory → (p : V × W) → (omitted o d F R).Reads k l p → ⊥
   left_out x g m p (inl s) = no_rest F R f r apart k x p.1 s.1
@@ -88,9 +78,6 @@ module _ {V W : Type 0} (o : V → Bool) (d : List ℕ) (F : Format V) (R : Form
 
   pub no_default : (p : Position) {e : Error} → e ≡ Memory → GaveUpRow (omitted o d F R) k p p e
   no_default p {e} m = record { kind = λ x. (let h = sym m ∙ x in cc); none = λ x v s. x m; counts = omega arith; at_most = omega arith }
-
-  pub took_there : {old new : Position} {v : V} {w : W} → TookRow (part F R) k old new (v, w) → TookRow (omitted o d F R) k old new (v, w)
-  took_there {old} {new} {v} {w} t = record { reads = inr t.reads; done = t.done; beyond = t.beyond; end = t.end; refused = t.refused; at_least = omega (arith, t.at_least, unless_le (o v) (F.least v)); at_most = t.at_most }
 
   pub took_default : {old new : Position} {v : V} {w : W} → F.Reads k d v → TookRow R k old new w → TookRow (omitted o d F R) k old new (v, w)
   took_default {old} {new} {v} {w} s t = record {

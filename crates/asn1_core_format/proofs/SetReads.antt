@@ -17,15 +17,15 @@ more_left : (k : ℕ) (p : Position) → 0 < length p.left → GaveUpRow nothing
 more_left k p more = record { kind = λ e. cc; none = λ m v r. omega (arith, more, ap length r); counts = omega arith; at_most = omega arith }
 
 module _ {V : Type 0} (F : Format V) (f : IsLawful F) (k : ℕ) where
-  lawful_set : IsLawful (within 0xA1 (each F))
-  lawful_set = lawful_within (each F) (lawful_each F f) 0xA1 (omega arith)
+  lawful_items : IsLawful (within 0xA1 (each F))
+  lawful_items = lawful_within (each F) (lawful_each F f) 0xA1 (omega arith)
 
   module _ {old new : Position} where
     pub set_refused : {e : Error} → NextIs (λ t. t ≡ 0xA1) old.left → GaveUp (within 0xA1 (each F)) k old new e → GaveUpRow (set_or_none 0xA1 F) k old new e
-    set_refused n g = there_refused is_nil (element 0xA1 []) (within 0xA1 (each F)) nothing lawful_set lawful_nothing (empty_default 0xA1 (omega arith) F f) (λ u h e. e) k n (first_refused (within 0xA1 (each F)) nothing lawful_set k g)
+    set_refused n g = there_refused is_nil (element 0xA1 []) (within 0xA1 (each F)) nothing lawful_items lawful_nothing (empty_default 0xA1 (omega arith) F f) (λ u h e. e) k n (first_refused (within 0xA1 (each F)) nothing lawful_items k g)
 
     pub set_left : {vs : _} → NextIs (λ t. t ≡ 0xA1) old.left → Took (within 0xA1 (each F)) k old new vs → 0 < length new.left → GaveUpRow (set_or_none 0xA1 F) k old new Malformed
-    set_left n t more = there_refused is_nil (element 0xA1 []) (within 0xA1 (each F)) nothing lawful_set lawful_nothing (empty_default 0xA1 (omega arith) F f) (λ u h e. e) k n (rest_refused (within 0xA1 (each F)) nothing lawful_set k t (more_left k new more))
+    set_left n t more = there_refused is_nil (element 0xA1 []) (within 0xA1 (each F)) nothing lawful_items lawful_nothing (empty_default 0xA1 (omega arith) F f) (λ u h e. e) k n (rest_refused (within 0xA1 (each F)) nothing lawful_items k t (more_left k new more))
 
   pub none_left : {old : Position} → (NextIs (λ t. t ≡ 0xA1) old.left → ⊥) → (p : Position) → 0 < length old.left → GaveUpRow (set_or_none 0xA1 F) k old old Malformed
-  none_left {old} n p more = omitted_refused is_nil (element 0xA1 []) (within 0xA1 (each F)) nothing lawful_set lawful_nothing (empty_default 0xA1 (omega arith) F f) (λ u h e. e) k n (more_left k old more)
+  none_left {old} n p more = omitted_refused is_nil (element 0xA1 []) (within 0xA1 (each F)) nothing lawful_items lawful_nothing (empty_default 0xA1 (omega arith) F f) (λ u h e. e) k n (more_left k old more)

@@ -1,9 +1,8 @@
 -- A part that may be left out, and then stands for one of its texts: DEFAULT parts, and sets that an empty set stands for.
-use Rattle.std.specs.Prelude.{◌≡◌, ◌≢◌, ◌⊎◌, ◌↔◌, ℕ, ◌+◌, Bool, true, false, List, [], ◌++◌, Result, MatchResult}
+use Rattle.std.specs.Prelude.{◌≡◌, ◌≢◌, ◌⊎◌, ◌↔◌, ℕ, ◌+◌, leb, ◌&&◌, Bool, true, false, List, [], ◌++◌, Result, MatchResult}
 use Rattle.std.proofs.Common.{refl, sym, ap, ◌∙◌, subst, inl, inr}
 use Rattle.std.specs.Str.{bytes_eq}
 use Rattle.std.proofs.lemmas.Bool.{false_from_ne_true}
-use Rattle.std.proofs.lemmas.Slice.Eq.{bytes_eq-Decides}
 use Rattle.asn1_core_element.specs.declared.error.Error.{Error}
 use Rattle.asn1_core_element.specs.declared.error.Error.TheVariants.{Memory}
 use Rattle.asn1_core_format.specs.Format.{Format, BeginsBy, IsLawfulRow, IsLawful}
@@ -133,12 +132,10 @@ module _ {V W : Type 0} (o : V → Bool) (d : List ℕ) (F : Format V) (R : Form
   pub omitted_is : (k : ℕ) (v : V) → F.Reads k d v → o v ≡ true
   omitted_is = omitted_value
 
--- the values whose text is d
-abbrev pub is_text : {V : Type 0} → Format V → List ℕ → V → Bool
-is_text F d v = bytes_eq (F.text v) d
-
-pub default_text : {V : Type 0} (d : List ℕ) (F : Format V) → ((k : ℕ) → F.IsNormal k d) → IsDefault (is_text F d) d F
-default_text d F n = record { normal = n; exact = λ k v h. bytes_eq-Decides (F.text v) d }
+-- The values that are left out: those that are written as d, which is one element. A set whose items have no text is
+-- written as the empty set is, but has more elements; such a set is ill-formed.
+abbrev pub is_default : {V : Type 0} → Format V → List ℕ → V → Bool
+is_default F d v = bytes_eq (F.text v) d && leb (F.least v) 1
 
 -- absence reads as the value, whatever the nesting
 abbrev pub StandsFor : {T V : Type 0} → (T → V) → Format V → List ℕ → Result T Error → Type 0

@@ -1,7 +1,9 @@
--- A SEQUENCE (X.690, 8.9) and its laws, part by part, in the order of the parts.
-use Rattle.std.specs.Prelude.{ℕ}
+-- A SEQUENCE (X.690, 8.9) and its laws, part by part, in the order of the parts, and a SET OF (8.12).
+use Rattle.std.specs.Prelude.{ℕ, List}
 use Rattle.std.proofs.Common.{arith}
 use Rattle.asn1_core_format.specs.Format.{Format, IsLawfulRow, IsLawful}
+use Rattle.asn1_core_format.specs.Lists.{each}
+use Rattle.asn1_core_format.specs.ListLaws.{lawful_each}
 use Rattle.asn1_core_format.specs.Rows.{part, optional, within}
 use Rattle.asn1_core_format.specs.RowLaws.{lawful_part, lawful_optional, lawful_within}
 
@@ -18,3 +20,9 @@ module _ {V W : Type 0} {F : Format V} {R : Format W} where
 
 pub lawful_sequence : {V : Type 0} {R : Format V} → IsLawfulRow R → IsLawful (sequence R)
 lawful_sequence {V} {R} r = lawful_within R r 0x30 (omega arith)
+
+abbrev pub set_of : {V : Type 0} → Format V → Format (List V)
+set_of F = within 0x31 (each F)
+
+pub lawful_set : {V : Type 0} (F : Format V) → IsLawful F → IsLawful (set_of F)
+lawful_set F f = lawful_within (each F) (lawful_each F f) 0x31 (omega arith)

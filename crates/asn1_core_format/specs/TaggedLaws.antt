@@ -53,11 +53,3 @@ leaf_tagged tag t S = record { is_tag = t; tags = λ u. (λ e. e, λ e. e); writ
 
 pub within_tagged : {V : Type 0} (tag : ℕ) → IsTagByte tag → (R : Format V) → IsTagged tag (within tag R)
 within_tagged tag t R = record { is_tag = t; tags = λ u. (λ e. e, λ e. e); written = λ v. (R.text v, refl) }
-
--- a type under another tag has that tag
-pub implicit_tagged : {V : Type 0} (tag inner : ℕ) → IsTagByte tag → (F : Format V) → IsTagged inner F → IsTagged tag (implicit tag inner F)
-implicit_tagged tag inner t F g = record {
-  is_tag = t;
-  tags = λ u. (λ e. e, λ e. e);
-  written = λ v. let w = g.written v in (w.0, ap (retag tag) w.1 ∙ retag_element tag inner w.0);
-}

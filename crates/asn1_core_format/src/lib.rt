@@ -21,14 +21,12 @@ pub mod within;
 pub use eithers::Either;
 pub use leaves::{Leaf, read_leaf, read_leaf_contents};
 pub use less::Less;
-pub use recursive::{
-    read_all_with, read_below, read_below_within, read_list_with, read_then_with, read_within_with,
-};
+pub use recursive::{read_below_within, read_list_with};
 pub use rows::{
     Alone, ApartFrom, End, FirstTags, HasDefault, Maybe, Omitted, OmittedRef, Part, ReadRow,
     TagsApart, WriteRow, put_both,
 };
-pub use sets::{SetOrNone, has_no_text, read_set_below_with, read_set_or_none_with, read_set_with};
+pub use sets::{SetOrNone, is_left_out, read_set_below_with, read_set_or_none_with, read_set_with};
 pub use tagged::{DerTagged, read_retagged};
 pub use tails::{ReadRowWith, Tail, read_row_within_with};
 pub use traits::{DerDeserialize, DerSerialize, MAX_NESTING};

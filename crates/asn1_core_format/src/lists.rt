@@ -40,7 +40,7 @@ fn put_items_back<T: DerSerialize, W: Writer>(items: &[T], w: &mut W) -> Result<
 
 /// Puts an item behind the others. Behind the last one comes none, so that it makes room for itself alone; before, a
 /// vector grows by itself, to four items at first. Refuses by `Memory` alone.
-pub fn push_item<T: Drop>(items: &mut Vec<T>, item: T, is_last: bool) -> Result<(), Error>
+pub(crate) fn push_item<T: Drop>(items: &mut Vec<T>, item: T, is_last: bool) -> Result<(), Error>
     ensures { MatchResult result (λ _. items.new.items ≡ items.old.items ++ item ∷ []) (λ e. e ≡ Memory) }
 {
     if is_last {

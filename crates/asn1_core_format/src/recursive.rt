@@ -7,11 +7,11 @@ ghost use Rattle.asn1_core_format.specs.Calls.{MayBelow, GivesBelow};
 ghost use Rattle.asn1_core_format.specs.Format.{Gives, IsLawful};
 ghost use Rattle.asn1_core_format.specs.Levels.{less};
 ghost use Rattle.asn1_core_format.specs.Lists.{each};
-ghost use Rattle.asn1_core_format.specs.Rows.{GivesRow, part, within};
+ghost use Rattle.asn1_core_format.specs.Rows.{GivesRow, within};
 
 use crate::lists::push_item;
-use crate::rows::{Part, WriteRow};
-use crate::traits::{DerDeserialize, DerSerialize};
+use crate::rows::WriteRow;
+use crate::traits::DerSerialize;
 use asn1_core_element::element::open_element;
 use asn1_core_element::{Error, Reader};
 use std::alloc::Global;
@@ -44,28 +44,9 @@ fn read_by<T: DerSerialize, F: Fn(&mut Reader<'_>) -> Result<T, Error>>(
     by(r)
 }
 
-/// Reads an element with that tag, whose contents `by` reads.
-pub fn read_within_with<R: WriteRow + Drop, F: Fn(&mut Reader<'_>) -> Result<R, Error>>(
-    r: &mut Reader<'_>,
-    nest: u8,
-    tag: u8,
-    by: &F,
-) -> Result<R, Error>
-    requires sound { r.old.refused ≡ false }
-    requires tag { IsTagByte tag }
-    requires called { (s : _) → s.now.refused ≡ false → F.pre by.now s }
-    requires gives { (s : _) (x : _) (t : _) → F.post by.now s x t → GivesRow R.value R.format nest s.now t.now x }
-    ensures { Gives R.value (within tag R.format) nest r.old r.new result }
-{
-    let outer = open_element(r, tag)?;
-    let row = read_row_by(r, nest, by)?;
-    r.end(outer)?;
-    Ok(row)
-}
-
 /// Reads items to the end of the open contents, each by `by`. The law of the items is a premise and no bound, since
 /// `DerDeserialize` would bring their `read` into the caller's cycle.
-pub fn read_all_with<T: DerSerialize + Drop, F: Fn(&mut Reader<'_>) -> Result<T, Error>>(
+pub(crate) fn read_all_with<T: DerSerialize + Drop, F: Fn(&mut Reader<'_>) -> Result<T, Error>>(
     alloc: Global,
     r: &mut Reader<'_>,
     nest: u8,
@@ -107,7 +88,7 @@ pub fn read_list_with<T: DerSerialize + Drop, F: Fn(&mut Reader<'_>) -> Result<T
 }
 
 /// Reads a `T` a level down, by `by`, which is told the levels that are left there.
-pub fn read_below<T: DerSerialize, F: Fn(&mut Reader<'_>, u8) -> Result<T, Error>>(
+pub(crate) fn read_below<T: DerSerialize, F: Fn(&mut Reader<'_>, u8) -> Result<T, Error>>(
     r: &mut Reader<'_>,
     nest: u8,
     by: &F,
@@ -144,20 +125,4 @@ pub fn read_below_within<T: DerSerialize + Drop, F: Fn(&mut Reader<'_>, u8) -> R
     }
     r.end(outer)?;
     Ok(value)
-}
-
-/// Reads a part, and by `by` what stands behind it.
-pub fn read_then_with<
-    A: DerDeserialize,
-    R: WriteRow + Drop,
-    F: Fn(&mut Reader<'_>) -> Result<R, Error>,
->(alloc: Global, r: &mut Reader<'_>, nest: u8, by: &F) -> Result<Part<A, R>, Error>
-    requires sound { r.old.refused ≡ false }
-    requires called { (s : _) → s.now.refused ≡ false → F.pre by.now s }
-    requires gives { (s : _) (x : _) (t : _) → F.post by.now s x t → GivesRow R.value R.format nest s.now t.now x }
-    ensures { GivesRow (λ p. (A.value p.0, R.value p.1)) (part A.format R.format) nest r.old r.new result }
-{
-    let first = A::read(alloc, r, nest)?;
-    let rest = read_row_by(r, nest, by)?;
-    Ok(Part(first, rest))
 }

@@ -4,8 +4,7 @@ ghost use Rattle.std.specs.Prelude.{◌≡◌, ◌↔◌, ◌++◌, ℕ, List, O
 ghost use Rattle.std.proofs.Common.{⊎_elim};
 ghost use Rattle.asn1_core_format.specs.Format.{Format, IsLawfulRow};
 ghost use Rattle.asn1_core_format.specs.Laws.{NextIs};
-ghost use Rattle.std.specs.Str.{bytes_eq};
-ghost use Rattle.asn1_core_format.specs.Omitted.{omitted, lawful_omitted, is_text, default_text, StandsFor};
+ghost use Rattle.asn1_core_format.specs.Omitted.{omitted, lawful_omitted, is_default, IsDefault, StandsFor};
 ghost use Rattle.asn1_core_format.specs.Rows.{nothing, part, optional, option_value, GivesRow};
 ghost use Rattle.asn1_core_format.specs.RowLaws.{lawful_nothing, lawful_part, lawful_optional};
 
@@ -180,19 +179,19 @@ impl<T: ApartFrom<A> + TagsApart<R>, A: DerSerialize, R: WriteRow> TagsApart<May
     ghost apart = { λ t h e. ⊎_elim (T.no_common_tag t h) (T.apart t h) e };
 }
 
-/// A type of which one text may be left out (X.680, 25.5: DEFAULT).
+/// A type of which one value may be left out: a DEFAULT (X.680, 25.5), or the empty set.
 pub trait HasDefault: DerDeserialize {
     /// The text that absence stands for, and that is never written.
     ghost DEFAULT: { List ℕ };
 
     fn is_default(&self) -> bool
-        ensures { result ≡ bytes_eq (Self.format.text (Self.value self.now)) DEFAULT };
+        ensures { result ≡ is_default Self.format DEFAULT (Self.value self.now) };
 
     /// The value that absence stands for.
     fn absent(alloc: Global) -> Result<Self, Error>
         ensures { StandsFor Self.value Self.format DEFAULT result };
 
-    ghost normal_default: { (k : ℕ) → Self.DerSerialize.format.IsNormal k DEFAULT };
+    ghost left_out: { IsDefault (is_default Self.DerSerialize.format DEFAULT) DEFAULT Self.DerSerialize.format };
 }
 
 /// A part that may be left out, and what stands behind it.
@@ -204,7 +203,7 @@ impl<A: HasDefault, R: WriteRow> WriteRow for Omitted<A, R> {
 
     ghost value = { λ p. (A.value p.0, R.value p.1) };
 
-    ghost format = { omitted (is_text A.format A.DEFAULT) A.DEFAULT A.format R.format };
+    ghost format = { omitted (is_default A.format A.DEFAULT) A.DEFAULT A.format R.format };
 
     fn put_row<W: Writer>(&self, w: &mut W) -> Result<(), WriteError> {
         if self.0.is_default() {
@@ -231,7 +230,7 @@ impl<A: HasDefault + FirstTags + TagsApart<R>, R: ReadRow> ReadRow for Omitted<A
         Ok(Omitted(absent, others))
     }
 
-    ghost lawful = { lawful_omitted (is_text A.DerSerialize.format A.DEFAULT) A.DEFAULT A.DerSerialize.format R.WriteRow.format A.lawful R.lawful (default_text A.DEFAULT A.DerSerialize.format A.normal_default) A.apart };
+    ghost lawful = { lawful_omitted (is_default A.DerSerialize.format A.DEFAULT) A.DEFAULT A.DerSerialize.format R.WriteRow.format A.lawful R.lawful A.left_out A.apart };
 }
 
 /// A part that may be left out, lent as it is written, and what stands behind it.
@@ -243,7 +242,7 @@ impl<A: HasDefault, R: WriteRow> WriteRow for OmittedRef<&A, R> {
 
     ghost value = { λ p. (A.value p.0.now, R.value p.1) };
 
-    ghost format = { omitted (is_text A.format A.DEFAULT) A.DEFAULT A.format R.format };
+    ghost format = { omitted (is_default A.format A.DEFAULT) A.DEFAULT A.format R.format };
 
     fn put_row<W: Writer>(&self, w: &mut W) -> Result<(), WriteError> {
         if self.0.is_default() {

@@ -1,8 +1,6 @@
 //! Sets: read by a closure, a level down, left out where they are empty.
 
-ghost use Rattle.std.specs.Prelude.{◌≡◌, ◌↔◌, List, [], IsTrue, map, false};
-ghost use Rattle.std.specs.List.{AllByRecursion};
-ghost use Rattle.std.specs.Str.{bytes_eq};
+ghost use Rattle.std.specs.Prelude.{◌≡◌, ◌↔◌, ◌≤◌, ℕ, List, [], IsTrue, map, false};
 ghost use Rattle.asn1_core_element.specs.Element.{IsTagByte, element};
 ghost use Rattle.asn1_core_format.specs.Calls.{MayBelow, GivesBelow};
 ghost use Rattle.asn1_core_format.specs.EmptySets.{set_or_none};
@@ -10,7 +8,9 @@ ghost use Rattle.asn1_core_format.specs.Format.{Gives, IsLawful};
 ghost use Rattle.asn1_core_format.specs.Laws.{NextIs};
 ghost use Rattle.asn1_core_format.specs.Levels.{less};
 ghost use Rattle.asn1_core_format.specs.Lists.{each};
+ghost use Rattle.asn1_core_format.specs.Omitted.{is_default};
 ghost use Rattle.asn1_core_format.specs.Rows.{GivesRow, within};
+ghost use Rattle.asn1_core_format.specs.Sequences.{set_of};
 
 use crate::lists::push_item;
 use crate::recursive::{read_below, read_list_with};
@@ -23,7 +23,7 @@ use asn1_core_writers::{WriteError, Writer};
 use std::alloc::Global;
 
 /// Reads items to the end of the open contents, each a level down by `by`, which is told the levels that are left there.
-pub fn read_all_below_with<T: DerSerialize + Drop, F: Fn(&mut Reader<'_>, u8) -> Result<T, Error>>(
+fn read_all_below_with<T: DerSerialize + Drop, F: Fn(&mut Reader<'_>, u8) -> Result<T, Error>>(
     alloc: Global,
     r: &mut Reader<'_>,
     nest: u8,
@@ -54,7 +54,7 @@ pub fn read_set_with<T: DerSerialize + Drop, F: Fn(&mut Reader<'_>) -> Result<T,
     requires lawful { IsLawful T.format }
     requires called { (s : _) → s.now.refused ≡ false → F.pre by.now s }
     requires gives { (s : _) (x : _) (t : _) → F.post by.now s x t → Gives T.value T.format nest s.now t.now x }
-    ensures { GivesRow (λ v. map T.value v.items) (within 0x31 (each T.format)) nest r.old r.new result }
+    ensures { GivesRow (λ v. map T.value v.items) (set_of T.format) nest r.old r.new result }
 {
     let items = read_list_with(alloc, r, nest, 0x31, by)?;
     if r.left() > 0 {
@@ -95,7 +95,7 @@ pub fn read_set_below_with<T: DerSerialize + Drop, F: Fn(&mut Reader<'_>, u8) ->
     requires lawful { IsLawful T.format }
     requires called { MayBelow (F.pre by.now) nest }
     requires gives { GivesBelow (F.post by.now) T.value T.format nest }
-    ensures { GivesRow (λ v. map T.value v.items) (within 0x31 (each (less T.format))) nest r.old r.new result }
+    ensures { GivesRow (λ v. map T.value v.items) (set_of (less T.format)) nest r.old r.new result }
 {
     let items = read_list_below_with(alloc, r, nest, 0x31, by)?;
     if r.left() > 0 {
@@ -164,32 +164,17 @@ fn next_is_tag(r: &Reader<'_>, tag: u8) -> bool
     }
 }
 
-/// Whether a value has no text. One that can't be written has some.
-fn lacks_text<T: DerSerialize>(value: &T) -> bool
-    ensures { IsTrue result ↔ (T.format.text (T.value value.now) ≡ []) }
+/// Whether a set has no items.
+fn is_empty<T: DerSerialize>(items: &Vec<T>) -> bool
+    ensures { IsTrue result ↔ (map T.value items.now.items ≡ []) }
 {
-    match value.encoded_len() {
-        Ok(length) => length == 0,
-        Err(_) => false,
-    }
+    items.is_empty()
 }
 
-/// Whether all items lack a text. The first that has one ends the search.
-fn all_lack_text<T: DerSerialize>(items: &Vec<T>) -> bool
-    ensures { IsTrue result ↔ AllByRecursion (λ v. T.format.text v ≡ []) (map T.value items.now.items) }
+/// Whether a set under that tag is left out, as the empty one is.
+pub fn is_left_out<T: DerSerialize>(_tag: u8, items: &Vec<T>) -> bool
+    requires some { (v : _) → 1 ≤ T.format.least v }
+    ensures { result ≡ is_default (within _tag (each T.format)) (element _tag []) (map T.value items.now.items) }
 {
-    for item in items {
-        if !lacks_text(item) {
-            return false;
-        }
-    }
-    true
-}
-
-/// Whether such a set has no contents. One with an item that can't be written has some.
-pub fn has_no_text<T: DerSerialize>(_tag: u8, items: &Vec<T>) -> bool
-    requires tag { IsTagByte _tag }
-    ensures { result ≡ bytes_eq ((within _tag (each T.format)).text (map T.value items.now.items)) (element _tag []) }
-{
-    all_lack_text(items)
+    is_empty(items)
 }

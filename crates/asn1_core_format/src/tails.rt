@@ -3,7 +3,7 @@
 ghost use Rattle.std.specs.Prelude.{◌≡◌, false};
 ghost use Rattle.asn1_core_element.specs.Element.{IsTagByte};
 ghost use Rattle.asn1_core_format.specs.Format.{Gives, IsLawfulRow};
-ghost use Rattle.asn1_core_format.specs.Omitted.{is_text, default_text, lawful_omitted};
+ghost use Rattle.asn1_core_format.specs.Omitted.{is_default, lawful_omitted};
 ghost use Rattle.asn1_core_format.specs.Rows.{GivesRow, within};
 ghost use Rattle.asn1_core_format.specs.RowLaws.{lawful_part, lawful_optional};
 
@@ -123,7 +123,7 @@ impl<A: HasDefault + FirstTags + TagsApart<R>, S: WriteRow, R: ReadRowWith<S>> R
         Ok(Omitted(absent, others))
     }
 
-    ghost keeps_laws = { λ s. lawful_omitted (is_text A.DerSerialize.format A.DEFAULT) A.DEFAULT A.DerSerialize.format R.WriteRow.format A.lawful (R.keeps_laws s) (default_text A.DEFAULT A.DerSerialize.format A.normal_default) A.apart };
+    ghost keeps_laws = { λ s. lawful_omitted (is_default A.DerSerialize.format A.DEFAULT) A.DEFAULT A.DerSerialize.format R.WriteRow.format A.lawful (R.keeps_laws s) A.left_out A.apart };
 }
 
 /// Reads an element with that tag, whose contents are the parts, the last of them read by `by`.

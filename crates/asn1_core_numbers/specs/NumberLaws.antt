@@ -78,9 +78,6 @@ has_number bound c i = (number_from_digits 256 c, spelled c i.octets i.some i.no
 pub some_octets : (v : ℕ) → 1 ≤ length (integer_octets v)
 some_octets v = (is_numeral (v + 1) v (omega arith)).some
 
-pub no_octets : (v : ℕ) → integer_octets v ≢ []
-no_octets v e = omega (arith, some_octets v, ap length e)
-
 length_with_sign : (ds : List ℕ) → length (with_sign ds) ≤ length ds + 1
 length_with_sign [] = omega arith
 length_with_sign (d ∷ ds) =

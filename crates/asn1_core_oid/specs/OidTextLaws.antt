@@ -1,6 +1,6 @@
 -- A text and contents octets determine each other.
 use Rattle.std.proofs.Common.{◌≡◌, ℕ, ◌+◌, ◌*◌, ◌^◌, ◌<◌, ◌≤◌, false, eqb, List, [], ◌∷◌, map, length, get_or, All, refl, sym, ap, ◌∙◌, arith}
-use Rattle.std.specs.List.{flat_map, slice_split}
+use Rattle.std.specs.List.{slice_split}
 use Rattle.std.specs.Fmt.{decimal}
 use Rattle.std.specs.Str.Parse.{AllDigits, digits_value}
 use Rattle.std.proofs.lemmas.Bool.{ne_eqb}
@@ -8,7 +8,6 @@ use Rattle.std.proofs.lemmas.Fmt.{decimal_injective, digits_decimal}
 use Rattle.std.proofs.lemmas.List.Elements.{All-from_get_or, All-head, All-tail, All-cons}
 use Rattle.std.proofs.lemmas.List.Splits.{slice_split_none, slice_split_at}
 use Rattle.std.proofs.lemmas.Str.Parse.{IsNumeralModel, numerals_by_value, tells_digits, digit_at}
-use Rattle.asn1_core_oid.specs.Oid.{base128}
 use Rattle.asn1_core_oid.specs.OidLaws.{same_groups}
 use Rattle.asn1_core_oid.specs.OidText.{IsArcs, groups_of_arcs, arcs_text, IsTextOf, HasLongGroup}
 
@@ -57,33 +56,6 @@ same_numerals (a ∷ xs) (b ∷ ys) h k e =
 
 pub same_arcs : (xs ys : List ℕ) → (xs ≡ [] → ⊥) → (ys ≡ [] → ⊥) → All (λ n. n < 2 ^ 64) xs → All (λ n. n < 2 ^ 64) ys → arcs_text xs ≡ arcs_text ys → xs ≡ ys
 same_arcs xs ys s t h k e = same_numerals xs ys h k (sym (pieces-arcs_text xs s h) ∙ ap pieces e ∙ pieces-arcs_text ys t k)
-
-pub one_octets : {text a b : List ℕ} → IsTextOf text a → IsTextOf text b → a ≡ b
-one_octets p q =
-    let e = same_arcs p.arcs q.arcs (some_arcs p.arcs p.allowed) (some_arcs q.arcs q.allowed) (arcs_fit p.arcs p.fits) (arcs_fit q.arcs q.fits) (sym p.spelled ∙ q.spelled) in
-    p.octets_are ∙ ap (λ arcs. flat_map base128 (groups_of_arcs arcs)) e ∙ sym q.octets_are
-
--- the arcs of the first group are found in it
-first_arcs : (a b c d : ℕ) → a ≤ 2 → (a < 2 → b < 40) → c ≤ 2 → (c < 2 → d < 40) → 40 * a + b ≡ 40 * c + d → (a ≡ c) × (b ≡ d)
-first_arcs a b c d h k l m e = grind arith
-
-pub same_arcs_from_groups : (xs ys : List ℕ) → IsArcs xs → IsArcs ys → groups_of_arcs xs ≡ groups_of_arcs ys → xs ≡ ys
-same_arcs_from_groups [] ys h k e = absurd h
-same_arcs_from_groups (a ∷ []) ys h k e = absurd h
-same_arcs_from_groups (a ∷ b ∷ xs) [] h k e = absurd k
-same_arcs_from_groups (a ∷ b ∷ xs) (c ∷ []) h k e = absurd k
-same_arcs_from_groups (a ∷ b ∷ xs) (c ∷ d ∷ ys) h k e =
-    let g : 40 * a + b ≡ 40 * c + d = cc in
-    let t : xs ≡ ys = cc in
-    let r = first_arcs a b c d h.0 h.1 k.0 k.1 g in
-    let p : a ≡ c = r.0 in
-    let q : b ≡ d = r.1 in
-    cc
-
-pub one_text : {t u octets : List ℕ} → IsTextOf t octets → IsTextOf u octets → t ≡ u
-one_text p q =
-    let e = same_arcs_from_groups p.arcs q.arcs p.allowed q.allowed (same_groups (groups_of_arcs p.arcs) (groups_of_arcs q.arcs) (sym p.octets_are ∙ q.octets_are)) in
-    p.spelled ∙ ap arcs_text e ∙ sym q.spelled
 
 -- octets with a group that doesn't fit 64 bits have no text
 pub no_text : {text octets : List ℕ} → IsTextOf text octets → HasLongGroup octets → ⊥

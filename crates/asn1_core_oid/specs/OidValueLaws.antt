@@ -1,13 +1,9 @@
 -- An `ObjectIdentifier` has valid contents octets, and is compared by them.
 use Rattle.std.proofs.Common.{◌≡◌, ◌↔◌, Bool, true}
 use Rattle.std.proofs.lemmas.Slice.Eq.{bytes_eq-Decides}
-use Rattle.asn1_core_oid.specs.Oid.{IsOid}
 use Rattle.asn1_core_oid.specs.OidValue.{octets_of}
 use Rattle.asn1_core_oid.specs.declared.oid.ObjectIdentifier.{ObjectIdentifier}
 use Rattle.asn1_core_oid.specs.contracts.oid.ObjectIdentifierPartialEq.TheImpl as Impl
-
-pub valid_octets : (oid : ObjectIdentifier) → IsOid (octets_of oid)
-valid_octets oid = oid.valid
 
 -- what `==` answers
 abbrev pub eq_oid : ObjectIdentifier → ObjectIdentifier → Bool

@@ -17,14 +17,6 @@ pub record Passed (text before after : List ℕ) (old new : Option (List ℕ)) (
 abbrev pub Buffers : List ℕ → List ℕ → List ℕ → Option (List ℕ) → Option (List ℕ) → ℕ → ℕ → Result (Unit {0}) WriteError → Type 0
 Buffers text before after old new f g r = MatchResult r (λ _. Passed text before after old new f g) (λ e. Stopped (before ++ text) old new f g e)
 
--- nothing was sent, and the text waits
-pub buffers_waiting : (text before after : List ℕ) (o : Option (List ℕ)) (f : ℕ) → after ≡ before ++ text → Passed text before after o o f f
-buffers_waiting text before after o f e = record { sent = []; split = sym e; appended = appends_none o; failed = refl }
-
--- what waited was sent, and the text waits
-pub buffers_sent : (text before none after : List ℕ) (o p : Option (List ℕ)) (f g : ℕ) → Appends o p before → g ≡ f → none ≡ [] → after ≡ none ++ text → Passed text before after o p f g
-buffers_sent text before none after o p f g k e n a = record { sent = before; split = ap (λ l. before ++ l) (sym (a ∙ ap (λ l. l ++ text) n)); appended = k; failed = e }
-
 -- what waited was sent, and then the text, or a beginning of it
 pub buffers_through : (text before none : List ℕ) (o p q : Option (List ℕ)) (f g h : ℕ) (r : Result (Unit {0}) WriteError) → Appends o p before → g ≡ f → none ≡ [] → Sends text p q g h r → Buffers text before none o q f h r
 buffers_through text before none o p q f g h (Ok u) k e n s = record {

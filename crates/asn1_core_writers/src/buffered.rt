@@ -1,6 +1,6 @@
 //! Texts that a sink gets in few writes, without memory.
 
-ghost use Rattle.std.specs.Prelude.{◌≡◌, ℕ, ◌+◌, ◌-◌, ◌^◌, ◌<◌, ◌≤◌, ◌++◌, [], length, false, OnOk};
+ghost use Rattle.std.specs.Prelude.{◌≡◌, ℕ, ◌+◌, ◌-◌, ◌^◌, ◌<◌, ◌≤◌, ◌++◌, [], length, false, OnOk, OnErr};
 ghost use Rattle.std.proofs.Common.{refl, rules};
 ghost use Rattle.asn1_core_writers.specs.Sinks.{Sends};
 ghost use Rattle.asn1_core_writers.specs.Buffers.{Buffers, buffered_nothing, buffer_forward};
@@ -99,12 +99,13 @@ impl<'a, S: Sink> Buffered<'a, S> {
         }
     }
 
-    /// Sends what waits.
+    /// Sends what waits. After a refusal it still waits, though the sink may have taken a beginning of it.
     pub fn flush(&mut self) -> Result<(), WriteError>
         requires { S.failed self.old.sink.now < 2 ^ 64 - 1 }
         ensures same_sink { self.new.sink.ghost_name ≡ self.old.sink.ghost_name }
         ensures sent { Sends self.old.waiting (S.held self.old.sink.now) (S.held self.new.sink.now) (S.failed self.old.sink.now) (S.failed self.new.sink.now) result }
         ensures none { OnOk result (self.new.waiting ≡ []) }
+        ensures kept { OnErr result (self.new.waiting ≡ self.old.waiting) }
     {
         self.sink.bytes(self.waiting.as_slice())?;
         self.waiting.clear();

@@ -16,7 +16,8 @@ pub struct Measure {
 impl Measure {
     /// Nothing was taken.
     pub fn new() -> Measure
-        ensures { result.total ≡ 0 }
+        ensures total { result.total ≡ 0 }
+        ensures pieces { result.pieces ≡ 0 }
     {
         Measure {
             total: 0,
@@ -31,7 +32,8 @@ impl Measure {
         self.total
     }
 
-    /// In how many pieces they were taken.
+    /// In how many pieces they were taken. The contract of writing says nothing of it, since a text may be cut anywhere:
+    /// it decides how a buffer is filled, and never with what.
     pub fn pieces(&self) -> usize
         ensures { result ≡ self.now.pieces }
     {

@@ -8,7 +8,6 @@ use Rattle.asn1_leaves_times.specs.CalendarLaws.{month_lt, day_lt, hour_lt, minu
 use Rattle.asn1_leaves_times.specs.Contents.{two_digits, contents_after_year, utc_contents, generalized_contents, IsUtc, IsGeneralized}
 use Rattle.asn1_leaves_times.specs.ContentsLaws.{moment_same}
 use Rattle.asn1_leaves_times.specs.Grammar.{IsDigitsAndZone, number_at, utc_year, moment_from, utc_moment, generalized_moment, IsUtcContents, IsGeneralizedContents}
-use Rattle.asn1_leaves_times.specs.Reading.{SpellsNoUtc, SpellsNoGeneralized}
 use Rattle.asn1_leaves_times.specs.declared.calendar.Moment.{Moment}
 
 -- so many digits begin the bytes
@@ -121,10 +120,6 @@ utc_contents-utc_moment contents is =
 pub utc_read : (contents : List ℕ) → IsUtcContents contents → (m : Moment) × (contents ≡ utc_contents m) × IsUtc m
 utc_read contents is = (utc_moment contents, utc_contents-utc_moment contents is, IsUtc-utc_moment contents is)
 
--- what spells no time is not in the grammar
-pub not_utc_contents : (contents : List ℕ) → SpellsNoUtc contents → ¬ IsUtcContents contents
-not_utc_contents contents none is = none (utc_moment contents) (IsUtc-utc_moment contents is) (utc_contents-utc_moment contents is)
-
 pub IsGeneralized-generalized_moment : (contents : List ℕ) → IsGeneralizedContents contents → IsGeneralized (generalized_moment contents)
 IsGeneralized-generalized_moment contents is =
     let digit : (j : ℕ) → j < 14 → IsAsciiDigit (slice_index contents j) = is.form.digits in
@@ -147,7 +142,3 @@ generalized_contents-generalized_moment contents is =
 
 pub generalized_read : (contents : List ℕ) → IsGeneralizedContents contents → (m : Moment) × (contents ≡ generalized_contents m) × IsGeneralized m
 generalized_read contents is = (generalized_moment contents, generalized_contents-generalized_moment contents is, IsGeneralized-generalized_moment contents is)
-
-pub not_generalized_contents : (contents : List ℕ) → SpellsNoGeneralized contents → ¬ IsGeneralizedContents contents
-not_generalized_contents contents none is =
-    none (generalized_moment contents) (IsGeneralized-generalized_moment contents is) (generalized_contents-generalized_moment contents is)

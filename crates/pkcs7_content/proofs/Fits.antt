@@ -26,9 +26,6 @@ apart_last e = cc
 apart_data : {a : CtlValue} {x : List ℕ} → ◌≡◌ {A = ContentValues} (inr (inr (inr a))) (inr (inr (inl x))) → ⊥
 apart_data e = cc
 
-apart_lists : {a : CtlValue} {b : IndirectDataValue} → ◌≡◌ {A = ContentValues} (inr (inr (inr a))) (inl b) → ⊥
-apart_lists e = cc
-
 module _ (k : ℕ) where
   pub none_fits : (t : Kind) → IsPlain t ↔ (content_row t).IsWellFormed k (None, tt)
   none_fits IndirectData = (λ p. absurd p, λ h. some_none h.1)

@@ -5,7 +5,7 @@
 -- certificate policies OCTET STRING (CONTAINING SEQUENCE OF CertPolicy)
 -- any others ANY
 use Rattle.std.specs.Prelude.{◌⊎◌, ℕ, List, ◌≡◌, map}
-use Rattle.asn1_core.specs.Der.{Format, within, sequence, each, object_identifier, octet_string, raw, OidOctets, ElementOctets, IsLawful, IsLawfulRow, lawful_within, lawful_each, lawful_sequence, lawful_object_identifier, lawful_octet_string, lawful_raw, octets_of}
+use Rattle.asn1_core.specs.Der.{Format, within, set_of, sequence, each, object_identifier, octet_string, raw, OidOctets, ElementOctets, IsLawful, IsLawfulRow, lawful_within, lawful_set, lawful_each, lawful_sequence, lawful_object_identifier, lawful_octet_string, lawful_raw, octets_of}
 use Rattle.asn1_core.specs.Words as Words
 use Rattle.std.proofs.Common.{inl, inr, arith, refl}
 use Rattle.asn1_core_format.specs.Eithers.{either}
@@ -23,27 +23,26 @@ use Rattle.asn1_core.specs.declared.objects.ObjectIdentifierAsn1.{ObjectIdentifi
 use Rattle.pkcs7_content_ctl.specs.declared.policies.RootProgramChainPolicy.{RootProgramChainPolicy}
 use Rattle.pkcs7_content_ctl.specs.declared.policies.CertPolicy.{CertPolicy}
 use Rattle.asn1_core.specs.declared.raw.Asn1RawDer.{Asn1RawDer}
-use Rattle.pkcs7_content_ctl.specs.declared.properties.TheConstants.{ROOT_SHA256, DISALLOWED_TIME, FRIENDLY_NAME, KEY_IDENTIFIER, SUBJECT_NAME_MD5, RESERVED_126, DISALLOWED_KEY_USAGES, KEY_USAGES, RESERVED_127}
 use Rattle.pkcs7_content_ctl.specs.declared.values.CTLEntryAttributeValues.{CTLEntryAttributeValues}
 use Rattle.pkcs7_content_ctl.specs.declared.values.CTLEntryAttributeValues.TheVariants.{CertAuthRootSha256HashPropId, CertDisallowedFileTimePropId, CertFriendlyName, CertKeyIdentifierPropId, CertSubjectNameMd5HashPropId, UnknownReservedPropId126, DisallowedEnhkeyUsage, CertEnhkeyUsagePropId, UnknownReservedPropId127, CertRootProgramChainPolicy, CertRootProgramCertPoliciesPropId, Unknown}
 
 abbrev pub octets_set : Format (List Words.Octets)
-octets_set = within 0x31 (each octet_string)
+octets_set = set_of octet_string
 
 abbrev pub UsageValue : Type 0
 UsageValue = List OidOctets
 
 abbrev pub usages_set : Format (List UsageValue)
-usages_set = within 0x31 (each (within 0x04 (sequence (each object_identifier))))
+usages_set = set_of (within 0x04 (sequence (each object_identifier)))
 
 abbrev pub chain_policies_set : Format (List ChainPolicyValue)
-chain_policies_set = within 0x31 (each (within 0x04 chain_policy))
+chain_policies_set = set_of (within 0x04 chain_policy)
 
 abbrev pub cert_policies_set : Format (List (List CertPolicyValue))
-cert_policies_set = within 0x31 (each (within 0x04 (sequence (each cert_policy))))
+cert_policies_set = set_of (within 0x04 (sequence (each cert_policy)))
 
 abbrev pub raws_set : Format (List ElementOctets)
-raws_set = within 0x31 (each raw)
+raws_set = set_of raw
 
 -- octets and usages stand beside the number of their property, as several have them
 abbrev pub AttributeValues : Type 0
@@ -66,15 +65,15 @@ raws_in s = map (λ x. x.0.items) s.0.items
 
 -- each arm by the number of its property
 abbrev pub attribute_values_value : CTLEntryAttributeValues → AttributeValues
-attribute_values_value (CertAuthRootSha256HashPropId s) = inl (ROOT_SHA256, octets_in s)
-attribute_values_value (CertDisallowedFileTimePropId s) = inl (DISALLOWED_TIME, octets_in s)
-attribute_values_value (CertFriendlyName s) = inl (FRIENDLY_NAME, octets_in s)
-attribute_values_value (CertKeyIdentifierPropId s) = inl (KEY_IDENTIFIER, octets_in s)
-attribute_values_value (CertSubjectNameMd5HashPropId s) = inl (SUBJECT_NAME_MD5, octets_in s)
-attribute_values_value (UnknownReservedPropId126 s) = inl (RESERVED_126, octets_in s)
-attribute_values_value (DisallowedEnhkeyUsage s) = inr (inl (DISALLOWED_KEY_USAGES, usages_in s))
-attribute_values_value (CertEnhkeyUsagePropId s) = inr (inl (KEY_USAGES, usages_in s))
-attribute_values_value (UnknownReservedPropId127 s) = inr (inl (RESERVED_127, usages_in s))
+attribute_values_value (CertAuthRootSha256HashPropId s) = inl (98, octets_in s)
+attribute_values_value (CertDisallowedFileTimePropId s) = inl (104, octets_in s)
+attribute_values_value (CertFriendlyName s) = inl (11, octets_in s)
+attribute_values_value (CertKeyIdentifierPropId s) = inl (20, octets_in s)
+attribute_values_value (CertSubjectNameMd5HashPropId s) = inl (29, octets_in s)
+attribute_values_value (UnknownReservedPropId126 s) = inl (126, octets_in s)
+attribute_values_value (DisallowedEnhkeyUsage s) = inr (inl (122, usages_in s))
+attribute_values_value (CertEnhkeyUsagePropId s) = inr (inl (9, usages_in s))
+attribute_values_value (UnknownReservedPropId127 s) = inr (inl (127, usages_in s))
 attribute_values_value (CertRootProgramChainPolicy s) = inr (inr (inl (chain_policies_in s)))
 attribute_values_value (CertRootProgramCertPoliciesPropId s) = inr (inr (inr (inl (cert_policies_in s))))
 attribute_values_value (Unknown s) = inr (inr (inr (inr (raws_in s))))
@@ -105,9 +104,6 @@ values_row Raws n = arm attribute_values (by_itself (λ v. inr (inr (inr (inr v)
 -- the object identifier says which property it is, and so which values stand behind it
 abbrev pub values_defined_by : DefinedBy AttributeValues
 values_defined_by = record { text = attribute_values.text; row = λ o. values_row (shape_of (property_of o)) (property_of o) }
-
-pub lawful_set : {V : Type 0} (F : Format V) → IsLawful F → IsLawful (within 0x31 (each F))
-lawful_set F f = lawful_within (each F) (lawful_each F f) 0x31 (omega arith)
 
 lawful_held : {V : Type 0} (F : Format V) → IsLawful F → IsLawful (within 0x04 F)
 lawful_held F f = lawful_within F f.row 0x04 (omega arith)

@@ -1,10 +1,7 @@
 -- Properties of certificates, which trust lists give as attributes: each has a number, and the object identifier
--- 1.3.6.1.4.1.311.10.11 with the number behind it. The numbers are the constants of the code, and `properties_are` says
--- which they are.
-use Rattle.std.specs.Prelude.{◌≡◌, ◌==◌, ℕ, List, [], ◌∷◌, if◌then◌else◌}
-use Rattle.std.proofs.Common.{refl}
+-- 1.3.6.1.4.1.311.10.11 with the number behind it.
+use Rattle.std.specs.Prelude.{◌==◌, ℕ, List, [], ◌∷◌, if◌then◌else◌}
 use Rattle.asn1_core_oid.specs.Arcs.{arcs}
-use Rattle.pkcs7_content_ctl.specs.declared.properties.TheConstants.{ROOT_SHA256, DISALLOWED_TIME, FRIENDLY_NAME, KEY_IDENTIFIER, SUBJECT_NAME_MD5, RESERVED_126, DISALLOWED_KEY_USAGES, KEY_USAGES, RESERVED_127, CHAIN_POLICY, CERT_POLICIES}
 use Rattle.pkcs7_content_ctl.specs.declared.properties.Shape.{Shape}
 use Rattle.pkcs7_content_ctl.specs.declared.properties.Shape.TheVariants.{Octets, Usages, ChainPolicies, CertPolicies, Raws}
 
@@ -24,17 +21,21 @@ octet_behind (p ∷ ps) (o ∷ os) = if o == p then octet_behind ps os else 0
 abbrev pub property_of : List ℕ → ℕ
 property_of o = octet_behind property_prefix o
 
--- the properties that are known, and what the values of each are
+-- the numbers of the properties that are known, as wincrypt.h gives them, and what the values of each are
 abbrev pub properties : List (ℕ × Shape)
 properties =
-    (ROOT_SHA256, Octets) ∷ (DISALLOWED_TIME, Octets) ∷ (FRIENDLY_NAME, Octets)
-    ∷ (KEY_IDENTIFIER, Octets) ∷ (SUBJECT_NAME_MD5, Octets) ∷ (RESERVED_126, Octets)
-    ∷ (DISALLOWED_KEY_USAGES, Usages) ∷ (KEY_USAGES, Usages) ∷ (RESERVED_127, Usages)
-    ∷ (CHAIN_POLICY, ChainPolicies) ∷ (CERT_POLICIES, CertPolicies) ∷ []
-
--- the same with the numbers that these constants are
-pub properties_are : properties ≡ (98, Octets) ∷ (104, Octets) ∷ (11, Octets) ∷ (20, Octets) ∷ (29, Octets) ∷ (126, Octets) ∷ (122, Usages) ∷ (9, Usages) ∷ (127, Usages) ∷ (105, ChainPolicies) ∷ (83, CertPolicies) ∷ []
-properties_are = refl
+    (98, Octets)  -- the SHA-256 of an authority's root
+    ∷ (104, Octets)  -- the time from which it is disallowed
+    ∷ (11, Octets)  -- a friendly name
+    ∷ (20, Octets)  -- a key identifier
+    ∷ (29, Octets)  -- the MD5 of a subject's name
+    ∷ (126, Octets)  -- reserved
+    ∷ (122, Usages)  -- disallowed key usages
+    ∷ (9, Usages)  -- key usages
+    ∷ (127, Usages)  -- reserved
+    ∷ (105, ChainPolicies)  -- policies of a root program's chains
+    ∷ (83, CertPolicies)  -- policies of a root's certificates
+    ∷ []
 
 abbrev pub shape_among : List (ℕ × Shape) → ℕ → Shape
 shape_among [] n = Raws

@@ -4,7 +4,7 @@
 -- CertificateTrustList ::= SEQUENCE { subjectUsage SEQUENCE OF OBJECT IDENTIFIER, sequenceNumber INTEGER,
 --   thisUpdate UTCTime, subjectAlgorithm AlgorithmIdentifier, trustedSubjects SEQUENCE OF TrustedSubject }
 use Rattle.std.specs.Prelude.{List, map}
-use Rattle.asn1_core.specs.Der.{Format, IsLawful, sequence, part, nothing, within, each, object_identifier, octet_string, lawful_sequence, followed_by, lawful_nothing, lawful_each, lawful_object_identifier, lawful_octet_string, Octets, OidOctets, IntegerOctets, octets_of}
+use Rattle.asn1_core.specs.Der.{Format, IsLawful, sequence, part, nothing, set_of, each, object_identifier, octet_string, lawful_sequence, followed_by, lawful_nothing, lawful_set, lawful_each, lawful_object_identifier, lawful_octet_string, Octets, OidOctets, IntegerOctets, octets_of}
 use Rattle.asn1_leaves.specs.Integers.{integer, lawful_integer}
 use Rattle.asn1_leaves.specs.Times.{utc_time, lawful_utc_time}
 use Rattle.asn1_leaves_times.specs.declared.calendar.Moment.{Moment}
@@ -12,7 +12,7 @@ use Rattle.asn1_defined_by.specs.DefinedBy.{any_defined_by}
 use Rattle.asn1_defined_by.specs.DefinedByLaws.{lawful_any_defined_by}
 use Rattle.x509_base.specs.Algorithms.{AlgorithmValue, algorithm_identifier}
 use Rattle.x509_base.specs.AlgorithmLaws.{lawful_algorithm_identifier}
-use Rattle.pkcs7_content_ctl.specs.AttributeValues.{AttributeValues, values_defined_by, lawful_set, values_are_defined_by, attribute_values_value}
+use Rattle.pkcs7_content_ctl.specs.AttributeValues.{AttributeValues, values_defined_by, values_are_defined_by, attribute_values_value}
 use Rattle.pkcs7_content_ctl.specs.declared.attributes.CTLEntryAttribute.{CTLEntryAttribute}
 use Rattle.pkcs7_content_ctl.specs.declared.entries.CTLEntry.{CTLEntry}
 use Rattle.asn1_leaves_times.specs.Times.{moment_of}
@@ -38,7 +38,7 @@ abbrev pub entry_value : CTLEntry → EntryValue
 entry_value x = (x.cert_fingerprint.0.items, (map entry_attribute_value x.attributes.0.items, tt))
 
 abbrev pub entry : Format EntryValue
-entry = sequence (part octet_string (part (within 0x31 (each entry_attribute)) nothing))
+entry = sequence (part octet_string (part (set_of entry_attribute) nothing))
 
 pub lawful_entry : IsLawful entry
 lawful_entry =

@@ -3,7 +3,7 @@ use Rattle.std.specs.Prelude.{◌≡◌, ℕ, List, [], ◌++◌, Option, map}
 use Rattle.std.proofs.Common.{refl, ap, ◌∙◌, append_assoc, Vec, Global}
 use Rattle.asn1_core.specs.Der.{Format, nothing, number_below, version, octet_string, option_value, ElementOctets}
 use Rattle.asn1_core.specs.declared.raw.Asn1RawDer.{Asn1RawDer}
-use Rattle.asn1_core_format.specs.Omitted.{is_text, text_unless}
+use Rattle.asn1_core_format.specs.Omitted.{is_default, text_unless}
 use Rattle.asn1_core_format.specs.Rows.{text_if}
 use Rattle.pkcs7_content.specs.Contents.{encapsulated, encapsulated_value}
 use Rattle.pkcs7_content.specs.Versions.{number_of}
@@ -58,11 +58,11 @@ module _ {R : Type 0} (F : Format R) (r : R) where
   pub signer_head_text : (p : SignerParts (Unit {0})) → (signer_parts nothing).text p ++ F.text r ≡ (signer_parts F).text (signer_end p r)
   signer_head_text p =
       six_behind ((version 1).text p.0) (signer_id.text p.1.0) (algorithm_identifier.text p.1.1.0)
-      (text_unless (is_text attributes no_attributes p.1.1.1.0) (attributes.text p.1.1.1.0))
+      (text_unless (is_default attributes no_attributes p.1.1.1.0) (attributes.text p.1.1.1.0))
       (algorithm_identifier.text p.1.1.1.1.0) (octet_string.text p.1.1.1.1.1.0) (F.text r)
 
   pub signed_head_text : (p : SignedParts (Unit {0})) → (signed_parts nothing).text p ++ F.text r ≡ (signed_parts F).text (signed_end p r)
   signed_head_text p =
       five_behind ((number_below 6).text p.0) (algorithms.text p.1.0) (encapsulated.text p.1.1.0)
-      (text_unless (is_text certificate_set no_certificates p.1.1.1.0) (certificate_set.text p.1.1.1.0))
+      (text_unless (is_default certificate_set no_certificates p.1.1.1.0) (certificate_set.text p.1.1.1.0))
       (text_if revocations.text p.1.1.1.1.0) (F.text r)

@@ -1,27 +1,21 @@
 -- What stands in a signer before its unsigned attributes, and in signed data before its signers.
 use Rattle.std.specs.Prelude.{◌≡◌, ℕ, List, Option}
 use Rattle.std.proofs.Common.{arith, ⊎_elim}
-use Rattle.asn1_core.specs.Der.{Format, IsLawful, IsLawfulRow, each, lawful_each, number_below, lawful_number, version, lawful_version_1, part, optional, within, lawful_within, followed_by, perhaps, octet_string, lawful_octet_string, Octets}
+use Rattle.asn1_core.specs.Der.{Format, IsLawful, IsLawfulRow, number_below, lawful_number, version, lawful_version_1, part, optional, followed_by, perhaps, octet_string, lawful_octet_string, Octets}
 use Rattle.asn1_core_format.specs.Leaf.{leaf, kept}
 use Rattle.asn1_core_format.specs.LeafLaws.{lawful_leaf, lawful_kept}
 use Rattle.asn1_core_format.specs.Levels.{no_grammar, always}
-use Rattle.asn1_core_format.specs.Omitted.{omitted, is_text, default_text, lawful_omitted}
+use Rattle.asn1_core_format.specs.Omitted.{omitted, is_default, lawful_omitted}
 use Rattle.pkcs7_content.specs.Contents.{EncapsulatedValue, encapsulated}
 use Rattle.pkcs7_content.specs.ContentLaws.{lawful_encapsulated}
 use Rattle.pkcs7_signed_crl.specs.Algorithms.{algorithms, lawful_algorithms}
-use Rattle.pkcs7_signed_crl.specs.Attributes.{attributes, lawful_attributes, no_attributes, normal_no_attributes}
-use Rattle.pkcs7_signed_crl.specs.Certificates.{CertificateValue, certificate_set, lawful_certificate_set, no_certificates, normal_no_certificates}
+use Rattle.pkcs7_signed_crl.specs.Attributes.{attributes, lawful_attributes, no_attributes, no_attributes_left_out}
+use Rattle.pkcs7_signed_crl.specs.Certificates.{CertificateValue, certificate_set, lawful_certificate_set, no_certificates, no_certificates_left_out}
 use Rattle.pkcs7_signed_crl.specs.Revocations.{RevocationValue, revocations, lawful_revocations}
 use Rattle.pkcs7_signed_crl.specs.Signers.{SignerIdValue, signer_id, lawful_signer_id}
 use Rattle.x509_base.specs.Algorithms.{AlgorithmValue, algorithm_identifier}
 use Rattle.x509_base.specs.AlgorithmLaws.{lawful_algorithm_identifier}
 use Rattle.x509_base.specs.Names.{AttributeValue}
-
-abbrev pub set_of : {V : Type 0} → Format V → Format (List V)
-set_of F = within 0x31 (each F)
-
-pub lawful_set : {V : Type 0} (F : Format V) → IsLawful F → IsLawful (set_of F)
-lawful_set F f = lawful_within (each F) (lawful_each F f) 0x31 (omega arith)
 
 -- a signer before its unsigned attributes, and what stands behind
 abbrev pub SignerParts : Type 0 → Type 0
@@ -36,15 +30,15 @@ behind_signer p = p.1.1.1.1.1.1
 abbrev pub signer_parts : {R : Type 0} → Format R → Format (SignerParts R)
 signer_parts R =
     part (version 1) (part signer_id (part algorithm_identifier
-    (omitted (is_text attributes no_attributes) no_attributes attributes
+    (omitted (is_default attributes no_attributes) no_attributes attributes
     (part algorithm_identifier (part octet_string R)))))
 
 pub lawful_signer_parts : {V : Type 0} {R : Format V} → IsLawfulRow R → IsLawfulRow (signer_parts R)
 lawful_signer_parts {V} {R} r =
     followed_by lawful_version_1 (followed_by lawful_signer_id (followed_by lawful_algorithm_identifier
-    (lawful_omitted (is_text attributes no_attributes) no_attributes attributes _ lawful_attributes
+    (lawful_omitted (is_default attributes no_attributes) no_attributes attributes _ lawful_attributes
     (followed_by lawful_algorithm_identifier (followed_by lawful_octet_string r))
-    (default_text no_attributes attributes normal_no_attributes) (λ t h e. omega arith))))
+    no_attributes_left_out (λ t h e. omega arith))))
 
 -- signed data before its signers, and what stands behind
 abbrev pub SignedParts : Type 0 → Type 0
@@ -59,15 +53,15 @@ behind_signed p = p.1.1.1.1.1
 abbrev pub signed_parts : {R : Type 0} → Format R → Format (SignedParts R)
 signed_parts R =
     part (number_below 6) (part algorithms (part encapsulated
-    (omitted (is_text certificate_set no_certificates) no_certificates certificate_set
+    (omitted (is_default certificate_set no_certificates) no_certificates certificate_set
     (optional revocations R))))
 
 pub lawful_signed_parts : {V : Type 0} {R : Format V} → IsLawfulRow R → ((t : ℕ) → R.IsTag t → t ≡ 0x31) → IsLawfulRow (signed_parts R)
 lawful_signed_parts {V} {R} r is_set =
     followed_by (lawful_number 6) (followed_by lawful_algorithms (followed_by lawful_encapsulated
-    (lawful_omitted (is_text certificate_set no_certificates) no_certificates certificate_set _ lawful_certificate_set
+    (lawful_omitted (is_default certificate_set no_certificates) no_certificates certificate_set _ lawful_certificate_set
     (perhaps lawful_revocations (λ t h e. omega (arith, h, is_set t e)) r)
-    (default_text no_certificates certificate_set normal_no_certificates)
+    no_certificates_left_out
     (λ t h e. ⊎_elim (λ (x : t ≡ 0xA1). omega (arith, h, x)) (λ (x : R.IsTag t). omega (arith, h, is_set t x)) e))))
 
 -- an object identifier and no other

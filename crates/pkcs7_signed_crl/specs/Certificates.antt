@@ -1,11 +1,13 @@
 -- CertificateChoices ::= CHOICE { certificate Certificate, extendedCertificate [0] .., v1AttrCert [1] .., v2AttrCert [2] ..,
 --   other [3] .. } (RFC 5652, 10.2.2), each as it stands: a certificate is a SEQUENCE, and all others have another tag
 -- CertificateSet ::= SET OF CertificateChoices, under its tag [0] IMPLICIT (RFC 5652, 5.1 and 10.2.3)
-use Rattle.std.specs.Prelude.{◌≡◌, ◌≢◌, ◌⊎◌, ℕ, List, [], map}
-use Rattle.std.proofs.Common.{refl, inl, inr, arith}
+use Rattle.std.specs.Prelude.{◌≡◌, ◌≢◌, ◌≤◌, ◌⊎◌, ℕ, List, [], map}
+use Rattle.std.proofs.Common.{inl, inr, arith}
 use Rattle.asn1_core.specs.Der.{Format, IsLawful, within, each, element_of, lawful_within, lawful_each, lawful_element_of, ElementOctets}
 use Rattle.asn1_core_element.specs.Element.{element}
 use Rattle.asn1_core_format.specs.Eithers.{either, lawful_either}
+use Rattle.asn1_core_format.specs.EmptySets.{empty_left_out}
+use Rattle.asn1_core_format.specs.Omitted.{is_default, IsDefault}
 use Rattle.pkcs7_signed_crl.specs.declared.certificates.CertificateChoices.{CertificateChoices}
 use Rattle.pkcs7_signed_crl.specs.declared.certificates.CertificateChoices.TheVariants.{Certificate, Other}
 use Rattle.pkcs7_signed_crl.specs.declared.certificates.CertificateSet.{CertificateSet}
@@ -39,9 +41,13 @@ certificate_set = within 0xA0 (each certificate_choice)
 pub lawful_certificate_set : IsLawful certificate_set
 lawful_certificate_set = lawful_within (each certificate_choice) (lawful_each certificate_choice lawful_certificate_choice) 0xA0 (omega arith)
 
--- none, which absence stands for
+-- the empty set, which is left out
 abbrev pub no_certificates : List ℕ
 no_certificates = element 0xA0 []
 
-pub normal_no_certificates : (k : ℕ) → certificate_set.IsNormal k no_certificates
-normal_no_certificates k = ([], refl, ([], refl, tt))
+pub no_certificates_left_out : IsDefault (is_default certificate_set no_certificates) no_certificates certificate_set
+no_certificates_left_out = empty_left_out 0xA0 (omega arith) certificate_choice lawful_certificate_choice
+
+pub some_certificate : (v : CertificateValue) → 1 ≤ certificate_choice.least v
+some_certificate (inl c) = omega arith
+some_certificate (inr c) = omega arith

@@ -3,12 +3,12 @@
 ghost use Rattle.std.specs.Prelude.{◌≡◌, List, []};
 ghost use Rattle.std.proofs.Common.{arith};
 ghost use Rattle.x509_base.specs.Names.{AttributeValue};
-ghost use Rattle.pkcs7_signed_crl.specs.Attributes.{attributes_value, attributes, lawful_attributes, no_attributes, normal_no_attributes};
+ghost use Rattle.pkcs7_signed_crl.specs.Attributes.{attributes_value, attributes, lawful_attributes, no_attributes, no_attributes_left_out};
 ghost use Rattle.pkcs7_signed_crl.specs.Equal.{attributes_equal};
 
 use crate::algorithms::SignatureAlgorithmIdentifier;
 use asn1_core::parts::{
-    ApartFrom, FirstTags, HasDefault, WriteError, WriteRow, Writer, has_no_text, put_within,
+    ApartFrom, FirstTags, HasDefault, WriteError, WriteRow, Writer, is_left_out, put_within,
     read_within,
 };
 use asn1_core::{
@@ -65,14 +65,14 @@ impl HasDefault for Attributes {
     ghost DEFAULT = { no_attributes };
 
     fn is_default(&self) -> bool {
-        has_no_text(0xA0, &self.0.0)
+        is_left_out(0xA0, &self.0.0)
     }
 
     fn absent(alloc: Global) -> Result<Self, Error> {
         Ok(Attributes::empty(alloc))
     }
 
-    ghost normal_default = { normal_no_attributes };
+    ghost left_out = { no_attributes_left_out };
 }
 
 impl ApartFrom<SignatureAlgorithmIdentifier> for Attributes {

@@ -5,11 +5,11 @@ ghost use Rattle.std.proofs.Common.{arith};
 ghost use Rattle.asn1_core_format.specs.Laws.{NextIs};
 ghost use Rattle.asn1_core_format.specs.Lists.{each};
 ghost use Rattle.asn1_core_format.specs.TaggedLaws.{within_tagged};
-ghost use Rattle.pkcs7_signed_crl.specs.Certificates.{CertificateValue, certificate_value, certificate_choice, lawful_certificate_choice, certificates_value, certificate_set, lawful_certificate_set, no_certificates, normal_no_certificates};
+ghost use Rattle.pkcs7_signed_crl.specs.Certificates.{CertificateValue, certificate_value, certificate_choice, lawful_certificate_choice, certificates_value, certificate_set, lawful_certificate_set, no_certificates, no_certificates_left_out};
 ghost use Rattle.pkcs7_signed_crl.specs.Equal.{certificate_equal, certificates_equal};
 
 use asn1_core::parts::{
-    HasDefault, WriteError, WriteRow, Writer, has_no_text, put_within, read_row_contents,
+    HasDefault, WriteError, WriteRow, Writer, is_left_out, put_within, read_row_contents,
     read_within,
 };
 use asn1_core::{
@@ -149,15 +149,16 @@ impl DerTagged for CertificateSet {
 impl HasDefault for CertificateSet {
     ghost DEFAULT = { no_certificates };
 
+    #[tactic(auto, using(crate::specs::Certificates::some_certificate))]
     fn is_default(&self) -> bool {
-        has_no_text(0xA0, &self.0)
+        is_left_out(0xA0, &self.0)
     }
 
     fn absent(alloc: Global) -> Result<Self, Error> {
         Ok(CertificateSet::empty(alloc))
     }
 
-    ghost normal_default = { normal_no_certificates };
+    ghost left_out = { no_certificates_left_out };
 }
 
 impl EqualByText for CertificateSet {

@@ -1,7 +1,7 @@
 -- The laws of algorithm identifiers.
 use Rattle.std.specs.Prelude.{◌≡◌, ◌≢◌, ◌↔◌, ℕ, List, [], ◌++◌, Option, Some, None}
 use Rattle.std.proofs.Common.{refl, sym, ap, ◌∙◌, arith, append-nil, length}
-use Rattle.asn1_core_element.specs.Element.{element, head, IsElement, IsTagByte}
+use Rattle.asn1_core_element.specs.Element.{element, IsElement, IsTagByte}
 use Rattle.asn1_core_element.specs.ElementLaws.{element_cut, element_same, element_long}
 use Rattle.asn1_core_format.specs.Format.{IsLawful}
 use Rattle.asn1_core_format.specs.Rows.{nothing, optional}
@@ -17,10 +17,6 @@ lawful_algorithm_identifier =
 
 pub null_is_element : IsElement IsTagByte null
 null_is_element = record { tag = 0x05; contents = []; is_tag = omega arith; is = refl; allowed = omega arith }
-
-pub null_some : null ≢ []
-unfolding head
-null_some e = cc
 
 -- which bytes an algorithm identifier is, whatever its parameters are
 pub parts_of : (k : ℕ) (b : List ℕ) (a : AlgorithmValue) → algorithm_identifier.Reads k b a → (p : List ℕ) × (b ≡ element 0x30 (element 0x06 a.0 ++ p)) × (optional raw nothing).Reads k p a.1

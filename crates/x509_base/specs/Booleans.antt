@@ -1,14 +1,12 @@
 -- BOOLEAN, and an explicit FALSE as what absence stands for.
-use Rattle.std.specs.Prelude.{◌≡◌, ◌⊎◌, ℕ, Bool, true, false, not, List, [], ◌∷◌}
-use Rattle.std.specs.Str.{bytes_eq}
-use Rattle.std.proofs.Common.{refl, sym, inl, inr, arith}
-use Rattle.std.proofs.lemmas.Slice.Eq.{bytes_eq-Decides}
-use Rattle.std.proofs.lemmas.Bool.{false_from_ne_true}
+use Rattle.std.specs.Prelude.{◌≡◌, ◌⊎◌, ◌↔◌, ℕ, Bool, true, false, not, List, [], ◌∷◌}
+use Rattle.std.proofs.Common.{refl, inl, inr, arith}
 use Rattle.asn1_core_element.specs.Element.{element}
 use Rattle.asn1_core_element.specs.ElementLaws.{element_same}
 use Rattle.asn1_core_format.specs.Format.{Format, IsLawful}
 use Rattle.asn1_core_format.specs.Leaf.{Spelling, leaf}
 use Rattle.asn1_core_format.specs.LeafLaws.{lawful_leaf}
+use Rattle.asn1_core_format.specs.Omitted.{is_default, IsDefault}
 
 abbrev pub boolean_octets : Bool → List ℕ
 boolean_octets true = 0xFF ∷ []
@@ -44,12 +42,16 @@ lawful_boolean = lawful_leaf 0x01 (omega arith) booleans (record {
 abbrev pub explicit_false : List ℕ
 explicit_false = element 0x01 (0x00 ∷ [])
 
-pub is_false : (v : Bool) → not v ≡ bytes_eq (boolean.text v) explicit_false
-is_false false = sym ((bytes_eq-Decides explicit_false explicit_false).1 refl)
-is_false true = sym (false_from_ne_true (bytes_eq (element 0x01 (0xFF ∷ [])) explicit_false) (λ h. (let e = (element_same 0x01 0x01 (0xFF ∷ []) (0x00 ∷ []) ((bytes_eq-Decides (element 0x01 (0xFF ∷ [])) explicit_false).0 h)).1 in cc)))
+pub is_false : (v : Bool) → not v ≡ is_default boolean explicit_false v
+is_false false = refl
+is_false true = refl
 
-pub false_is_normal : (k : ℕ) → boolean.IsNormal k explicit_false
-false_is_normal k = (0x00 ∷ [], refl, inl refl)
+false_text : (v : Bool) → (is_default boolean explicit_false v ≡ true) ↔ (boolean.text v ≡ explicit_false)
+false_text false = (λ e. refl, λ e. refl)
+false_text true = (λ e. cc, λ e. (let c = (element_same 0x01 0x01 (0xFF ∷ []) (0x00 ∷ []) e).1 in cc))
+
+pub false_left_out : IsDefault (is_default boolean explicit_false) explicit_false boolean
+false_left_out = record { normal = λ k. (0x00 ∷ [], refl, inl refl); exact = λ k v h. false_text v }
 
 pub false_reads : (k : ℕ) → boolean.Reads k explicit_false false
 false_reads k = (refl, tt)

@@ -2,7 +2,7 @@
 
 ghost use Rattle.std.specs.Prelude.{List, Bool};
 ghost use Rattle.std.proofs.Common.{arith};
-ghost use Rattle.x509_base.specs.Booleans.{booleans, boolean, lawful_boolean, explicit_false, is_false, false_is_normal, false_reads};
+ghost use Rattle.x509_base.specs.Booleans.{booleans, boolean, lawful_boolean, explicit_false, is_false, false_left_out, false_reads};
 ghost use Rattle.x509_base.specs.Equal.{extension_equal, extensions_equal};
 ghost use Rattle.x509_base.specs.Extensions.{ExtensionValue, extension_value, extension, extensions_value, extensions, lawful_extension, lawful_extensions};
 
@@ -84,7 +84,7 @@ impl HasDefault for Critical {
         Ok(Critical(false))
     }
 
-    ghost normal_default = { false_is_normal };
+    ghost left_out = { false_left_out };
 }
 
 impl ApartFrom<OctetStringAsn1> for Critical {

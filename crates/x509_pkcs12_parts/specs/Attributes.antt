@@ -1,7 +1,7 @@
 -- PKCS12Attribute ::= SEQUENCE { attrId OBJECT IDENTIFIER, attrValues SET OF ANY } (RFC 7292, 4.2)
 -- friendlyName: SET (SIZE (1)) OF BMPString; localKeyId: SET (SIZE (1)) OF OCTET STRING (RFC 2985, 5.5)
-use Rattle.std.specs.Prelude.{◌⊎◌, ℕ, List, Option, map}
-use Rattle.asn1_core.specs.Der.{Format, each, within, sequence, optional, nothing, octet_string, raw, octets_of, option_value, Octets, OidOctets, StringOctets, ElementOctets, IsLawful, IsLawfulRow, lawful_each, lawful_within, lawful_octet_string, lawful_raw, perhaps, lawful_nothing, lawful_sequence}
+use Rattle.std.specs.Prelude.{◌⊎◌, List, Option, map}
+use Rattle.asn1_core.specs.Der.{Format, within, set_of, sequence, optional, nothing, octet_string, raw, octets_of, option_value, Octets, OidOctets, StringOctets, ElementOctets, IsLawful, IsLawfulRow, lawful_within, lawful_set, lawful_octet_string, lawful_raw, perhaps, lawful_nothing, lawful_sequence}
 use Rattle.std.proofs.Common.{inl, inr, Vec, Global, arith}
 use Rattle.asn1_core_format.specs.Choices.{Choice, known, otherwise, IsLawfulChoice, lawful_known, lawful_otherwise}
 use Rattle.asn1_core_oid.specs.Oid.{IsOid}
@@ -26,7 +26,7 @@ abbrev pub set_of_one : {V : Type 0} → Format V → Format V
 set_of_one F = within 0x31 F
 
 abbrev pub any_values : Format (List ElementOctets)
-any_values = within 0x31 (each raw)
+any_values = set_of raw
 
 abbrev pub unknown_attribute : Choice (OidOctets × List ElementOctets)
 unknown_attribute = otherwise IsOid any_values
@@ -48,13 +48,13 @@ abbrev pub attributes_value : Option (Vec Pkcs12Attribute Global) → Attributes
 attributes_value a = (option_value (λ v. map attribute_value v.items) a, tt)
 
 abbrev pub attributes : Format AttributesValue
-attributes = optional (within 0x31 (each pkcs12_attribute)) nothing
+attributes = optional (set_of pkcs12_attribute) nothing
 
 pub lawful_set_of_one : {V : Type 0} (F : Format V) → IsLawful F → IsLawful (set_of_one F)
 lawful_set_of_one F f = lawful_within F f.row 0x31 (omega arith)
 
 pub lawful_any_values : IsLawful any_values
-lawful_any_values = lawful_within (each raw) (lawful_each raw lawful_raw) 0x31 (omega arith)
+lawful_any_values = lawful_set raw lawful_raw
 
 pub lawful_attribute_choice : IsLawfulChoice attribute_choice
 lawful_attribute_choice =
@@ -66,4 +66,4 @@ pub lawful_pkcs12_attribute : IsLawful pkcs12_attribute
 lawful_pkcs12_attribute = lawful_sequence lawful_attribute_choice.row
 
 pub lawful_attributes : IsLawfulRow attributes
-lawful_attributes = perhaps (lawful_within (each pkcs12_attribute) (lawful_each pkcs12_attribute lawful_pkcs12_attribute) 0x31 (omega arith)) (λ t h e. e) lawful_nothing
+lawful_attributes = perhaps (lawful_set pkcs12_attribute lawful_pkcs12_attribute) (λ t h e. e) lawful_nothing

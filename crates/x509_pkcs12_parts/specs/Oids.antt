@@ -28,9 +28,9 @@ known_arcs =
     ∷ pkcs (12 ∷ 10 ∷ 1 ∷ 6 ∷ [])  -- safeContentsBag
     ∷ []
 
--- the arcs of a number; past the last those of pkcs7-data
+-- the arcs of a number; past the last those of 2.999, which is kept for examples and names nothing
 abbrev row_at : List (List ℕ) → ℕ → List ℕ
-row_at [] n = pkcs (7 ∷ 1 ∷ [])
+row_at [] n = 2 ∷ 999 ∷ []
 row_at (row ∷ rows) zero = row
 row_at (row ∷ rows) (suc n) = row_at rows n
 
@@ -43,7 +43,7 @@ all_oids [] = true
 all_oids (row ∷ rows) = is_oid (arcs row) && all_oids rows
 
 row_valid : (rows : List (List ℕ)) (n : ℕ) → all_oids rows ≡ true → IsOid (arcs (row_at rows n))
-row_valid [] n h = oid_from_test data_oid refl
+row_valid [] n h = oid_from_test (arcs (2 ∷ 999 ∷ [])) refl
 row_valid (row ∷ rows) zero h = oid_from_test (arcs row) (and_parts (is_oid (arcs row)) (all_oids rows) h).0
 row_valid (row ∷ rows) (suc n) h = row_valid rows n (and_parts (is_oid (arcs row)) (all_oids rows) h).1
 

@@ -39,11 +39,13 @@ macro_rules! pkcs {
     };
 }
 
-/// The contents octets of the object identifier with that number. Each number past the last stands for the first.
+/// The contents octets of the object identifier with that number. Each number past the last stands for 2.999, which is
+/// registered for examples and names nothing, so that a wrong number stands for no known object identifier.
 pub fn octets_of_known(number: usize) -> &'static [u8]
     ensures { result.now ≡ oid number }
 {
     match number {
+        PKCS7_DATA => &DATA,
         ENCRYPTED_DATA => pkcs!(0x07, 0x06),
         FRIENDLY_NAME => pkcs!(0x09, 0x14),
         LOCAL_KEY_ID => pkcs!(0x09, 0x15),
@@ -55,7 +57,7 @@ pub fn octets_of_known(number: usize) -> &'static [u8]
         CRL_BAG => pkcs!(0x0C, 0x0A, 0x01, 0x04),
         SECRET_BAG => pkcs!(0x0C, 0x0A, 0x01, 0x05),
         SAFE_CONTENTS_BAG => pkcs!(0x0C, 0x0A, 0x01, 0x06),
-        _ => &DATA,
+        _ => &[0x88, 0x37],
     }
 }
 

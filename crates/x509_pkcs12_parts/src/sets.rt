@@ -2,9 +2,9 @@
 
 ghost use Rattle.std.specs.Prelude.{List, map};
 ghost use Rattle.std.proofs.Common.{arith};
-ghost use Rattle.asn1_core_format.specs.Lists.{each};
 ghost use Rattle.asn1_core_format.specs.Rows.{within};
 ghost use Rattle.asn1_core_format.specs.RowLaws.{lawful_within};
+ghost use Rattle.asn1_core_format.specs.Sequences.{set_of};
 
 use asn1_core::{DerDeserialize, DerSerialize, Error, Reader};
 use asn1_core_format::{Alone, ReadRow, WriteRow, put_within, read_within};
@@ -84,7 +84,7 @@ impl<T: DerSerialize> DerSerialize for SetRef<'_, T> {
 
     ghost value = { λ x. map T.value x.0.now.items };
 
-    ghost format = { within 0x31 (each T.format) };
+    ghost format = { set_of T.format };
 
     fn put<W: Writer>(&self, w: &mut W) -> Result<(), WriteError> {
         put_within(0x31, self.0, w)

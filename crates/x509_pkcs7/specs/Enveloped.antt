@@ -5,7 +5,7 @@
 --   ContentEncryptionAlgorithmIdentifier, encryptedContent [0] IMPLICIT EncryptedContent OPTIONAL } (RFC 5652, 6.1)
 use Rattle.std.specs.Prelude.{◌≡◌, ℕ, List, Option, map}
 use Rattle.std.proofs.Common.{arith, ⊎_elim}
-use Rattle.asn1_core.specs.Der.{Format, IsLawful, sequence, part, optional, nothing, within, each, number_below, object_identifier, octet_string, octets_of, option_value, lawful_sequence, followed_by, perhaps, lawful_nothing, lawful_within, lawful_each, lawful_number, lawful_object_identifier, lawful_octet_string, Octets, OidOctets}
+use Rattle.asn1_core.specs.Der.{Format, IsLawful, sequence, part, optional, nothing, each, set_of, number_below, object_identifier, octet_string, octets_of, option_value, lawful_sequence, followed_by, perhaps, lawful_nothing, lawful_set, lawful_number, lawful_object_identifier, lawful_octet_string, Octets, OidOctets}
 use Rattle.asn1_core.specs.Octets.{any_octets}
 use Rattle.asn1_core_format.specs.Tagged.{implicit}
 use Rattle.asn1_core_format.specs.TaggedLaws.{lawful_implicit, within_tagged, leaf_tagged}
@@ -63,10 +63,10 @@ lawful_originator =
 
 -- SET OF Attribute, under [1] IMPLICIT
 abbrev pub attributes : Format (List AttributeValue)
-attributes = within 0x31 (each attribute)
+attributes = set_of attribute
 
 lawful_unprotected : IsLawful (implicit 0xA1 0x31 attributes)
-lawful_unprotected = lawful_implicit 0xA1 0x31 attributes (lawful_within (each attribute) (lawful_each attribute lawful_attribute) 0x31 (omega arith)) (within_tagged 0x31 (omega arith) (each attribute)) (omega arith)
+lawful_unprotected = lawful_implicit 0xA1 0x31 attributes (lawful_set attribute lawful_attribute) (within_tagged 0x31 (omega arith) (each attribute)) (omega arith)
 
 lawful_originator_0 : IsLawful (implicit 0xA0 0x30 originator)
 lawful_originator_0 = lawful_implicit 0xA0 0x30 originator lawful_originator (within_tagged 0x30 (omega arith) originator_row) (omega arith)
@@ -88,11 +88,11 @@ enveloped_value x = (
 
 abbrev pub enveloped : Format EnvelopedValue
 enveloped =
-    sequence (part (number_below 6) (optional (implicit 0xA0 0x30 originator) (part (within 0x31 (each recipient))
+    sequence (part (number_below 6) (optional (implicit 0xA0 0x30 originator) (part (set_of recipient)
     (part encrypted_content (optional (implicit 0xA1 0x31 attributes) nothing)))))
 
 pub lawful_enveloped : IsLawful enveloped
 lawful_enveloped =
     lawful_sequence (followed_by (lawful_number 6) (perhaps lawful_originator_0 (λ t h e. omega arith)
-    (followed_by (lawful_within (each recipient) (lawful_each recipient lawful_recipient) 0x31 (omega arith))
+    (followed_by (lawful_set recipient lawful_recipient)
     (followed_by lawful_encrypted_content (perhaps lawful_unprotected (λ t h e. e) lawful_nothing)))))
