@@ -12,7 +12,7 @@ use Rattle.asn1_core_format.specs.Rows.{part, within, TookRow, GaveUpRow}
 use Rattle.asn1_core_format.specs.RowLaws.{lawful_within}
 use Rattle.asn1_core_format.specs.Sequences.{followed_by}
 use Rattle.asn1_core_format.proofs.RowReads.{first_refused, rest_refused, part_took}
-use Rattle.asn1_choices.specs.Chosen.{behind}
+use Rattle.asn1_choices.specs.Chosen.{after_oid}
 use Rattle.asn1_choices.proofs.OidReads.{choice_took, behind_refused, here, here_refused, there, there_refused}
 
 module _ {U V W : Type 0} (o : List ℕ) (tag : ℕ) (h : IsTagByte tag) (F : Format U) (f : IsLawful F) (R : Format V) (r : IsLawfulRow R) (C : Choice W) (c : IsLawfulChoice C) where
@@ -37,12 +37,12 @@ module _ {U V W : Type 0} (o : List ℕ) (tag : ℕ) (h : IsTagByte tag) (F : Fo
       choice_took (known o (part (within tag (less F)) R) C) lawful_nested t
       (here o (part (within tag (less F)) R) C c q (part_took (within tag (less F)) R held k s g))
 
-  pub other_failed : (k : ℕ) {key : List ℕ} {old mid new : Position} {e : Error} → TookElement 0x06 old mid key → (key ≡ o → ⊥) → GaveUpRow (behind key C) k mid new e → GaveUpRow (known o (part (within tag (less F)) R) C).row k old new e
+  pub other_failed : (k : ℕ) {key : List ℕ} {old mid new : Position} {e : Error} → TookElement 0x06 old mid key → (key ≡ o → ⊥) → GaveUpRow (after_oid key C) k mid new e → GaveUpRow (known o (part (within tag (less F)) R) C).row k old new e
   other_failed k t n g =
       behind_refused (known o (part (within tag (less F)) R) C) lawful_nested t
       (there_refused o (part (within tag (less F)) R) C c n g)
 
-  pub other_took : (k : ℕ) {key : List ℕ} {old mid new : Position} {w : W} → TookElement 0x06 old mid key → (key ≡ o → ⊥) → TookRow (behind key C) k mid new w → TookRow (known o (part (within tag (less F)) R) C).row k old new (inr w)
+  pub other_took : (k : ℕ) {key : List ℕ} {old mid new : Position} {w : W} → TookElement 0x06 old mid key → (key ≡ o → ⊥) → TookRow (after_oid key C) k mid new w → TookRow (known o (part (within tag (less F)) R) C).row k old new (inr w)
   other_took k t n g =
       choice_took (known o (part (within tag (less F)) R) C) lawful_nested t
       (there o (part (within tag (less F)) R) C c n g)

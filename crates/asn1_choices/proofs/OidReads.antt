@@ -12,12 +12,12 @@ use Rattle.asn1_core_format.specs.Rows.{TookRow, GaveUpRow}
 use Rattle.asn1_core_element.specs.declared.error.Error.TheVariants.{TooLong}
 use Rattle.asn1_core_oid.specs.Oid.{IsOid}
 use Rattle.asn1_core_oid.specs.Refusal.{IsRefusal}
-use Rattle.asn1_choices.specs.Chosen.{behind}
+use Rattle.asn1_choices.specs.Chosen.{after_oid}
 use Rattle.asn1_choices.specs.Tables.{Table, IsTable, among}
 
 -- the choice, of which the object identifier is taken first
 module _ {V : Type 0} (C : Choice V) (c : IsLawfulChoice C) where
-  pub choice_took : {k : ℕ} {old mid new : Position} {key : List ℕ} {v : V} → TookElement 0x06 old mid key → TookRow (behind key C) k mid new v → TookRow C.row k old new v
+  pub choice_took : {k : ℕ} {old mid new : Position} {key : List ℕ} {v : V} → TookElement 0x06 old mid key → TookRow (after_oid key C) k mid new v → TookRow C.row k old new v
   choice_took {k} {old} {mid} {new} {key} {v} t g = record {
     reads = subst (λ b. C.row.Reads k b v) (sym t.split) g.reads;
     done = g.done;
@@ -28,7 +28,7 @@ module _ {V : Type 0} (C : Choice V) (c : IsLawfulChoice C) where
     at_most = omega (arith, g.at_most, t.headers, ap length t.split, length-append (element 0x06 key) mid.left, element_long 0x06 key);
   }
 
-  pub behind_refused : {k : ℕ} {old mid new : Position} {key : List ℕ} {e : Error} → TookElement 0x06 old mid key → GaveUpRow (behind key C) k mid new e → GaveUpRow C.row k old new e
+  pub behind_refused : {k : ℕ} {old mid new : Position} {key : List ℕ} {e : Error} → TookElement 0x06 old mid key → GaveUpRow (after_oid key C) k mid new e → GaveUpRow C.row k old new e
   behind_refused {k} {old} {mid} {new} {key} {e} t g = record {
     kind = g.kind;
     none = λ m v s. g.none m v (subst (λ b. C.row.Reads k b v) t.split s);
@@ -53,7 +53,7 @@ key_read C c k key x v s = same_head (C.oid_of v) key (element 0x06 key ++ x) (c
 
 -- an arm of one object identifier
 module _ {V W : Type 0} (o : List ℕ) (R : Format V) (C : Choice W) (c : IsLawfulChoice C) {k : ℕ} {key : List ℕ} where
-  pub here : {old new : Position} {v : V} → key ≡ o → TookRow R k old new v → TookRow (behind key (known o R C)) k old new (inl v)
+  pub here : {old new : Position} {v : V} → key ≡ o → TookRow R k old new v → TookRow (after_oid key (known o R C)) k old new (inl v)
   here {old} h g = record {
     reads = (old.left, ap (λ p. element 0x06 p ++ old.left) h, g.reads);
     done = g.done;
@@ -68,10 +68,10 @@ module _ {V W : Type 0} (o : List ℕ) (R : Format V) (C : Choice W) (c : IsLawf
   none_here {left} h g m (inl v) s = g m v (subst (λ b. R.Reads k b v) (sym (other_key o key left s.0 s.1).1) s.2)
   none_here {left} h g m (inr w) s = s.1 (key_read C c k key left w s.0 ∙ h)
 
-  pub here_refused : {old new : Position} {e : Error} → key ≡ o → GaveUpRow R k old new e → GaveUpRow (behind key (known o R C)) k old new e
+  pub here_refused : {old new : Position} {e : Error} → key ≡ o → GaveUpRow R k old new e → GaveUpRow (after_oid key (known o R C)) k old new e
   here_refused {old} {new} {e} h g = record { kind = g.kind; none = none_here {e = e} h g.none; counts = g.counts; at_most = g.at_most }
 
-  pub there : {old new : Position} {w : W} → (key ≡ o → ⊥) → TookRow (behind key C) k old new w → TookRow (behind key (known o R C)) k old new (inr w)
+  pub there : {old new : Position} {w : W} → (key ≡ o → ⊥) → TookRow (after_oid key C) k old new w → TookRow (after_oid key (known o R C)) k old new (inr w)
   there {old} {new} {w} n g = record {
     reads = (g.reads, λ e. n (sym (key_read C c k key old.left w g.reads) ∙ e));
     done = g.done;
@@ -86,7 +86,7 @@ module _ {V W : Type 0} (o : List ℕ) (R : Format V) (C : Choice W) (c : IsLawf
   none_there left n g m (inl v) s = n (other_key o key left s.0 s.1).0
   none_there left n g m (inr w) s = g m w s.0
 
-  pub there_refused : {old new : Position} {e : Error} → (key ≡ o → ⊥) → GaveUpRow (behind key C) k old new e → GaveUpRow (behind key (known o R C)) k old new e
+  pub there_refused : {old new : Position} {e : Error} → (key ≡ o → ⊥) → GaveUpRow (after_oid key C) k old new e → GaveUpRow (after_oid key (known o R C)) k old new e
   there_refused {old} {new} {e} n g = record { kind = g.kind; none = none_there old.left n g.none; counts = g.counts; at_most = g.at_most }
 
 some_none : {A : Type 0} {x : A} → None ≡ Some x → ⊥
@@ -94,7 +94,7 @@ some_none e = cc
 
 -- the arms of a table
 module _ {A V W : Type 0} (T : Table A) (R : Format V) (C : Choice W) (t : IsTable T) (c : IsLawfulChoice C) {k : ℕ} {key : List ℕ} where
-  pub arm : {old new : Position} {a : A} {v : V} → T.oid_of a ≡ key → TookRow R k old new v → TookRow (behind key (among T R C)) k old new (inl (a, v))
+  pub arm : {old new : Position} {a : A} {v : V} → T.oid_of a ≡ key → TookRow R k old new v → TookRow (after_oid key (among T R C)) k old new (inl (a, v))
   arm {old} h g = record {
     reads = (old.left, ap (λ p. element 0x06 p ++ old.left) (sym h), g.reads);
     done = g.done;
@@ -109,10 +109,10 @@ module _ {A V W : Type 0} (T : Table A) (R : Format V) (C : Choice W) (t : IsTab
   none_in_arm {left} a h g m (inl p) s = g m p.1 (subst (λ b. R.Reads k b p.1) (sym (other_key (T.oid_of p.0) key left s.0 s.1).1) s.2)
   none_in_arm {left} a h g m (inr w) s = some_none (sym s.1 ∙ ap T.arm_of (key_read C c k key left w s.0 ∙ sym h) ∙ t.there a)
 
-  pub arm_refused : {old new : Position} {a : A} {e : Error} → T.oid_of a ≡ key → GaveUpRow R k old new e → GaveUpRow (behind key (among T R C)) k old new e
+  pub arm_refused : {old new : Position} {a : A} {e : Error} → T.oid_of a ≡ key → GaveUpRow R k old new e → GaveUpRow (after_oid key (among T R C)) k old new e
   arm_refused {old} {new} {a} {e} h g = record { kind = g.kind; none = none_in_arm {e = e} a h g.none; counts = g.counts; at_most = g.at_most }
 
-  pub no_arm : {old new : Position} {w : W} → T.arm_of key ≡ None → TookRow (behind key C) k old new w → TookRow (behind key (among T R C)) k old new (inr w)
+  pub no_arm : {old new : Position} {w : W} → T.arm_of key ≡ None → TookRow (after_oid key C) k old new w → TookRow (after_oid key (among T R C)) k old new (inr w)
   no_arm {old} {new} {w} n g = record {
     reads = (g.reads, ap T.arm_of (key_read C c k key old.left w g.reads) ∙ n);
     done = g.done;
@@ -127,7 +127,7 @@ module _ {A V W : Type 0} (T : Table A) (R : Format V) (C : Choice W) (t : IsTab
   none_beyond left n g m (inl p) s = some_none (sym n ∙ ap T.arm_of (other_key (T.oid_of p.0) key left s.0 s.1).0 ∙ t.there p.0)
   none_beyond left n g m (inr w) s = g m w s.0
 
-  pub no_arm_refused : {old new : Position} {e : Error} → T.arm_of key ≡ None → GaveUpRow (behind key C) k old new e → GaveUpRow (behind key (among T R C)) k old new e
+  pub no_arm_refused : {old new : Position} {e : Error} → T.arm_of key ≡ None → GaveUpRow (after_oid key C) k old new e → GaveUpRow (after_oid key (among T R C)) k old new e
   no_arm_refused {old} {new} {e} n g = record { kind = g.kind; none = none_beyond old.left n g.none; counts = g.counts; at_most = g.at_most }
 
 not_long : {P : Type 0} {e : Error} → IsRefusal P e → e ≢ TooLong
@@ -136,7 +136,7 @@ not_long (inr i) n = (let h : Invalid ≡ TooLong = sym i.0 ∙ n in cc)
 
 -- any object identifier, at the end
 module _ {V : Type 0} (R : Format V) {k : ℕ} (key : List ℕ) where
-  pub last : {old new : Position} {v : V} → IsOid key → TookRow R k old new v → TookRow (behind key (otherwise IsOid R)) k old new (key, v)
+  pub last : {old new : Position} {v : V} → IsOid key → TookRow R k old new v → TookRow (after_oid key (otherwise IsOid R)) k old new (key, v)
   last {old} {new} {v} i g = record {
     reads = (element 0x06 key, old.left, refl, (refl, i), g.reads);
     done = g.done;
@@ -147,7 +147,7 @@ module _ {V : Type 0} (R : Format V) {k : ℕ} (key : List ℕ) where
     at_most = g.at_most;
   }
 
-  pub last_refused : {old new : Position} {e : Error} → GaveUpRow R k old new e → GaveUpRow (behind key (otherwise IsOid R)) k old new e
+  pub last_refused : {old new : Position} {e : Error} → GaveUpRow R k old new e → GaveUpRow (after_oid key (otherwise IsOid R)) k old new e
   last_refused {old} g = record {
     kind = g.kind;
     none = λ m v s. g.none m v.1 (subst (λ b. R.Reads k b v.1) (sym (other_key v.0 key old.left s.1 (s.2 ∙ ap (λ a. a ++ s.1) s.3.0)).1) s.4);
@@ -160,5 +160,5 @@ module _ {V : Type 0} (R : Format V) {k : ℕ} (key : List ℕ) where
   no_oid left (inl h) m v s = m h
   no_oid left (inr h) m v s = h.1 (subst IsOid (sym (other_key v.0 key left s.1 (s.2 ∙ ap (λ a. a ++ s.1) s.3.0)).0) s.3.1)
 
-  pub no_last : {old : Position} {e : Error} → IsRefusal (IsOid key → ⊥) e → GaveUpRow (behind key (otherwise IsOid R)) k old old e
+  pub no_last : {old : Position} {e : Error} → IsRefusal (IsOid key → ⊥) e → GaveUpRow (after_oid key (otherwise IsOid R)) k old old e
   no_last {old} {e} h = record { kind = not_long h; none = no_oid old.left h; counts = omega arith; at_most = omega arith }

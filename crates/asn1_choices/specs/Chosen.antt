@@ -5,8 +5,8 @@ use Rattle.asn1_core_format.specs.Choices.{Choice}
 use Rattle.asn1_core_format.specs.Format.{Format}
 
 -- what stands behind an object identifier that was read
-abbrev pub behind : {V : Type 0} → List ℕ → Choice V → Format V
-behind key C = record {
+abbrev pub after_oid : {V : Type 0} → List ℕ → Choice V → Format V
+after_oid key C = record {
   text = C.row.text;
   IsWellFormed = C.row.IsWellFormed;
   Reads = λ k b v. C.row.Reads k (element 0x06 key ++ b) v;

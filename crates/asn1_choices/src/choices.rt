@@ -3,7 +3,7 @@
 ghost use Rattle.std.specs.Prelude.{◌≡◌, ◌↔◌, ℕ, List, IsTrue, false};
 ghost use Rattle.asn1_core_format.specs.Choices.{Choice, IsLawfulChoice};
 ghost use Rattle.asn1_core_format.specs.Rows.{GivesRow};
-ghost use Rattle.asn1_choices.specs.Chosen.{behind};
+ghost use Rattle.asn1_choices.specs.Chosen.{after_oid};
 
 use asn1_core::parts::{ReadRow, WriteRow};
 use asn1_core::{Error, Reader, WriteError, Writer};
@@ -37,7 +37,7 @@ pub trait ReadChoice: WriteChoice + Drop {
     /// Reads what stands behind an object identifier with these contents octets, to the end of the open contents.
     fn read_behind(oid: &[u8], alloc: Global, r: &mut Reader<'_>, nest: u8) -> Result<Self, Error>
         requires { r.old.refused ≡ false }
-        ensures { GivesRow Self.value (behind oid.now Self.choice) nest r.old r.new result };
+        ensures { GivesRow Self.value (after_oid oid.now Self.choice) nest r.old r.new result };
 
     ghost lawful: { IsLawfulChoice Self.WriteChoice.choice };
 }

@@ -4,7 +4,7 @@ use Rattle.std.proofs.Common.{refl, sym, ◌∙◌, subst, arith}
 use Rattle.asn1_core_element.specs.Element.{IsElement}
 use Rattle.asn1_core_format.specs.Format.{Format, IsLawful}
 use Rattle.asn1_core_format.specs.Laws.{begins_alone}
-use Rattle.asn1_core_format.specs.Levels.{less, Grammar, no_grammar, at_level, Still, by_levels, always, inside, levels}
+use Rattle.asn1_core_format.specs.Levels.{less, Grammar, no_grammar, at_level, Still, by_levels, always, unrolled, levels}
 
 -- Types outside made of the types inside. All but `lawful` hold by computing.
 pub record IsStep {I : Type 0} {V : I → Type 0} (s : (i : I) → Still (V i)) (step : ((i : I) → Format (V i)) → (i : I) → Format (V i)) : Type 1 where
@@ -97,21 +97,21 @@ module _ {I : Type 0} {V : I → Type 0} (s : (i : I) → Still (V i)) (step : (
         element = e;
       }
 
-  lawful_inside : (k : ℕ) (i : I) → IsLawful (always (s i) (inside s step k i))
-  unfolding inside
+  lawful_inside : (k : ℕ) (i : I) → IsLawful (always (s i) (unrolled s step k i))
+  unfolding unrolled
   lawful_inside zero i = lawful_none (s i)
-  lawful_inside (suc k) i = one_level k (inside s step k) i (p.lawful (λ j. always (s j) (inside s step k j)) (lawful_inside k) i)
+  lawful_inside (suc k) i = one_level k (unrolled s step k) i (p.lawful (λ j. always (s j) (unrolled s step k j)) (lawful_inside k) i)
 
   Grows : ((i : I) → Grammar (V i)) → ((i : I) → Grammar (V i)) → Type 0
   Grows g h = (i : I) (b : List ℕ) (v : V i) → (g i).Reads b v → (h i).Reads b v
 
   -- what is read inside is read with one level more: `step` of formats that have both levels
-  grows : (k : ℕ) → Grows (inside s step k) (inside s step (suc k))
-  unfolding inside Grows
+  grows : (k : ℕ) → Grows (unrolled s step k) (unrolled s step (suc k))
+  unfolding unrolled Grows
   grows zero i b v r = absurd r
   grows (suc k) i b v r =
-      let g : (i : I) → Grammar (V i) = inside s step k in
-      let h : (i : I) → Grammar (V i) = inside s step (suc k) in
+      let g : (i : I) → Grammar (V i) = unrolled s step k in
+      let h : (i : I) → Grammar (V i) = unrolled s step (suc k) in
       let F : (i : I) → Format (V i) = λ j. by_levels (s j) (λ m. up_to g h k m j) in
       let l : (j : I) → IsLawful (F j) = λ j. lawful_by_levels (s j) (λ m. up_to g h k m j)
       (λ m. up_to_each (λ q. IsLawful (always (s j) (q j))) g h (lawful_inside k j) (lawful_inside (suc k) j) k m)
@@ -122,16 +122,16 @@ module _ {I : Type 0} {V : I → Type 0} (s : (i : I) → Still (V i)) (step : (
 
   pub lawful_levels : (i : I) → IsLawful (levels s step i)
   unfolding Grows
-  lawful_levels i = lawful_by_levels (s i) (λ k. inside s step (suc k) i) (λ k. lawful_inside (suc k) i) (λ k. grows (suc k) i)
+  lawful_levels i = lawful_by_levels (s i) (λ k. unrolled s step (suc k) i) (λ k. lawful_inside (suc k) i) (λ k. grows (suc k) i)
 
   -- one level unrolled
   pub unroll : (k : ℕ) (i : I) (b : List ℕ) (v : V i) → (levels s step i).Reads k b v ↔ (step (λ j. less (levels s step j)) i).Reads k b v
-  unfolding inside
+  unfolding unrolled
   unroll zero i b v = p.reads (λ j. less (levels s step j)) zero i b v
   unroll (suc k) i b v = p.reads (λ j. less (levels s step j)) (suc k) i b v
 
   pub unroll_formed : (k : ℕ) (i : I) (v : V i) → (levels s step i).IsWellFormed k v ↔ (step (λ j. less (levels s step j)) i).IsWellFormed k v
-  unfolding inside
+  unfolding unrolled
   unroll_formed zero i v = p.formed (λ j. less (levels s step j)) zero i v
   unroll_formed (suc k) i v = p.formed (λ j. less (levels s step j)) (suc k) i v
 

@@ -9,8 +9,8 @@ use std::alloc::Global;
 use std::test::Fail;
 use vector_checks::texts::{hex, oid};
 use x509_containers::{
-    CmsVersion, Pkcs7Certificate, SignedData, SignerInfo, SignersInfos, UnsignedAttribute,
-    UnsignedAttributeValue, UnsignedAttributes,
+    CertificateChoices, CertificateSet, CmsVersion, Pkcs7Certificate, SignedData, SignerInfo,
+    SignersInfos, UnsignedAttribute, UnsignedAttributeValue, UnsignedAttributes,
 };
 
 /// A signer by a key identifier of no octets.
@@ -110,6 +110,19 @@ fn no_unsigned_attributes(rt: HostRuntime) -> Result<(), Fail> {
     let alloc = rt.alloc();
     let none = UnsignedAttributes::empty(alloc);
     made_and_read(alloc, &none, true, "A1 00", Again::Same)
+}
+
+/// Signed data with a certificate of no octets: the set isn't empty, so it is written.
+const WITH_NOTHING: &str =
+    "30 16 02 01 01 31 00 30 0B 06 09 2A 86 48 86 F7 0D 01 07 01 A0 00 31 00";
+
+#[test]
+fn a_certificate_of_no_octets(rt: HostRuntime) -> Result<(), Fail> {
+    let alloc = rt.alloc();
+    let mut signed: SignedData = from_bytes(alloc, &hex(alloc, &[SIGNED])?)?;
+    let nothing = CertificateChoices::Certificate(Asn1RawDer(Vec::new(alloc)));
+    signed.certificates = Optional(CertificateSet(vec![in alloc; nothing]?));
+    made_and_read(alloc, &signed, false, WITH_NOTHING, Again::Another)
 }
 
 /// A signer with one unsigned attribute.

@@ -41,6 +41,7 @@ fn main(rt: HostRuntime) -> Result<(), Fail> {
             known = known.saturating_add(1);
         }
     }
-    println!(rt; "{held} rows hold, of {known} kinds")?;
+    let all = Kind::all().len();
+    println!(rt; "{held} rows hold, of {known} of {all} kinds")?;
     Ok(())
 }

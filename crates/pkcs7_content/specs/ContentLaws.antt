@@ -7,7 +7,7 @@ use Rattle.asn1_core_oid.specs.Oid.{IsOid}
 use Rattle.asn1_core_oid.specs.OidTestLaws.{oid_from_test}
 use Rattle.asn1_defined_by.specs.DefinedBy.{Arm}
 use Rattle.asn1_defined_by.specs.DefinedByLaws.{IsDefinedBy, IsArm, itself, lawful_arm, lawful_any_defined_by}
-use Rattle.pkcs7_content.specs.Contents.{ContentValues, content_values, ContentRow, written_content, kind_of, as_data, as_octets, OctetsRow, octets_row, to_data, to_octets, perhaps_in, data_arm, octets_arm, content_row, content_defined_by, encapsulated}
+use Rattle.pkcs7_content.specs.Contents.{ContentValues, content_values, ContentRow, written_content, content_kind, as_data, as_octets, OctetsRow, octets_row, to_data, to_octets, perhaps_in, data_arm, octets_arm, content_row, content_defined_by, encapsulated}
 use Rattle.pkcs7_content.specs.IndirectData.{indirect_data, lawful_indirect_data}
 use Rattle.pkcs7_content.specs.Oids.{data_oid}
 use Rattle.pkcs7_content.specs.declared.contents.Kind.{Kind}
@@ -75,7 +75,7 @@ written_alike PlainData c = refl
 written_alike Foreign c = refl
 
 pub content_is_defined_by : IsDefinedBy content_defined_by
-content_is_defined_by = record { lawful = λ o. lawful_content_row (kind_of o); alike = λ o c. written_alike (kind_of o) c }
+content_is_defined_by = record { lawful = λ o. lawful_content_row (content_kind o); alike = λ o c. written_alike (content_kind o) c }
 
 pub lawful_encapsulated : IsLawful encapsulated
 lawful_encapsulated = lawful_sequence (lawful_any_defined_by content_defined_by content_is_defined_by)

@@ -40,8 +40,8 @@ content_row_value c = (option_value (λ x. content_value x.0) c, tt)
 abbrev pub written_content : Format ContentRow
 written_content = optional (within 0xA0 content_values) nothing
 
-abbrev pub kind_of : List ℕ → Kind
-kind_of o =
+abbrev pub content_kind : List ℕ → Kind
+content_kind o =
     if bytes_eq o indirect_data_oid then IndirectData
     else if bytes_eq o trust_list_oid then TrustList
     else if bytes_eq o data_oid then PlainData
@@ -98,7 +98,7 @@ content_row PlainData = arm written_content data_arm octets_row
 content_row Foreign = arm written_content octets_arm octets_row
 
 abbrev pub content_defined_by : DefinedBy ContentRow
-content_defined_by = record { text = written_content.text; row = λ o. content_row (kind_of o) }
+content_defined_by = record { text = written_content.text; row = λ o. content_row (content_kind o) }
 
 abbrev pub EncapsulatedValue : Type 0
 EncapsulatedValue = OidOctets × ContentRow

@@ -19,7 +19,7 @@ use Rattle.pkcs7_signed_crl.specs.declared.certificates.CertificateSet.{Certific
 use Rattle.pkcs7_signed_crl.specs.declared.revocations.RevocationInfoChoices.{RevocationInfoChoices}
 use Rattle.pkcs7_signed_crl.specs.declared.signers.SignatureValue.{SignatureValue}
 use Rattle.pkcs7_signed_crl.specs.declared.signers.SignerIdentifier.{SignerIdentifier}
-use Rattle.pkcs7_signed.specs.Rows.{signer_row, certificate_row, attribute_row, AttributeValues, kind_of, values_row}
+use Rattle.pkcs7_signed.specs.Rows.{signer_row, certificate_row, attribute_row, UnsignedValues, kind_of, values_row}
 use Rattle.pkcs7_signed.specs.Signers.{Value, signers, attributes, certificates, signer_out, signer_into, certificate_out, certificate_into, attribute_out, attribute_into, still, step, signer, attribute, certificate}
 use Rattle.pkcs7_signed.specs.SignerLaws.{signer_there, certificate_there, attribute_there, signer_step}
 use Rattle.pkcs7_signed.specs.Heads.{signer_parts_value, signed_parts_value}
@@ -73,7 +73,7 @@ made_attribute o v =
 
 -- the values of an attribute, by the octets of its object identifier
 module _ {o p : List ℕ} (e : o ≡ p) {k : ℕ} {old new : Position} where
-  pub at_octets : {v : AttributeValues (Value certificates) (Value signers)} → TookRow (values_row certificate (less signer) (kind_of o)) k old new v → TookRow (values_row certificate (less signer) (kind_of p)) k old new v
+  pub at_octets : {v : UnsignedValues (Value certificates) (Value signers)} → TookRow (values_row certificate (less signer) (kind_of o)) k old new v → TookRow (values_row certificate (less signer) (kind_of p)) k old new v
   at_octets {v} t = subst (λ q. TookRow (values_row certificate (less signer) (kind_of q)) k old new v) e t
 
   pub refused_at_octets : {x : Error} → GaveUpRow (values_row certificate (less signer) (kind_of o)) k old new x → GaveUpRow (values_row certificate (less signer) (kind_of p)) k old new x

@@ -5,7 +5,7 @@ use Rattle.asn1_core_format.specs.Levels.{less}
 use Rattle.asn1_core_format.specs.EmptySets.{set_or_none}
 use Rattle.asn1_core_format.specs.LevelLaws.{unroll_formed}
 use Rattle.pkcs7_signed.specs.Parts.{SignerParts, signer_end, behind_signer, signer_parts, SignedParts, signed_end, behind_signed, signed_parts}
-use Rattle.pkcs7_signed.specs.Rows.{SignerRow, signer_row, AttributeValues, IsOfKind, values_row}
+use Rattle.pkcs7_signed.specs.Rows.{SignerRow, signer_row, UnsignedValues, IsOfKind, values_row}
 use Rattle.pkcs7_signed.specs.Signers.{Value, signers, attributes, certificates, still, step, signer, attribute, certificate, signed_data, signer_infos, unsigned_attributes, values}
 use Rattle.pkcs7_signed.specs.SignerLaws.{signer_step}
 use Rattle.pkcs7_signed.specs.SignerLevels.{parts_of_signer, attributes_in, parts_of_signed, out_signer, value_signed}
@@ -74,7 +74,7 @@ module _ (x : SignedData) {h : SignedParts (Unit {0})} (e : h ≡ parts_of_signe
 
 -- the values of an attribute, of that kind
 abbrev Values : Type 0
-Values = AttributeValues (Value certificates) (Value signers)
+Values = UnsignedValues (Value certificates) (Value signers)
 
 module _ {A : Type 0} (put : A → Values) (P : A → Type 0) where
   arm_formed : ((a b : A) → put a ≡ put b → a ≡ b) → (a : A) → P a ↔ ((b : A) × (put b ≡ put a) × P b)

@@ -45,14 +45,14 @@ abbrev pub signed_head_value : SignedHead → SignedParts (Unit {0})
 signed_head_value x = signed_parts_value x.version x.digest_algorithms.now x.content_info.now x.certificates.now x.crls.now tt
 
 -- the parts, and then what stands behind them
-behind : (a x t y : List ℕ) → x ++ t ≡ y → (a ++ x) ++ t ≡ a ++ y
-behind a x t y e = append_assoc a x t ∙ ap (λ z. a ++ z) e
+appended : (a x t y : List ℕ) → x ++ t ≡ y → (a ++ x) ++ t ≡ a ++ y
+appended a x t y e = append_assoc a x t ∙ ap (λ z. a ++ z) e
 
 five_behind : (a b c d e t : List ℕ) → (a ++ (b ++ (c ++ (d ++ (e ++ []))))) ++ t ≡ a ++ (b ++ (c ++ (d ++ (e ++ t))))
-five_behind a b c d e t = behind a _ t _ (behind b _ t _ (behind c _ t _ (behind d _ t _ (behind e [] t t refl))))
+five_behind a b c d e t = appended a _ t _ (appended b _ t _ (appended c _ t _ (appended d _ t _ (appended e [] t t refl))))
 
 six_behind : (a b c d e f t : List ℕ) → (a ++ (b ++ (c ++ (d ++ (e ++ (f ++ [])))))) ++ t ≡ a ++ (b ++ (c ++ (d ++ (e ++ (f ++ t)))))
-six_behind a b c d e f t = behind a _ t _ (five_behind b c d e f t)
+six_behind a b c d e f t = appended a _ t _ (five_behind b c d e f t)
 
 module _ {R : Type 0} (F : Format R) (r : R) where
   pub signer_head_text : (p : SignerParts (Unit {0})) → (signer_parts nothing).text p ++ F.text r ≡ (signer_parts F).text (signer_end p r)

@@ -46,8 +46,8 @@ kind_of o =
     else Foreign
 
 -- certificates, signers, or any elements
-abbrev pub AttributeValues : Type 0 → Type 0 → Type 0
-AttributeValues C S = List C ⊎ (List S ⊎ List ElementOctets)
+abbrev pub UnsignedValues : Type 0 → Type 0 → Type 0
+UnsignedValues C S = List C ⊎ (List S ⊎ List ElementOctets)
 
 abbrev pub by_kind : Kind → Type 0 → Type 0 → Type 0 → Type 0
 by_kind MsCounterSign A B C = A
@@ -55,26 +55,26 @@ by_kind CounterSign A B C = B
 by_kind Foreign A B C = C
 
 -- the values are what the object identifier says
-abbrev pub IsOfKind : {C S : Type 0} → Kind → AttributeValues C S → Type 0
+abbrev pub IsOfKind : {C S : Type 0} → Kind → UnsignedValues C S → Type 0
 IsOfKind i (inl v) = by_kind i (Unit {0}) ⊥ ⊥
 IsOfKind i (inr (inl v)) = by_kind i ⊥ (Unit {0}) ⊥
 IsOfKind i (inr (inr v)) = by_kind i ⊥ ⊥ (Unit {0})
 
 module _ {C S : Type 0} (F : Format C) (G : Format S) where
   -- however they are written, whatever the object identifier
-  abbrev pub attribute_values : Format (AttributeValues C S)
+  abbrev pub attribute_values : Format (UnsignedValues C S)
   attribute_values = only_written (either (set_of F) (either (set_of G) (set_of raw)))
 
-  abbrev pub certificates_arm : Format (AttributeValues C S)
+  abbrev pub certificates_arm : Format (UnsignedValues C S)
   certificates_arm = arm attribute_values (by_itself (λ v. inl v)) (set_of F)
 
-  abbrev pub signers_arm : Format (AttributeValues C S)
+  abbrev pub signers_arm : Format (UnsignedValues C S)
   signers_arm = arm attribute_values (by_itself (λ v. inr (inl v))) (set_of G)
 
-  abbrev pub elements_arm : Format (AttributeValues C S)
+  abbrev pub elements_arm : Format (UnsignedValues C S)
   elements_arm = arm attribute_values (by_itself (λ v. inr (inr v))) (set_of raw)
 
-  abbrev pub values_row : Kind → Format (AttributeValues C S)
+  abbrev pub values_row : Kind → Format (UnsignedValues C S)
   values_row i = record {
     text = attribute_values.text;
     IsWellFormed = λ k v. by_kind i (certificates_arm.IsWellFormed k v) (signers_arm.IsWellFormed k v) (elements_arm.IsWellFormed k v);
@@ -85,12 +85,12 @@ module _ {C S : Type 0} (F : Format C) (G : Format S) where
     least = attribute_values.least;
   }
 
-  abbrev pub values_defined_by : DefinedBy (AttributeValues C S)
+  abbrev pub values_defined_by : DefinedBy (UnsignedValues C S)
   values_defined_by = record { text = attribute_values.text; row = λ o. values_row (kind_of o) }
 
 -- over certificates and signers
 abbrev pub AttributeRow : Type 0 → Type 0 → Type 0
-AttributeRow C S = OidOctets × AttributeValues C S
+AttributeRow C S = OidOctets × UnsignedValues C S
 
 abbrev pub attribute_row : {C S : Type 0} → Format C → Format S → Format (AttributeRow C S)
 attribute_row F G = sequence (any_defined_by (values_defined_by F G))

@@ -11,7 +11,7 @@ use Rattle.pkcs7_content.specs.Versions.{number_of}
 use Rattle.pkcs7_content.specs.contracts.versions.CmsVersionPartialEq.TheImpl as Version
 use Rattle.pkcs7_signed_crl.specs.Equal.{algorithms_equal, attributes_equal as signed_attributes_equal, certificates_equal, revocations_equal, signer_id_equal}
 use Rattle.pkcs7_signed.specs.Heads.{elements}
-use Rattle.pkcs7_signed.specs.Rows.{AttributeValues}
+use Rattle.pkcs7_signed.specs.Rows.{UnsignedValues}
 use Rattle.pkcs7_signed.specs.Signers.{Value, signers, certificates, signer_out, signer_into, certificate_out, certificate_into, attribute_out, attribute_into}
 use Rattle.pkcs7_signed.specs.SignerLaws.{signer_there, certificate_there, attribute_there}
 use Rattle.pkcs7_signed.specs.SignerLevels.{value_signers, value_attributes, value_signed}
@@ -66,7 +66,7 @@ list_told : {T V : Type 0} (eq : T → T → Bool) (value : T → V) {xs zs : Li
 list_told eq value e a ys = subst (λ zs. (pointwise eq zs ys ≡ true) ↔ (map value zs ≡ map value ys)) (sym e) (row_told eq value _ a ys)
 
 -- what stands in an attribute
-abbrev arm_of : UnsignedAttributeValue-F UnsignedAttributeValue Pkcs7Certificate SignedData SignerInfo SignersInfos UnsignedAttribute UnsignedAttributes → AttributeValues (Value certificates) (Value signers)
+abbrev arm_of : UnsignedAttributeValue-F UnsignedAttributeValue Pkcs7Certificate SignedData SignerInfo SignersInfos UnsignedAttribute UnsignedAttributes → UnsignedValues (Value certificates) (Value signers)
 arm_of (UnsignedAttributeValue-F.MsCounterSign s) = inl (map certificate_value s.0.items)
 arm_of (UnsignedAttributeValue-F.CounterSign s) = inr (inl (map signer_value s.0.items))
 arm_of (UnsignedAttributeValue-F.Unknown s) = inr (inr (elements s.0))

@@ -3,7 +3,7 @@ use Rattle.std.specs.Prelude.{List}
 use Rattle.std.proofs.Common.{inl, inr}
 use Rattle.asn1_core.specs.Der.{octets_of}
 use Rattle.pkcs7_signed.specs.Heads.{elements, signer_parts_value, signed_parts_value}
-use Rattle.pkcs7_signed.specs.Rows.{AttributeValues}
+use Rattle.pkcs7_signed.specs.Rows.{UnsignedValues}
 use Rattle.pkcs7_signed.specs.Signers.{signers, attributes, certificates, Value, SignedValue, signer_into, certificate_into, attribute_into}
 use Rattle.pkcs7_signed.specs.declared.signers.Pkcs7Certificate.{Pkcs7Certificate, fold-Pkcs7Certificate}
 use Rattle.pkcs7_signed.specs.declared.signers.SignedData.{SignedData, fold-SignedData}
@@ -16,7 +16,7 @@ use Rattle.pkcs7_signed.specs.declared.signers.UnsignedAttributeValue.TheOpen.{U
 
 -- one step of each: the enum, and then the structs by name
 abbrev ValuesOf : Type 0
-ValuesOf = AttributeValues (Value certificates) (Value signers)
+ValuesOf = UnsignedValues (Value certificates) (Value signers)
 
 abbrev values_step : UnsignedAttributeValue-F ValuesOf (Value certificates) SignedValue (Value signers) (List (Value signers)) (Value attributes) (List (Value attributes)) → ValuesOf
 values_step (UnsignedAttributeValue-F.MsCounterSign s) = inl s.0.items

@@ -7,7 +7,7 @@ use Rattle.asn1_core_format.specs.Levels.{Still, no_grammar, always, less, level
 use Rattle.asn1_core_format.specs.Rolled.{rolled}
 use Rattle.pkcs7_signed.specs.Forest.{Forest, none, Node, nodes, forest, fold_node, same_node}
 use Rattle.pkcs7_signed.specs.Parts.{SignerParts, signer_end, behind_signer, signer_parts, SignedParts, signed_end, behind_signed, signed_parts}
-use Rattle.pkcs7_signed.specs.Rows.{SignerRow, signer_row, SignedRow, signed_row, CertificateRow, certificate_row, AttributeValues, attribute_values, AttributeRow, attribute_row}
+use Rattle.pkcs7_signed.specs.Rows.{SignerRow, signer_row, SignedRow, signed_row, CertificateRow, certificate_row, UnsignedValues, attribute_values, AttributeRow, attribute_row}
 use Rattle.pkcs7_signed.specs.declared.signers.Kind.{Kind}
 use Rattle.pkcs7_signed.specs.declared.signers.Kind.TheVariants.{MsCounterSign, CounterSign, Foreign}
 
@@ -160,5 +160,5 @@ abbrev pub unsigned_attributes : Format (List (Value attributes))
 unsigned_attributes = within 0xA1 (each attribute)
 
 -- what an attribute holds, which only writes
-abbrev pub values : Format (AttributeValues (Value certificates) (Value signers))
+abbrev pub values : Format (UnsignedValues (Value certificates) (Value signers))
 values = attribute_values certificate (less signer)

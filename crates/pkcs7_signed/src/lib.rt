@@ -1,4 +1,4 @@
-//! Signed data and signers, which hold one another (RFC 5652, 5).
+//! Signed data and signers, which hold one another (RFC 5652, 5), and their parts.
 #![tactic(auto)]
 
 mod clones;
@@ -7,6 +7,13 @@ mod oids;
 mod reading;
 pub mod signers;
 
+pub use pkcs7_signed_crl::{
+    Attributes, CertificateChoices, CertificateList, CertificateSerialNumber, CertificateSet,
+    DigestAlgorithmIdentifier, DigestAlgorithmIdentifiers, IssuerAndSerialNumber,
+    OtherRevocationInfoFormat, RevocationInfoChoice, RevocationInfoChoices, RevokedCertificate,
+    RevokedCertificates, SignatureAlgorithmIdentifier, SignatureValue, SignerIdentifier,
+    TbsCertList,
+};
 pub use signers::{
     Pkcs7Certificate, SignedData, SignerInfo, SignersInfos, UnsignedAttribute,
     UnsignedAttributeValue, UnsignedAttributes,

@@ -4,7 +4,7 @@ ghost use Rattle.std.specs.Prelude.{◌≡◌, ◌↔◌, IsTrue, List, [], map,
 ghost use Rattle.asn1_core_oid.specs.OidValue.{octets_of};
 ghost use Rattle.asn1_core_format.specs.Levels.{less};
 ghost use Rattle.asn1_core.specs.Der.{set_of};
-ghost use Rattle.pkcs7_signed.specs.Rows.{AttributeValues, kind_of, IsOfKind};
+ghost use Rattle.pkcs7_signed.specs.Rows.{UnsignedValues, kind_of, IsOfKind};
 ghost use Rattle.pkcs7_signed.specs.Heads.{signer_head_value, signed_head_value};
 ghost use Rattle.pkcs7_signed.specs.SignerLevels.{parts_of_signer, parts_of_signed};
 ghost use Rattle.pkcs7_signed.specs.Signers.{Value, signers, attributes, certificates, SignedValue, signer, attribute, certificate, signed_data, signer_infos, unsigned_attributes, values};
@@ -250,7 +250,7 @@ impl DerSerialize for UnsignedAttribute {
 }
 
 impl DerSerialize for UnsignedAttributeValue {
-    ghost Value = { AttributeValues (Value certificates) (Value signers) };
+    ghost Value = { UnsignedValues (Value certificates) (Value signers) };
 
     ghost value = { values_value };
 

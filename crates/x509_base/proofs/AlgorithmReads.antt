@@ -6,12 +6,12 @@ use Rattle.asn1_core_format.specs.Choices.{otherwise}
 use Rattle.asn1_core_format.specs.Rows.{GaveUpRow, nothing, optional}
 use Rattle.asn1_core.specs.Raw.{raw}
 use Rattle.asn1_core_oid.specs.Oid.{IsOid}
-use Rattle.asn1_choices.specs.Chosen.{behind}
+use Rattle.asn1_choices.specs.Chosen.{after_oid}
 use Rattle.x509_base.specs.OtherAlgorithms.{other_algorithm}
 
 -- absent parameters are read as they stand
 module _ (key : List ℕ) {k : ℕ} {old new : Position} where
-  pub other_refused : {e : Error} → GaveUpRow (behind key (otherwise IsOid (optional raw nothing))) k old new e → GaveUpRow (behind key other_algorithm) k old new e
+  pub other_refused : {e : Error} → GaveUpRow (after_oid key (otherwise IsOid (optional raw nothing))) k old new e → GaveUpRow (after_oid key other_algorithm) k old new e
   other_refused g = record {
     kind = g.kind;
     none = λ m v s. g.none m s.0 s.1;

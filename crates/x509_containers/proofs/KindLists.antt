@@ -1,9 +1,12 @@
 -- That the list of all kinds leaves none out, and what is asked of each of a list.
 use Rattle.std.specs.Prelude.{zero, suc}
-use Rattle.std.proofs.Common.{◌≡◌, ◌≢◌, ◌↔◌, ◌∙◌, ℕ, ◌+◌, ◌<◌, ◌≤◌, Bool, false, true≢false, IsTrue, List, [], ◌∷◌, ◌++◌, map, length, take, get_or, inl, inr, ap, subst, sym, rules}
+use Rattle.std.proofs.Common.{◌≡◌, ◌≢◌, ◌↔◌, ◌∙◌, ℕ, ◌+◌, ◌<◌, ◌≤◌, Bool, true, false, not, ◌&&◌, refl, true≢false, IsTrue, List, [], ◌∷◌, ◌++◌, map, length, take, get_or, inl, inr, ap, subst, sym, rules}
 use Rattle.std.specs.List.{All, flat_map}
+use Rattle.std.specs.Str.{bytes_eq}
+use Rattle.std.proofs.lemmas.Bool.{and_parts}
 use Rattle.std.proofs.lemmas.List.{take_all}
 use Rattle.std.proofs.lemmas.List.Elements.{All-head, All-tail, All-more}
+use Rattle.std.proofs.lemmas.Slice.Eq.{bytes_eq-Decides}
 use Rattle.x509_containers.specs.Kinds.{IsAmong, kinds, layers, word_of}
 use Rattle.x509_containers.specs.declared.kinds.Kind.{Kind}
 use Rattle.x509_containers.specs.declared.kinds.Kind.TheVariants.{Algorithm, Authenticode, Content, Enveloped, SignedData, SignedPart, Store, TrustList}
@@ -95,3 +98,29 @@ one_more word xs i d same in_range is no_word passed =
 pub of_none : (word : List ℕ) (xs : List Kind) (i : ℕ) → length xs ≤ i → HasPassed word xs i → (kind : Kind) → IsAmong xs kind → word ≢ word_of kind
 of_none word xs i end passed kind =
     of_all (λ kind. word ≢ word_of kind) xs kind (subst (All (λ kind. word ≢ word_of kind)) (take_all i xs end) passed)
+
+-- whether a word is none of the kinds', and whether each kind has a word of its own
+is_other : List ℕ → List Kind → Bool
+is_other word [] = true
+is_other word (kind ∷ rest) = not (bytes_eq word (word_of kind)) && is_other word rest
+
+have_own : List Kind → Bool
+have_own [] = true
+have_own (kind ∷ rest) = is_other (word_of kind) rest && have_own rest
+
+not_other : (word : List ℕ) (xs : List Kind) (kind : Kind) → is_other word xs ≡ true → IsAmong xs kind → word ≢ word_of kind
+not_other word [] kind h i e = absurd i
+not_other word (x ∷ rest) kind h (inl p) e =
+    let same : bytes_eq word (word_of x) ≡ true = (bytes_eq-Decides word (word_of x)).1 (e ∙ ap word_of p) in
+    true≢false (sym (and_parts _ _ h).0 ∙ ap not same)
+not_other word (x ∷ rest) kind h (inr i) e = not_other word rest kind (and_parts _ _ h).1 i e
+
+of_own : (xs : List Kind) → have_own xs ≡ true → (a b : Kind) → IsAmong xs a → IsAmong xs b → word_of a ≡ word_of b → a ≡ b
+of_own [] h a b i j e = absurd i
+of_own (x ∷ rest) h a b (inl p) (inl q) e = p ∙ sym q
+of_own (x ∷ rest) h a b (inl p) (inr j) e = absurd (not_other (word_of x) rest b (and_parts _ _ h).0 j (sym (ap word_of p) ∙ e))
+of_own (x ∷ rest) h a b (inr i) (inl q) e = absurd (not_other (word_of x) rest a (and_parts _ _ h).0 i (sym (ap word_of q) ∙ sym e))
+of_own (x ∷ rest) h a b (inr i) (inr j) e = of_own rest (and_parts _ _ h).1 a b i j e
+
+pub own_words : (a b : Kind) → word_of a ≡ word_of b → a ≡ b
+own_words a b e = of_own kinds refl a b (every a) (every b) e

@@ -149,6 +149,11 @@ impl Kind {
     }
 }
 
+/// No two kinds have one word, so what `from_word` gives is the only kind that the word names.
+pub fn each_kind_has_its_own_word()
+    ensures { (a b : Kind) → word_of a ≡ word_of b → a ≡ b }
+{}
+
 fn is_word(kind: Kind, word: &[u8]) -> bool
     ensures { IsTrue result ↔ (word.now ≡ word_of kind) }
 {

@@ -82,6 +82,7 @@ pub use kinds::SignedPartKind;
 pub use kinds::StoreKind;
 pub use kinds::TrustListKind;
 pub use kinds::check;
+pub use kinds::each_kind_has_its_own_word;
 pub use kinds::rewrite;
 pub use kinds::run;
 pub use pkcs7_content::CTLEntry;

@@ -17,8 +17,8 @@ abbrev pub only_octets : List ℕ → Spelling (Unit {0})
 only_octets o = record { spell = λ _. o; IsValid = λ _. Unit {0}; IsContents = λ c. c ≡ o }
 
 -- the object identifier with these contents octets and no other
-abbrev pub only_oid : List ℕ → Format (Unit {0})
-only_oid o = leaf 0x06 (only_octets o)
+abbrev pub fixed_oid : List ℕ → Format (Unit {0})
+fixed_oid o = leaf 0x06 (only_octets o)
 
 abbrev pub EncryptedContentsValue : Type 0
 EncryptedContentsValue = Unit {0} × (EncryptionAlgorithmValue × (Option Octets × Unit {0}))
@@ -30,16 +30,16 @@ abbrev pub encrypted_octets : Format Octets
 encrypted_octets = implicit (context_tag 0 0x04) 0x04 octet_string
 
 abbrev pub encrypted_contents : Format EncryptedContentsValue
-encrypted_contents = sequence (part (only_oid data_oid) (part encryption_algorithm (optional encrypted_octets nothing)))
+encrypted_contents = sequence (part (fixed_oid data_oid) (part encryption_algorithm (optional encrypted_octets nothing)))
 
 lawful_only : (o : List ℕ) → IsLawfulSpelling (only_octets o)
 lawful_only o = record { one_value = λ v w h i e. refl; spelled = λ v h. refl; has_value = λ c h. (tt, h, tt) }
 
-pub lawful_only_oid : (o : List ℕ) → IsLawful (only_oid o)
-lawful_only_oid o = lawful_leaf 0x06 (omega arith) (only_octets o) (lawful_only o)
+pub lawful_fixed_oid : (o : List ℕ) → IsLawful (fixed_oid o)
+lawful_fixed_oid o = lawful_leaf 0x06 (omega arith) (only_octets o) (lawful_only o)
 
 lawful_encrypted_octets : IsLawful encrypted_octets
 lawful_encrypted_octets = lawful_implicit (context_tag 0 0x04) 0x04 octet_string lawful_octet_string (leaf_tagged 0x04 (omega arith) any_octets) (context_tag_is 0 0x04 (omega arith))
 
 pub lawful_encrypted_contents : IsLawful encrypted_contents
-lawful_encrypted_contents = lawful_sequence (followed_by (lawful_only_oid data_oid) (followed_by lawful_encryption_algorithm (perhaps lawful_encrypted_octets (λ t h e. e) lawful_nothing)))
+lawful_encrypted_contents = lawful_sequence (followed_by (lawful_fixed_oid data_oid) (followed_by lawful_encryption_algorithm (perhaps lawful_encrypted_octets (λ t h e. e) lawful_nothing)))

@@ -2,7 +2,7 @@
 
 ghost use Rattle.std.specs.Prelude.{◌≡◌, ℕ, List};
 ghost use Rattle.x509_pkcs12_parts.specs.Oids.{data_oid};
-ghost use Rattle.x509_pkcs12_parts.specs.Contents.{only_octets, only_oid, encrypted_octets, EncryptedContentsValue, encrypted_contents_value, encrypted_contents, lawful_only_oid, lawful_encrypted_contents};
+ghost use Rattle.x509_pkcs12_parts.specs.Contents.{only_octets, fixed_oid, encrypted_octets, EncryptedContentsValue, encrypted_contents_value, encrypted_contents, lawful_fixed_oid, lawful_encrypted_contents};
 ghost use Rattle.x509_pkcs12_parts.specs.ContentsEqual.{encrypted_contents_equal};
 
 use crate::oids::DATA;
@@ -42,7 +42,7 @@ impl DerSerialize for DataType {
 
     ghost value = { λ _. tt };
 
-    ghost format = { only_oid data_oid };
+    ghost format = { fixed_oid data_oid };
 
     fn put<W: Writer>(&self, w: &mut W) -> Result<(), WriteError> {
         put_element(0x06, &DATA, w)
@@ -58,7 +58,7 @@ impl DerDeserialize for DataType {
         read_leaf(alloc, r, nest, 0x06)
     }
 
-    ghost lawful = { lawful_only_oid data_oid };
+    ghost lawful = { lawful_fixed_oid data_oid };
 }
 
 /// `[0] IMPLICIT OCTET STRING`, of octets that are only lent, which only writes.

@@ -21,15 +21,12 @@ pub use pkcs7_content::{
     SpcString, SpcUuid, StringError, Url,
 };
 pub use pkcs7_signed::{
-    Pkcs7Certificate, SignedData, SignerInfo, SignersInfos, UnsignedAttribute,
-    UnsignedAttributeValue, UnsignedAttributes,
-};
-pub use pkcs7_signed_crl::{
     Attributes, CertificateChoices, CertificateList, CertificateSerialNumber, CertificateSet,
     DigestAlgorithmIdentifier, DigestAlgorithmIdentifiers, IssuerAndSerialNumber,
-    OtherRevocationInfoFormat, RevocationInfoChoice, RevocationInfoChoices, RevokedCertificate,
-    RevokedCertificates, SignatureAlgorithmIdentifier, SignatureValue, SignerIdentifier,
-    TbsCertList,
+    OtherRevocationInfoFormat, Pkcs7Certificate, RevocationInfoChoice, RevocationInfoChoices,
+    RevokedCertificate, RevokedCertificates, SignatureAlgorithmIdentifier, SignatureValue,
+    SignedData, SignerIdentifier, SignerInfo, SignersInfos, TbsCertList, UnsignedAttribute,
+    UnsignedAttributeValue, UnsignedAttributes,
 };
 pub use recipients::{
     EncryptedKey, KekIdentifier, KekRecipientInfo, KeyEncryptionAlgorithmIdentifier,
