@@ -3,11 +3,8 @@
 
 use crate::fakes::Narrow;
 use asn1_core::SeenByText;
-use asn1_core_element::{Error, Reader};
-use asn1_core_format::{
-    DerDeserialize, DerSerialize, DerTagged, FirstTags, MAX_NESTING, TryClone, from_bytes,
-    read_retagged, to_vec, write_to,
-};
+use asn1_core_element::Error;
+use asn1_core_format::{DerDeserialize, DerSerialize, TryClone, from_bytes, to_vec, write_to};
 use asn1_core_streams::{Sink, StdSink};
 use asn1_core_writers::{Backward, Compare, Measure, WriteError};
 use std::alloc::Global;
@@ -114,38 +111,8 @@ pub fn is_kept<T: DerDeserialize + SeenByText + TryClone>(
     Ok(value)
 }
 
-/// Asks of a type with one tag what `is_kept` does, and that under the tag `[0]` the text is the same but for its first
-/// byte, and is read as the same value.
-pub fn is_kept_under_tags<T: DerTagged + SeenByText + TryClone>(
-    alloc: Global,
-    text: &[u8],
-) -> Result<T, Fail> {
-    let value: T = is_kept(alloc, text)?;
-    expect(T::begins(T::TAG) && !T::begins(0x80), "begins", text)?;
-    let mut sink = StdSink::new(Vec::new(alloc));
-    value.emit_as(0x80, &mut sink)?;
-    let tagged = sink.into_inner();
-    expect(tagged.first() == Some(&0x80), "the first byte", text)?;
-    expect(tagged.get(1..) == text.get(1..), "emit_as", text)?;
-    let again: T = read_retagged(alloc, &mut Reader::new(&tagged), MAX_NESTING, 0x80)?;
-    expect(again == value, "read_retagged", text)?;
-    Ok(value)
-}
-
 /// Why the text is refused.
 pub fn refusal<T: DerDeserialize>(alloc: Global, text: &[u8]) -> Option<Error> {
     let outcome: Result<T, Error> = from_bytes(alloc, text);
     outcome.err()
-}
-
-/// Asks of each text that it is refused as invalid.
-pub fn are_invalid<T: DerDeserialize>(alloc: Global, texts: &[&[u8]]) -> Result<(), Fail> {
-    for text in texts {
-        expect(
-            refusal::<T>(alloc, text) == Some(Error::Invalid),
-            "invalid",
-            text,
-        )?;
-    }
-    Ok(())
 }

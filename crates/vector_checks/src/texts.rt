@@ -1,9 +1,9 @@
 //! Octets of texts in hexadecimal, and what tests do with them.
 
-use crate::checks::{is_kept, refusal};
+use crate::checks::is_kept;
 use asn1_core::{
     DerDeserialize, Error, ObjectIdentifier, ObjectIdentifierAsn1, OctetStringAsn1, SeenByText,
-    TryClone, from_bytes_counted,
+    TryClone,
 };
 use std::alloc::Global;
 use std::test::Fail;
@@ -25,29 +25,6 @@ pub fn kept<T: DerDeserialize + SeenByText + TryClone>(
     texts: &[&str],
 ) -> Result<T, Fail> {
     is_kept(alloc, &hex(alloc, texts)?)
-}
-
-/// Why the octets are refused.
-pub fn refused<T: DerDeserialize>(alloc: Global, texts: &[&str]) -> Result<Option<Error>, Fail> {
-    Ok(refusal::<T>(alloc, &hex(alloc, texts)?))
-}
-
-/// Asks of the octets why they are refused.
-pub fn are_refused<T: DerDeserialize>(alloc: Global, cases: &[(&str, Error)]) -> Result<(), Fail> {
-    for (text, error) in cases {
-        let why = refused::<T>(alloc, &[text])?;
-        if why != Some(*error) {
-            return Err(Fail::new(format_args!("{why:?}: {text}")));
-        }
-    }
-    Ok(())
-}
-
-/// How many headers are read of the octets, which are accepted.
-pub fn headers_of<T: DerDeserialize>(alloc: Global, texts: &[&str]) -> Result<usize, Fail> {
-    let (outcome, headers) = from_bytes_counted::<T>(alloc, &hex(alloc, texts)?);
-    let _value = outcome?;
-    Ok(headers)
 }
 
 pub fn oid(alloc: Global, text: &str) -> Result<ObjectIdentifierAsn1, Error> {

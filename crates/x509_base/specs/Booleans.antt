@@ -1,6 +1,9 @@
 -- BOOLEAN, and an explicit FALSE as what absence stands for.
 use Rattle.std.specs.Prelude.{◌≡◌, ◌⊎◌, ◌↔◌, ℕ, Bool, true, false, not, List, [], ◌∷◌}
-use Rattle.std.proofs.Common.{refl, inl, inr, arith}
+use Rattle.std.specs.Str.{bytes_eq}
+use Rattle.std.proofs.Common.{refl, sym, ap, inl, inr, arith, ◌&&◌}
+use Rattle.std.proofs.lemmas.Bool.{false_from_ne_true, and_parts}
+use Rattle.std.proofs.lemmas.Slice.Eq.{bytes_eq-Decides}
 use Rattle.asn1_core_element.specs.Element.{element}
 use Rattle.asn1_core_element.specs.ElementLaws.{element_same}
 use Rattle.asn1_core_format.specs.Format.{Format, IsLawful}
@@ -42,13 +45,16 @@ lawful_boolean = lawful_leaf 0x01 (omega arith) booleans (record {
 abbrev pub explicit_false : List ℕ
 explicit_false = element 0x01 (0x00 ∷ [])
 
+not_false : element 0x01 (0xFF ∷ []) ≡ explicit_false → ⊥
+not_false e = let c = (element_same 0x01 0x01 (0xFF ∷ []) (0x00 ∷ []) e).1 in cc
+
 pub is_false : (v : Bool) → not v ≡ is_default boolean explicit_false v
-is_false false = refl
-is_false true = refl
+is_false false = sym (ap (λ b. b && true) ((bytes_eq-Decides explicit_false explicit_false).1 refl))
+is_false true = sym (ap (λ b. b && true) (false_from_ne_true (bytes_eq (element 0x01 (0xFF ∷ [])) explicit_false) (λ h. not_false ((bytes_eq-Decides _ explicit_false).0 h))))
 
 false_text : (v : Bool) → (is_default boolean explicit_false v ≡ true) ↔ (boolean.text v ≡ explicit_false)
-false_text false = (λ e. refl, λ e. refl)
-false_text true = (λ e. cc, λ e. (let c = (element_same 0x01 0x01 (0xFF ∷ []) (0x00 ∷ []) e).1 in cc))
+false_text false = (λ e. refl, λ e. sym (is_false false))
+false_text true = (λ e. (bytes_eq-Decides _ explicit_false).0 (and_parts _ _ e).0, λ e. absurd (not_false e))
 
 pub false_left_out : IsDefault (is_default boolean explicit_false) explicit_false boolean
 false_left_out = record { normal = λ k. (0x00 ∷ [], refl, inl refl); exact = λ k v h. false_text v }
