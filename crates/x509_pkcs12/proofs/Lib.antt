@@ -1,2 +1,1 @@
 pub mod MacPlaces
-pub mod MeasuredReads

@@ -1,16 +1,18 @@
--- Where the octets that a MAC covers stand, by the number of the bytes behind authSafe.
-use Rattle.std.proofs.Common.{◌≡◌, ℕ, ◌+◌, ◌-◌, ◌≤◌, List, [], ◌++◌, length, take, drop, Option, None, Some, slice_range, refl, sym, ap, ◌∙◌, arith, inl, inr, append_assoc, length-append}
+-- Where the octets that a MAC covers stand, by the lengths of what stands before them.
+use Rattle.std.proofs.Common.{◌≡◌, ℕ, ◌+◌, ◌-◌, ◌<◌, ◌≤◌, List, [], ◌∷◌, ◌++◌, length, take, drop, get_or, Option, None, Some, slice_range, refl, sym, ap, ◌∙◌, arith, inl, inr, ⊎_elim, append_assoc, length-append}
+use Rattle.std.proofs.lemmas.Bool.{cases_lt}
 use Rattle.std.proofs.lemmas.List.{take_at, drop_at}
-use Rattle.asn1_core.specs.Der.{raw, lawful_raw}
-use Rattle.asn1_core_element.specs.Element.{head, element}
-use Rattle.asn1_core_element.specs.declared.error.Error.{Error}
-use Rattle.asn1_core_format.specs.Whole.{HasNoValue, value_of}
+use Rattle.std.specs.Int.Digits.{digits_of}
+use Rattle.asn1_core.specs.Der.{raw}
+use Rattle.asn1_core_element.specs.Element.{length_octets, head, element}
+use Rattle.asn1_core_element.specs.ElementLaws.{octets_short, octets_long, element_long}
+use Rattle.asn1_core_format.specs.Whole.{IsValueOf}
 use Rattle.asn1_core_numbers.specs.Numbers.{integer_octets}
-use Rattle.pkcs12_algs.specs.Digests.{MacValue}
 use Rattle.x509_pkcs12_parts.specs.Oids.{data_oid}
-use Rattle.x509_pkcs12.specs.MacOctets.{mac_octets, auth_safe_of, input_is, same_some}
-use Rattle.x509_pkcs12.specs.MacRanges.{IsMacRange, MeasuredValue, measured_pfx, IsPlaced}
-use Rattle.x509_pkcs12.specs.Pfxs.{PfxValue, pfx, lawful_pfx}
+use Rattle.x509_pkcs12.specs.AuthSafes.{auth_safe}
+use Rattle.x509_pkcs12.specs.MacOctets.{mac_octets, auth_safe_of, Covers, input_is, same_some}
+use Rattle.x509_pkcs12.specs.MacRanges.{IsMacRange}
+use Rattle.x509_pkcs12.specs.Pfxs.{PfxValue, pfx}
 
 abbrev EndsBy : List ℕ → List ℕ → Type 0
 EndsBy b y = (p : List ℕ) × (b ≡ p ++ y)
@@ -28,89 +30,93 @@ auth_safe_ends o =
     let parts = ends_behind (element 0x06 data_oid) (element 0xA0 (element 0x04 o)) o content in
     ends_within 0x30 (element 0x06 data_oid ++ element 0xA0 (element 0x04 o)) o parts
 
--- what is read with the number is read without it, and the other way round
-abbrev unmeasured : (k : ℕ) (b : List ℕ) (v : MeasuredValue) → measured_pfx.Reads k b v → (pfx raw).Reads k b (v.0, (v.1.0, v.1.1.0))
-unmeasured k b v s = (s.0, s.1, (s.2.0, s.2.1, s.2.2, s.2.3, (s.2.4.0, s.2.4.1, s.2.4.2, s.2.4.3, s.2.4.4.0)))
+three : length (element 0x02 (integer_octets 3)) ≡ 3
+unfolding head length_octets
+three = refl
 
-measured_too : (k : ℕ) (b : List ℕ) (w : PfxValue (List ℕ)) (s : (pfx raw).Reads k b w) → measured_pfx.Reads k b (w.0, (w.1.0, (w.1.1, length s.2.4.1)))
-measured_too k b w s = (s.0, s.1, (s.2.0, s.2.1, s.2.2, s.2.3, (s.2.4.0, s.2.4.1, s.2.4.2, s.2.4.3, (s.2.4.4, refl))))
+-- the first byte of a length says how long the header is
+header_length : (tag n size : ℕ) (c : List ℕ) → (get_or (head tag n ++ c) 1 0 < 128 → size ≡ 2) → (128 ≤ get_or (head tag n ++ c) 1 0 → size + 126 ≡ get_or (head tag n ++ c) 1 0) → length (head tag n) ≡ size
+unfolding head
+header_length tag n size c short long =
+    ⊎_elim
+    (λ (h : n < 128).
+    let e : get_or (head tag n ++ c) 1 0 ≡ n = ap (λ l. get_or ((tag ∷ l) ++ c) 1 0) (octets_short n h) in
+    omega (arith, short (omega (arith, e, h)), ap length (octets_short n h)))
+    (λ (h : 128 ≤ n).
+    let e : get_or (head tag n ++ c) 1 0 ≡ 128 + length (digits_of 256 n) = ap (λ l. get_or ((tag ∷ l) ++ c) 1 0) (octets_long n h) in
+    omega (arith, long (omega (arith, e)), e, ap length (octets_long n h)))
+    (cases_lt n 128)
 
-pub no_raw_value : {k : ℕ} {b : List ℕ} {e : Error} → HasNoValue measured_pfx k b e → HasNoValue (pfx raw) k b e
-no_raw_value {k} {b} g = record {
-  kind = g.kind;
-  none = λ m w s. g.none m (w.0, (w.1.0, (w.1.1, length s.2.4.1))) (measured_too k b w s);
+-- the octets stand in the input, behind a version of three bytes, and end the text of authSafe
+pub record Stands (b o : List ℕ) (w : PfxValue (List ℕ)) : Type 0 where
+  pub covers : Covers b o
+  pub version : length (element 0x02 covers.version_octets) ≡ 3
+  pub text : (auth_safe raw).text w.1.0 ≡ auth_safe_of o
+
+pub stands_in : (b o : List ℕ) (w : PfxValue (List ℕ)) → (pfx raw).Reads 64 b w → mac_octets w ≡ Some o → Stands b o w
+stands_in b o (n, (inl d, x)) s e = record {
+  covers = record {
+    version_octets = integer_octets n;
+    mac = s.2.4.1;
+    is = input_is 64 n b d x s ∙ ap (λ z. element 0x30 (element 0x02 (integer_octets n) ++ (auth_safe_of z ++ s.2.4.1))) (same_some d o e);
+  };
+  version = ap (λ v. length (element 0x02 (integer_octets v))) s.2.3.1 ∙ three;
+  text = ap auth_safe_of (same_some d o e);
 }
+stands_in b o (n, (inr p, x)) s e = absurd (let f : None ≡ Some o = e in cc)
 
--- data, and the number of the bytes behind them
-module _ (b o : List ℕ) (n m : ℕ) (x : Option MacValue × Unit {0}) (s : measured_pfx.Reads 64 b (n, (inl o, (x, m)))) where
-  ends : EndsBy b (o ++ s.2.4.1)
+pub two_bytes : {b : List ℕ} {w : PfxValue (List ℕ)} → IsValueOf (pfx raw) 64 b w → 1 < length b
+two_bytes v = omega (arith, ap length v.element.is, element_long v.element.tag v.element.contents)
+
+module _ {b o : List ℕ} {w : PfxValue (List ℕ)} (p : Stands b o w) where
+  ends : EndsBy b (o ++ p.covers.mac)
   ends =
       let a = auth_safe_ends o in
-      let t : auth_safe_of o ++ s.2.4.1 ≡ a.0 ++ (o ++ s.2.4.1) = ap (λ z. z ++ s.2.4.1) a.1 ∙ append_assoc a.0 o s.2.4.1 in
-      let row = ends_behind (element 0x02 (integer_octets n)) (auth_safe_of o ++ s.2.4.1) (o ++ s.2.4.1) (a.0, t) in
-      let w = ends_within 0x30 (element 0x02 (integer_octets n) ++ (auth_safe_of o ++ s.2.4.1)) (o ++ s.2.4.1) row in
-      (w.0, input_is 64 n b o x (unmeasured 64 b (n, (inl o, (x, m))) s) ∙ w.1)
+      let t : auth_safe_of o ++ p.covers.mac ≡ a.0 ++ (o ++ p.covers.mac) = ap (λ z. z ++ p.covers.mac) a.1 ∙ append_assoc a.0 o p.covers.mac in
+      let row = ends_behind (element 0x02 p.covers.version_octets) (auth_safe_of o ++ p.covers.mac) (o ++ p.covers.mac) (a.0, t) in
+      let e = ends_within 0x30 (element 0x02 p.covers.version_octets ++ (auth_safe_of o ++ p.covers.mac)) (o ++ p.covers.mac) row in
+      (e.0, p.covers.is ∙ e.1)
 
-  data_length : length b ≡ length ends.0 + (length o + m)
-  data_length = omega (arith, ap length ends.1, length-append ends.0 (o ++ s.2.4.1), length-append o s.2.4.1, s.2.4.4.1)
+  size_is : length b ≡ length ends.0 + (length o + length p.covers.mac)
+  size_is = omega (arith, ap length ends.1, length-append ends.0 (o ++ p.covers.mac), length-append o p.covers.mac)
+
+  pub octets_fit : {size : ℕ} → size ≡ length ((auth_safe raw).text w.1.0) → length o ≤ size
+  octets_fit e =
+      let a = auth_safe_ends o in
+      omega (arith, e, ap length p.text, ap length a.1, length-append a.0 o)
+
+  -- the end of authSafe, by the header and its own length
+  pub end_at : {header size : ℕ} → (get_or b 1 0 < 128 → header ≡ 2) → (128 ≤ get_or b 1 0 → header + 126 ≡ get_or b 1 0) → size ≡ length ((auth_safe raw).text w.1.0) → header + 3 + size + length p.covers.mac ≡ length b
+  end_at {header} short long e =
+      let row : List ℕ = element 0x02 p.covers.version_octets ++ (auth_safe_of o ++ p.covers.mac) in
+      let first : get_or b 1 0 ≡ get_or (head 0x30 (length row) ++ row) 1 0 = ap (λ l. get_or l 1 0) p.covers.is in
+      let h : length (head 0x30 (length row)) ≡ header =
+      header_length 0x30 (length row) header row (λ l. short (omega (arith, first, l))) (λ l. omega (arith, first, long (omega (arith, first, l)))) in
+      omega (arith, h, p.version, e, ap length p.text, ap length p.covers.is, length-append (head 0x30 (length row)) row, length-append (element 0x02 p.covers.version_octets) (auth_safe_of o ++ p.covers.mac), length-append (auth_safe_of o) p.covers.mac)
 
   there : (start end : ℕ) → length ends.0 ≡ start → length o ≡ end - start → slice_range b start end ≡ o
-  there start end p q =
+  there start end s e =
       ap (λ l. take (end - start) (drop start l)) ends.1
-      ∙ ap (take (end - start)) (drop_at ends.0 (o ++ s.2.4.1) start p)
-      ∙ take_at o s.2.4.1 (end - start) q
+      ∙ ap (take (end - start)) (drop_at ends.0 (o ++ p.covers.mac) start s)
+      ∙ take_at o p.covers.mac (end - start) e
 
-  rest_behind : (end : ℕ) → end + m ≡ length b → drop end b ≡ s.2.4.1
-  rest_behind end q =
-      ap (drop end) (ends.1 ∙ sym (append_assoc ends.0 o s.2.4.1))
-      ∙ drop_at (ends.0 ++ o) s.2.4.1 end (omega (arith, length-append ends.0 o, q, data_length))
-
-  data_fits : length o + m ≤ length b
-  data_fits = omega (arith, data_length)
-
-  data_range : (start end : ℕ) → start + length o + m ≡ length b → end + m ≡ length b → IsMacRange b (Some (start, end))
-  data_range start end p q =
-      let first : length ends.0 ≡ start = omega (arith, p, data_length) in
-      let size : length o ≡ end - start = omega (arith, p, q) in
-      let is : slice_range b start end ≡ o = there start end first size in
-      let r = unmeasured 64 b (n, (inl o, (x, m))) s in
+  pub range_found : {end : ℕ} → IsValueOf (pfx raw) 64 b w → mac_octets w ≡ Some o → end + length p.covers.mac ≡ length b → IsMacRange b (Some (end - length o, end))
+  range_found {end} v e q =
+      let is : slice_range b (end - length o) end ≡ o = there (end - length o) end (omega (arith, q, size_is)) (omega (arith, q, size_is)) in
       record {
-        value = (n, (inl o, x));
-        is_value = value_of (pfx raw) 64 b (n, (inl o, x)) (lawful_pfx raw lawful_raw) r;
-        octets = ap Some is;
+        value = w;
+        is_value = v;
+        octets = ap Some is ∙ sym e;
         stands = record {
           covers = record {
-            version_octets = integer_octets n;
-            mac = s.2.4.1;
-            is = input_is 64 n b o x r ∙ ap (λ z. element 0x30 (element 0x02 (integer_octets n) ++ (auth_safe_of z ++ s.2.4.1))) (sym is);
+            version_octets = p.covers.version_octets;
+            mac = p.covers.mac;
+            is = p.covers.is ∙ ap (λ z. element 0x30 (element 0x02 p.covers.version_octets ++ (auth_safe_of z ++ p.covers.mac))) (sym is);
           };
-          behind = rest_behind end q;
-          inside = (omega (arith, p, q), omega (arith, q));
+          behind = ap (drop end) (ends.1 ∙ sym (append_assoc ends.0 o p.covers.mac)) ∙ drop_at (ends.0 ++ o) p.covers.mac end (omega (arith, length-append ends.0 o, q, size_is));
+          inside = (omega arith, omega (arith, q));
         };
       }
 
-fits_at : (b : List ℕ) (w : PfxValue (List ℕ)) (m : ℕ) (o : List ℕ) → IsPlaced b w m → mac_octets w ≡ Some o → length o + m ≤ length b
-fits_at b (n, (inl d, x)) m o s e = omega (arith, data_fits b d n m x s.reads, ap length (same_some d o e))
-fits_at b (n, (inr p, x)) m o s e = absurd (let f : None ≡ Some o = e in cc)
-
-range_at : (b : List ℕ) (w : PfxValue (List ℕ)) (m : ℕ) (o : List ℕ) (start end : ℕ) → IsPlaced b w m → mac_octets w ≡ Some o → start + length o + m ≡ length b → end + m ≡ length b → IsMacRange b (Some (start, end))
-range_at b (n, (inl d, x)) m o start end s e p q = data_range b d n m x s.reads start end (omega (arith, p, ap length (same_some d o e))) q
-range_at b (n, (inr r, x)) m o start end s e p q = absurd (let f : None ≡ Some o = e in cc)
-
-none_at : (b : List ℕ) (w : PfxValue (List ℕ)) (m : ℕ) → IsPlaced b w m → mac_octets w ≡ None → IsMacRange b None
-none_at b (n, (inl d, x)) m s e = absurd (let f : Some d ≡ None = e in cc)
-none_at b (n, (inr p, x)) m s e = record {
-  value = (n, (inr p, x));
-  is_value = value_of (pfx raw) 64 b (n, (inr p, x)) (lawful_pfx raw lawful_raw) (unmeasured 64 b (n, (inr p, (x, m))) s.reads);
-  octets = refl;
-  stands = tt;
-}
-
-pub range_fits : {b : List ℕ} {w : PfxValue (List ℕ)} {m : ℕ} {o : List ℕ} → IsPlaced b w m → mac_octets w ≡ Some o → length o + m ≤ length b
-range_fits {b} {w} {m} {o} = fits_at b w m o
-
-pub range_found : {b : List ℕ} {w : PfxValue (List ℕ)} {m : ℕ} {o : List ℕ} {start end : ℕ} → IsPlaced b w m → mac_octets w ≡ Some o → start + length o + m ≡ length b → end + m ≡ length b → IsMacRange b (Some (start, end))
-range_found {b} {w} {m} {o} {start} {end} = range_at b w m o start end
-
-pub no_range : {b : List ℕ} {w : PfxValue (List ℕ)} {m : ℕ} → IsPlaced b w m → mac_octets w ≡ None → IsMacRange b None
-no_range {b} {w} {m} = none_at b w m
+pub no_range : {b : List ℕ} {w : PfxValue (List ℕ)} → IsValueOf (pfx raw) 64 b w → mac_octets w ≡ None → IsMacRange b None
+no_range {b} {w} v e = record { value = w; is_value = v; octets = sym e; stands = tt }

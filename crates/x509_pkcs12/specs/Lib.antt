@@ -4,7 +4,6 @@ pub mod AuthSafes
 pub mod Pfxs
 pub mod MacOctets
 pub mod Agree
-pub mod Measured
 pub mod MacRanges
 pub mod Parsed
 pub mod Equal
