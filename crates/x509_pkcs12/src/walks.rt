@@ -37,7 +37,8 @@ fn bags_of_contents(
     let mut bags = Vec::new(alloc);
     for content in contents {
         if let SafeContentsContentInfo::Data(held) = content {
-            held.add_bags_to(&mut bags)?;
+            let found = held.all_bags(alloc)?;
+            bags.extend_from_slice(found.as_slice())?;
         }
     }
     Ok(bags)

@@ -21,7 +21,7 @@ impl SafeContents {
 
     /// Appends what `all_bags` gives. Refuses by `Memory` alone; then some of them may have been appended.
     #[cycle(walk)]
-    pub fn add_bags_to<'a>(&'a self, bags: &mut Vec<&'a SafeBag>) -> Result<(), Error>
+    fn add_bags_to<'a>(&'a self, bags: &mut Vec<&'a SafeBag>) -> Result<(), Error>
         ensures { MatchResult result (λ _. map (λ bag. bag_value bag.now) bags.new.items ≡ map (λ bag. bag_value bag.now) bags.old.items ++ walk (contents_value self.now)) (λ e. e ≡ Memory) }
     {
         for bag in &self.0 {
