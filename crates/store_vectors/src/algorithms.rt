@@ -7,7 +7,7 @@ use std::test::Fail;
 use vector_checks::checks::is_written;
 use vector_checks::texts::{hex, oid};
 use x509_containers::{
-    Pbes1AlgorithmKind, Pbes2AesCbcEncryption, Pbkdf2Prf, Pkcs12DigestAlgorithm,
+    MacData, Pbes1AlgorithmKind, Pbes2AesCbcEncryption, Pbkdf2Prf, Pkcs12DigestAlgorithm,
     RawAlgorithmIdentifier,
 };
 
@@ -114,6 +114,74 @@ fn kinds_of_encryption(rt: HostRuntime) -> Result<(), Fail> {
     ] {
         assert_eq!(rt; kind.to_oid(alloc)?, oid(alloc, text)?.0);
         assert_eq!(rt; kind.try_clone(alloc)?, kind);
+    }
+    Ok(())
+}
+
+/// The words by which OpenSSL lists these algorithms.
+#[test]
+fn words_of_algorithms(rt: HostRuntime) -> Result<(), Fail> {
+    let alloc = rt.alloc();
+    for (digest, word) in [
+        (Pkcs12DigestAlgorithm::Sha1, "SHA1"),
+        (Pkcs12DigestAlgorithm::Sha224, "SHA224"),
+        (Pkcs12DigestAlgorithm::Sha256, "SHA256"),
+        (Pkcs12DigestAlgorithm::Sha384, "SHA384"),
+        (Pkcs12DigestAlgorithm::Sha512, "SHA512"),
+    ] {
+        assert_eq!(rt; digest.name(), word);
+    }
+    let other = Pkcs12DigestAlgorithm::Unknown(algorithm(alloc, "1.2.3.4", "05 00")?);
+    assert_eq!(rt; other.name(), "unknown");
+    for (prf, word) in [
+        (Pbkdf2Prf::HmacWithSha1, "hmacWithSHA1"),
+        (Pbkdf2Prf::HmacWithSha224, "hmacWithSHA224"),
+        (Pbkdf2Prf::HmacWithSha256, "hmacWithSHA256"),
+        (Pbkdf2Prf::HmacWithSha384, "hmacWithSHA384"),
+        (Pbkdf2Prf::HmacWithSha512, "hmacWithSHA512"),
+    ] {
+        assert_eq!(rt; prf.name(), word);
+    }
+    let other = Pbkdf2Prf::Unknown(algorithm(alloc, "1.2.3.4", "05 00")?);
+    assert_eq!(rt; other.name(), "unknown");
+    for (kind, word) in [
+        (
+            Pbes1AlgorithmKind::ShaAnd40BitRc2Cbc,
+            "pbeWithSHA1And40BitRC2-CBC",
+        ),
+        (
+            Pbes1AlgorithmKind::ShaAnd3Key3DesCbc,
+            "pbeWithSHA1And3-KeyTripleDES-CBC",
+        ),
+    ] {
+        assert_eq!(rt; kind.name(), word);
+    }
+    for (kind, word) in [
+        (Pbes2AesCbcEncryption::Aes128, "AES-128-CBC"),
+        (Pbes2AesCbcEncryption::Aes192, "AES-192-CBC"),
+        (Pbes2AesCbcEncryption::Aes256, "AES-256-CBC"),
+    ] {
+        assert_eq!(rt; kind.name(), word);
+    }
+    Ok(())
+}
+
+/// How often the key of a MAC is hashed: once, where no count stands.
+#[test]
+fn counts_of_rounds(rt: HostRuntime) -> Result<(), Fail> {
+    let alloc = rt.alloc();
+    for (text, count) in [
+        (
+            "30 11 30 0D 30 09 06 05 2B 0E 03 02 1A 05 00 04 00 04 00",
+            1,
+        ),
+        (
+            "30 14 30 0D 30 09 06 05 2B 0E 03 02 1A 05 00 04 00 04 00 02 01 02",
+            2,
+        ),
+    ] {
+        let mac: MacData = read(alloc, &[text])?;
+        assert_eq!(rt; mac.effective_iterations(), count, "{text}");
     }
     Ok(())
 }

@@ -1,7 +1,9 @@
-//! Files that openssl made: what is in them.
+//! Files that openssl made: what is in them. Files that are none.
 
-use asn1_core::{StdSink, TryClone, from_bytes, to_vec};
+use asn1_core::{Error, StdSink, TryClone, from_bytes, to_vec};
 use std::test::Fail;
+use vector_checks::checks::refusal;
+use vector_checks::texts::hex;
 use x509_containers::{
     AuthenticatedSafeContentInfo, AuthenticatedSafeDataRepr, ParsedAuthenticatedSafeDataRepr, Pfx,
     RawAuthenticatedSafeDataRepr, RawPfx, SafeBag, mac_range,
@@ -173,6 +175,52 @@ fn names_and_representations(rt: HostRuntime) -> Result<(), Fail> {
         assert!(rt; value.into_repr() == *contents);
         let repr: RawAuthenticatedSafeDataRepr = from_bytes(alloc, covered)?;
         assert_eq!(rt; repr.into_repr().0.as_slice(), covered);
+    }
+    Ok(())
+}
+
+/// What isn't a raw PFX has no range, and is refused for the same reason; and where `authSafe` isn't data, there is none.
+#[test]
+fn files_without_a_range(rt: HostRuntime) -> Result<(), Fail> {
+    let alloc = rt.alloc();
+    for (text, error) in [
+        ("30 80 00 00", Error::Malformed),
+        ("30 03 02 01 03", Error::Missing),
+        (
+            "30 14 02 01 03 30 0F 06 09 2A 86 48 86 F7 0D 01 07 01 A0 02 04 00",
+            Error::Missing,
+        ),
+        (
+            "30 18 02 01 03 30 13 06 09 2A 86 48 86 F7 0D 01 07 01 A0 06 04 04 30 00 30 00",
+            Error::Malformed,
+        ),
+        (
+            "30 16 02 01 02 30 11 06 09 2A 86 48 86 F7 0D 01 07 01 A0 04 04 02 30 00",
+            Error::Invalid,
+        ),
+        (
+            "31 16 02 01 03 30 11 06 09 2A 86 48 86 F7 0D 01 07 01 A0 04 04 02 30 00",
+            Error::Invalid,
+        ),
+        (
+            "30 16 02 01 03 30 11 06 09 2A 86 48 86 F7 0D 01 07 01 A0 04 04 02 30 00 00",
+            Error::Malformed,
+        ),
+        (
+            "30 18 02 01 03 30 11 06 09 2A 86 48 86 F7 0D 01 07 01 A0 04 04 02 30 00 30 00",
+            Error::Missing,
+        ),
+    ] {
+        let file = hex(alloc, &[text])?;
+        assert_eq!(rt; refusal::<RawPfx>(alloc, &file), Some(error), "{text}");
+        assert_eq!(rt; mac_range(alloc, &file).err(), Some(error), "{text}");
+    }
+    for text in [
+        "30 10 02 01 03 30 0B 06 09 2A 86 48 86 F7 0D 01 07 02",
+        "30 14 02 01 03 30 0F 06 09 2A 86 48 86 F7 0D 01 07 02 A0 02 30 00",
+    ] {
+        let file = hex(alloc, &[text])?;
+        assert!(rt; mac_range(alloc, &file)?.is_none(), "{text}");
     }
     Ok(())
 }
