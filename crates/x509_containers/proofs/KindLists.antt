@@ -1,12 +1,10 @@
 -- That the list of all kinds leaves none out, and what is asked of each of a list.
 use Rattle.std.specs.Prelude.{zero, suc}
-use Rattle.std.proofs.Common.{◌≡◌, ◌≢◌, ◌↔◌, ◌∙◌, ℕ, ◌+◌, ◌<◌, ◌≤◌, Bool, true, false, not, ◌&&◌, refl, true≢false, IsTrue, List, [], ◌∷◌, ◌++◌, map, length, take, get_or, inl, inr, ap, subst, sym, rules}
+use Rattle.std.proofs.Common.{◌≡◌, ◌≢◌, ◌↔◌, ◌∙◌, ℕ, ◌+◌, ◌<◌, ◌≤◌, Bool, true, false, not, ◌&&◌, eqb, refl, true≢false, IsTrue, List, [], ◌∷◌, ◌++◌, map, length, take, get_or, inl, inr, ap, subst, sym, rules}
 use Rattle.std.specs.List.{All, flat_map}
-use Rattle.std.specs.Str.{bytes_eq}
-use Rattle.std.proofs.lemmas.Bool.{and_parts}
+use Rattle.std.proofs.lemmas.Bool.{and_parts, eq-eqb}
 use Rattle.std.proofs.lemmas.List.{take_all}
 use Rattle.std.proofs.lemmas.List.Elements.{All-head, All-tail, All-more}
-use Rattle.std.proofs.lemmas.Slice.Eq.{bytes_eq-Decides}
 use Rattle.x509_containers.specs.Kinds.{IsAmong, kinds, layers, word_of}
 use Rattle.x509_containers.specs.declared.kinds.Kind.{Kind}
 use Rattle.x509_containers.specs.declared.kinds.Kind.TheVariants.{Algorithm, Authenticode, Content, Enveloped, SignedData, SignedPart, Store, TrustList}
@@ -99,10 +97,21 @@ pub of_none : (word : List ℕ) (xs : List Kind) (i : ℕ) → length xs ≤ i �
 of_none word xs i end passed kind =
     of_all (λ kind. word ≢ word_of kind) xs kind (subst (All (λ kind. word ≢ word_of kind)) (take_all i xs end) passed)
 
+-- whether two words are one
+is_same : List ℕ → List ℕ → Bool
+is_same [] [] = true
+is_same [] (y ∷ ys) = false
+is_same (x ∷ xs) [] = false
+is_same (x ∷ xs) (y ∷ ys) = eqb x y && is_same xs ys
+
+same_as_itself : (xs : List ℕ) → is_same xs xs ≡ true
+same_as_itself [] = refl
+same_as_itself (x ∷ xs) = ap (λ b. b && is_same xs xs) (eq-eqb x x refl) ∙ same_as_itself xs
+
 -- whether a word is none of the kinds', and whether each kind has a word of its own
 is_other : List ℕ → List Kind → Bool
 is_other word [] = true
-is_other word (kind ∷ rest) = not (bytes_eq word (word_of kind)) && is_other word rest
+is_other word (kind ∷ rest) = not (is_same word (word_of kind)) && is_other word rest
 
 have_own : List Kind → Bool
 have_own [] = true
@@ -111,7 +120,7 @@ have_own (kind ∷ rest) = is_other (word_of kind) rest && have_own rest
 not_other : (word : List ℕ) (xs : List Kind) (kind : Kind) → is_other word xs ≡ true → IsAmong xs kind → word ≢ word_of kind
 not_other word [] kind h i e = absurd i
 not_other word (x ∷ rest) kind h (inl p) e =
-    let same : bytes_eq word (word_of x) ≡ true = (bytes_eq-Decides word (word_of x)).1 (e ∙ ap word_of p) in
+    let same : is_same word (word_of x) ≡ true = subst (λ w. is_same word w ≡ true) (e ∙ ap word_of p) (same_as_itself word) in
     true≢false (sym (and_parts _ _ h).0 ∙ ap not same)
 not_other word (x ∷ rest) kind h (inr i) e = not_other word rest kind (and_parts _ _ h).1 i e
 
