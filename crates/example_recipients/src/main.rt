@@ -1,5 +1,5 @@
-//! Reads enveloped data under its content type from standard input, and says to how many recipients it is: what README.md
-//! quotes.
+//! Reads enveloped data under its content type from standard input, and says to how many recipients it is: what
+//! docs/USING.md quotes.
 #![tactic(auto)]
 
 use std::alloc::Global;
