@@ -98,7 +98,7 @@ of_none word xs i end passed kind =
     of_all (λ kind. word ≢ word_of kind) xs kind (subst (All (λ kind. word ≢ word_of kind)) (take_all i xs end) passed)
 
 -- whether two words are one
-is_same : List ℕ → List ℕ → Bool
+abbrev pub is_same : List ℕ → List ℕ → Bool
 is_same [] [] = true
 is_same [] (y ∷ ys) = false
 is_same (x ∷ xs) [] = false
@@ -109,11 +109,11 @@ same_as_itself [] = refl
 same_as_itself (x ∷ xs) = ap (λ b. b && is_same xs xs) (eq-eqb x x refl) ∙ same_as_itself xs
 
 -- whether a word is none of the kinds', and whether each kind has a word of its own
-is_other : List ℕ → List Kind → Bool
+abbrev pub is_other : List ℕ → List Kind → Bool
 is_other word [] = true
 is_other word (kind ∷ rest) = not (is_same word (word_of kind)) && is_other word rest
 
-have_own : List Kind → Bool
+abbrev pub have_own : List Kind → Bool
 have_own [] = true
 have_own (kind ∷ rest) = is_other (word_of kind) rest && have_own rest
 
