@@ -70,14 +70,17 @@ pub record FindsRange (b : List ℕ) (start len status : ℕ) : Type 0 where
   pub none : status ≡ 10 → IsMacRange b None
   -- DER_MALFORMED, DER_MISSING, DER_INVALID, DER_TOO_DEEP: no raw PFX
   pub refused : 3 ≤ status → status ≤ 6 → (v : PfxValue (List ℕ)) → (pfx raw).Reads 64 b v → ⊥
-  pub range : (status ≡ 0) ⊎ ((status ≡ 10) ⊎ ((3 ≤ status) × (status ≤ 8)))
+  -- without a range both numbers are none
+  pub no_place : status ≢ 0 → (start ≡ 0) × (len ≡ 0)
+  -- and never DER_TOO_LONG
+  pub range : (status ≡ 0) ⊎ ((status ≡ 10) ⊎ ((3 ≤ status) × ((status ≤ 8) × (status ≢ 7))))
 
 -- what der_kind_word answers of the index of a kind and a buffer
 pub record NamesKind (index : ℕ) (old new : List ℕ) (len status : ℕ) : Type 0 where
   -- DER_NORMAL: its word stands at the front of the buffer
   pub named : status ≡ 0 → (k : Kind) × IsKindAt index k × (len ≡ length (word_of k)) × (new ≡ word_of k ++ drop len old)
   -- DER_UNKNOWN_KIND: there are fewer kinds
-  pub unknown : status ≡ 2 → length kinds ≤ index
+  pub unknown : status ≡ 2 → (length kinds ≤ index) × (len ≡ 0)
   -- DER_NO_ROOM: the word needs that many bytes
   pub no_room : status ≡ 9 → (k : Kind) × IsKindAt index k × (len ≡ length (word_of k)) × (length old < len)
   pub kept : status ≢ 0 → new ≡ old

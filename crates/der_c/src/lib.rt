@@ -89,7 +89,8 @@ pub extern "C" fn der_rewrite_word(
 }
 
 /// Which octets of a PKCS #12 file its MAC covers: at 0 `len` octets from `start` on. At 10 it has none, since its
-/// authSafe isn't data. Any other status is as of `der_check_word` for the word `rawpfx`.
+/// authSafe isn't data. Any other status is as of `der_check_word` for the word `rawpfx`, 7 never. Unless at 0 both numbers
+/// are 0.
 #[unsafe(no_mangle)]
 pub extern "C" fn der_mac_range(
     alloc: Global,
@@ -129,4 +130,106 @@ pub extern "C" fn der_kind_word(index: usize, out: &mut [u8], written: &mut usiz
     }
     out[..word.len()].copy_from_slice(word);
     0
+}
+
+/// Each call answers, with memory enough, what its contract leaves to it: that it doesn't want memory, and which of the
+/// refusals an input has.
+#[cfg(test)]
+mod tests {
+    use super::{der_check_word, der_kind_word, der_mac_range, der_rewrite_word};
+
+    /// A PFX whose authSafe is data, round an empty SEQUENCE.
+    const STORE: &[u8] =
+        b"\x30\x16\x02\x01\x03\x30\x11\x06\x09\x2A\x86\x48\x86\xF7\x0D\x01\x07\x01\xA0\x04\x04\x02\x30\x00";
+
+    /// A PFX whose authSafe is signed.
+    const SIGNED: &[u8] =
+        b"\x30\x14\x02\x01\x03\x30\x0F\x06\x09\x2A\x86\x48\x86\xF7\x0D\x01\x07\x02\xA0\x02\x30\x00";
+
+    /// A digest without parameters, and the same with NULL.
+    const WITHOUT_NULL: &[u8] = b"\
+        \x30\x1F\x30\x07\x06\x05\x2B\x0E\x03\x02\x1A\x04\x14\x9B\x9F\x55\x86\xD8\x5A\x38\x61\xA2\x2D\x40\
+        \x2F\xE7\x89\x66\x9C\x64\x02\x76\x81";
+
+    const WITH_NULL: &[u8] = b"\
+        \x30\x21\x30\x09\x06\x05\x2B\x0E\x03\x02\x1A\x05\x00\x04\x14\x9B\x9F\x55\x86\xD8\x5A\x38\x61\xA2\
+        \x2D\x40\x2F\xE7\x89\x66\x9C\x64\x02\x76\x81";
+
+    /// A version, of a PFX that has no more.
+    const VERSION_ALONE: &[u8] = b"\x30\x03\x02\x01\x03";
+
+    /// Another version.
+    const VERSION_2: &[u8] = b"\x30\x03\x02\x01\x02";
+
+    /// A header of no definite length.
+    const BER: &[u8] = b"\x30\x80\x00\x00";
+
+    #[test]
+    fn checks_and_rewritings(rt: HostRuntime) {
+        for (word, input, checked, rewritten, text) in [
+            (b"rawpfx".as_slice(), STORE, 0, 0, STORE),
+            (b"rawpfx".as_slice(), SIGNED, 0, 0, SIGNED),
+            (
+                b"pkcs12digestinfo".as_slice(),
+                WITHOUT_NULL,
+                1,
+                0,
+                WITH_NULL,
+            ),
+            (b"p12".as_slice(), STORE, 2, 2, b"".as_slice()),
+            (b"rawpfx".as_slice(), BER, 3, 3, b"".as_slice()),
+            (b"rawpfx".as_slice(), VERSION_ALONE, 4, 4, b"".as_slice()),
+            (b"rawpfx".as_slice(), VERSION_2, 5, 5, b"".as_slice()),
+        ] {
+            let mut len = 1;
+            assert_eq!(rt; der_check_word(rt.alloc(), word, input, &mut len), checked);
+            assert_eq!(rt; len, text.len());
+            let mut out = [0xEE; 35];
+            assert_eq!(rt;
+                der_rewrite_word(rt.alloc(), word, input, out.as_mut_slice(), &mut len),
+                rewritten
+            );
+            assert_eq!(rt; len, text.len());
+            assert!(rt; out.starts_with(text));
+        }
+        let mut len = 1;
+        assert_eq!(rt;
+            der_rewrite_word(
+                rt.alloc(),
+                b"rawpfx",
+                STORE,
+                [0xEE; 23].as_mut_slice(),
+                &mut len
+            ),
+            9
+        );
+        assert_eq!(rt; len, STORE.len());
+    }
+
+    #[test]
+    fn ranges_and_words(rt: HostRuntime) {
+        for (input, status, start, len) in [
+            (STORE, 0, 22, 2),
+            (SIGNED, 10, 0, 0),
+            (BER, 3, 0, 0),
+            (VERSION_ALONE, 4, 0, 0),
+            (VERSION_2, 5, 0, 0),
+        ] {
+            let mut numbers = (1, 1);
+            assert_eq!(rt;
+                der_mac_range(rt.alloc(), input, &mut numbers.0, &mut numbers.1),
+                status
+            );
+            assert_eq!(rt; numbers, (start, len));
+        }
+        let mut out = [0xEE; 8];
+        let mut written = 1;
+        assert_eq!(rt; der_kind_word(0, out.as_mut_slice(), &mut written), 0);
+        assert_eq!(rt; written, 7);
+        assert_eq!(rt; out.as_slice(), b"macdata\xEE".as_slice());
+        assert_eq!(rt; der_kind_word(1000, out.as_mut_slice(), &mut written), 2);
+        assert_eq!(rt; written, 0);
+        assert_eq!(rt; der_kind_word(0, [0xEE; 6].as_mut_slice(), &mut written), 9);
+        assert_eq!(rt; written, 7);
+    }
 }
