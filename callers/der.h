@@ -1,12 +1,28 @@
-/* Checks and rewritings of DER, and the octets that the MAC of a PKCS #12 file covers: the static library der_c, whose
- * code is proved to answer as this file says.
+/* Checks and rewritings of DER, and the octets that the MAC of a PKCS #12 file covers: the static library der_c.
+ *
+ * What is proved of its four calls, for all inputs, and what isn't:
+ *  - A call answers no status but those that stand at it. What it writes into numbers and into out is as said below.
+ *  - DER_NORMAL, DER_LOOSE, DER_UNKNOWN_KIND, DER_TOO_LONG, DER_NO_ROOM and DER_NO_RANGE are true where they are
+ *    answered.
+ *  - At DER_MALFORMED, DER_MISSING, DER_INVALID and DER_TOO_DEEP the input is no text of the kind. Which of the four it
+ *    is isn't proved: tests tell them apart.
+ *  - That memory was refused where a call answers DER_NO_MEMORY isn't proved. Tests show that calls with memory enough
+ *    don't answer it, and that calls keep no memory.
+ *  - The functions that stand in this file, in C, are tested and not proved.
  *
  * What a caller owes:
- *  - Each pointer is not null, also where its length is 0, and points to so many bytes; of out, which may be written.
- *  - out, and the numbers that are written, overlap nothing else, and nothing else writes input while a call runs.
+ *  - word, input, out and the pointers to numbers aren't null, also where a length is 0. word and input point to so
+ *    many bytes that can be read, out to so many that can be read and written.
+ *  - A pointer to a number is aligned as a size_t is, and what it points to can be written.
+ *  - The string kind ends in a zero byte.
+ *  - out and each number overlap nothing else that is passed, and not one another.
+ *  - While a call runs nothing else reads or writes out or the numbers, and nothing writes word or input: no other
+ *    thread, and no signal handler.
  *  - Lengths are below 2^63.
- *  - malloc, realloc and free are those of one allocator. Calls take memory: none from a signal handler.
- * Calls share nothing, so threads may make them side by side. */
+ *  - Memory comes from malloc, realloc and free, which are those of one allocator. A block of malloc and of realloc is
+ *    aligned to each power of two up to 16 that divides its size.
+ *  - No call is made from a signal handler, nor from the child that a process with threads forked.
+ * Calls share nothing, so threads may make them side by side, each with an out and numbers of its own. */
 #ifndef DER_H
 #define DER_H
 
@@ -19,41 +35,65 @@ extern "C" {
 #endif
 
 typedef enum der_status {
-  DER_NORMAL = 0,       /* the input is normal; in der_rewrite, der_kind and der_mac_range: it was done */
+  DER_NORMAL = 0,       /* the input is normal; of der_rewrite, der_kind and der_mac_range: it is done */
   DER_LOOSE = 1,        /* the input has another text, which is normal */
   DER_UNKNOWN_KIND = 2, /* no kind has that word, or that index */
   DER_MALFORMED = 3,    /* 3 to 6: the input is no text of the kind: bytes that are no element, or too many */
   DER_MISSING = 4,      /* an element isn't there */
   DER_INVALID = 5,      /* a tag, version, object identifier, character or number that can't stand there */
   DER_TOO_DEEP = 6,     /* more than 64 levels of nesting */
-  DER_TOO_LONG = 7,     /* its text doesn't fit 64 bits */
+  DER_TOO_LONG = 7,     /* its normal text has 2^64 bytes or more */
   DER_NO_MEMORY = 8,    /* a request for memory was refused: nothing is said of the input */
   DER_NO_ROOM = 9,      /* out is too short: the number of bytes that are needed is written */
-  DER_NO_RANGE = 10     /* der_mac_range alone: authSafe isn't data, so the file has no such MAC */
+  DER_NO_RANGE = 10     /* authSafe isn't data, so that no octets of the file are covered by a MAC */
 } der_status;
 
+/* The calls themselves, which answer a der_status. The functions behind them take strings. */
 uint32_t der_check_word(const uint8_t *word, size_t word_len, const uint8_t *input, size_t input_len,
                         size_t *normal_len);
 uint32_t der_rewrite_word(const uint8_t *word, size_t word_len, const uint8_t *input, size_t input_len, uint8_t *out,
                           size_t out_len, size_t *written);
-uint32_t der_mac_range(const uint8_t *input, size_t input_len, size_t *start, size_t *len);
 uint32_t der_kind_word(size_t index, uint8_t *out, size_t out_len, size_t *written);
 
-/* Checks an input as the kind, the name of a type in lower case, as "pfx". DER_NORMAL: the whole input is a text of the
- * kind, and normal. DER_LOOSE: it is a text, but its normal text is another. In both *normal_len is the normal text's
- * length, and otherwise 0. Any other status but DER_NO_MEMORY and DER_TOO_LONG: it is no text of the kind. */
+/* Which octets of a PKCS #12 file a MAC covers: the contents octets of the OCTET STRING that is the content of
+ * authSafe, without its tag and length.
+ *  - DER_NORMAL: they are the *len octets from input + *start on, all of them inside of the input. That doesn't say
+ *    that there is a MAC: a file without macData answers so too, as `openssl pkcs12 -export -nomac` makes it. Nor does
+ *    it say that a MAC is right.
+ *  - DER_NO_RANGE: the file is a PFX, and its authSafe isn't data, but signed, say.
+ *  - DER_MALFORMED to DER_TOO_DEEP: it is no PFX, read as "rawpfx", which asks of what the OCTET STRING holds only that
+ *    it is one element.
+ *  - DER_NO_MEMORY.
+ * Unless at DER_NORMAL both numbers are 0. */
+uint32_t der_mac_range(const uint8_t *input, size_t input_len, size_t *start, size_t *len);
+
+/* Checks an input as the kind, the name of a type in lower case, as "pfx".
+ *  - DER_NORMAL: the whole input is a text of the kind, and normal. *normal_len is its length.
+ *  - DER_LOOSE: it is a text of the kind, but its normal text is another. *normal_len is the length of that one.
+ *  - DER_UNKNOWN_KIND.
+ *  - DER_MALFORMED to DER_TOO_DEEP: it is no text of the kind.
+ *  - DER_TOO_LONG: it is one, but its normal text is too long.
+ *  - DER_NO_MEMORY.
+ * Unless at DER_NORMAL and DER_LOOSE *normal_len is 0. */
 static inline der_status der_check(const char *kind, const uint8_t *input, size_t input_len, size_t *normal_len) {
   return (der_status)der_check_word((const uint8_t *)kind, strlen(kind), input, input_len, normal_len);
 }
 
-/* Writes the normal text of an input to the front of out. DER_NORMAL: *written bytes were written. DER_NO_ROOM:
- * *written are needed. Unless at DER_NORMAL out is as it was. */
+/* Writes the normal text of an input to the front of out.
+ *  - DER_NORMAL: *written bytes were written, and the rest of out is as it was.
+ *  - DER_NO_ROOM: *written bytes are needed, and out_len is less.
+ *  - Any other status but DER_LOOSE is as of der_check, and *written is 0.
+ * Unless at DER_NORMAL out is as it was. */
 static inline der_status der_rewrite(const char *kind, const uint8_t *input, size_t input_len, uint8_t *out,
                                      size_t out_len, size_t *written) {
   return (der_status)der_rewrite_word((const uint8_t *)kind, strlen(kind), input, input_len, out, out_len, written);
 }
 
-/* Writes the word of the kind with that index, from 0 on, without a zero behind it. DER_UNKNOWN_KIND: there are no more. */
+/* Writes the word of the kind with that index, from 0 on, to the front of out.
+ *  - DER_NORMAL: *written bytes were written, without a zero byte behind them, and the rest of out is as it was.
+ *  - DER_NO_ROOM: *written bytes are needed, and out_len is less.
+ *  - DER_UNKNOWN_KIND: there are no more kinds, and *written is 0.
+ * Unless at DER_NORMAL out is as it was. It takes no memory. */
 static inline der_status der_kind(size_t index, char *out, size_t out_len, size_t *written) {
   return (der_status)der_kind_word(index, (uint8_t *)out, out_len, written);
 }
