@@ -1,0 +1,156 @@
+/* limits KIND < FILE makes each call over a file, with marks round all that the call may write, and says its status and
+ * its numbers. Then it makes the call again, while one request for memory after another is refused: each comes to
+ * DER_NO_MEMORY, or changes nothing. limits alone asks for the words of all kinds, with room enough and a byte less.
+ * Ends with 4, and says why, where a call writes what der.h doesn't say, or keeps memory.
+ * To be linked with -Wl,--wrap=malloc,--wrap=realloc,--wrap=free. */
+#include "der.h"
+
+#include <stdio.h>
+#include <stdlib.h>
+
+enum { MARK = 0xEE, MARGIN = 64, SPARE = 16 };
+
+/* The calls, by the word that begins their lines. */
+typedef enum { CHECK, REWRITE, MAC, KIND } call;
+static const char *const calls[] = {"check", "rewrite", "mac", "kind"};
+
+/* What a call is given: where it takes a kind's index, that. */
+typedef struct {
+  const char *kind;
+  const uint8_t *input;
+  size_t len, index;
+} given;
+
+/* What a call answers: its status, and its numbers, 0 where it has but one. */
+typedef struct {
+  der_status status;
+  size_t first, second;
+} answer;
+
+/* A number that a call writes, between marks. */
+typedef struct {
+  size_t before, it, behind;
+} number;
+
+static const size_t MARKS = (size_t)-1 / 0xFF * MARK;
+
+/* The number of the request for memory that is refused, 0 for none; the requests so far; the blocks that are held. */
+static size_t refused, requests, held;
+
+void *__real_malloc(size_t size);
+void *__real_realloc(void *old, size_t size);
+void __real_free(void *old);
+
+void *__wrap_malloc(size_t size) {
+  void *made = ++requests == refused ? NULL : __real_malloc(size);
+  held += !!made;
+  return made;
+}
+
+void *__wrap_realloc(void *old, size_t size) {
+  void *made = ++requests == refused ? NULL : __real_realloc(old, size);
+  held += made && !old;
+  return made;
+}
+
+void __wrap_free(void *old) {
+  held -= !!old;
+  __real_free(old);
+}
+
+static void fault(call it, const char *why) {
+  fprintf(stderr, "%s: %s\n", calls[it], why);
+  exit(4);
+}
+
+static int is_marked(const number *it) { return it->before == MARKS && it->behind == MARKS; }
+
+/* Makes a call, with so many bytes of out between marks. */
+static answer made(call it, const given *its, uint8_t *room, size_t out_len) {
+  number first = {MARKS, MARKS, MARKS}, second = {MARKS, it == MAC ? MARKS : 0, MARKS};
+  size_t written = 0, at, before = held;
+  uint8_t *out = room + MARGIN;
+  answer said = {DER_NORMAL, 0, 0};
+  memset(room, MARK, MARGIN + out_len + MARGIN);
+  switch (it) {
+  case CHECK:
+    said.status = der_check(its->kind, its->input, its->len, &first.it);
+    break;
+  case REWRITE:
+    said.status = der_rewrite(its->kind, its->input, its->len, out, out_len, &first.it);
+    break;
+  case MAC:
+    said.status = (der_status)der_mac_range(its->input, its->len, &first.it, &second.it);
+    break;
+  case KIND:
+    said.status = der_kind(its->index, (char *)out, out_len, &first.it);
+    break;
+  }
+  said.first = first.it;
+  said.second = second.it;
+  if (held != before)
+    fault(it, "memory is kept");
+  if (!is_marked(&first) || !is_marked(&second))
+    fault(it, "it writes beside a number");
+  if ((it == REWRITE || it == KIND) && said.status == DER_NORMAL && (written = said.first) > out_len)
+    fault(it, "it says that it wrote more than there is room for");
+  for (at = 0; at < MARGIN + out_len + MARGIN; at++)
+    if ((at < MARGIN || at >= MARGIN + written) && room[at] != MARK)
+      fault(it, "it writes beside its text");
+  return said;
+}
+
+/* Makes a call, says what it answers, and then refuses its requests for memory in turn. */
+static answer tried(call it, const given *its, uint8_t *room, size_t out_len) {
+  answer ample = made(it, its, room, out_len), said;
+  size_t nth, short_of = 0;
+  printf("%s %d %zu %zu\n", calls[it], (int)ample.status, ample.first, ample.second);
+  for (nth = 1;; nth++) {
+    requests = 0;
+    refused = nth;
+    said = made(it, its, room, out_len);
+    refused = 0;
+    if (requests < nth)
+      break;
+    if (said.status == DER_NO_MEMORY && !said.first && !said.second)
+      short_of++;
+    else if (said.status != ample.status || said.first != ample.first || said.second != ample.second)
+      fault(it, "a refused request for memory changes the answer");
+  }
+  if (short_of)
+    printf("%s %d 0 0\n", calls[it], (int)DER_NO_MEMORY);
+  return ample;
+}
+
+static int kinds(void) {
+  static uint8_t room[MARGIN + 64 + MARGIN];
+  given its = {NULL, NULL, 0, 0};
+  answer said;
+  while ((said = tried(KIND, &its, room, 64)).status == DER_NORMAL) {
+    tried(KIND, &its, room, said.first);
+    tried(KIND, &its, room, said.first - 1);
+    its.index++;
+  }
+  its.index = (size_t)-1;
+  tried(KIND, &its, room, 64);
+  return 0;
+}
+
+int main(int count, char **words) {
+  static uint8_t input[1 << 20], room[MARGIN + 2 * sizeof input + MARGIN];
+  given its = {count == 2 ? words[1] : NULL, input, 0, 0};
+  answer said;
+  if (count == 1)
+    return kinds();
+  its.len = fread(input, 1, sizeof input, stdin);
+  if (count != 2 || its.len == sizeof input)
+    return 2;
+  said = tried(CHECK, &its, room, 0);
+  if (said.first > 2 * sizeof input - SPARE)
+    return 2;
+  tried(REWRITE, &its, room, (said.first ? said.first : its.len) + SPARE);
+  if (said.status <= DER_LOOSE)
+    tried(REWRITE, &its, room, said.first - 1);
+  tried(MAC, &its, room, 0);
+  return 0;
+}
