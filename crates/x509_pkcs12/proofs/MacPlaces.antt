@@ -1,11 +1,11 @@
 -- Where the octets that a MAC covers stand, by the lengths of what stands before them.
-use Rattle.std.proofs.Common.{◌≡◌, ℕ, ◌+◌, ◌-◌, ◌<◌, ◌≤◌, List, [], ◌∷◌, ◌++◌, length, take, drop, get_or, Option, None, Some, slice_range, refl, sym, ap, ◌∙◌, arith, inl, inr, ⊎_elim, append_assoc, length-append}
+use Rattle.std.proofs.Common.{◌≡◌, ℕ, ◌+◌, ◌-◌, ◌<◌, ◌≤◌, List, [], ◌∷◌, ◌++◌, length, take, drop, get_or, None, Some, slice_range, refl, sym, ap, ◌∙◌, arith, inl, inr, ⊎_elim, append_assoc, length-append}
 use Rattle.std.proofs.lemmas.Bool.{cases_lt}
 use Rattle.std.proofs.lemmas.List.{take_at, drop_at}
 use Rattle.std.specs.Int.Digits.{digits_of}
 use Rattle.asn1_core.specs.Der.{raw}
 use Rattle.asn1_core_element.specs.Element.{length_octets, head, element}
-use Rattle.asn1_core_element.specs.ElementLaws.{octets_short, octets_long, element_long}
+use Rattle.asn1_core_element.specs.ElementLaws.{octets_short, octets_long}
 use Rattle.asn1_core_format.specs.Whole.{IsValueOf}
 use Rattle.asn1_core_numbers.specs.Numbers.{integer_octets}
 use Rattle.x509_pkcs12_parts.specs.Oids.{data_oid}
@@ -65,9 +65,6 @@ stands_in b o (n, (inl d, x)) s e = record {
 }
 stands_in b o (n, (inr p, x)) s e = absurd (let f : None ≡ Some o = e in cc)
 
-pub two_bytes : {b : List ℕ} {w : PfxValue (List ℕ)} → IsValueOf (pfx raw) 64 b w → 1 < length b
-two_bytes v = omega (arith, ap length v.element.is, element_long v.element.tag v.element.contents)
-
 module _ {b o : List ℕ} {w : PfxValue (List ℕ)} (p : Stands b o w) where
   ends : EndsBy b (o ++ p.covers.mac)
   ends =
@@ -117,6 +114,3 @@ module _ {b o : List ℕ} {w : PfxValue (List ℕ)} (p : Stands b o w) where
           inside = (omega arith, omega (arith, q));
         };
       }
-
-pub no_range : {b : List ℕ} {w : PfxValue (List ℕ)} → IsValueOf (pfx raw) 64 b w → mac_octets w ≡ None → IsMacRange b None
-no_range {b} {w} v e = record { value = w; is_value = v; octets = sym e; stands = tt }

@@ -1,9 +1,6 @@
 use Rattle.std.proofs.Common.{refl, sym, arith}
-use Rattle.x509_pkcs12.proofs.MacPlaces.{two_bytes, stands_in, octets_fit, end_at, range_found, no_range}
+use Rattle.x509_pkcs12.proofs.MacPlaces.{stands_in, octets_fit, end_at, range_found}
 use Rattle.x509_pkcs12.proofs.mac_ranges.mac_range.Goals as goal
-
-pub bounds-bytes-1 : goal.bounds-bytes-1
-bounds-bytes-1 c = two_bytes c.in_ok-file.ensures
 
 pub overflow_add-end-in-Some : goal.overflow_add-end-in-Some
 overflow_add-end-in-Some c =
@@ -20,10 +17,7 @@ overflow_sub-result c =
     let p = stands_in _ _ _ c.in_ok-file.ensures.reads (sym c.in-Some.ensures) in
     omega (arith, octets_fit p c.in_ok-end-in-Some.ensures)
 
-pub returns-in_ok-end-in-Some : goal.returns-in_ok-end-in-Some
-returns-in_ok-end-in-Some c =
+pub returns-in-Some : goal.returns-in-Some
+returns-in-Some c =
     let p = stands_in _ _ _ c.in_ok-file.ensures.reads (sym c.in-Some.ensures) in
     range_found p c.in_ok-file.ensures (sym c.in-Some.ensures) (end_at p c.header_size.ensures.short c.header_size.ensures.long c.in_ok-end-in-Some.ensures)
-
-pub returns : goal.returns
-returns c = no_range c.in_ok-file.ensures (sym c.in-None.ensures)
