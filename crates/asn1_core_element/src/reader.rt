@@ -118,6 +118,8 @@ impl<'a> Reader<'a> {
     }
 
     /// Goes out of the open contents, which have to be read to their end.
+    /// The types of this library read their contents to the end before, so none of them meets the refusal: it is for
+    /// whoever reads parts without rows.
     pub fn end(&mut self, outer: usize) -> Result<(), Error>
         requires sound { self.old.refused ≡ false }
         requires low { self.old.end ≤ outer }

@@ -58,6 +58,7 @@ impl Leaf for CmsVersion {
 
     fn from_contents(_alloc: Global, contents: &[u8]) -> Result<Self, Error> {
         match unsigned(contents, 5) {
+            // a number up to 5 has a version, so `ok_or` refuses none
             Some(number) => CmsVersion::from_u8(number as u8).ok_or(Error::Invalid),
             None => Err(Error::Invalid),
         }
