@@ -1,2 +1,3 @@
 pub mod OidReads
 pub mod NestedReads
+pub mod DefinedByReads

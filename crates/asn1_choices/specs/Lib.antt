@@ -1,2 +1,4 @@
 pub mod Chosen
 pub mod Tables
+pub mod DefinedBy
+pub mod DefinedByLaws

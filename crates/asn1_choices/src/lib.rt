@@ -5,10 +5,14 @@
 
 mod arms;
 mod choices;
+mod defined_by;
 mod nested;
 mod tables;
 
 pub use arms::{AnyOid, AnyOidRef, Arm, Named};
 pub use choices::{Chosen, ReadChoice, WriteChoice};
+pub use defined_by::{
+    AnyDefinedBy, OidAnd, read_sequence_defined_by, sequences_defined_by_are_lawful,
+};
 pub use nested::read_nested_or;
 pub use tables::{Among, OidTable};

@@ -3,8 +3,8 @@ use Rattle.std.specs.Prelude.{◌≡◌, ℕ, ◌^◌, ◌<◌, [], ◌∷◌}
 use Rattle.std.specs.Int.Digits.{number_from_digits}
 use Rattle.std.proofs.Common.{refl, sym, ap, ◌∙◌, arith}
 use Rattle.asn1_core_element.specs.Element.{element}
-use Rattle.asn1_core_numbers.specs.Numbers.{integer_octets}
-use Rattle.asn1_core_numbers.specs.NumberLaws.{number_integer_octets, has_number}
+use Rattle.asn1_core_element.specs.Numbers.{integer_octets}
+use Rattle.asn1_core_element.specs.NumberLaws.{number_integer_octets, has_number}
 use Rattle.asn1_core_format.specs.Format.{Format, IsLawful}
 use Rattle.asn1_core_format.specs.Leaf.{Spelling, IsLawfulSpelling, leaf}
 use Rattle.asn1_core_format.specs.LeafLaws.{lawful_leaf}

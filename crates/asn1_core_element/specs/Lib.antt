@@ -3,3 +3,5 @@ pub mod ElementLaws
 pub mod Position
 pub mod Reading
 pub mod Words
+pub mod Numbers
+pub mod NumberLaws

@@ -1,8 +1,8 @@
 -- INTEGERs that hold a number from 0 to below a bound.
 use Rattle.std.specs.Prelude.{ℕ, ◌<◌}
 use Rattle.std.proofs.Common.{arith}
-use Rattle.asn1_core_numbers.specs.Numbers.{integer_octets, IsNumeral}
-use Rattle.asn1_core_numbers.specs.NumberLaws.{one_number, is_numeral, has_number}
+use Rattle.asn1_core_element.specs.Numbers.{integer_octets, IsNumeral}
+use Rattle.asn1_core_element.specs.NumberLaws.{one_number, is_numeral, has_number}
 use Rattle.asn1_core_format.specs.Format.{Format, IsLawful}
 use Rattle.asn1_core_format.specs.Leaf.{Spelling, IsLawfulSpelling, leaf}
 use Rattle.asn1_core_format.specs.LeafLaws.{lawful_leaf}

@@ -11,7 +11,7 @@ use crate::leaves::{Leaf, read_leaf, read_leaf_contents};
 use crate::tagged::DerTagged;
 use crate::traits::{DerDeserialize, DerSerialize};
 use asn1_core_element::{Error, Reader};
-use asn1_core_numbers::unsigned;
+use asn1_core_element::unsigned;
 use asn1_core_writers::{WriteError, Writer, put_unsigned};
 use std::alloc::Global;
 

@@ -2,7 +2,7 @@
 
 ghost use Rattle.std.specs.Prelude.{◌≡◌, ◌≤◌, ℕ, drop};
 ghost use Rattle.asn1_core_element.specs.Element.{element, retag};
-ghost use Rattle.asn1_core_numbers.specs.Numbers.{integer_octets};
+ghost use Rattle.asn1_core_element.specs.Numbers.{integer_octets};
 
 use crate::elements::put_element;
 use crate::writer::{WriteError, Writer};

@@ -4,7 +4,7 @@ use Rattle.asn1_core.specs.Raw.{raw}
 use Rattle.asn1_core_element.specs.declared.error.Error.{Error}
 use Rattle.asn1_core_element.specs.declared.error.Error.TheVariants.{Malformed, Missing, Invalid, TooDeep, TooLong, Memory}
 use Rattle.asn1_core_format.specs.Whole.{IsValueOf}
-use Rattle.x509_containers_engine.specs.Engine.{Rewriting}
+use Rattle.der_engine.specs.Engine.{Rewriting}
 use Rattle.x509_containers.specs.Kinds.{kinds, rewriting_as, word_of}
 use Rattle.x509_containers.specs.declared.kinds.Kind.{Kind}
 use Rattle.x509_pkcs12.specs.MacRanges.{IsMacRange}

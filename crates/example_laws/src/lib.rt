@@ -8,7 +8,7 @@ ghost use Rattle.asn1_core_element.specs.Element.{element, IsTagByte};
 ghost use Rattle.asn1_core_format.specs.EmptySets.{set_or_none};
 ghost use Rattle.asn1_core_format.specs.Gated.{gated};
 ghost use Rattle.asn1_core_format.specs.Rows.{within};
-ghost use Rattle.asn1_defined_by.specs.DefinedBy.{any_defined_by};
+ghost use Rattle.asn1_choices.specs.DefinedBy.{any_defined_by};
 ghost use Rattle.x509_pkcs12.specs.MacOctets.{mac_octets, auth_safe_of, Covers};
 ghost use Rattle.x509_pkcs12.specs.Pfxs.{PfxValue, pfx};
 
@@ -18,7 +18,7 @@ use asn1_core_format::laws::{
     normal_texts_stay_normal, rewriting_reaches_an_end, sets_left_out_are_lawful,
     texts_tell_normal_values,
 };
-use asn1_defined_by::{AnyDefinedBy, sequences_defined_by_are_lawful};
+use asn1_choices::{AnyDefinedBy, sequences_defined_by_are_lawful};
 use x509_pkcs12::{
     AuthenticatedSafeDataRepr, mac_octets_stand_in_the_input, mac_octets_stand_in_the_text,
     mac_octets_survive_where_normal, reads_as_the_raw_one,

@@ -5,8 +5,8 @@ use Rattle.asn1_core.specs.Der.{IsLawful, IsLawfulRow, part, nothing, within, oc
 use Rattle.asn1_core_element.specs.Element.{element}
 use Rattle.asn1_core_oid.specs.Oid.{IsOid}
 use Rattle.asn1_core_oid.specs.OidTestLaws.{oid_from_test}
-use Rattle.asn1_defined_by.specs.DefinedBy.{Arm}
-use Rattle.asn1_defined_by.specs.DefinedByLaws.{IsDefinedBy, IsArm, itself, lawful_arm, lawful_any_defined_by}
+use Rattle.asn1_choices.specs.DefinedBy.{Arm}
+use Rattle.asn1_choices.specs.DefinedByLaws.{IsDefinedBy, IsArm, itself, lawful_arm, lawful_any_defined_by}
 use Rattle.pkcs7_content.specs.Contents.{ContentValues, content_values, ContentRow, written_content, content_kind, as_data, as_octets, OctetsRow, octets_row, to_data, to_octets, perhaps_in, data_arm, octets_arm, content_row, content_defined_by, encapsulated}
 use Rattle.pkcs7_content.specs.IndirectData.{indirect_data, lawful_indirect_data}
 use Rattle.pkcs7_content.specs.Oids.{data_oid}

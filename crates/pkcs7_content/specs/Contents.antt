@@ -6,7 +6,7 @@ use Rattle.asn1_core.specs.Der.{Format, sequence, part, optional, nothing, withi
 use Rattle.std.specs.Str.{bytes_eq}
 use Rattle.std.proofs.Common.{inl, inr}
 use Rattle.asn1_core_format.specs.Eithers.{either}
-use Rattle.asn1_defined_by.specs.DefinedBy.{DefinedBy, any_defined_by, Arm, arm, by_itself, only_written}
+use Rattle.asn1_choices.specs.DefinedBy.{DefinedBy, any_defined_by, Arm, arm, by_itself, only_written}
 use Rattle.pkcs7_content.specs.IndirectData.{IndirectDataValue, indirect_data, indirect_data_value}
 use Rattle.pkcs7_content.specs.Oids.{data_oid, indirect_data_oid, trust_list_oid}
 use Rattle.pkcs7_content.specs.declared.contents.Kind.{Kind}

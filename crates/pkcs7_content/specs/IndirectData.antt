@@ -7,14 +7,14 @@ use Rattle.asn1_core.specs.Der.{Format, sequence, part, nothing, OidOctets, IsLa
 use Rattle.std.specs.Str.{bytes_eq}
 use Rattle.std.proofs.Common.{inl, inr, refl}
 use Rattle.asn1_core_format.specs.Eithers.{either}
-use Rattle.asn1_defined_by.specs.DefinedBy.{DefinedBy, any_defined_by, arm, by_itself, no_arm, only_written}
+use Rattle.asn1_choices.specs.DefinedBy.{DefinedBy, any_defined_by, arm, by_itself, no_arm, only_written}
 use Rattle.x509_base.specs.Digests.{DigestInfoValue, digest_info, lawful_digest_info, digest_info_value}
 use Rattle.pkcs7_content.specs.Oids.{pe_image_oid, sip_info_oid}
 use Rattle.pkcs7_content.specs.PeImages.{PeImageValue, pe_image_data, pe_image_value}
 use Rattle.pkcs7_content.specs.SipInfos.{SipInfoValue, sip_info, lawful_sip_info, sip_info_value}
 use Rattle.pkcs7_content.specs.declared.indirect_data.Subject.{Subject}
 use Rattle.pkcs7_content.specs.declared.indirect_data.Subject.TheVariants.{PeImage, SipInfo, Foreign}
-use Rattle.asn1_defined_by.specs.DefinedByLaws.{IsDefinedBy, itself, lawful_arm, lawful_no_arm, lawful_any_defined_by}
+use Rattle.asn1_choices.specs.DefinedByLaws.{IsDefinedBy, itself, lawful_arm, lawful_no_arm, lawful_any_defined_by}
 use Rattle.pkcs7_content.specs.PeImageLaws.{lawful_pe_image_data}
 use Rattle.pkcs7_content.specs.declared.indirect_data.SpcAttributeAndOptionalValueValue.{SpcAttributeAndOptionalValueValue}
 use Rattle.pkcs7_content.specs.declared.indirect_data.SpcAttributeAndOptionalValueValue.TheVariants as Spc

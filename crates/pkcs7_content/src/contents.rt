@@ -17,7 +17,7 @@ use asn1_core::{
     DerDeserialize, DerSerialize, EqualByText, Error, ExplicitContextTag0, ObjectIdentifier,
     ObjectIdentifierAsn1, OctetStringAsn1, Reader, TryClone,
 };
-use asn1_defined_by::{AnyDefinedBy, OidAnd, read_sequence_defined_by};
+use asn1_choices::{AnyDefinedBy, OidAnd, read_sequence_defined_by};
 use pkcs7_content_ctl::Ctl;
 use std::alloc::Global;
 

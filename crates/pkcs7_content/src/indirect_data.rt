@@ -13,7 +13,7 @@ use asn1_core::parts::{
 use asn1_core::{
     DerDeserialize, DerSerialize, EqualByText, Error, ObjectIdentifierAsn1, Reader, TryClone,
 };
-use asn1_defined_by::{AnyDefinedBy, OidAnd, read_sequence_defined_by};
+use asn1_choices::{AnyDefinedBy, OidAnd, read_sequence_defined_by};
 use std::alloc::Global;
 use x509_base::DigestInfo;
 

@@ -9,7 +9,7 @@ ghost use Rattle.pkcs7_content.specs.Versions.{number_of};
 
 use asn1_core::parts::{Leaf, WriteError, Writer, put_unsigned, read_leaf};
 use asn1_core::{DerDeserialize, DerSerialize, EqualByText, Error, Reader, TryClone};
-use asn1_core_numbers::unsigned;
+use asn1_core_element::unsigned;
 use std::alloc::Global;
 
 /// `CMSVersion ::= INTEGER { v0(0), v1(1), v2(2), v3(3), v4(4), v5(5) }`

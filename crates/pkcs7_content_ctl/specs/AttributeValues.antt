@@ -9,12 +9,12 @@ use Rattle.asn1_core.specs.Der.{Format, within, set_of, sequence, each, object_i
 use Rattle.asn1_core.specs.Words as Words
 use Rattle.std.proofs.Common.{inl, inr, arith, refl}
 use Rattle.asn1_core_format.specs.Eithers.{either}
-use Rattle.asn1_defined_by.specs.DefinedBy.{DefinedBy, arm, by_itself, only_written}
+use Rattle.asn1_choices.specs.DefinedBy.{DefinedBy, arm, by_itself, only_written}
 use Rattle.pkcs7_content_ctl.specs.Policies.{ChainPolicyValue, chain_policy, CertPolicyValue, cert_policy, lawful_chain_policy, lawful_cert_policy, chain_policy_value, cert_policy_value}
 use Rattle.pkcs7_content_ctl.specs.Properties.{property_of, shape_of}
 use Rattle.pkcs7_content_ctl.specs.declared.properties.Shape.{Shape}
 use Rattle.pkcs7_content_ctl.specs.declared.properties.Shape.TheVariants.{Octets, Usages, ChainPolicies, CertPolicies, Raws}
-use Rattle.asn1_defined_by.specs.DefinedByLaws.{IsDefinedBy, itself, lawful_arm}
+use Rattle.asn1_choices.specs.DefinedByLaws.{IsDefinedBy, itself, lawful_arm}
 use Rattle.asn1_core.specs.declared.lists.Asn1SetOf.{Asn1SetOf}
 use Rattle.asn1_core.specs.declared.octets.OctetStringAsn1.{OctetStringAsn1}
 use Rattle.asn1_core.specs.declared.containers.OctetStringAsn1Container.{OctetStringAsn1Container}

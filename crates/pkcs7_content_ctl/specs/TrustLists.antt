@@ -8,8 +8,8 @@ use Rattle.asn1_core.specs.Der.{Format, IsLawful, sequence, part, nothing, set_o
 use Rattle.asn1_leaves.specs.Integers.{integer, lawful_integer}
 use Rattle.asn1_leaves.specs.Times.{utc_time, lawful_utc_time}
 use Rattle.asn1_leaves_times.specs.declared.calendar.Moment.{Moment}
-use Rattle.asn1_defined_by.specs.DefinedBy.{any_defined_by}
-use Rattle.asn1_defined_by.specs.DefinedByLaws.{lawful_any_defined_by}
+use Rattle.asn1_choices.specs.DefinedBy.{any_defined_by}
+use Rattle.asn1_choices.specs.DefinedByLaws.{lawful_any_defined_by}
 use Rattle.x509_base.specs.Algorithms.{AlgorithmValue, algorithm_identifier}
 use Rattle.x509_base.specs.AlgorithmLaws.{lawful_algorithm_identifier}
 use Rattle.pkcs7_content_ctl.specs.AttributeValues.{AttributeValues, values_defined_by, values_are_defined_by, attribute_values_value}

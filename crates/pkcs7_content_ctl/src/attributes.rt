@@ -9,7 +9,7 @@ use asn1_core::parts::{Alone, Part, WriteError, Writer, put_within};
 use asn1_core::{
     DerDeserialize, DerSerialize, EqualByText, Error, ObjectIdentifierAsn1, Reader, TryClone,
 };
-use asn1_defined_by::{OidAnd, read_sequence_defined_by};
+use asn1_choices::{OidAnd, read_sequence_defined_by};
 use std::alloc::Global;
 
 /// `Attribute ::= SEQUENCE { type OBJECT IDENTIFIER, values SET OF ANY DEFINED BY type }`, whose type says which

@@ -19,7 +19,7 @@ use asn1_core::{
     Asn1RawDer, Asn1SequenceOf, Asn1SetOf, DerSerialize, EqualByText, Error, ObjectIdentifierAsn1,
     OctetStringAsn1, OctetStringAsn1Container, Reader, TryClone,
 };
-use asn1_defined_by::AnyDefinedBy;
+use asn1_choices::AnyDefinedBy;
 use std::alloc::Global;
 
 type OctetsSet = Asn1SetOf<OctetStringAsn1>;

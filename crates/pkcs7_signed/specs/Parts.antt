@@ -8,11 +8,11 @@ use Rattle.asn1_core_format.specs.Levels.{no_grammar, always}
 use Rattle.asn1_core_format.specs.Omitted.{omitted, is_default, lawful_omitted}
 use Rattle.pkcs7_content.specs.Contents.{EncapsulatedValue, encapsulated}
 use Rattle.pkcs7_content.specs.ContentLaws.{lawful_encapsulated}
-use Rattle.pkcs7_signed_crl.specs.Algorithms.{algorithms, lawful_algorithms}
-use Rattle.pkcs7_signed_crl.specs.Attributes.{attributes, lawful_attributes, no_attributes, no_attributes_left_out}
-use Rattle.pkcs7_signed_crl.specs.Certificates.{CertificateValue, certificate_set, lawful_certificate_set, no_certificates, no_certificates_left_out}
-use Rattle.pkcs7_signed_crl.specs.Revocations.{RevocationValue, revocations, lawful_revocations}
-use Rattle.pkcs7_signed_crl.specs.Signers.{SignerIdValue, signer_id, lawful_signer_id}
+use Rattle.pkcs7_signed_parts.specs.Algorithms.{algorithms, lawful_algorithms}
+use Rattle.pkcs7_signed_parts.specs.Attributes.{attributes, lawful_attributes, no_attributes, no_attributes_left_out}
+use Rattle.pkcs7_signed_parts.specs.Certificates.{CertificateValue, certificate_set, lawful_certificate_set, no_certificates, no_certificates_left_out}
+use Rattle.pkcs7_signed_parts.specs.Revocations.{RevocationValue, revocations, lawful_revocations}
+use Rattle.pkcs7_signed_parts.specs.Signers.{SignerIdValue, signer_id, lawful_signer_id}
 use Rattle.x509_base.specs.Algorithms.{AlgorithmValue, algorithm_identifier}
 use Rattle.x509_base.specs.AlgorithmLaws.{lawful_algorithm_identifier}
 use Rattle.x509_base.specs.Names.{AttributeValue}

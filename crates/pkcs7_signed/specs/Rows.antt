@@ -11,8 +11,8 @@ use Rattle.asn1_core.specs.Der.{Format, IsLawful, IsLawfulRow, within, lawful_wi
 use Rattle.asn1_core_format.specs.Eithers.{either}
 use Rattle.asn1_core_format.specs.EmptySets.{set_or_none, lawful_set_or_none}
 use Rattle.asn1_core_format.specs.Gated.{gated, lawful_gated}
-use Rattle.asn1_defined_by.specs.DefinedBy.{DefinedBy, any_defined_by, arm, by_itself, only_written}
-use Rattle.asn1_defined_by.specs.DefinedByLaws.{IsDefinedBy, itself, lawful_arm, lawful_any_defined_by}
+use Rattle.asn1_choices.specs.DefinedBy.{DefinedBy, any_defined_by, arm, by_itself, only_written}
+use Rattle.asn1_choices.specs.DefinedByLaws.{IsDefinedBy, itself, lawful_arm, lawful_any_defined_by}
 use Rattle.pkcs7_signed.specs.Oids.{signed_data_oid, countersignature_oid, ms_counter_sign_oid}
 use Rattle.pkcs7_signed.specs.Parts.{SignerParts, signer_parts, lawful_signer_parts, SignedParts, signed_parts, lawful_signed_parts, only_oid, lawful_only_oid}
 use Rattle.pkcs7_signed.specs.declared.signers.Kind.{Kind}

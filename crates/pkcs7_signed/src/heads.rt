@@ -2,14 +2,14 @@
 
 ghost use Rattle.std.specs.Prelude.{◌≡◌, List};
 ghost use Rattle.asn1_core.specs.Der.{nothing};
-ghost use Rattle.asn1_defined_by.specs.DefinedBy.{only_written};
+ghost use Rattle.asn1_choices.specs.DefinedBy.{only_written};
 ghost use Rattle.pkcs7_signed.specs.Parts.{SignerParts, signer_parts, SignedParts, signed_parts};
 ghost use Rattle.pkcs7_signed.specs.Heads.{signer_head_value, signed_head_value};
 
 use asn1_core::DerSerialize;
 use asn1_core::parts::{End, Maybe, OmittedRef, Part, WriteError, WriteRow, Writer};
 use pkcs7_content::{CmsVersion, EncapsulatedContentInfo};
-use pkcs7_signed_crl::{
+use pkcs7_signed_parts::{
     Attributes, CertificateSet, DigestAlgorithmIdentifier, DigestAlgorithmIdentifiers,
     RevocationInfoChoices, SignatureAlgorithmIdentifier, SignatureValue, SignerIdentifier,
 };

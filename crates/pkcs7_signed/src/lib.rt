@@ -7,7 +7,7 @@ mod oids;
 mod reading;
 pub mod signers;
 
-pub use pkcs7_signed_crl::{
+pub use pkcs7_signed_parts::{
     Attributes, CertificateChoices, CertificateList, CertificateSerialNumber, CertificateSet,
     DigestAlgorithmIdentifier, DigestAlgorithmIdentifiers, IssuerAndSerialNumber,
     OtherRevocationInfoFormat, RevocationInfoChoice, RevocationInfoChoices, RevokedCertificate,

@@ -37,7 +37,7 @@ use asn1_core_format::{
     read_set_with,
 };
 use pkcs7_content::{CmsVersion, EncapsulatedContentInfo};
-use pkcs7_signed_crl::{
+use pkcs7_signed_parts::{
     Attributes, CertificateSet, DigestAlgorithmIdentifier, DigestAlgorithmIdentifiers,
     RevocationInfoChoices, SignatureAlgorithmIdentifier, SignatureValue, SignerIdentifier,
 };

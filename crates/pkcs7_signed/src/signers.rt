@@ -20,7 +20,7 @@ use asn1_core::{
 };
 use asn1_core_oid::is_oid_of;
 use pkcs7_content::{CmsVersion, EncapsulatedContentInfo};
-use pkcs7_signed_crl::{
+use pkcs7_signed_parts::{
     Attributes, CertificateSet, DigestAlgorithmIdentifier, DigestAlgorithmIdentifiers,
     RevocationInfoChoices, SignatureAlgorithmIdentifier, SignatureValue, SignerIdentifier,
 };

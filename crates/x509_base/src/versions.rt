@@ -9,7 +9,7 @@ ghost use Rattle.x509_base.specs.Versions.{number_of};
 
 use asn1_core::{DerDeserialize, DerSerialize, EqualByText, Error, Reader, TryClone};
 use asn1_core_format::{FirstTags, Leaf, read_leaf};
-use asn1_core_numbers::unsigned;
+use asn1_core_element::unsigned;
 use asn1_core_writers::{WriteError, Writer, put_unsigned};
 use std::alloc::Global;
 

@@ -5,7 +5,7 @@ use Rattle.pkcs12_algs.specs.Encryption.{encryption_algorithm}
 use Rattle.pkcs12_algs.specs.Pbes1.{pbes1_params}
 use Rattle.pkcs12_algs.specs.Pbes2.{kdf, pbes2_params, scheme}
 use Rattle.pkcs12_algs.specs.Pbkdf2.{pbkdf2_params}
-use Rattle.x509_containers_engine.specs.Engine.{Rewriting, rewriting_of}
+use Rattle.der_engine.specs.Engine.{Rewriting, rewriting_of}
 use Rattle.x509_containers.specs.declared.kinds.algorithms.AlgorithmKind.{AlgorithmKind}
 use Rattle.x509_containers.specs.declared.kinds.algorithms.AlgorithmKind.TheVariants.{MacData, Pbes1Params, Pbes2EncryptionScheme, Pbes2KeyDerivationFunc, Pbes2Params, Pbkdf2Params, Pkcs12DigestInfo, Pkcs12EncryptionAlgorithm}
 

@@ -7,7 +7,7 @@ use Rattle.pkcs7_content.specs.PeImages.{pe_image_data}
 use Rattle.pkcs7_content.specs.SipInfos.{sip_info}
 use Rattle.x509_base_spc.specs.Links.{file, moniker, opus_info, spc_link, spc_string, url}
 use Rattle.x509_base_spc.specs.Objects.{serialized_object}
-use Rattle.x509_containers_engine.specs.Engine.{Rewriting, rewriting_of}
+use Rattle.der_engine.specs.Engine.{Rewriting, rewriting_of}
 use Rattle.x509_containers.specs.declared.kinds.authenticode.AuthenticodeKind.{AuthenticodeKind}
 use Rattle.x509_containers.specs.declared.kinds.authenticode.AuthenticodeKind.TheVariants.{File, Moniker, SpcAttributeAndOptionalValue, SpcIndirectDataContent, SpcLink, SpcPeImageData, SpcPeImageFlags, SpcSerializedObject, SpcSipInfo, SpcSpOpusInfo, SpcString, SpcUuid, Url}
 

@@ -2,7 +2,7 @@
 use Rattle.std.specs.Prelude.{ℕ, List, [], ◌∷◌, codes}
 use Rattle.asn1_core.specs.Der.{number_below}
 use Rattle.pkcs7_content.specs.Contents.{encapsulated}
-use Rattle.x509_containers_engine.specs.Engine.{Rewriting, rewriting_of}
+use Rattle.der_engine.specs.Engine.{Rewriting, rewriting_of}
 use Rattle.x509_containers.specs.declared.kinds.contents.ContentKind.{ContentKind}
 use Rattle.x509_containers.specs.declared.kinds.contents.ContentKind.TheVariants.{CmsVersion, EncapsulatedContentInfo}
 

@@ -1,7 +1,7 @@
 -- Content under its type, enveloped data and protection descriptors, as kinds of input: their words, and what inputs are
 -- written as.
 use Rattle.std.specs.Prelude.{ℕ, List, [], ◌∷◌, codes}
-use Rattle.x509_containers_engine.specs.Engine.{Rewriting, rewriting_of}
+use Rattle.der_engine.specs.Engine.{Rewriting, rewriting_of}
 use Rattle.x509_pkcs7.specs.ContentInfos.{content_info}
 use Rattle.x509_pkcs7.specs.Descriptors.{descriptor, general_descriptor}
 use Rattle.x509_pkcs7.specs.Enveloped.{encrypted_content, enveloped, originator}

@@ -1,7 +1,7 @@
 -- The kinds of input that the program knows, of all layers, by the words that name them.
 use Rattle.std.specs.Prelude.{◌≡◌, ◌⊎◌, ℕ, List, [], ◌∷◌, map}
 use Rattle.std.specs.List.{flat_map}
-use Rattle.x509_containers_engine.specs.Engine.{Rewriting}
+use Rattle.der_engine.specs.Engine.{Rewriting}
 use Rattle.x509_containers.specs.declared.kinds.Kind.{Kind}
 use Rattle.x509_containers.specs.declared.kinds.Kind.TheVariants.{Algorithm, Authenticode, Content, Enveloped, SignedData, SignedPart, Store, TrustList}
 use Rattle.x509_containers.specs.AlgorithmKinds

@@ -1,7 +1,7 @@
 -- Signed data, signers and what they hold, as kinds of input: their words, and what inputs are written as.
 use Rattle.std.specs.Prelude.{ℕ, List, [], ◌∷◌, codes}
 use Rattle.pkcs7_signed.specs.Signers.{attribute, certificate, signed_data, signer, signer_infos, unsigned_attributes}
-use Rattle.x509_containers_engine.specs.Engine.{Rewriting, rewriting_of}
+use Rattle.der_engine.specs.Engine.{Rewriting, rewriting_of}
 use Rattle.x509_containers.specs.declared.kinds.signed_data.SignedDataKind.{SignedDataKind}
 use Rattle.x509_containers.specs.declared.kinds.signed_data.SignedDataKind.TheVariants.{Pkcs7Certificate, SignedData, SignerInfo, SignersInfos, UnsignedAttribute, UnsignedAttributes}
 

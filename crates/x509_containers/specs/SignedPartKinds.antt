@@ -2,15 +2,15 @@
 use Rattle.std.specs.Prelude.{ℕ, List, [], ◌∷◌, codes}
 use Rattle.asn1_core.specs.Octets.{octet_string}
 use Rattle.asn1_leaves.specs.Integers.{integer}
-use Rattle.pkcs7_signed_crl.specs.Algorithms.{algorithms}
-use Rattle.pkcs7_signed_crl.specs.Attributes.{attributes}
-use Rattle.pkcs7_signed_crl.specs.CertificateLists.{certificate_list, tbs_list}
-use Rattle.pkcs7_signed_crl.specs.Certificates.{certificate_choice, certificate_set}
-use Rattle.pkcs7_signed_crl.specs.Revocations.{other_format, revocation, revocations}
-use Rattle.pkcs7_signed_crl.specs.Revoked.{all_revoked, revoked}
-use Rattle.pkcs7_signed_crl.specs.Signers.{issuer_serial, signer_id}
+use Rattle.pkcs7_signed_parts.specs.Algorithms.{algorithms}
+use Rattle.pkcs7_signed_parts.specs.Attributes.{attributes}
+use Rattle.pkcs7_signed_parts.specs.CertificateLists.{certificate_list, tbs_list}
+use Rattle.pkcs7_signed_parts.specs.Certificates.{certificate_choice, certificate_set}
+use Rattle.pkcs7_signed_parts.specs.Revocations.{other_format, revocation, revocations}
+use Rattle.pkcs7_signed_parts.specs.Revoked.{all_revoked, revoked}
+use Rattle.pkcs7_signed_parts.specs.Signers.{issuer_serial, signer_id}
 use Rattle.x509_base.specs.Algorithms.{algorithm_identifier}
-use Rattle.x509_containers_engine.specs.Engine.{Rewriting, rewriting_of}
+use Rattle.der_engine.specs.Engine.{Rewriting, rewriting_of}
 use Rattle.x509_containers.specs.declared.kinds.signed_parts.SignedPartKind.{SignedPartKind}
 use Rattle.x509_containers.specs.declared.kinds.signed_parts.SignedPartKind.TheVariants.{Attributes, CertificateChoices, CertificateList, CertificateSerialNumber, CertificateSet, DigestAlgorithmIdentifier, DigestAlgorithmIdentifiers, IssuerAndSerialNumber, OtherRevocationInfoFormat, RevocationInfoChoice, RevocationInfoChoices, RevokedCertificate, RevokedCertificates, SignatureAlgorithmIdentifier, SignatureValue, SignerIdentifier, TbsCertList}
 

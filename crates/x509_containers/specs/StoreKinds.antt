@@ -9,7 +9,7 @@ use Rattle.x509_pkcs12_bags.specs.Bags.{safe_bag, safe_contents}
 use Rattle.x509_pkcs12_parts.specs.Attributes.{pkcs12_attribute}
 use Rattle.x509_pkcs12_parts.specs.Bags.{certificate_bag, crl_bag, encrypted_key_bag, secret_bag}
 use Rattle.x509_pkcs12_parts.specs.Contents.{encrypted_contents}
-use Rattle.x509_containers_engine.specs.Engine.{Rewriting, rewriting_of}
+use Rattle.der_engine.specs.Engine.{Rewriting, rewriting_of}
 use Rattle.x509_containers.specs.declared.kinds.stores.StoreKind.{StoreKind}
 use Rattle.x509_containers.specs.declared.kinds.stores.StoreKind.TheVariants.{AuthenticatedSafeContentInfo, CertificateBag, CrlBag, EncryptedKeyBag, EncryptedSafeContents, ParsedAuthenticatedSafeDataRepr, Pfx, Pkcs12Attribute, RawAuthenticatedSafeContentInfo, RawAuthenticatedSafeDataRepr, RawPfx, SafeBag, SafeContents, SafeContentsContentInfo, SecretBag}
 

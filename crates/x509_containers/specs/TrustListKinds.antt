@@ -2,7 +2,7 @@
 use Rattle.std.specs.Prelude.{ℕ, List, [], ◌∷◌, codes}
 use Rattle.pkcs7_content_ctl.specs.Policies.{cert_policy, chain_policy, policy_qualifier}
 use Rattle.pkcs7_content_ctl.specs.TrustLists.{ctl, entry, entry_attribute}
-use Rattle.x509_containers_engine.specs.Engine.{Rewriting, rewriting_of}
+use Rattle.der_engine.specs.Engine.{Rewriting, rewriting_of}
 use Rattle.x509_containers.specs.declared.kinds.trust_lists.TrustListKind.{TrustListKind}
 use Rattle.x509_containers.specs.declared.kinds.trust_lists.TrustListKind.TheVariants.{CertPolicy, Ctl, CTLEntry, CTLEntryAttribute, PolicyQualifier, RootProgramChainPolicy}
 

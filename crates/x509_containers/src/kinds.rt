@@ -1,8 +1,8 @@
 //! What the program says of an input of each kind: the kinds of all layers together.
 
 ghost use Rattle.std.specs.Prelude.{◌≡◌, ◌≢◌, ◌↔◌, ◌+◌, ◌<◌, IsTrue, MatchOption};
-ghost use Rattle.x509_containers_engine.specs.Engine.{Runs, read_failures, write_failures};
-ghost use Rattle.x509_containers_engine.specs.Steps.{Checks, RewritesBehind};
+ghost use Rattle.der_engine.specs.Engine.{Runs, read_failures, write_failures};
+ghost use Rattle.der_engine.specs.Steps.{Checks, RewritesBehind};
 ghost use Rattle.x509_containers.specs.Kinds.{rewriting_as, word_of};
 
 mod algorithms;
@@ -25,7 +25,7 @@ pub use signed_parts::SignedPartKind;
 use std::alloc::Global;
 pub use stores::StoreKind;
 pub use trust_lists::TrustListKind;
-use x509_containers_engine::{KindOfInput, Mode, Outcome};
+use der_engine::{KindOfInput, Mode, Outcome};
 
 /// The type that an input is read as, by layers.
 #[derive(Clone, Copy, Debug, PartialEq, Eq)]
@@ -226,5 +226,5 @@ pub fn run<R: Source, W: Sink>(
     ensures reads { R.failed source.new ≡ R.failed source.old + read_failures result }
     ensures writes { W.failed sink.new ≡ W.failed sink.old + write_failures result }
 {
-    x509_containers_engine::run(alloc, source, sink, mode, kind)
+    der_engine::run(alloc, source, sink, mode, kind)
 }

@@ -3,8 +3,8 @@ use Rattle.std.proofs.Common.{◌≡◌, ◌≢◌, ◌≤◌, ◌<◌, ℕ, Lis
 use Rattle.std.specs.Prelude.{Option, None, Some, MatchOption}
 use Rattle.x509_containers.specs.Kinds.{word_of}
 use Rattle.x509_containers.specs.declared.kinds.Kind.{Kind}
-use Rattle.x509_containers_engine.specs.Modes.{word_of_mode}
-use Rattle.x509_containers_engine.specs.declared.outcome.Mode.{Mode}
+use Rattle.der_engine.specs.Modes.{word_of_mode}
+use Rattle.der_engine.specs.declared.outcome.Mode.{Mode}
 use Rattle.x509_containers_program.specs.Words.{Asks}
 
 -- three items are the first, the one at 1 and the one at 2

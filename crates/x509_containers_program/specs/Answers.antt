@@ -1,10 +1,10 @@
 -- What the program answers beside its output.
 use Rattle.std.specs.Prelude.{ℕ, List, [], codes}
-use Rattle.x509_containers_engine.specs.Lines.{refusal_line}
-use Rattle.x509_containers_engine.specs.declared.outcome.Mode.{Mode}
-use Rattle.x509_containers_engine.specs.declared.outcome.Mode.TheVariants.{Check, Rewrite}
-use Rattle.x509_containers_engine.specs.declared.outcome.Outcome.{Outcome}
-use Rattle.x509_containers_engine.specs.declared.outcome.Outcome.TheVariants.{Normal, Loose, Written, Refused, ReadFailed, WriteFailed}
+use Rattle.der_engine.specs.Lines.{refusal_line}
+use Rattle.der_engine.specs.declared.outcome.Mode.{Mode}
+use Rattle.der_engine.specs.declared.outcome.Mode.TheVariants.{Check, Rewrite}
+use Rattle.der_engine.specs.declared.outcome.Outcome.{Outcome}
+use Rattle.der_engine.specs.declared.outcome.Outcome.TheVariants.{Normal, Loose, Written, Refused, ReadFailed, WriteFailed}
 use Rattle.x509_containers_program.specs.declared.answers.Answer.{Answer}
 use Rattle.x509_containers_program.specs.declared.answers.Answer.TheVariants.{Ran, WrongWords, NoMemory}
 

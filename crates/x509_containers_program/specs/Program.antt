@@ -4,8 +4,8 @@ use Rattle.std.specs.Io.KnownBytes.{Appends}
 use Rattle.asn1_core_streams.specs.Streams.{AppendsBeginning}
 use Rattle.x509_containers.specs.Kinds.{rewriting_as}
 use Rattle.x509_containers.specs.declared.kinds.Kind.{Kind}
-use Rattle.x509_containers_engine.specs.Engine.{Runs, read_failures, write_failures}
-use Rattle.x509_containers_engine.specs.declared.outcome.Mode.{Mode}
+use Rattle.der_engine.specs.Engine.{Runs, read_failures, write_failures}
+use Rattle.der_engine.specs.declared.outcome.Mode.{Mode}
 use Rattle.x509_containers_program.specs.Answers.{status_of, complaint_of}
 use Rattle.x509_containers_program.specs.Words.{Asks}
 use Rattle.x509_containers_program.specs.declared.answers.Answer.{Answer}

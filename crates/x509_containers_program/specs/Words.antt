@@ -5,8 +5,8 @@ use Rattle.std.specs.declared.io.Error.{Error}
 use Rattle.std.specs.declared.io.ErrorKind.TheVariants.{OutOfMemory}
 use Rattle.x509_containers.specs.Kinds.{word_of}
 use Rattle.x509_containers.specs.declared.kinds.Kind.{Kind}
-use Rattle.x509_containers_engine.specs.Modes.{word_of_mode}
-use Rattle.x509_containers_engine.specs.declared.outcome.Mode.{Mode}
+use Rattle.der_engine.specs.Modes.{word_of_mode}
+use Rattle.der_engine.specs.declared.outcome.Mode.{Mode}
 use Rattle.x509_containers_program.specs.declared.words.WordsError.{WordsError}
 use Rattle.x509_containers_program.specs.declared.words.WordsError.TheVariants.{Memory}
 

@@ -5,7 +5,7 @@ ghost use Rattle.std.specs.IoError.{error_kind};
 ghost use Rattle.std.specs.Vec.Iter.{into_iter_items};
 ghost use Rattle.std.specs.declared.io.ErrorKind.TheVariants.{OutOfMemory};
 ghost use Rattle.x509_containers.specs.Kinds.{word_of};
-ghost use Rattle.x509_containers_engine.specs.Modes.{word_of_mode};
+ghost use Rattle.der_engine.specs.Modes.{word_of_mode};
 ghost use Rattle.x509_containers_program.specs.Words.{Asks, GivesWords};
 ghost use Rattle.x509_containers_program.specs.declared.words.WordsError.TheVariants.{Memory};
 

@@ -10,8 +10,8 @@ use Rattle.asn1_core.specs.Octets.{any_octets}
 use Rattle.asn1_core_format.specs.Tagged.{implicit}
 use Rattle.asn1_core_format.specs.TaggedLaws.{lawful_implicit, within_tagged, leaf_tagged}
 use Rattle.pkcs7_content.specs.Versions.{number_of}
-use Rattle.pkcs7_signed_crl.specs.Certificates.{CertificateValue, certificates_value, certificate_choice, certificate_set, lawful_certificate_set}
-use Rattle.pkcs7_signed_crl.specs.Revocations.{RevocationValue, revocations_value, revocation, revocations, lawful_revocations}
+use Rattle.pkcs7_signed_parts.specs.Certificates.{CertificateValue, certificates_value, certificate_choice, certificate_set, lawful_certificate_set}
+use Rattle.pkcs7_signed_parts.specs.Revocations.{RevocationValue, revocations_value, revocation, revocations, lawful_revocations}
 use Rattle.x509_base.specs.Algorithms.{AlgorithmValue, algorithm_identifier}
 use Rattle.x509_base.specs.AlgorithmLaws.{lawful_algorithm_identifier}
 use Rattle.x509_base.specs.AlgorithmParts.{algorithm_value}

@@ -8,9 +8,9 @@ use Rattle.asn1_leaves_times.specs.TimesLaws.{equal_generalized}
 use Rattle.pkcs7_content.specs.contracts.versions.CmsVersionPartialEq.TheImpl as Version
 use Rattle.pkcs7_content.specs.Versions.{number_of}
 use Rattle.pkcs7_content_ctl.specs.Equal.{oid_equal}
-use Rattle.pkcs7_signed_crl.specs.Certificates.{certificates_value}
-use Rattle.pkcs7_signed_crl.specs.Equal.{certificates_equal, revocations_equal}
-use Rattle.pkcs7_signed_crl.specs.Revocations.{revocations_value}
+use Rattle.pkcs7_signed_parts.specs.Certificates.{certificates_value}
+use Rattle.pkcs7_signed_parts.specs.Equal.{certificates_equal, revocations_equal}
+use Rattle.pkcs7_signed_parts.specs.Revocations.{revocations_value}
 use Rattle.x509_base.specs.Equal.{algorithm_equal, attribute_equal}
 use Rattle.x509_base.specs.Names.{attribute_value}
 use Rattle.std.specs.Prelude.{map}

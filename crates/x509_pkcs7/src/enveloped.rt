@@ -16,7 +16,7 @@ use asn1_core::{
     ImplicitContextTag1, OctetStringAsn1, Optional, Reader,
 };
 use pkcs7_content::CmsVersion;
-use pkcs7_signed_crl::{CertificateSet, RevocationInfoChoices};
+use pkcs7_signed_parts::{CertificateSet, RevocationInfoChoices};
 use std::alloc::Global;
 use x509_base::{AlgorithmIdentifier, Attribute};
 

@@ -4,7 +4,7 @@ ghost use Rattle.x509_containers.specs.AlgorithmKinds.{rewriting_as, word_of};
 
 use asn1_core::Error;
 use std::alloc::Global;
-use x509_containers_engine::{KindOfInput, check_as, rewrite_as};
+use der_engine::{KindOfInput, check_as, rewrite_as};
 use x509_pkcs12::{
     MacData, Pbes1Params, Pbes2EncryptionScheme, Pbes2KeyDerivationFunc, Pbes2Params, Pbkdf2Params,
     Pkcs12DigestInfo, Pkcs12EncryptionAlgorithm,

@@ -8,7 +8,7 @@ use pkcs7_content::{
     SpcPeImageFlags, SpcSerializedObject, SpcSipInfo, SpcSpOpusInfo, SpcString, SpcUuid, Url,
 };
 use std::alloc::Global;
-use x509_containers_engine::{KindOfInput, check_as, rewrite_as};
+use der_engine::{KindOfInput, check_as, rewrite_as};
 
 /// What Authenticode signs.
 #[derive(Clone, Copy, Debug, PartialEq, Eq)]

@@ -5,7 +5,7 @@ ghost use Rattle.x509_containers.specs.ContentKinds.{rewriting_as, word_of};
 use asn1_core::Error;
 use pkcs7_content::{CmsVersion, EncapsulatedContentInfo};
 use std::alloc::Global;
-use x509_containers_engine::{KindOfInput, check_as, rewrite_as};
+use der_engine::{KindOfInput, check_as, rewrite_as};
 
 /// Contents of PKCS #7.
 #[derive(Clone, Copy, Debug, PartialEq, Eq)]

@@ -7,7 +7,7 @@ use pkcs7_signed::{
     Pkcs7Certificate, SignedData, SignerInfo, SignersInfos, UnsignedAttribute, UnsignedAttributes,
 };
 use std::alloc::Global;
-use x509_containers_engine::{KindOfInput, check_as, rewrite_as};
+use der_engine::{KindOfInput, check_as, rewrite_as};
 
 /// Signed data, signers, and what they hold.
 #[derive(Clone, Copy, Debug, PartialEq, Eq)]

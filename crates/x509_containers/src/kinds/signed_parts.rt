@@ -3,7 +3,7 @@
 ghost use Rattle.x509_containers.specs.SignedPartKinds.{rewriting_as, word_of};
 
 use asn1_core::Error;
-use pkcs7_signed_crl::{
+use pkcs7_signed_parts::{
     Attributes, CertificateChoices, CertificateList, CertificateSerialNumber, CertificateSet,
     DigestAlgorithmIdentifier, DigestAlgorithmIdentifiers, IssuerAndSerialNumber,
     OtherRevocationInfoFormat, RevocationInfoChoice, RevocationInfoChoices, RevokedCertificate,
@@ -11,7 +11,7 @@ use pkcs7_signed_crl::{
     TbsCertList,
 };
 use std::alloc::Global;
-use x509_containers_engine::{KindOfInput, check_as, rewrite_as};
+use der_engine::{KindOfInput, check_as, rewrite_as};
 
 /// Revocation lists, certificates, signers.
 #[derive(Clone, Copy, Debug, PartialEq, Eq)]

@@ -4,7 +4,7 @@ ghost use Rattle.x509_containers.specs.StoreKinds.{rewriting_as, word_of};
 
 use asn1_core::Error;
 use std::alloc::Global;
-use x509_containers_engine::{KindOfInput, check_as, rewrite_as};
+use der_engine::{KindOfInput, check_as, rewrite_as};
 use x509_pkcs12::{
     AuthenticatedSafeContentInfo, CertificateBag, CrlBag, EncryptedKeyBag, EncryptedSafeContents,
     ParsedAuthenticatedSafeDataRepr, Pfx, Pkcs12Attribute, RawAuthenticatedSafeContentInfo,

@@ -7,7 +7,7 @@ use pkcs7_content::{
     CTLEntry, CTLEntryAttribute, CertPolicy, Ctl, PolicyQualifier, RootProgramChainPolicy,
 };
 use std::alloc::Global;
-use x509_containers_engine::{KindOfInput, check_as, rewrite_as};
+use der_engine::{KindOfInput, check_as, rewrite_as};
 
 /// Trust lists and their parts.
 #[derive(Clone, Copy, Debug, PartialEq, Eq)]

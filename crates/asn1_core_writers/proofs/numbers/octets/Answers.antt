@@ -1,7 +1,7 @@
 use Rattle.std.proofs.Common.{arith, ap, length, ◌<◌, ◌/◌, ◌%◌, ◌∷◌, [], length-append}
-use Rattle.asn1_core_numbers.specs.NumberLaws.{few_octets}
+use Rattle.asn1_core_element.specs.NumberLaws.{few_octets}
 use Rattle.asn1_core_writers.proofs.IntegerOctets.{octets_start, octets_more, fewer_octets, octets_last, octets_small, octets_step}
-use Rattle.asn1_core_numbers.specs.Numbers.{integer_octets}
+use Rattle.asn1_core_element.specs.Numbers.{integer_octets}
 use Rattle.asn1_core_writers.proofs.numbers.octets.Goals as goal
 
 pub loop-rest-init : goal.loop-rest-init

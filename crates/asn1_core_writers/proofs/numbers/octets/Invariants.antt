@@ -1,5 +1,5 @@
 use Rattle.std.proofs.Common.{List, length, ◌≡◌, ℕ, ◌≤◌, ◌++◌, drop}
-use Rattle.asn1_core_numbers.specs.Numbers.{integer_octets}
+use Rattle.asn1_core_element.specs.Numbers.{integer_octets}
 use Rattle.asn1_core_writers.proofs.numbers.octets.Given as goal
 
 pub record OctetsFrom (n rest at : ℕ) (bytes : List ℕ) : Type 0 where

@@ -4,8 +4,8 @@ use Rattle.asn1_core_format.proofs.LevelReads.{gave}
 use Rattle.asn1_core_format.proofs.RowReads.{within_refused, within_took}
 use Rattle.asn1_core_format.specs.Format.{Took}
 use Rattle.asn1_core_format.specs.Levels.{less}
-use Rattle.asn1_defined_by.proofs.DefinedByReads.{defined_took, oid_refused, row_refused}
-use Rattle.asn1_defined_by.specs.DefinedBy.{any_defined_by}
+use Rattle.asn1_choices.proofs.DefinedByReads.{defined_took, oid_refused, row_refused}
+use Rattle.asn1_choices.specs.DefinedBy.{any_defined_by}
 use Rattle.pkcs7_signed.specs.Rows.{values_defined_by, attribute_row}
 use Rattle.pkcs7_signed.specs.Signers.{signer, certificate, attribute}
 use Rattle.pkcs7_signed.specs.SignerValues.{attribute_value}

@@ -4,8 +4,8 @@ use Rattle.asn1_core.specs.Der.{raw, set_of}
 use Rattle.asn1_core_format.proofs.LevelReads.{gave_row}
 use Rattle.asn1_core_format.specs.Levels.{less}
 use Rattle.asn1_core_format.specs.Rows.{TookRow}
-use Rattle.asn1_defined_by.proofs.DefinedByReads.{arm_took, arm_refused, took_at, refused_at}
-use Rattle.asn1_defined_by.specs.DefinedByLaws.{itself}
+use Rattle.asn1_choices.proofs.DefinedByReads.{arm_took, arm_refused, took_at, refused_at}
+use Rattle.asn1_choices.specs.DefinedByLaws.{itself}
 use Rattle.pkcs7_signed.specs.Rows.{kind_of, values_row}
 use Rattle.pkcs7_signed.specs.Signers.{signer, certificate, values}
 use Rattle.pkcs7_signed.specs.SignerLaws.{lawful_signer, lawful_certificate}

@@ -1,7 +1,7 @@
 use Rattle.std.proofs.Common.{rules, refl}
 use Rattle.asn1_core.specs.Der.{part, nothing, within}
-use Rattle.asn1_defined_by.specs.DefinedByLaws.{itself}
-use Rattle.asn1_defined_by.proofs.DefinedByReads.{arm_took, arm_refused, took_at, refused_at}
+use Rattle.asn1_choices.specs.DefinedByLaws.{itself}
+use Rattle.asn1_choices.proofs.DefinedByReads.{arm_took, arm_refused, took_at, refused_at}
 use Rattle.pkcs7_content.specs.Contents.{written_content, octets_row, data_arm, octets_arm, content_row}
 use Rattle.pkcs7_content.specs.ContentLaws.{data_is_arm, octets_is_arm}
 use Rattle.pkcs7_content.specs.IndirectData.{indirect_data}

@@ -1,5 +1,5 @@
 use Rattle.std.proofs.Common.{rules}
-use Rattle.asn1_defined_by.proofs.DefinedByReads.{arm_refused, refused_at}
+use Rattle.asn1_choices.proofs.DefinedByReads.{arm_refused, refused_at}
 use Rattle.pkcs7_content.specs.IndirectData.{spc_values, spc_row}
 use Rattle.pkcs7_content.specs.PeImages.{pe_image_data}
 use Rattle.pkcs7_content.specs.SipInfos.{sip_info}

@@ -1,5 +1,5 @@
 use Rattle.std.proofs.Common.{rules}
-use Rattle.asn1_defined_by.proofs.DefinedByReads.{arm_refused, refused_at}
+use Rattle.asn1_choices.proofs.DefinedByReads.{arm_refused, refused_at}
 use Rattle.pkcs7_content_ctl.specs.AttributeValues.{attribute_values, octets_set, usages_set, chain_policies_set, cert_policies_set, raws_set, values_row}
 use Rattle.pkcs7_content_ctl.specs.Properties.{property_of}
 use Rattle.pkcs7_content_ctl.proofs.values.CTLEntryAttributeValuesAnyDefinedBy.read_defined_by.Goals as goal

@@ -1,0 +1,13 @@
+use Rattle.std.proofs.Common.{arith}
+use Rattle.asn1_core_element.proofs.Digits.{digit_fits}
+use Rattle.asn1_core_element.proofs.numbers.number.Goals as goal
+
+pub overflow_mul-n : goal.overflow_mul-n
+overflow_mul-n c =
+    let s = c.args.octets.now in
+    omega (arith, digit_fits s c.loop-octet.octet-index (λ i. omega (arith, c.type_inv.octets i)) (omega arith) (omega (arith, c.requires)))
+
+pub overflow_add-n : goal.overflow_add-n
+overflow_add-n c =
+    let s = c.args.octets.now in
+    omega (arith, digit_fits s c.loop-octet.octet-index (λ i. omega (arith, c.type_inv.octets i)) (omega arith) (omega (arith, c.requires)))

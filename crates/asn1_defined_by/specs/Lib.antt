@@ -1,2 +1,0 @@
-pub mod DefinedBy
-pub mod DefinedByLaws

@@ -1,0 +1,53 @@
+-- CertificateChoices ::= CHOICE { certificate Certificate, extendedCertificate [0] .., v1AttrCert [1] .., v2AttrCert [2] ..,
+--   other [3] .. } (RFC 5652, 10.2.2), each as it stands: a certificate is a SEQUENCE, and all others have another tag
+-- CertificateSet ::= SET OF CertificateChoices, under its tag [0] IMPLICIT (RFC 5652, 5.1 and 10.2.3)
+use Rattle.std.specs.Prelude.{◌≡◌, ◌≢◌, ◌≤◌, ◌⊎◌, ℕ, List, [], map}
+use Rattle.std.proofs.Common.{inl, inr, arith}
+use Rattle.asn1_core.specs.Der.{Format, IsLawful, within, each, element_of, lawful_within, lawful_each, lawful_element_of, ElementOctets}
+use Rattle.asn1_core_element.specs.Element.{element}
+use Rattle.asn1_core_format.specs.Eithers.{either, lawful_either}
+use Rattle.asn1_core_format.specs.EmptySets.{empty_left_out}
+use Rattle.asn1_core_format.specs.Omitted.{is_default, IsDefault}
+use Rattle.pkcs7_signed_parts.specs.declared.certificates.CertificateChoices.{CertificateChoices}
+use Rattle.pkcs7_signed_parts.specs.declared.certificates.CertificateChoices.TheVariants.{Certificate, Other}
+use Rattle.pkcs7_signed_parts.specs.declared.certificates.CertificateSet.{CertificateSet}
+
+-- a certificate, or another choice
+abbrev pub CertificateValue : Type 0
+CertificateValue = ElementOctets ⊎ ElementOctets
+
+abbrev pub certificate_value : CertificateChoices → CertificateValue
+certificate_value (Certificate c) = inl c.0.items
+certificate_value (Other c) = inr c.0.items
+
+abbrev pub certificate : Format ElementOctets
+certificate = element_of (λ t. t ≡ 0x30)
+
+abbrev pub other_choice : Format ElementOctets
+other_choice = element_of (λ t. t ≢ 0x30)
+
+abbrev pub certificate_choice : Format CertificateValue
+certificate_choice = either certificate other_choice
+
+pub lawful_certificate_choice : IsLawful certificate_choice
+lawful_certificate_choice = lawful_either certificate other_choice (lawful_element_of (λ t. t ≡ 0x30)) (lawful_element_of (λ t. t ≢ 0x30)) (λ t h e. e h)
+
+abbrev pub certificates_value : CertificateSet → List CertificateValue
+certificates_value x = map certificate_value x.0.items
+
+abbrev pub certificate_set : Format (List CertificateValue)
+certificate_set = within 0xA0 (each certificate_choice)
+
+pub lawful_certificate_set : IsLawful certificate_set
+lawful_certificate_set = lawful_within (each certificate_choice) (lawful_each certificate_choice lawful_certificate_choice) 0xA0 (omega arith)
+
+-- the empty set, which is left out
+abbrev pub no_certificates : List ℕ
+no_certificates = element 0xA0 []
+
+pub no_certificates_left_out : IsDefault (is_default certificate_set no_certificates) no_certificates certificate_set
+no_certificates_left_out = empty_left_out 0xA0 (omega arith) certificate_choice lawful_certificate_choice
+
+pub some_certificate : (v : CertificateValue) → 1 ≤ certificate_choice.least v
+some_certificate (inl c) = omega arith
+some_certificate (inr c) = omega arith

@@ -1,0 +1,59 @@
+-- OtherRevocationInfoFormat ::= SEQUENCE { otherRevInfoFormat OBJECT IDENTIFIER, otherRevInfo ANY DEFINED BY
+--   otherRevInfoFormat } (RFC 5652, 10.2.1), with NULL as otherRevInfo
+-- RevocationInfoChoice ::= CHOICE { crl CertificateList, other [1] IMPLICIT OtherRevocationInfoFormat }
+-- RevocationInfoChoices ::= SET OF RevocationInfoChoice, under its tag [1] IMPLICIT (RFC 5652, 5.1)
+use Rattle.std.specs.Prelude.{◌⊎◌, List, map}
+use Rattle.std.proofs.Common.{inl, inr, arith}
+use Rattle.asn1_core.specs.Der.{Format, IsLawful, sequence, within, part, nothing, each, object_identifier, null_element, octets_of, lawful_sequence, lawful_within, followed_by, lawful_nothing, lawful_each, lawful_object_identifier, lawful_null_element, OidOctets}
+use Rattle.asn1_core_format.specs.Eithers.{either, lawful_either}
+use Rattle.asn1_core_format.specs.Tagged.{implicit}
+use Rattle.asn1_core_format.specs.TaggedLaws.{lawful_implicit, within_tagged}
+use Rattle.pkcs7_signed_parts.specs.CertificateLists.{CertificateListValue, certificate_list_value, certificate_list, lawful_certificate_list}
+use Rattle.pkcs7_signed_parts.specs.declared.revocations.OtherRevocationInfoFormat.{OtherRevocationInfoFormat}
+use Rattle.pkcs7_signed_parts.specs.declared.revocations.RevocationInfoChoice.{RevocationInfoChoice}
+use Rattle.pkcs7_signed_parts.specs.declared.revocations.RevocationInfoChoice.TheVariants.{Crl, Other}
+use Rattle.pkcs7_signed_parts.specs.declared.revocations.RevocationInfoChoices.{RevocationInfoChoices}
+
+abbrev pub OtherFormatValue : Type 0
+OtherFormatValue = OidOctets × (Unit {0} × Unit {0})
+
+abbrev pub other_format_value : OtherRevocationInfoFormat → OtherFormatValue
+other_format_value x = (octets_of x.other_rev_info_format.0, (tt, tt))
+
+abbrev pub other_format_row : Format OtherFormatValue
+other_format_row = part object_identifier (part null_element nothing)
+
+abbrev pub other_format : Format OtherFormatValue
+other_format = sequence other_format_row
+
+pub lawful_other_format : IsLawful other_format
+lawful_other_format = lawful_sequence (followed_by lawful_object_identifier (followed_by lawful_null_element lawful_nothing))
+
+-- a revocation list, or the name of another format
+abbrev pub RevocationValue : Type 0
+RevocationValue = CertificateListValue ⊎ OtherFormatValue
+
+abbrev pub revocation_value : RevocationInfoChoice → RevocationValue
+revocation_value (Crl c) = inl (certificate_list_value c)
+revocation_value (Other o) = inr (other_format_value o.0)
+
+abbrev pub other_revocation : Format OtherFormatValue
+other_revocation = implicit 0xA1 0x30 other_format
+
+abbrev pub revocation : Format RevocationValue
+revocation = either certificate_list other_revocation
+
+lawful_other_revocation : IsLawful other_revocation
+lawful_other_revocation = lawful_implicit 0xA1 0x30 other_format lawful_other_format (within_tagged 0x30 (omega arith) other_format_row) (omega arith)
+
+pub lawful_revocation : IsLawful revocation
+lawful_revocation = lawful_either certificate_list other_revocation lawful_certificate_list lawful_other_revocation (λ t h e. omega arith)
+
+abbrev pub revocations_value : RevocationInfoChoices → List RevocationValue
+revocations_value x = map revocation_value x.0.items
+
+abbrev pub revocations : Format (List RevocationValue)
+revocations = within 0xA1 (each revocation)
+
+pub lawful_revocations : IsLawful revocations
+lawful_revocations = lawful_within (each revocation) (lawful_each revocation lawful_revocation) 0xA1 (omega arith)

@@ -1,0 +1,226 @@
+//! Revocation lists (RFC 5280, 5.1).
+
+ghost use Rattle.std.specs.Prelude.{◌≡◌};
+ghost use Rattle.std.proofs.Common.{arith};
+ghost use Rattle.asn1_core_format.specs.Rows.{option_value};
+ghost use Rattle.x509_base.specs.Extensions.{extensions_value};
+ghost use Rattle.x509_base.specs.Versions.{number_of};
+ghost use Rattle.pkcs7_signed_parts.specs.CertificateLists.{list_value, TbsListValue, tbs_list_value, tbs_list, lawful_tbs_list, CertificateListValue, certificate_list_value, certificate_list, lawful_certificate_list};
+ghost use Rattle.pkcs7_signed_parts.specs.Equal.{tbs_list_equal, certificate_list_equal};
+
+use crate::revoked::RevokedCertificates;
+use asn1_core::parts::{
+    ApartFrom, End, FirstTags, Maybe, Part, WriteError, WriteRow, Writer, put_within, read_within,
+};
+use asn1_core::{
+    DerDeserialize, DerSerialize, EqualByText, Error, ExplicitContextTag0, FixedVersion, Reader,
+    TryClone,
+};
+use asn1_leaves::BitStringAsn1;
+use std::alloc::Global;
+use x509_base::{AlgorithmIdentifier, Extensions, Name, Time, Version};
+
+/// `TBSCertList ::= SEQUENCE { version Version OPTIONAL, signature AlgorithmIdentifier, issuer Name, thisUpdate Time,
+/// nextUpdate Time OPTIONAL, revokedCertificates SEQUENCE OF .. OPTIONAL, crlExtensions [0] EXPLICIT Extensions OPTIONAL }`.
+/// A version that is there is v2; another is refused, and is not well-formed.
+#[derive(Debug, Drop, PartialEq, Eq)]
+pub struct TbsCertList {
+    pub version: Option<Version>,
+    pub signature: AlgorithmIdentifier,
+    pub issuer: Name,
+    pub this_update: Time,
+    pub next_update: Option<Time>,
+    pub revoked_certificates: Option<RevokedCertificates>,
+    /// `crlExtensions`. `None` is written as nothing, without the tag.
+    pub crl_extension: ExplicitContextTag0<Option<Extensions>>,
+}
+
+type UpdatesRow = Maybe<
+    Time,
+    Maybe<RevokedCertificates, Maybe<ExplicitContextTag0<Extensions>, End>>,
+>;
+
+type TbsListRow = Maybe<
+    FixedVersion<1>,
+    Part<AlgorithmIdentifier, Part<Name, Part<Time, UpdatesRow>>>,
+>;
+
+type UpdatesRef<'a> = Maybe<
+    &'a Time,
+    Maybe<&'a RevokedCertificates, Maybe<ExplicitContextTag0<&'a Extensions>, End>>,
+>;
+
+type ListRef<'a> = Part<&'a AlgorithmIdentifier, Part<&'a Name, Part<&'a Time, UpdatesRef<'a>>>>;
+
+/// The version that was read, where one was.
+fn version_of(read: Option<FixedVersion<1>>) -> Option<Version>
+    ensures { option_value number_of result ≡ option_value (λ _. 1) read }
+{
+    match read {
+        Some(FixedVersion) => Some(Version::V2),
+        None => None,
+    }
+}
+
+/// The extensions in their tag, where there are any.
+fn tagged(extensions: &Option<Extensions>) -> Option<ExplicitContextTag0<&Extensions>>
+    ensures { option_value (λ x. extensions_value x.0.now) result ≡ option_value extensions_value extensions.now }
+{
+    match extensions {
+        Some(extensions) => Some(ExplicitContextTag0(extensions)),
+        None => None,
+    }
+}
+
+/// The extensions without their tag.
+fn untagged(extensions: Option<ExplicitContextTag0<Extensions>>) -> Option<Extensions>
+    ensures { option_value extensions_value result ≡ option_value (λ x. extensions_value x.0) extensions }
+{
+    match extensions {
+        Some(ExplicitContextTag0(extensions)) => Some(extensions),
+        None => None,
+    }
+}
+
+impl TbsCertList {
+    /// What stands behind the version.
+    fn row(&self) -> ListRef<'_>
+        ensures { ⟦<ListRef<'static> as WriteRow>⟧.value result ≡ list_value self.now }
+    {
+        let extensions = Maybe(tagged(&self.crl_extension.0), End);
+        let revoked = Maybe(self.revoked_certificates.as_ref(), extensions);
+        let updates = Maybe(self.next_update.as_ref(), revoked);
+        Part(
+            &self.signature,
+            Part(&self.issuer, Part(&self.this_update, updates)),
+        )
+    }
+}
+
+impl DerSerialize for TbsCertList {
+    ghost Value = { TbsListValue };
+
+    ghost value = { tbs_list_value };
+
+    ghost format = { tbs_list };
+
+    fn put<W: Writer>(&self, w: &mut W) -> Result<(), WriteError> {
+        put_within(0x30, &Maybe(self.version, self.row()), w)
+    }
+
+    fn well_formed_at(&self, limit: u8) -> bool {
+        match self.version {
+            None | Some(Version::V2) => self.row().row_well_formed_at(limit),
+            Some(_) => false,
+        }
+    }
+}
+
+impl DerDeserialize for TbsCertList {
+    fn read(alloc: Global, r: &mut Reader<'_>, nest: u8) -> Result<Self, Error> {
+        let row: TbsListRow = read_within(alloc, r, nest, 0x30)?;
+        let Maybe(version, Part(signature, Part(issuer, Part(this_update, updates)))) = row;
+        let Maybe(next_update, Maybe(revoked_certificates, Maybe(extensions, End))) = updates;
+        Ok(TbsCertList {
+            version: version_of(version),
+            signature,
+            issuer,
+            this_update,
+            next_update,
+            revoked_certificates,
+            crl_extension: ExplicitContextTag0(untagged(extensions)),
+        })
+    }
+
+    ghost lawful = { lawful_tbs_list };
+}
+
+impl EqualByText for TbsCertList {
+    ghost equal_by_text = { tbs_list_equal };
+}
+
+impl TryClone for TbsCertList {
+    fn try_clone(&self, alloc: Global) -> Result<Self, Error> {
+        let signature = self.signature.try_clone(alloc)?;
+        let issuer = self.issuer.try_clone(alloc)?;
+        let this_update = self.this_update.try_clone(alloc)?;
+        let next_update = self.next_update.try_clone(alloc)?;
+        let revoked_certificates = self.revoked_certificates.try_clone(alloc)?;
+        let crl_extension = self.crl_extension.try_clone(alloc)?;
+        Ok(TbsCertList {
+            version: self.version,
+            signature,
+            issuer,
+            this_update,
+            next_update,
+            revoked_certificates,
+            crl_extension,
+        })
+    }
+}
+
+/// `CertificateList ::= SEQUENCE { tbsCertList TBSCertList, signatureAlgorithm AlgorithmIdentifier, signatureValue BIT
+/// STRING }`
+#[derive(Debug, Drop, PartialEq, Eq)]
+pub struct CertificateList {
+    pub tbs_cert_list: TbsCertList,
+    pub signature_algorithm: AlgorithmIdentifier,
+    pub signature_value: BitStringAsn1,
+}
+
+type CertificateListRow = Part<TbsCertList, Part<AlgorithmIdentifier, Part<BitStringAsn1, End>>>;
+
+impl DerSerialize for CertificateList {
+    ghost Value = { CertificateListValue };
+
+    ghost value = { certificate_list_value };
+
+    ghost format = { certificate_list };
+
+    fn put<W: Writer>(&self, w: &mut W) -> Result<(), WriteError> {
+        let signature = Part(&self.signature_algorithm, Part(&self.signature_value, End));
+        put_within(0x30, &Part(&self.tbs_cert_list, signature), w)
+    }
+
+    fn well_formed_at(&self, limit: u8) -> bool {
+        let signature = Part(&self.signature_algorithm, Part(&self.signature_value, End));
+        Part(&self.tbs_cert_list, signature).row_well_formed_at(limit)
+    }
+}
+
+impl DerDeserialize for CertificateList {
+    fn read(alloc: Global, r: &mut Reader<'_>, nest: u8) -> Result<Self, Error> {
+        let row: CertificateListRow = read_within(alloc, r, nest, 0x30)?;
+        let Part(tbs_cert_list, Part(signature_algorithm, Part(signature_value, End))) = row;
+        Ok(CertificateList {
+            tbs_cert_list,
+            signature_algorithm,
+            signature_value,
+        })
+    }
+
+    ghost lawful = { lawful_certificate_list };
+}
+
+impl FirstTags for CertificateList {
+    fn begins(tag: u8) -> bool {
+        tag == 0x30
+    }
+}
+
+impl EqualByText for CertificateList {
+    ghost equal_by_text = { certificate_list_equal };
+}
+
+impl TryClone for CertificateList {
+    fn try_clone(&self, alloc: Global) -> Result<Self, Error> {
+        let tbs_cert_list = self.tbs_cert_list.try_clone(alloc)?;
+        let signature_algorithm = self.signature_algorithm.try_clone(alloc)?;
+        let signature_value = self.signature_value.try_clone(alloc)?;
+        Ok(CertificateList {
+            tbs_cert_list,
+            signature_algorithm,
+            signature_value,
+        })
+    }
+}
