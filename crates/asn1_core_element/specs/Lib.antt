@@ -5,3 +5,4 @@ pub mod Reading
 pub mod Words
 pub mod Numbers
 pub mod NumberLaws
+pub mod Digits

@@ -3,7 +3,7 @@ use Rattle.std.proofs.Common.{◌≡◌, ◌≢◌, ℕ, zero, suc, ◌+◌, ◌
 use Rattle.std.proofs.lemmas.Bool.{cases_lt, lt-ltb, le-ltb}
 use Rattle.std.specs.Int.Digits.{digits_of, number_from_digits, AllBelowBase}
 use Rattle.std.proofs.lemmas.Int.Digits.{number_digits_of, first_digits_of, all_below_base_digits_of, length-digits_of-le}
-use Rattle.asn1_core_element.proofs.Digits.{digits_of_number}
+use Rattle.asn1_core_element.specs.Digits.{digits_of_number}
 use Rattle.asn1_core_element.specs.Numbers.{with_sign, integer_octets, IsNumeral}
 
 pub with_sign_low : (d : ℕ) (ds : List ℕ) → d < 128 → with_sign (d ∷ ds) ≡ d ∷ ds
