@@ -3,7 +3,7 @@
 use Rattle.std.specs.Prelude.{◌≡◌, ◌↔◌, ◌⊎◌, Bool, true}
 use Rattle.std.proofs.Common.{ap, inl, inr}
 use Rattle.std.proofs.lemmas.Slice.Eq.{bytes_eq-Decides}
-use Rattle.asn1_core_format.specs.Views.{SeesEqual}
+pub use Rattle.asn1_core_format.specs.Views.{SeesEqual, list_equal, option_equal, two_equal}
 use Rattle.asn1_core.specs.contracts.octets.OctetStringAsn1PartialEq.TheImpl as Octets
 use Rattle.asn1_core.specs.contracts.raw.Asn1RawDerPartialEq.TheImpl as Raw
 
@@ -23,3 +23,6 @@ same_first {A} {B} {p} {a} {c} f = (λ e. ap inl (f.0 e), λ e. (let h : a ≡ c
 
 pub same_second : {A B : Type 0} {p : Bool} {a c : B} → (p ≡ true) ↔ (a ≡ c) → (p ≡ true) ↔ (◌≡◌ {A = A ⊎ B} (inr a) (inr c))
 same_second {A} {B} {p} {a} {c} f = (λ e. ap inr (f.0 e), λ e. (let h : a ≡ c = cc in f.1 h))
+
+-- by which `search` finds that the derived `==` of a struct is equality of what it contains
+pub ruleset der_equal = (two_equal, with_end, option_equal, list_equal, octets_equal, raw_equal, bytes_eq-Decides)

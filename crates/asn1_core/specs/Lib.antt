@@ -7,3 +7,4 @@ pub mod Objects
 pub mod Equal
 pub mod Versions
 pub mod Der
+pub mod Tagged

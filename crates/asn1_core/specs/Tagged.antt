@@ -1,0 +1,39 @@
+-- The words of ASN.1 for lists and for context tags (X.690, 8.10, 8.12, 8.14), each with its law.
+use Rattle.std.specs.Prelude.{◌≡◌, ℕ, ◌+◌, ◌<◌, List}
+use Rattle.std.proofs.Common.{arith}
+use Rattle.asn1_core_format.specs.Format.{Format, IsLawful}
+use Rattle.asn1_core_format.specs.Leaf.{leaf, kept}
+use Rattle.asn1_core_format.specs.LeafLaws.{lawful_leaf, lawful_kept}
+use Rattle.asn1_core_format.specs.Lists.{each}
+use Rattle.asn1_core_format.specs.ListLaws.{lawful_each}
+use Rattle.asn1_core_format.specs.Rows.{within}
+use Rattle.asn1_core_format.specs.RowLaws.{lawful_within}
+use Rattle.asn1_core_format.specs.Sequences.{sequence, lawful_sequence}
+
+-- SEQUENCE OF
+abbrev pub sequence_of : {V : Type 0} → Format V → Format (List V)
+sequence_of F = sequence (each F)
+
+pub lawful_sequence_of : {V : Type 0} {F : Format V} → IsLawful F → IsLawful (sequence_of F)
+lawful_sequence_of {V} {F} f = lawful_sequence (lawful_each F f)
+
+-- [n] EXPLICIT
+abbrev pub explicit : {V : Type 0} → ℕ → Format V → Format V
+explicit n F = within (0xA0 + n) F
+
+pub lawful_explicit : {V : Type 0} (n : ℕ) {F : Format V} → n < 31 → IsLawful F → IsLawful (explicit n F)
+lawful_explicit n {F} h f = lawful_within F f.row (0xA0 + n) (omega (arith, h))
+
+-- [n] IMPLICIT SET OF
+abbrev pub implicit_set : {V : Type 0} → ℕ → Format V → Format (List V)
+implicit_set n F = within (0xA0 + n) (each F)
+
+pub lawful_implicit_set : {V : Type 0} (n : ℕ) {F : Format V} → n < 31 → IsLawful F → IsLawful (implicit_set n F)
+lawful_implicit_set n {F} h f = lawful_within (each F) (lawful_each F f) (0xA0 + n) (omega (arith, h))
+
+-- an object identifier and no other
+abbrev pub only_oid : List ℕ → Format (List ℕ)
+only_oid o = leaf 0x06 (kept (λ c. c ≡ o))
+
+pub lawful_only_oid : (o : List ℕ) → IsLawful (only_oid o)
+lawful_only_oid o = lawful_leaf 0x06 (omega arith) (kept (λ c. c ≡ o)) (lawful_kept (λ c. c ≡ o))
