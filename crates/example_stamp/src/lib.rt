@@ -5,7 +5,7 @@ ghost use Rattle.std.proofs.Common.{rules};
 ghost use Rattle.asn1_core.specs.Der.{octets_of, option_value};
 ghost use Rattle.example_stamp.specs.Stamps.{StampValue, stamp, lawful_stamp};
 
-use asn1_core::parts::{End, Maybe, Part, WriteError, WriteRow, Writer, put_within, read_within};
+use asn1_core::prelude::{End, Maybe, Part, WriteError, WriteRow, Writer, put_within, read_within};
 use asn1_core::{
     DerDeserialize, DerSerialize, EqualByText, Error, ObjectIdentifierAsn1, OctetStringAsn1,
     Reader, TryClone,

@@ -9,7 +9,7 @@ ghost use Rattle.asn1_core_oid.specs.OidTestLaws.{oid_from_test};
 ghost use Rattle.example_ticket.specs.Tickets.{token_oid, HolderValue, holder_value, holder, lawful_holder, TicketValue, ticket, lawful_ticket};
 
 use asn1_choices::{AnyOid, AnyOidRef, Arm, Chosen, Named, WriteChoice};
-use asn1_core::parts::{
+use asn1_core::prelude::{
     Alone, ApartFrom, Either, End, FirstTags, Maybe, Part, WriteError, WriteRow, Writer,
     put_within, read_within,
 };

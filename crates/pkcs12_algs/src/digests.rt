@@ -13,7 +13,7 @@ use crate::algorithms::{
 };
 use crate::oids::{SHA1, SHA224, SHA256, SHA384, SHA512};
 use crate::rows::{arm_by_rows, parts_by_rows};
-use asn1_core::parts::{End, FirstTags, Part, WriteRow, put_within, read_within};
+use asn1_core::prelude::{End, FirstTags, Part, WriteRow, put_within, read_within};
 use asn1_core::{
     DerDeserialize, DerSerialize, EqualByText, Error, OctetStringAsn1, Reader, TryClone, Viewed,
     WriteError, Writer,

@@ -6,7 +6,7 @@ ghost use Rattle.pkcs12_algs.specs.Digests.{MacValue, mac_value, mac_data, lawfu
 ghost use Rattle.pkcs12_algs.specs.Equal.{mac_equal};
 
 use crate::digests::Pkcs12DigestInfo;
-use asn1_core::parts::{End, FirstTags, Maybe, Part, WriteRow, put_within, read_within};
+use asn1_core::prelude::{End, FirstTags, Maybe, Part, WriteRow, put_within, read_within};
 use asn1_core::{
     DerDeserialize, DerSerialize, EqualByText, Error, OctetStringAsn1, Reader, TryClone,
     WriteError, Writer,

@@ -12,7 +12,7 @@ use crate::kinds::{Kind, oid_of_kind};
 use crate::oids::{SHA_AND_3_KEY_3_DES_CBC, SHA_AND_40_BIT_RC2_CBC};
 use crate::rows::{arm_by_rows, octets_by_rows};
 use asn1_choices::OidTable;
-use asn1_core::parts::{End, Part, WriteRow, put_within, read_within};
+use asn1_core::prelude::{End, Part, WriteRow, put_within, read_within};
 use asn1_core::{
     DerDeserialize, DerSerialize, EqualByText, Error, ObjectIdentifier, OctetStringAsn1, Reader,
     TryClone, Viewed, WriteError, Writer,

@@ -14,7 +14,7 @@ use crate::oids::{AES128_CBC_PAD, AES192_CBC_PAD, AES256_CBC_PAD, Pbkdf2};
 use crate::pbkdf2::Pbkdf2Params;
 use crate::rows::{arm_by_rows, octets_by_rows};
 use asn1_choices::{Among, Arm, Chosen, OidTable, WriteChoice};
-use asn1_core::parts::{Alone, Either, End, Part, WriteRow, put_within, read_within};
+use asn1_core::prelude::{Alone, Either, End, Part, WriteRow, put_within, read_within};
 use asn1_core::{
     DerDeserialize, DerSerialize, EqualByText, Error, ObjectIdentifier, OctetStringAsn1, Reader,
     TryClone, Viewed, WriteError, Writer,

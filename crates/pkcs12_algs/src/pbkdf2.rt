@@ -7,7 +7,7 @@ ghost use Rattle.pkcs12_algs.specs.Equal.{pbkdf2_equal};
 
 use crate::algorithms::{AlgorithmPart, AlgorithmRef};
 use crate::prfs::Pbkdf2Prf;
-use asn1_core::parts::{End, Maybe, Part, WriteRow, put_within, read_within};
+use asn1_core::prelude::{End, Maybe, Part, WriteRow, put_within, read_within};
 use asn1_core::{
     DerDeserialize, DerSerialize, EqualByText, Error, OctetStringAsn1, Reader, TryClone, Viewed,
     WriteError, Writer,

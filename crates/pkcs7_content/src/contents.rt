@@ -12,7 +12,7 @@ ghost use Rattle.pkcs7_content.specs.Oids.{data_oid};
 
 use crate::indirect_data::SpcIndirectDataContent;
 use crate::oids::{DATA, INDIRECT_DATA, TRUST_LIST};
-use asn1_core::parts::{End, Maybe, Part, ReadRow, WriteError, Writer, put_within};
+use asn1_core::prelude::{End, Maybe, Part, ReadRow, WriteError, Writer, put_within};
 use asn1_core::{
     DerDeserialize, DerSerialize, EqualByText, Error, ExplicitContextTag0, ObjectIdentifier,
     ObjectIdentifierAsn1, OctetStringAsn1, Reader, TryClone,

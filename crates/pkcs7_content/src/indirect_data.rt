@@ -7,7 +7,7 @@ ghost use Rattle.pkcs7_content.specs.IndirectData.{SpcValue, spc_values, subject
 use crate::oids::{PE_IMAGE, SIP_INFO};
 use crate::pe_images::SpcPeImageData;
 use crate::sip_infos::SpcSipInfo;
-use asn1_core::parts::{
+use asn1_core::prelude::{
     Alone, End, Part, ReadRow, WriteError, WriteRow, Writer, put_within, read_within,
 };
 use asn1_core::{

@@ -9,7 +9,7 @@ ghost use Rattle.pkcs7_content.specs.Equal.{pe_image_equal};
 ghost use Rattle.pkcs7_content.specs.PeImages.{default_flags, PeImageValue, pe_image_data, pe_image_value};
 ghost use Rattle.pkcs7_content.specs.PeImageLaws.{lawful_pe_image_data};
 
-use asn1_core::parts::{
+use asn1_core::prelude::{
     ApartFrom, End, FirstTags, Maybe, Part, WriteError, WriteRow, Writer, put_within, read_within,
 };
 use asn1_core::{

@@ -4,7 +4,7 @@ ghost use Rattle.std.specs.Prelude.{◌≡◌};
 ghost use Rattle.pkcs7_content.specs.Equal.{sip_info_equal};
 ghost use Rattle.pkcs7_content.specs.SipInfos.{SipInfoValue, sip_info, lawful_sip_info, sip_info_value};
 
-use asn1_core::parts::{End, Part, WriteError, WriteRow, Writer, put_within, read_within};
+use asn1_core::prelude::{End, Part, WriteError, WriteRow, Writer, put_within, read_within};
 use asn1_core::{
     DerDeserialize, DerSerialize, EqualByText, Error, OctetStringAsn1, Reader, TryClone,
 };

@@ -5,7 +5,7 @@ ghost use Rattle.pkcs7_content_ctl.specs.TrustLists.{EntryAttributeValue, entry_
 ghost use Rattle.pkcs7_content_ctl.specs.AttributeValues.{attribute_values_value};
 
 use crate::values::CTLEntryAttributeValues;
-use asn1_core::parts::{Alone, Part, WriteError, Writer, put_within};
+use asn1_core::prelude::{Alone, Part, WriteError, Writer, put_within};
 use asn1_core::{
     DerDeserialize, DerSerialize, EqualByText, Error, ObjectIdentifierAsn1, Reader, TryClone,
 };

@@ -5,7 +5,7 @@ ghost use Rattle.pkcs7_content_ctl.specs.Equal.{entry_equal, ctl_equal};
 ghost use Rattle.pkcs7_content_ctl.specs.TrustLists.{EntryValue, entry, lawful_entry, CtlValue, ctl, lawful_ctl, entry_value, ctl_value};
 
 use crate::attributes::CTLEntryAttribute;
-use asn1_core::parts::{End, Part, WriteError, WriteRow, Writer, put_within, read_within};
+use asn1_core::prelude::{End, Part, WriteError, WriteRow, Writer, put_within, read_within};
 use asn1_core::{
     Asn1SequenceOf, Asn1SetOf, DerDeserialize, DerSerialize, EqualByText, Error,
     ObjectIdentifierAsn1, OctetStringAsn1, Reader, TryClone,

@@ -3,7 +3,7 @@
 ghost use Rattle.pkcs7_content_ctl.specs.Equal.{chain_policy_equal, qualifier_equal, cert_policy_equal};
 ghost use Rattle.pkcs7_content_ctl.specs.Policies.{ChainPolicyValue, chain_policy, lawful_chain_policy, QualifierValue, policy_qualifier, lawful_policy_qualifier, CertPolicyValue, cert_policy, lawful_cert_policy, chain_policy_value, qualifier_value, cert_policy_value};
 
-use asn1_core::parts::{End, Part, WriteError, WriteRow, Writer, put_within, read_within};
+use asn1_core::prelude::{End, Part, WriteError, WriteRow, Writer, put_within, read_within};
 use asn1_core::{
     Asn1SequenceOf, DerDeserialize, DerSerialize, EqualByText, Error, ObjectIdentifierAsn1, Reader,
     TryClone,

@@ -7,7 +7,7 @@ ghost use Rattle.pkcs7_signed.specs.Parts.{SignerParts, signer_parts, SignedPart
 ghost use Rattle.pkcs7_signed.specs.Heads.{signer_head_value, signed_head_value};
 
 use asn1_core::DerSerialize;
-use asn1_core::parts::{End, Maybe, OmittedRef, Part, WriteError, WriteRow, Writer};
+use asn1_core::prelude::{End, Maybe, OmittedRef, Part, WriteError, WriteRow, Writer};
 use pkcs7_content::{CmsVersion, EncapsulatedContentInfo};
 use pkcs7_signed_parts::{
     Attributes, CertificateSet, DigestAlgorithmIdentifier, DigestAlgorithmIdentifiers,

@@ -23,7 +23,7 @@ use crate::signers::{
     Kind, Pkcs7Certificate, SignedData, SignerInfo, SignersInfos, UnsignedAttribute,
     UnsignedAttributeValue, UnsignedAttributes, signers_formed_below,
 };
-use asn1_core::parts::{
+use asn1_core::prelude::{
     Alone, Leaf, Maybe, Omitted, Part, ReadRow, TagsApart, WriteError, WriteRow, Writer, read_leaf,
     read_within,
 };

@@ -9,7 +9,7 @@ ghost use Rattle.pkcs7_signed_parts.specs.CertificateLists.{list_value, TbsListV
 ghost use Rattle.pkcs7_signed_parts.specs.Equal.{tbs_list_equal, certificate_list_equal};
 
 use crate::revoked::RevokedCertificates;
-use asn1_core::parts::{
+use asn1_core::prelude::{
     ApartFrom, End, FirstTags, Maybe, Part, WriteError, WriteRow, Writer, put_within, read_within,
 };
 use asn1_core::{

@@ -9,7 +9,7 @@ ghost use Rattle.pkcs7_signed_parts.specs.Revocations.{OtherFormatValue, other_f
 
 use crate::certificate_lists::CertificateList;
 use crate::certificates::CertificateSet;
-use asn1_core::parts::{
+use asn1_core::prelude::{
     ApartFrom, Either, End, Part, WriteError, WriteRow, Writer, put_within, read_row_contents,
     read_within,
 };

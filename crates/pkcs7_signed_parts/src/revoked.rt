@@ -6,7 +6,7 @@ ghost use Rattle.pkcs7_signed_parts.specs.Equal.{revoked_equal, all_revoked_equa
 ghost use Rattle.pkcs7_signed_parts.specs.Revoked.{RevokedValue, revoked_value, revoked, lawful_revoked, all_revoked_value, all_revoked, lawful_all_revoked};
 
 use crate::signers::CertificateSerialNumber;
-use asn1_core::parts::{
+use asn1_core::prelude::{
     ApartFrom, End, FirstTags, Maybe, Part, WriteError, WriteRow, Writer, put_within, read_within,
 };
 use asn1_core::{

@@ -7,7 +7,7 @@ ghost use Rattle.asn1_leaves.specs.Integers.{integer, lawful_integer};
 ghost use Rattle.pkcs7_signed_parts.specs.Equal.{serial_equal, issuer_serial_equal, signer_id_equal};
 ghost use Rattle.pkcs7_signed_parts.specs.Signers.{serial_number, IssuerSerialValue, issuer_serial_value, issuer_serial, lawful_issuer_serial, SignerIdValue, signer_id_value, signer_id, lawful_signer_id};
 
-use asn1_core::parts::{
+use asn1_core::prelude::{
     ApartFrom, Either, End, FirstTags, Part, WriteError, WriteRow, Writer, put_within, read_within,
 };
 use asn1_core::{

@@ -45,7 +45,7 @@ pub use asn1_core::from_bytes_limited;
 pub use asn1_core::limits_agree;
 pub use asn1_core::no_accepted_input_begins_another;
 pub use asn1_core::normal_texts_stay_normal;
-pub use asn1_core::parts;
+pub use asn1_core::prelude;
 pub use asn1_core::read_all;
 pub use asn1_core::rewriting_reaches_an_end;
 pub use asn1_core::send;

@@ -3,7 +3,7 @@
 ghost use Rattle.x509_pkcs7.specs.Descriptors.{DescriptorValue, descriptor_value, descriptor, lawful_descriptor, GeneralDescriptorValue, general_descriptor_value, general_descriptor, lawful_general_descriptor};
 ghost use Rattle.x509_pkcs7.specs.Equal.{descriptor_equal, general_descriptor_equal};
 
-use asn1_core::parts::{End, Part, WriteError, WriteRow, Writer, put_within, read_within};
+use asn1_core::prelude::{End, Part, WriteError, WriteRow, Writer, put_within, read_within};
 use asn1_core::{
     Asn1SequenceOf, DerDeserialize, DerSerialize, EqualByText, Error, ObjectIdentifierAsn1, Reader,
     TryClone,

@@ -8,7 +8,7 @@ ghost use Rattle.x509_pkcs7.specs.Equal.{encrypted_content_equal, originator_equ
 
 use crate::contents::ContentType;
 use crate::recipients::RecipientInfo;
-use asn1_core::parts::{
+use asn1_core::prelude::{
     End, Maybe, Part, WriteError, WriteRow, Writer, put_within, read_row_contents, read_within,
 };
 use asn1_core::{

@@ -6,7 +6,7 @@ ghost use Rattle.asn1_core_format.specs.TaggedLaws.{within_tagged};
 ghost use Rattle.x509_pkcs7.specs.Equal.{other_key_equal, kek_id_equal, kek_recipient_equal, recipient_equal};
 ghost use Rattle.x509_pkcs7.specs.Recipients.{OtherKeyValue, other_key_value, other_key, lawful_other_key, KekIdValue, kek_id_value, kek_id, lawful_kek_id, KekRecipientValue, kek_recipient_value, kek_recipient_row, kek_recipient, lawful_kek_recipient, recipient_value, recipient, lawful_recipient};
 
-use asn1_core::parts::{
+use asn1_core::prelude::{
     ApartFrom, End, FirstTags, Maybe, Part, WriteError, WriteRow, Writer, put_within,
     read_retagged, read_row_contents, read_within,
 };
