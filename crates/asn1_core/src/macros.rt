@@ -1,10 +1,13 @@
-//! The body of a `try_clone` that clones each field.
+//! The body of a `try_clone` that clones a struct field by field.
 
-/// Clones each of the named fields of `$value`: `clone_of!(self, alloc, Attribute { ty, value })`, as the body of
-/// `TryClone::try_clone`. A tuple struct names its fields by number.
+/// Clones a struct with named fields, as the body of `TryClone::try_clone`: `clone_of!(self, alloc, Attribute { ty,
+/// value })`. Fields after a `;` are `Copy`, and are copied.
 #[macro_export]
 macro_rules! clone_of {
-    ($value:ident, $alloc:ident, $type:ident { $($field:tt),* $(,)? }) => {
-        Ok($type { $($field: $value.$field.try_clone($alloc)?),* })
+    ($value:ident, $alloc:ident, $type:ident { $($field:ident),* $(; $($copied:ident),*)? }) => {
+        Ok($type {
+            $($field: $value.$field.try_clone($alloc)?,)*
+            $($($copied: $value.$copied,)*)?
+        })
     };
 }
