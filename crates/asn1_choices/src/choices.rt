@@ -5,8 +5,7 @@ ghost use Rattle.asn1_core_format.specs.Choices.{Choice, IsLawfulChoice};
 ghost use Rattle.asn1_core_format.specs.Rows.{GivesRow};
 ghost use Rattle.asn1_choices.specs.Chosen.{after_oid};
 
-use asn1_core::prelude::{ReadRow, WriteRow};
-use asn1_core::{Error, Reader, WriteError, Writer};
+use asn1_core::prelude::*;
 use asn1_core_element::element::contents_of;
 use std::alloc::Global;
 

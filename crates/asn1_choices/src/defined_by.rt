@@ -8,7 +8,7 @@ ghost use Rattle.asn1_core_oid.specs.OidValue.{octets_of};
 ghost use Rattle.asn1_choices.specs.DefinedBy.{DefinedBy, any_defined_by};
 ghost use Rattle.asn1_choices.specs.DefinedByLaws.{IsDefinedBy};
 
-use asn1_core::{DerDeserialize, Error, ObjectIdentifierAsn1, Reader};
+use asn1_core::prelude::*;
 use asn1_core_element::element::open_element;
 use std::alloc::Global;
 

@@ -12,8 +12,7 @@ ghost use Rattle.asn1_core_format.specs.declared.eithers.Either.TheVariants.{Fir
 
 use crate::arms::{Named, is_named};
 use crate::choices::ReadChoice;
-use asn1_core::prelude::{Either, ReadRow};
-use asn1_core::{DerSerialize, Error, Reader};
+use asn1_core::prelude::*;
 use asn1_core_element::element::contents_of;
 use asn1_core_format::read_below_within;
 use std::alloc::Global;

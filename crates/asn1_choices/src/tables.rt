@@ -6,8 +6,7 @@ ghost use Rattle.asn1_choices.specs.Tables.{Table, IsTable, among, lawful_among}
 ghost use Rattle.asn1_choices.specs.declared.tables.Among.TheVariants.{Arm, Other};
 
 use crate::choices::{ReadChoice, WriteChoice};
-use asn1_core::prelude::{Part, ReadRow, WriteRow};
-use asn1_core::{Error, KnownOid, Reader, WriteError, Writer};
+use asn1_core::prelude::*;
 use std::alloc::Global;
 
 /// Kinds that are told apart by object identifiers.

@@ -1,14 +1,18 @@
 -- The words of ASN.1 for lists and for context tags (X.690, 8.10, 8.12, 8.14), each with its law.
 use Rattle.std.specs.Prelude.{◌≡◌, ℕ, ◌+◌, ◌<◌, List}
 use Rattle.std.proofs.Common.{arith}
-use Rattle.asn1_core_format.specs.Format.{Format, IsLawful}
+use Rattle.asn1_core_format.specs.Format.{Format, IsLawful, IsLawfulRow}
 use Rattle.asn1_core_format.specs.Leaf.{leaf, kept}
 use Rattle.asn1_core_format.specs.LeafLaws.{lawful_leaf, lawful_kept}
 use Rattle.asn1_core_format.specs.Lists.{each}
 use Rattle.asn1_core_format.specs.ListLaws.{lawful_each}
-use Rattle.asn1_core_format.specs.Rows.{within}
-use Rattle.asn1_core_format.specs.RowLaws.{lawful_within}
-use Rattle.asn1_core_format.specs.Sequences.{sequence, lawful_sequence}
+use Rattle.asn1_core_format.specs.Rows.{within, optional, nothing}
+use Rattle.asn1_core_format.specs.RowLaws.{lawful_within, lawful_nothing}
+use Rattle.asn1_core_format.specs.Sequences.{sequence, perhaps, lawful_sequence}
+
+-- the last part, where it may be absent
+pub perhaps_last : {V : Type 0} {F : Format V} → IsLawful F → IsLawfulRow (optional F nothing)
+perhaps_last f = perhaps f (λ t h e. e) lawful_nothing
 
 -- SEQUENCE OF
 abbrev pub sequence_of : {V : Type 0} → Format V → Format (List V)

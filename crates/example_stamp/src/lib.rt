@@ -5,11 +5,7 @@ ghost use Rattle.std.proofs.Common.{rules};
 ghost use Rattle.asn1_core.specs.Der.{octets_of, option_value};
 ghost use Rattle.example_stamp.specs.Stamps.{StampValue, stamp, lawful_stamp};
 
-use asn1_core::prelude::{End, Maybe, Part, WriteError, WriteRow, Writer, put_within, read_within};
-use asn1_core::{
-    DerDeserialize, DerSerialize, EqualByText, Error, ObjectIdentifierAsn1, OctetStringAsn1,
-    Reader, TryClone,
-};
+use asn1_core::prelude::*;
 use std::alloc::Global;
 
 /// `Stamp ::= SEQUENCE { id OBJECT IDENTIFIER, data OCTET STRING, count INTEGER (0..4294967295) OPTIONAL }`
@@ -58,12 +54,6 @@ impl EqualByText for Stamp {
 
 impl TryClone for Stamp {
     fn try_clone(&self, alloc: Global) -> Result<Self, Error> {
-        let id = self.id.try_clone(alloc)?;
-        let data = self.data.try_clone(alloc)?;
-        Ok(Stamp {
-            id,
-            data,
-            count: self.count,
-        })
+        clone_of!(self, alloc, Stamp { id, data; count })
     }
 }

@@ -9,14 +9,7 @@ ghost use Rattle.asn1_core_oid.specs.OidTestLaws.{oid_from_test};
 ghost use Rattle.example_ticket.specs.Tickets.{token_oid, HolderValue, holder_value, holder, lawful_holder, TicketValue, ticket, lawful_ticket};
 
 use asn1_choices::{AnyOid, AnyOidRef, Arm, Chosen, Named, WriteChoice};
-use asn1_core::prelude::{
-    Alone, ApartFrom, Either, End, FirstTags, Maybe, Part, WriteError, WriteRow, Writer,
-    put_within, read_within,
-};
-use asn1_core::{
-    Asn1RawDer, DerDeserialize, DerSerialize, EqualByText, Error, ExplicitContextTag0,
-    ObjectIdentifier, OctetStringAsn1, Reader, TryClone,
-};
+use asn1_core::prelude::*;
 use std::alloc::Global;
 
 /// 1.3.6.1.4.1.32473.1, by its contents octets.
@@ -170,12 +163,6 @@ impl TryClone for Holder {
 
 impl TryClone for Ticket {
     fn try_clone(&self, alloc: Global) -> Result<Self, Error> {
-        let note = self.note.try_clone(alloc)?;
-        let holder = self.holder.try_clone(alloc)?;
-        Ok(Ticket {
-            serial: self.serial,
-            note,
-            holder,
-        })
+        clone_of!(self, alloc, Ticket { note, holder; serial })
     }
 }

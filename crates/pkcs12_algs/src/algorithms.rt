@@ -10,8 +10,7 @@ ghost use Rattle.pkcs12_algs.specs.Tables.{is_listed, listing, are_oids};
 ghost use Rattle.pkcs12_algs.specs.TableLaws.{listing_is_table};
 
 use crate::oids::known_oid;
-use asn1_core::prelude::{ApartFrom, FirstTags};
-use asn1_core::{DerDeserialize, DerSerialize, Error, Reader, TryClone, WriteError, Writer};
+use asn1_core::prelude::*;
 use std::alloc::Global;
 use x509_base::RawAlgorithmIdentifier;
 use x509_base::algorithms::put_algorithm;

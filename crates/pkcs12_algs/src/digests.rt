@@ -13,11 +13,7 @@ use crate::algorithms::{
 };
 use crate::oids::{SHA1, SHA224, SHA256, SHA384, SHA512};
 use crate::rows::{arm_by_rows, parts_by_rows};
-use asn1_core::prelude::{End, FirstTags, Part, WriteRow, put_within, read_within};
-use asn1_core::{
-    DerDeserialize, DerSerialize, EqualByText, Error, OctetStringAsn1, Reader, TryClone, Viewed,
-    WriteError, Writer,
-};
+use asn1_core::prelude::*;
 use std::alloc::Global;
 use std::fmt;
 use x509_base::RawAlgorithmIdentifier;
@@ -191,11 +187,6 @@ impl EqualByText for Pkcs12DigestInfo {
 
 impl TryClone for Pkcs12DigestInfo {
     fn try_clone(&self, alloc: Global) -> Result<Self, Error> {
-        let digest_algorithm = self.digest_algorithm.try_clone(alloc)?;
-        let digest = self.digest.try_clone(alloc)?;
-        Ok(Self {
-            digest_algorithm,
-            digest,
-        })
+        clone_of!(self, alloc, Self { digest_algorithm, digest })
     }
 }

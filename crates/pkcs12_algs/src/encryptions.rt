@@ -8,10 +8,7 @@ use crate::oids::Pbes2;
 use crate::pbes1::{Pbes1AlgorithmKind, Pbes1Params};
 use crate::pbes2::Pbes2Params;
 use asn1_choices::{Among, Arm, Chosen, WriteChoice};
-use asn1_core::prelude::{Alone, Either, put_within, read_within};
-use asn1_core::{
-    DerDeserialize, DerSerialize, EqualByText, Error, Reader, TryClone, WriteError, Writer,
-};
+use asn1_core::prelude::*;
 use std::alloc::Global;
 use x509_base::RawAlgorithmIdentifier;
 

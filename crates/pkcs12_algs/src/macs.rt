@@ -6,11 +6,7 @@ ghost use Rattle.pkcs12_algs.specs.Digests.{MacValue, mac_value, mac_data, lawfu
 ghost use Rattle.pkcs12_algs.specs.Equal.{mac_equal};
 
 use crate::digests::Pkcs12DigestInfo;
-use asn1_core::prelude::{End, FirstTags, Maybe, Part, WriteRow, put_within, read_within};
-use asn1_core::{
-    DerDeserialize, DerSerialize, EqualByText, Error, OctetStringAsn1, Reader, TryClone,
-    WriteError, Writer,
-};
+use asn1_core::prelude::*;
 use std::alloc::Global;
 
 /// `MacData ::= SEQUENCE { mac DigestInfo, macSalt OCTET STRING, iterations INTEGER DEFAULT 1 }` (RFC 7292, 4). A
@@ -83,12 +79,6 @@ impl EqualByText for MacData {
 
 impl TryClone for MacData {
     fn try_clone(&self, alloc: Global) -> Result<Self, Error> {
-        let mac = self.mac.try_clone(alloc)?;
-        let salt = self.salt.try_clone(alloc)?;
-        Ok(Self {
-            mac,
-            salt,
-            iterations: self.iterations,
-        })
+        clone_of!(self, alloc, Self { mac, salt; iterations })
     }
 }

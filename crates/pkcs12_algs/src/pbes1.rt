@@ -12,11 +12,7 @@ use crate::kinds::{Kind, oid_of_kind};
 use crate::oids::{SHA_AND_3_KEY_3_DES_CBC, SHA_AND_40_BIT_RC2_CBC};
 use crate::rows::{arm_by_rows, octets_by_rows};
 use asn1_choices::OidTable;
-use asn1_core::prelude::{End, Part, WriteRow, put_within, read_within};
-use asn1_core::{
-    DerDeserialize, DerSerialize, EqualByText, Error, ObjectIdentifier, OctetStringAsn1, Reader,
-    TryClone, Viewed, WriteError, Writer,
-};
+use asn1_core::prelude::*;
 use std::alloc::Global;
 use std::fmt;
 
@@ -143,10 +139,6 @@ impl EqualByText for Pbes1Params {
 
 impl TryClone for Pbes1Params {
     fn try_clone(&self, alloc: Global) -> Result<Self, Error> {
-        let salt = self.salt.try_clone(alloc)?;
-        Ok(Self {
-            salt,
-            iterations: self.iterations,
-        })
+        clone_of!(self, alloc, Self { salt; iterations })
     }
 }

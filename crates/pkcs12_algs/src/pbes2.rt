@@ -14,11 +14,7 @@ use crate::oids::{AES128_CBC_PAD, AES192_CBC_PAD, AES256_CBC_PAD, Pbkdf2};
 use crate::pbkdf2::Pbkdf2Params;
 use crate::rows::{arm_by_rows, octets_by_rows};
 use asn1_choices::{Among, Arm, Chosen, OidTable, WriteChoice};
-use asn1_core::prelude::{Alone, Either, End, Part, WriteRow, put_within, read_within};
-use asn1_core::{
-    DerDeserialize, DerSerialize, EqualByText, Error, ObjectIdentifier, OctetStringAsn1, Reader,
-    TryClone, Viewed, WriteError, Writer,
-};
+use asn1_core::prelude::*;
 use std::alloc::Global;
 use std::fmt;
 use x509_base::RawAlgorithmIdentifier;
@@ -299,11 +295,6 @@ impl EqualByText for Pbes2Params {
 
 impl TryClone for Pbes2Params {
     fn try_clone(&self, alloc: Global) -> Result<Self, Error> {
-        let key_derivation_func = self.key_derivation_func.try_clone(alloc)?;
-        let encryption_scheme = self.encryption_scheme.try_clone(alloc)?;
-        Ok(Self {
-            key_derivation_func,
-            encryption_scheme,
-        })
+        clone_of!(self, alloc, Self { key_derivation_func, encryption_scheme })
     }
 }

@@ -7,11 +7,7 @@ ghost use Rattle.pkcs12_algs.specs.Equal.{pbkdf2_equal};
 
 use crate::algorithms::{AlgorithmPart, AlgorithmRef};
 use crate::prfs::Pbkdf2Prf;
-use asn1_core::prelude::{End, Maybe, Part, WriteRow, put_within, read_within};
-use asn1_core::{
-    DerDeserialize, DerSerialize, EqualByText, Error, OctetStringAsn1, Reader, TryClone, Viewed,
-    WriteError, Writer,
-};
+use asn1_core::prelude::*;
 use asn1_core_format::rows::next_is;
 use std::alloc::Global;
 use x509_base::RawAlgorithmIdentifier;
@@ -184,13 +180,6 @@ impl EqualByText for Pbkdf2Params {
 
 impl TryClone for Pbkdf2Params {
     fn try_clone(&self, alloc: Global) -> Result<Self, Error> {
-        let salt = self.salt.try_clone(alloc)?;
-        let prf = self.prf.try_clone(alloc)?;
-        Ok(Self {
-            salt,
-            iteration_count: self.iteration_count,
-            key_length: self.key_length,
-            prf,
-        })
+        clone_of!(self, alloc, Self { salt, prf; iteration_count, key_length })
     }
 }

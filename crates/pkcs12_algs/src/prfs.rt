@@ -14,7 +14,7 @@ use crate::oids::{
     HMAC_WITH_SHA1, HMAC_WITH_SHA224, HMAC_WITH_SHA256, HMAC_WITH_SHA384, HMAC_WITH_SHA512,
 };
 use crate::rows::{arm_by_rows, parts_by_rows};
-use asn1_core::{Error, TryClone, Viewed};
+use asn1_core::prelude::*;
 use std::alloc::Global;
 use std::fmt;
 use x509_base::RawAlgorithmIdentifier;

@@ -12,11 +12,7 @@ ghost use Rattle.pkcs7_content.specs.Oids.{data_oid};
 
 use crate::indirect_data::SpcIndirectDataContent;
 use crate::oids::{DATA, INDIRECT_DATA, TRUST_LIST};
-use asn1_core::prelude::{End, Maybe, Part, ReadRow, WriteError, Writer, put_within};
-use asn1_core::{
-    DerDeserialize, DerSerialize, EqualByText, Error, ExplicitContextTag0, ObjectIdentifier,
-    ObjectIdentifierAsn1, OctetStringAsn1, Reader, TryClone,
-};
+use asn1_core::prelude::*;
 use asn1_choices::{AnyDefinedBy, OidAnd, read_sequence_defined_by};
 use pkcs7_content_ctl::Ctl;
 use std::alloc::Global;
@@ -283,11 +279,6 @@ impl EqualByText for EncapsulatedContentInfo {
 
 impl TryClone for EncapsulatedContentInfo {
     fn try_clone(&self, alloc: Global) -> Result<Self, Error> {
-        let content_type = self.content_type.try_clone(alloc)?;
-        let content = self.content.try_clone(alloc)?;
-        Ok(EncapsulatedContentInfo {
-            content_type,
-            content,
-        })
+        clone_of!(self, alloc, EncapsulatedContentInfo { content_type, content })
     }
 }

@@ -7,12 +7,7 @@ ghost use Rattle.pkcs7_content.specs.IndirectData.{SpcValue, spc_values, subject
 use crate::oids::{PE_IMAGE, SIP_INFO};
 use crate::pe_images::SpcPeImageData;
 use crate::sip_infos::SpcSipInfo;
-use asn1_core::prelude::{
-    Alone, End, Part, ReadRow, WriteError, WriteRow, Writer, put_within, read_within,
-};
-use asn1_core::{
-    DerDeserialize, DerSerialize, EqualByText, Error, ObjectIdentifierAsn1, Reader, TryClone,
-};
+use asn1_core::prelude::*;
 use asn1_choices::{AnyDefinedBy, OidAnd, read_sequence_defined_by};
 use std::alloc::Global;
 use x509_base::DigestInfo;
@@ -171,9 +166,7 @@ impl EqualByText for SpcAttributeAndOptionalValue {
 
 impl TryClone for SpcAttributeAndOptionalValue {
     fn try_clone(&self, alloc: Global) -> Result<Self, Error> {
-        let ty = self.ty.try_clone(alloc)?;
-        let value = self.value.try_clone(alloc)?;
-        Ok(SpcAttributeAndOptionalValue { ty, value })
+        clone_of!(self, alloc, SpcAttributeAndOptionalValue { ty, value })
     }
 }
 
@@ -226,11 +219,6 @@ impl EqualByText for SpcIndirectDataContent {
 
 impl TryClone for SpcIndirectDataContent {
     fn try_clone(&self, alloc: Global) -> Result<Self, Error> {
-        let spc_data = self.spc_data.try_clone(alloc)?;
-        let message_digest = self.message_digest.try_clone(alloc)?;
-        Ok(SpcIndirectDataContent {
-            spc_data,
-            message_digest,
-        })
+        clone_of!(self, alloc, SpcIndirectDataContent { spc_data, message_digest })
     }
 }

@@ -9,12 +9,7 @@ ghost use Rattle.pkcs7_content.specs.Equal.{pe_image_equal};
 ghost use Rattle.pkcs7_content.specs.PeImages.{default_flags, PeImageValue, pe_image_data, pe_image_value};
 ghost use Rattle.pkcs7_content.specs.PeImageLaws.{lawful_pe_image_data};
 
-use asn1_core::prelude::{
-    ApartFrom, End, FirstTags, Maybe, Part, WriteError, WriteRow, Writer, put_within, read_within,
-};
-use asn1_core::{
-    DerDeserialize, DerSerialize, EqualByText, Error, ExplicitContextTag0, Reader, TryClone,
-};
+use asn1_core::prelude::*;
 use asn1_leaves::{BitString, BitStringAsn1};
 use std::alloc::Global;
 use x509_base::spc::SpcLink;
@@ -126,8 +121,6 @@ impl EqualByText for SpcPeImageData {
 
 impl TryClone for SpcPeImageData {
     fn try_clone(&self, alloc: Global) -> Result<Self, Error> {
-        let flags = self.flags.try_clone(alloc)?;
-        let file = self.file.try_clone(alloc)?;
-        Ok(SpcPeImageData { flags, file })
+        clone_of!(self, alloc, SpcPeImageData { flags, file })
     }
 }

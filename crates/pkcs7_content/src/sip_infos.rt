@@ -4,10 +4,7 @@ ghost use Rattle.std.specs.Prelude.{◌≡◌};
 ghost use Rattle.pkcs7_content.specs.Equal.{sip_info_equal};
 ghost use Rattle.pkcs7_content.specs.SipInfos.{SipInfoValue, sip_info, lawful_sip_info, sip_info_value};
 
-use asn1_core::prelude::{End, Part, WriteError, WriteRow, Writer, put_within, read_within};
-use asn1_core::{
-    DerDeserialize, DerSerialize, EqualByText, Error, OctetStringAsn1, Reader, TryClone,
-};
+use asn1_core::prelude::*;
 use asn1_leaves::IntegerAsn1;
 use std::alloc::Global;
 
@@ -92,14 +89,8 @@ impl EqualByText for SpcSipInfo {
 
 impl TryClone for SpcSipInfo {
     fn try_clone(&self, alloc: Global) -> Result<Self, Error> {
-        Ok(SpcSipInfo {
-            version: self.version.try_clone(alloc)?,
-            uuid: self.uuid.try_clone(alloc)?,
-            reserved1: self.reserved1.try_clone(alloc)?,
-            reserved2: self.reserved2.try_clone(alloc)?,
-            reserved3: self.reserved3.try_clone(alloc)?,
-            reserved4: self.reserved4.try_clone(alloc)?,
-            reserved5: self.reserved5.try_clone(alloc)?,
+        clone_of!(self, alloc, SpcSipInfo {
+            version, uuid, reserved1, reserved2, reserved3, reserved4, reserved5
         })
     }
 }

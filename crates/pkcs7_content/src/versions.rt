@@ -7,8 +7,7 @@ ghost use Rattle.asn1_core_format.specs.Format.{Gives};
 ghost use Rattle.asn1_core_format.specs.Numbers.{numbers_below, number_below, lawful_number};
 ghost use Rattle.pkcs7_content.specs.Versions.{number_of};
 
-use asn1_core::prelude::{Leaf, WriteError, Writer, put_unsigned, read_leaf};
-use asn1_core::{DerDeserialize, DerSerialize, EqualByText, Error, Reader, TryClone};
+use asn1_core::prelude::*;
 use asn1_core_element::unsigned;
 use std::alloc::Global;
 

@@ -5,10 +5,7 @@ ghost use Rattle.pkcs7_content_ctl.specs.TrustLists.{EntryAttributeValue, entry_
 ghost use Rattle.pkcs7_content_ctl.specs.AttributeValues.{attribute_values_value};
 
 use crate::values::CTLEntryAttributeValues;
-use asn1_core::prelude::{Alone, Part, WriteError, Writer, put_within};
-use asn1_core::{
-    DerDeserialize, DerSerialize, EqualByText, Error, ObjectIdentifierAsn1, Reader, TryClone,
-};
+use asn1_core::prelude::*;
 use asn1_choices::{OidAnd, read_sequence_defined_by};
 use std::alloc::Global;
 
@@ -51,8 +48,6 @@ impl EqualByText for CTLEntryAttribute {
 
 impl TryClone for CTLEntryAttribute {
     fn try_clone(&self, alloc: Global) -> Result<Self, Error> {
-        let oid = self.oid.try_clone(alloc)?;
-        let value = self.value.try_clone(alloc)?;
-        Ok(CTLEntryAttribute { oid, value })
+        clone_of!(self, alloc, CTLEntryAttribute { oid, value })
     }
 }

@@ -5,11 +5,7 @@ ghost use Rattle.pkcs7_content_ctl.specs.Equal.{entry_equal, ctl_equal};
 ghost use Rattle.pkcs7_content_ctl.specs.TrustLists.{EntryValue, entry, lawful_entry, CtlValue, ctl, lawful_ctl, entry_value, ctl_value};
 
 use crate::attributes::CTLEntryAttribute;
-use asn1_core::prelude::{End, Part, WriteError, WriteRow, Writer, put_within, read_within};
-use asn1_core::{
-    Asn1SequenceOf, Asn1SetOf, DerDeserialize, DerSerialize, EqualByText, Error,
-    ObjectIdentifierAsn1, OctetStringAsn1, Reader, TryClone,
-};
+use asn1_core::prelude::*;
 use asn1_leaves::{IntegerAsn1, UTCTimeAsn1};
 use std::alloc::Global;
 use x509_base::AlgorithmIdentifier;
@@ -62,12 +58,7 @@ impl EqualByText for CTLEntry {
 
 impl TryClone for CTLEntry {
     fn try_clone(&self, alloc: Global) -> Result<Self, Error> {
-        let cert_fingerprint = self.cert_fingerprint.try_clone(alloc)?;
-        let attributes = self.attributes.try_clone(alloc)?;
-        Ok(CTLEntry {
-            cert_fingerprint,
-            attributes,
-        })
+        clone_of!(self, alloc, CTLEntry { cert_fingerprint, attributes })
     }
 }
 
@@ -156,17 +147,8 @@ impl EqualByText for Ctl {
 
 impl TryClone for Ctl {
     fn try_clone(&self, alloc: Global) -> Result<Self, Error> {
-        let signers = self.signers.try_clone(alloc)?;
-        let sequence_number = self.sequence_number.try_clone(alloc)?;
-        let effective_date = self.effective_date.try_clone(alloc)?;
-        let digest_algorithm = self.digest_algorithm.try_clone(alloc)?;
-        let crl_entries = self.crl_entries.try_clone(alloc)?;
-        Ok(Ctl {
-            signers,
-            sequence_number,
-            effective_date,
-            digest_algorithm,
-            crl_entries,
+        clone_of!(self, alloc, Ctl {
+            signers, sequence_number, effective_date, digest_algorithm, crl_entries
         })
     }
 }

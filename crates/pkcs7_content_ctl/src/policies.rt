@@ -3,11 +3,7 @@
 ghost use Rattle.pkcs7_content_ctl.specs.Equal.{chain_policy_equal, qualifier_equal, cert_policy_equal};
 ghost use Rattle.pkcs7_content_ctl.specs.Policies.{ChainPolicyValue, chain_policy, lawful_chain_policy, QualifierValue, policy_qualifier, lawful_policy_qualifier, CertPolicyValue, cert_policy, lawful_cert_policy, chain_policy_value, qualifier_value, cert_policy_value};
 
-use asn1_core::prelude::{End, Part, WriteError, WriteRow, Writer, put_within, read_within};
-use asn1_core::{
-    Asn1SequenceOf, DerDeserialize, DerSerialize, EqualByText, Error, ObjectIdentifierAsn1, Reader,
-    TryClone,
-};
+use asn1_core::prelude::*;
 use asn1_leaves::BitStringAsn1;
 use std::alloc::Global;
 
@@ -48,9 +44,7 @@ impl EqualByText for RootProgramChainPolicy {
 
 impl TryClone for RootProgramChainPolicy {
     fn try_clone(&self, alloc: Global) -> Result<Self, Error> {
-        Ok(RootProgramChainPolicy {
-            oid: self.oid.try_clone(alloc)?,
-        })
+        clone_of!(self, alloc, RootProgramChainPolicy { oid })
     }
 }
 
@@ -94,9 +88,7 @@ impl EqualByText for PolicyQualifier {
 
 impl TryClone for PolicyQualifier {
     fn try_clone(&self, alloc: Global) -> Result<Self, Error> {
-        let oid = self.oid.try_clone(alloc)?;
-        let bits = self.bits.try_clone(alloc)?;
-        Ok(PolicyQualifier { oid, bits })
+        clone_of!(self, alloc, PolicyQualifier { oid, bits })
     }
 }
 
@@ -140,8 +132,6 @@ impl EqualByText for CertPolicy {
 
 impl TryClone for CertPolicy {
     fn try_clone(&self, alloc: Global) -> Result<Self, Error> {
-        let oid = self.oid.try_clone(alloc)?;
-        let qualifier = self.qualifier.try_clone(alloc)?;
-        Ok(CertPolicy { oid, qualifier })
+        clone_of!(self, alloc, CertPolicy { oid, qualifier })
     }
 }

@@ -14,11 +14,7 @@ use crate::properties::{
     DISALLOWED_KEY_USAGES, DISALLOWED_TIME, FRIENDLY_NAME, KEY_IDENTIFIER, KEY_USAGES,
     RESERVED_126, RESERVED_127, ROOT_SHA256, SUBJECT_NAME_MD5, Shape, property_number,
 };
-use asn1_core::prelude::{Alone, ReadRow, WriteError, Writer};
-use asn1_core::{
-    Asn1RawDer, Asn1SequenceOf, Asn1SetOf, DerSerialize, EqualByText, Error, ObjectIdentifierAsn1,
-    OctetStringAsn1, OctetStringAsn1Container, Reader, TryClone,
-};
+use asn1_core::prelude::*;
 use asn1_choices::AnyDefinedBy;
 use std::alloc::Global;
 

@@ -9,7 +9,7 @@ use crate::signers::{
     Pkcs7Certificate, SignedData, SignerInfo, SignersInfos, UnsignedAttribute,
     UnsignedAttributeValue, UnsignedAttributes,
 };
-use asn1_core::{Asn1SetOf, EqualByText, Error, ExplicitContextTag0, Optional, TryClone};
+use asn1_core::prelude::*;
 use std::alloc::Global;
 
 impl EqualByText for SignerInfo {
@@ -64,10 +64,7 @@ impl EqualByText for UnsignedAttribute {
 impl TryClone for UnsignedAttribute {
     #[cycle(copy)]
     fn try_clone(&self, alloc: Global) -> Result<Self, Error> {
-        Ok(UnsignedAttribute {
-            ty: self.ty.try_clone(alloc)?,
-            value: self.value.try_clone(alloc)?,
-        })
+        clone_of!(self, alloc, UnsignedAttribute { ty, value })
     }
 }
 
@@ -107,13 +104,8 @@ impl EqualByText for SignedData {
 impl TryClone for SignedData {
     #[cycle(copy)]
     fn try_clone(&self, alloc: Global) -> Result<Self, Error> {
-        Ok(SignedData {
-            version: self.version,
-            digest_algorithms: self.digest_algorithms.try_clone(alloc)?,
-            content_info: self.content_info.try_clone(alloc)?,
-            certificates: self.certificates.try_clone(alloc)?,
-            crls: self.crls.try_clone(alloc)?,
-            signers_infos: self.signers_infos.try_clone(alloc)?,
+        clone_of!(self, alloc, SignedData {
+            digest_algorithms, content_info, certificates, crls, signers_infos; version
         })
     }
 }

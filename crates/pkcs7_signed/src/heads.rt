@@ -6,8 +6,7 @@ ghost use Rattle.asn1_choices.specs.DefinedBy.{only_written};
 ghost use Rattle.pkcs7_signed.specs.Parts.{SignerParts, signer_parts, SignedParts, signed_parts};
 ghost use Rattle.pkcs7_signed.specs.Heads.{signer_head_value, signed_head_value};
 
-use asn1_core::DerSerialize;
-use asn1_core::prelude::{End, Maybe, OmittedRef, Part, WriteError, WriteRow, Writer};
+use asn1_core::prelude::*;
 use pkcs7_content::{CmsVersion, EncapsulatedContentInfo};
 use pkcs7_signed_parts::{
     Attributes, CertificateSet, DigestAlgorithmIdentifier, DigestAlgorithmIdentifiers,

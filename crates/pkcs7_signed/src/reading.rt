@@ -23,19 +23,9 @@ use crate::signers::{
     Kind, Pkcs7Certificate, SignedData, SignerInfo, SignersInfos, UnsignedAttribute,
     UnsignedAttributeValue, UnsignedAttributes, signers_formed_below,
 };
-use asn1_core::prelude::{
-    Alone, Leaf, Maybe, Omitted, Part, ReadRow, TagsApart, WriteError, WriteRow, Writer, read_leaf,
-    read_within,
-};
-use asn1_core::{
-    Asn1RawDer, Asn1SetOf, DerDeserialize, DerSerialize, Error, ExplicitContextTag0, FixedVersion,
-    ObjectIdentifier, ObjectIdentifierAsn1, Optional, Reader,
-};
+use asn1_core::prelude::*;
 use asn1_core_element::element::open_element;
-use asn1_core_format::{
-    SetOrNone, Tail, read_row_within_with, read_set_below_with, read_set_or_none_with,
-    read_set_with,
-};
+use asn1_core_format::{SetOrNone, Tail, read_row_within_with, read_set_below_with, read_set_or_none_with, read_set_with};
 use pkcs7_content::{CmsVersion, EncapsulatedContentInfo};
 use pkcs7_signed_parts::{
     Attributes, CertificateSet, DigestAlgorithmIdentifier, DigestAlgorithmIdentifiers,

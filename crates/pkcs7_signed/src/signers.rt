@@ -13,11 +13,7 @@ ghost use Rattle.pkcs7_signed.specs.declared.signers.UnsignedAttributes.{out-Uns
 
 use crate::heads::{SignedHead, SignerHead};
 use crate::oids::{COUNTERSIGNATURE, MS_COUNTER_SIGN, SIGNED_DATA};
-use asn1_core::prelude::{Alone, Part, WriteError, WriteRow, Writer, put_within};
-use asn1_core::{
-    Asn1RawDer, Asn1SetOf, DerSerialize, ExplicitContextTag0, ObjectIdentifier,
-    ObjectIdentifierAsn1, Optional,
-};
+use asn1_core::prelude::*;
 use asn1_core_oid::is_oid_of;
 use pkcs7_content::{CmsVersion, EncapsulatedContentInfo};
 use pkcs7_signed_parts::{

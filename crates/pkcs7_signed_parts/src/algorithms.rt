@@ -8,8 +8,7 @@ ghost use Rattle.x509_base.specs.Equal.{algorithm_equal};
 ghost use Rattle.pkcs7_signed_parts.specs.Algorithms.{algorithms_value, algorithms, lawful_algorithms};
 ghost use Rattle.pkcs7_signed_parts.specs.Equal.{algorithms_equal};
 
-use asn1_core::prelude::{WriteError, Writer};
-use asn1_core::{Asn1SetOf, DerDeserialize, DerSerialize, EqualByText, Error, Reader, TryClone};
+use asn1_core::prelude::*;
 use std::alloc::Global;
 use x509_base::AlgorithmIdentifier;
 

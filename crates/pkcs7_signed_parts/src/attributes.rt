@@ -7,13 +7,7 @@ ghost use Rattle.pkcs7_signed_parts.specs.Attributes.{attributes_value, attribut
 ghost use Rattle.pkcs7_signed_parts.specs.Equal.{attributes_equal};
 
 use crate::algorithms::SignatureAlgorithmIdentifier;
-use asn1_core::prelude::{
-    ApartFrom, FirstTags, HasDefault, WriteError, WriteRow, Writer, is_left_out, put_within,
-    read_within,
-};
-use asn1_core::{
-    Asn1SequenceOf, DerDeserialize, DerSerialize, EqualByText, Error, Reader, TryClone,
-};
+use asn1_core::prelude::*;
 use std::alloc::Global;
 use x509_base::Attribute;
 

@@ -9,13 +9,7 @@ ghost use Rattle.pkcs7_signed_parts.specs.CertificateLists.{list_value, TbsListV
 ghost use Rattle.pkcs7_signed_parts.specs.Equal.{tbs_list_equal, certificate_list_equal};
 
 use crate::revoked::RevokedCertificates;
-use asn1_core::prelude::{
-    ApartFrom, End, FirstTags, Maybe, Part, WriteError, WriteRow, Writer, put_within, read_within,
-};
-use asn1_core::{
-    DerDeserialize, DerSerialize, EqualByText, Error, ExplicitContextTag0, FixedVersion, Reader,
-    TryClone,
-};
+use asn1_core::prelude::*;
 use asn1_leaves::BitStringAsn1;
 use std::alloc::Global;
 use x509_base::{AlgorithmIdentifier, Extensions, Name, Time, Version};
@@ -141,20 +135,9 @@ impl EqualByText for TbsCertList {
 
 impl TryClone for TbsCertList {
     fn try_clone(&self, alloc: Global) -> Result<Self, Error> {
-        let signature = self.signature.try_clone(alloc)?;
-        let issuer = self.issuer.try_clone(alloc)?;
-        let this_update = self.this_update.try_clone(alloc)?;
-        let next_update = self.next_update.try_clone(alloc)?;
-        let revoked_certificates = self.revoked_certificates.try_clone(alloc)?;
-        let crl_extension = self.crl_extension.try_clone(alloc)?;
-        Ok(TbsCertList {
-            version: self.version,
-            signature,
-            issuer,
-            this_update,
-            next_update,
-            revoked_certificates,
-            crl_extension,
+        clone_of!(self, alloc, TbsCertList {
+            signature, issuer, this_update, next_update, revoked_certificates, crl_extension;
+            version
         })
     }
 }
@@ -214,13 +197,8 @@ impl EqualByText for CertificateList {
 
 impl TryClone for CertificateList {
     fn try_clone(&self, alloc: Global) -> Result<Self, Error> {
-        let tbs_cert_list = self.tbs_cert_list.try_clone(alloc)?;
-        let signature_algorithm = self.signature_algorithm.try_clone(alloc)?;
-        let signature_value = self.signature_value.try_clone(alloc)?;
-        Ok(CertificateList {
-            tbs_cert_list,
-            signature_algorithm,
-            signature_value,
+        clone_of!(self, alloc, CertificateList {
+            tbs_cert_list, signature_algorithm, signature_value
         })
     }
 }

@@ -8,13 +8,7 @@ ghost use Rattle.asn1_core_format.specs.TaggedLaws.{within_tagged};
 ghost use Rattle.pkcs7_signed_parts.specs.Certificates.{CertificateValue, certificate_value, certificate_choice, lawful_certificate_choice, certificates_value, certificate_set, lawful_certificate_set, no_certificates, no_certificates_left_out};
 ghost use Rattle.pkcs7_signed_parts.specs.Equal.{certificate_equal, certificates_equal};
 
-use asn1_core::prelude::{
-    HasDefault, WriteError, WriteRow, Writer, is_left_out, put_within, read_row_contents,
-    read_within,
-};
-use asn1_core::{
-    Asn1RawDer, DerDeserialize, DerSerialize, DerTagged, EqualByText, Error, Reader, TryClone,
-};
+use asn1_core::prelude::*;
 use std::alloc::Global;
 
 /// `CertificateChoices ::= CHOICE { certificate Certificate, extendedCertificate [0] .., v1AttrCert [1] .., v2AttrCert [2]

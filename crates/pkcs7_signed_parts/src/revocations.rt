@@ -9,14 +9,7 @@ ghost use Rattle.pkcs7_signed_parts.specs.Revocations.{OtherFormatValue, other_f
 
 use crate::certificate_lists::CertificateList;
 use crate::certificates::CertificateSet;
-use asn1_core::prelude::{
-    ApartFrom, Either, End, Part, WriteError, WriteRow, Writer, put_within, read_row_contents,
-    read_within,
-};
-use asn1_core::{
-    DerDeserialize, DerSerialize, DerTagged, EqualByText, Error, ImplicitContextTag1, Null,
-    ObjectIdentifierAsn1, Reader, TryClone,
-};
+use asn1_core::prelude::*;
 use std::alloc::Global;
 
 /// `OtherRevocationInfoFormat ::= SEQUENCE { otherRevInfoFormat OBJECT IDENTIFIER, otherRevInfo ANY DEFINED BY

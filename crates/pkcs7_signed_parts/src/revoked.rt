@@ -6,13 +6,7 @@ ghost use Rattle.pkcs7_signed_parts.specs.Equal.{revoked_equal, all_revoked_equa
 ghost use Rattle.pkcs7_signed_parts.specs.Revoked.{RevokedValue, revoked_value, revoked, lawful_revoked, all_revoked_value, all_revoked, lawful_all_revoked};
 
 use crate::signers::CertificateSerialNumber;
-use asn1_core::prelude::{
-    ApartFrom, End, FirstTags, Maybe, Part, WriteError, WriteRow, Writer, put_within, read_within,
-};
-use asn1_core::{
-    Asn1SequenceOf, DerDeserialize, DerSerialize, EqualByText, Error, ExplicitContextTag0, Reader,
-    TryClone,
-};
+use asn1_core::prelude::*;
 use std::alloc::Global;
 use x509_base::{Extensions, Time};
 
@@ -77,13 +71,8 @@ impl EqualByText for RevokedCertificate {
 
 impl TryClone for RevokedCertificate {
     fn try_clone(&self, alloc: Global) -> Result<Self, Error> {
-        let user_certificate = self.user_certificate.try_clone(alloc)?;
-        let revocation_data = self.revocation_data.try_clone(alloc)?;
-        let crl_entry_extensions = self.crl_entry_extensions.try_clone(alloc)?;
-        Ok(RevokedCertificate {
-            user_certificate,
-            revocation_data,
-            crl_entry_extensions,
+        clone_of!(self, alloc, RevokedCertificate {
+            user_certificate, revocation_data, crl_entry_extensions
         })
     }
 }

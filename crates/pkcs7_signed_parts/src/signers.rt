@@ -7,13 +7,7 @@ ghost use Rattle.asn1_leaves.specs.Integers.{integer, lawful_integer};
 ghost use Rattle.pkcs7_signed_parts.specs.Equal.{serial_equal, issuer_serial_equal, signer_id_equal};
 ghost use Rattle.pkcs7_signed_parts.specs.Signers.{serial_number, IssuerSerialValue, issuer_serial_value, issuer_serial, lawful_issuer_serial, SignerIdValue, signer_id_value, signer_id, lawful_signer_id};
 
-use asn1_core::prelude::{
-    ApartFrom, Either, End, FirstTags, Part, WriteError, WriteRow, Writer, put_within, read_within,
-};
-use asn1_core::{
-    DerDeserialize, DerSerialize, DerTagged, EqualByText, Error, ImplicitContextTag0,
-    OctetStringAsn1, Reader, TryClone,
-};
+use asn1_core::prelude::*;
 use asn1_leaves::IntegerAsn1;
 use std::alloc::Global;
 use x509_base::{Name, SubjectKeyIdentifier};
@@ -110,12 +104,7 @@ impl EqualByText for IssuerAndSerialNumber {
 
 impl TryClone for IssuerAndSerialNumber {
     fn try_clone(&self, alloc: Global) -> Result<Self, Error> {
-        let issuer = self.issuer.try_clone(alloc)?;
-        let serial_number = self.serial_number.try_clone(alloc)?;
-        Ok(IssuerAndSerialNumber {
-            issuer,
-            serial_number,
-        })
+        clone_of!(self, alloc, IssuerAndSerialNumber { issuer, serial_number })
     }
 }
 

@@ -10,14 +10,8 @@ ghost use Rattle.x509_base.specs.OtherAlgorithms.{other_algorithm, lawful_other_
 ghost use Rattle.x509_base.specs.AlgorithmLaws.{lawful_algorithm_identifier, lawful_raw_algorithm_identifier};
 
 use asn1_choices::{AnyOid, ReadChoice, WriteChoice};
-use asn1_core::{
-    Asn1RawDer, DerDeserialize, DerSerialize, EqualByText, Error, FixedVersion, KnownOid, Null,
-    ObjectIdentifier, ObjectIdentifierAsn1, OidRef, Reader, TryClone,
-};
-use asn1_core_format::{
-    Alone, ApartFrom, End, FirstTags, Maybe, Part, WriteRow, put_within, read_within,
-};
-use asn1_core_writers::{WriteError, Writer};
+use asn1_core::prelude::*;
+use asn1_core::OidRef;
 use std::alloc::Global;
 
 type AlgorithmRow = Part<ObjectIdentifierAsn1, Maybe<Asn1RawDer, End>>;
@@ -101,12 +95,7 @@ impl EqualByText for AlgorithmIdentifier {
 
 impl TryClone for AlgorithmIdentifier {
     fn try_clone(&self, alloc: Global) -> Result<Self, Error> {
-        let algorithm = self.algorithm.try_clone(alloc)?;
-        let parameters = self.parameters.try_clone(alloc)?;
-        Ok(Self {
-            algorithm,
-            parameters,
-        })
+        clone_of!(self, alloc, Self { algorithm, parameters })
     }
 }
 
@@ -214,8 +203,7 @@ impl EqualByText for RawAlgorithmIdentifier {
 
 impl TryClone for RawAlgorithmIdentifier {
     fn try_clone(&self, alloc: Global) -> Result<Self, Error> {
-        let parts = self.parts.try_clone(alloc)?;
-        Ok(RawAlgorithmIdentifier { parts })
+        clone_of!(self, alloc, RawAlgorithmIdentifier { parts })
     }
 }
 

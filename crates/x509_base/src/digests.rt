@@ -6,11 +6,7 @@ ghost use Rattle.asn1_core_format.specs.TaggedLaws.{leaf_tagged};
 ghost use Rattle.x509_base.specs.Digests.{DigestInfoValue, digest_info, lawful_digest_info};
 
 use crate::algorithms::AlgorithmIdentifier;
-use asn1_core::{
-    DerDeserialize, DerSerialize, DerTagged, EqualByText, Error, OctetStringAsn1, Reader, TryClone,
-};
-use asn1_core_format::{End, Part, WriteRow, put_within, read_within};
-use asn1_core_writers::{WriteError, Writer};
+use asn1_core::prelude::*;
 use std::alloc::Global;
 
 /// `DigestInfo ::= SEQUENCE { digestAlgorithm AlgorithmIdentifier, digest OCTET STRING }`
@@ -53,9 +49,7 @@ impl EqualByText for DigestInfo {
 
 impl TryClone for DigestInfo {
     fn try_clone(&self, alloc: Global) -> Result<Self, Error> {
-        let oid = self.oid.try_clone(alloc)?;
-        let digest = self.digest.try_clone(alloc)?;
-        Ok(DigestInfo { oid, digest })
+        clone_of!(self, alloc, DigestInfo { oid, digest })
     }
 }
 

@@ -6,15 +6,7 @@ ghost use Rattle.x509_base.specs.Booleans.{booleans, boolean, lawful_boolean, ex
 ghost use Rattle.x509_base.specs.Equal.{extension_equal, extensions_equal};
 ghost use Rattle.x509_base.specs.Extensions.{ExtensionValue, extension_value, extension, extensions_value, extensions, lawful_extension, lawful_extensions};
 
-use asn1_core::{
-    DerDeserialize, DerSerialize, EqualByText, Error, ObjectIdentifierAsn1, OctetStringAsn1,
-    Reader, TryClone,
-};
-use asn1_core_format::{
-    ApartFrom, End, FirstTags, HasDefault, Leaf, Omitted, Part, WriteRow, put_within, read_leaf,
-    read_within,
-};
-use asn1_core_writers::{WriteError, Writer, put_element};
+use asn1_core::prelude::*;
 use std::alloc::Global;
 
 /// BOOLEAN (X.690, 8.2 and 11.1), with FALSE as what absence stands for.
@@ -141,13 +133,7 @@ impl EqualByText for Extension {
 
 impl TryClone for Extension {
     fn try_clone(&self, alloc: Global) -> Result<Self, Error> {
-        let extn_id = self.extn_id.try_clone(alloc)?;
-        let extn_value = self.extn_value.try_clone(alloc)?;
-        Ok(Extension {
-            extn_id,
-            critical: self.critical,
-            extn_value,
-        })
+        clone_of!(self, alloc, Extension { extn_id, extn_value; critical })
     }
 }
 

@@ -3,12 +3,7 @@
 ghost use Rattle.x509_base.specs.Equal.{name_value_equal, name_equal, attribute_equal};
 ghost use Rattle.x509_base.specs.Names.{NameValueValue, name_value_value, name_value, NameParts, name_parts, name, AttributeValue, attribute_value, attribute, lawful_name_value, lawful_name, lawful_attribute};
 
-use asn1_core::{
-    Asn1RawDer, Asn1SequenceOf, Asn1SetOf, DerDeserialize, DerSerialize, EqualByText, Error,
-    ObjectIdentifierAsn1, Reader, TryClone,
-};
-use asn1_core_format::{End, FirstTags, Part, WriteRow, put_within, read_within};
-use asn1_core_writers::{WriteError, Writer};
+use asn1_core::prelude::*;
 use std::alloc::Global;
 
 /// `AttributeTypeAndValue ::= SEQUENCE { type OBJECT IDENTIFIER, value ANY }`
@@ -51,9 +46,7 @@ impl EqualByText for NameValue {
 
 impl TryClone for NameValue {
     fn try_clone(&self, alloc: Global) -> Result<Self, Error> {
-        let ty = self.ty.try_clone(alloc)?;
-        let value = self.value.try_clone(alloc)?;
-        Ok(NameValue { ty, value })
+        clone_of!(self, alloc, NameValue { ty, value })
     }
 }
 
@@ -141,8 +134,6 @@ impl EqualByText for Attribute {
 
 impl TryClone for Attribute {
     fn try_clone(&self, alloc: Global) -> Result<Self, Error> {
-        let ty = self.ty.try_clone(alloc)?;
-        let value = self.value.try_clone(alloc)?;
-        Ok(Attribute { ty, value })
+        clone_of!(self, alloc, Attribute { ty, value })
     }
 }

@@ -7,12 +7,8 @@ ghost use Rattle.std.proofs.Common.{arith, ⊎_elim};
 ghost use Rattle.x509_base.specs.Equal.{time_equal};
 ghost use Rattle.x509_base.specs.Times.{TimeValue, time, time_of, lawful_time};
 
-use asn1_core::{
-    DerDeserialize, DerSerialize, EqualByText, Error, ExplicitContextTag0, Reader, TryClone,
-};
+use asn1_core::prelude::*;
 use asn1_core_format::rows::next_is;
-use asn1_core_format::{ApartFrom, FirstTags};
-use asn1_core_writers::{WriteError, Writer};
 use asn1_leaves::{GeneralizedTimeAsn1, UTCTimeAsn1};
 use std::alloc::Global;
 

@@ -7,10 +7,8 @@ ghost use Rattle.asn1_core_format.specs.Numbers.{numbers_below, number_below, la
 ghost use Rattle.x509_base.specs.Equal.{version_equal};
 ghost use Rattle.x509_base.specs.Versions.{number_of};
 
-use asn1_core::{DerDeserialize, DerSerialize, EqualByText, Error, Reader, TryClone};
-use asn1_core_format::{FirstTags, Leaf, read_leaf};
+use asn1_core::prelude::*;
 use asn1_core_element::unsigned;
-use asn1_core_writers::{WriteError, Writer, put_unsigned};
 use std::alloc::Global;
 
 /// `Version ::= INTEGER { v1(0), v2(1), v3(2) }`

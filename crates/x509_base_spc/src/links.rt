@@ -5,12 +5,7 @@ ghost use Rattle.std.proofs.Common.{rules, arith, ⊎_elim};
 ghost use Rattle.x509_base_spc.specs.Links.{StringValue, LinkValue, spc_string, url, moniker, file, spc_link, lawful_spc_string, lawful_url, lawful_moniker, lawful_file, lawful_spc_link, string_value, link_value};
 
 use crate::objects::SpcSerializedObject;
-use asn1_core::{
-    DerDeserialize, DerSerialize, EqualByText, Error, ExplicitContextTag2, ImplicitContextTag0,
-    ImplicitContextTag1, Optional, Reader, TryClone,
-};
-use asn1_core_format::{ApartFrom, Either, FirstTags};
-use asn1_core_writers::{WriteError, Writer};
+use asn1_core::prelude::*;
 use asn1_leaves::{BMPStringAsn1, IA5StringAsn1};
 use std::alloc::Global;
 

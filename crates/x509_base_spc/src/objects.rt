@@ -7,11 +7,7 @@ ghost use Rattle.asn1_core.specs.Octets.{octet_string, lawful_octet_string};
 ghost use Rattle.asn1_core_format.specs.TaggedLaws.{within_tagged};
 ghost use Rattle.x509_base_spc.specs.Objects.{SerializedObjectValue, serialized_object_row, serialized_object, lawful_serialized_object, page_hash_class};
 
-use asn1_core::{
-    DerDeserialize, DerSerialize, DerTagged, EqualByText, Error, OctetStringAsn1, Reader, TryClone,
-};
-use asn1_core_format::{End, Part, WriteRow, put_within, read_row_contents, read_within};
-use asn1_core_writers::{WriteError, Writer};
+use asn1_core::prelude::*;
 use std::alloc::Global;
 
 /// The class of page hashes.
@@ -150,11 +146,6 @@ impl EqualByText for SpcSerializedObject {
 
 impl TryClone for SpcSerializedObject {
     fn try_clone(&self, alloc: Global) -> Result<Self, Error> {
-        let class_id = self.class_id.try_clone(alloc)?;
-        let serialized_data = self.serialized_data.try_clone(alloc)?;
-        Ok(SpcSerializedObject {
-            class_id,
-            serialized_data,
-        })
+        clone_of!(self, alloc, SpcSerializedObject { class_id, serialized_data })
     }
 }

@@ -5,12 +5,7 @@ ghost use Rattle.asn1_core_format.specs.Rows.{option_value};
 ghost use Rattle.x509_base_spc.specs.Links.{OpusInfoValue, opus_info, lawful_opus_info, string_value, link_value};
 
 use crate::links::{SpcLink, SpcString};
-use asn1_core::{
-    DerDeserialize, DerSerialize, EqualByText, Error, ExplicitContextTag0, ExplicitContextTag1,
-    Reader, TryClone,
-};
-use asn1_core_format::{End, FirstTags, Maybe, WriteRow, put_within, read_within};
-use asn1_core_writers::{WriteError, Writer};
+use asn1_core::prelude::*;
 use std::alloc::Global;
 
 /// `SpcSpOpusInfo ::= SEQUENCE { programName [0] EXPLICIT SpcString OPTIONAL, moreInfo [1] EXPLICIT SpcLink OPTIONAL }`
@@ -66,11 +61,6 @@ impl EqualByText for SpcSpOpusInfo {
 
 impl TryClone for SpcSpOpusInfo {
     fn try_clone(&self, alloc: Global) -> Result<Self, Error> {
-        let program_name = self.program_name.try_clone(alloc)?;
-        let more_info = self.more_info.try_clone(alloc)?;
-        Ok(SpcSpOpusInfo {
-            program_name,
-            more_info,
-        })
+        clone_of!(self, alloc, SpcSpOpusInfo { program_name, more_info })
     }
 }

@@ -9,7 +9,7 @@ ghost use Rattle.x509_base_spc.specs.Texts.{StringGives, obsolete};
 ghost use Rattle.x509_base_spc.specs.Links.{string_value, link_value};
 
 use crate::links::{File, SpcLink, SpcString};
-use asn1_core::{Error, ExplicitContextTag2, ImplicitContextTag0, Optional};
+use asn1_core::prelude::*;
 use asn1_leaves::{BmpString, BmpStringAsn1, StringError};
 use std::alloc::Global;
 

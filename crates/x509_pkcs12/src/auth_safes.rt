@@ -11,11 +11,7 @@ ghost use Rattle.x509_pkcs12.specs.declared.auth_safes.AuthenticatedSafeContentI
 use crate::contents::{AnyContent, AnyContentRef};
 use crate::representations::{AuthenticatedSafeDataRepr, ReprRef};
 use asn1_choices::{AnyOid, AnyOidRef, Arm, Chosen, WriteChoice};
-use asn1_core::{
-    Asn1RawDer, DerDeserialize, DerSerialize, EqualByText, Error, ExplicitContextTag0,
-    ObjectIdentifier, OctetStringAsn1Container, Reader, TryClone, WriteError, Writer,
-};
-use asn1_core_format::{Alone, Either, FirstTags, put_within, read_within};
+use asn1_core::prelude::*;
 use std::alloc::Global;
 use x509_pkcs12_parts::oids::{Known, PKCS7_DATA};
 

@@ -7,14 +7,7 @@ ghost use Rattle.x509_pkcs12.specs.Contents.{AnyContentValue, any_content, Conte
 ghost use Rattle.x509_pkcs12.specs.ContentsEqual.{content_info_equal};
 
 use asn1_choices::{AnyOid, AnyOidRef, Arm, Chosen, WriteChoice};
-use asn1_core::{
-    Asn1RawDer, DerDeserialize, DerSerialize, EqualByText, Error, ExplicitContextTag0,
-    FixedVersion, ObjectIdentifier, OctetStringAsn1Container, Reader, TryClone,
-};
-use asn1_core_format::{
-    Alone, Either, End, Maybe, Part, ReadRow, WriteRow, put_within, read_within,
-};
-use asn1_core_writers::{WriteError, Writer};
+use asn1_core::prelude::*;
 use std::alloc::Global;
 use x509_pkcs12_bags::SafeContents;
 use x509_pkcs12_parts::EncryptedSafeContents;

@@ -9,10 +9,7 @@ ghost use Rattle.x509_pkcs12.specs.Parsed.{parsed, lawful_parsed};
 
 use crate::contents::SafeContentsContentInfo;
 use crate::representations::AuthenticatedSafeDataRepr;
-use asn1_core::{
-    DerDeserialize, DerSerialize, EqualByText, Error, Reader, TryClone, WriteError, Writer,
-};
-use asn1_core_format::{WriteRow, put_within, read_within};
+use asn1_core::prelude::*;
 use std::alloc::Global;
 
 /// `AuthenticatedSafe ::= SEQUENCE OF ContentInfo` (RFC 7292, 4.1).
@@ -52,8 +49,7 @@ impl EqualByText for ParsedAuthenticatedSafeDataRepr {
 
 impl TryClone for ParsedAuthenticatedSafeDataRepr {
     fn try_clone(&self, alloc: Global) -> Result<Self, Error> {
-        let contents = self.contents.try_clone(alloc)?;
-        Ok(ParsedAuthenticatedSafeDataRepr { contents })
+        clone_of!(self, alloc, ParsedAuthenticatedSafeDataRepr { contents })
     }
 }
 

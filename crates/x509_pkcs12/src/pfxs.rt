@@ -13,11 +13,7 @@ ghost use Rattle.x509_pkcs12.specs.Pfxs.{PfxValue, pfx, lawful_pfx};
 
 use crate::auth_safes::AuthenticatedSafeContentInfo;
 use crate::representations::AuthenticatedSafeDataRepr;
-use asn1_core::{
-    DerDeserialize, DerSerialize, EqualByText, Error, FixedVersion, Reader, TryClone, WriteError,
-    Writer,
-};
-use asn1_core_format::{End, FirstTags, Maybe, Part, WriteRow, put_within, read_within};
+use asn1_core::prelude::*;
 use pkcs12_algs::MacData;
 use std::alloc::Global;
 
@@ -81,12 +77,6 @@ impl<R: AuthenticatedSafeDataRepr> EqualByText for Pfx<R> {
 
 impl<R: AuthenticatedSafeDataRepr> TryClone for Pfx<R> {
     fn try_clone(&self, alloc: Global) -> Result<Self, Error> {
-        let auth_safe = self.auth_safe.try_clone(alloc)?;
-        let mac_data = self.mac_data.try_clone(alloc)?;
-        Ok(Pfx {
-            version: self.version,
-            auth_safe,
-            mac_data,
-        })
+        clone_of!(self, alloc, Pfx { auth_safe, mac_data; version })
     }
 }

@@ -9,10 +9,7 @@ ghost use Rattle.x509_pkcs12.specs.MacOctets.{mac_octets};
 use crate::auth_safes::AuthenticatedSafeContentInfo;
 use crate::pfxs::Pfx;
 use crate::representations::AuthenticatedSafeDataRepr;
-use asn1_core::{
-    Asn1RawDer, DerDeserialize, DerSerialize, EqualByText, Error, Reader, TryClone, WriteError,
-    Writer,
-};
+use asn1_core::prelude::*;
 use std::alloc::Global;
 
 /// One element, which is not looked into, so that the octets that a MAC covers stay as they are.
@@ -60,8 +57,7 @@ impl EqualByText for RawAuthenticatedSafeDataRepr {
 
 impl TryClone for RawAuthenticatedSafeDataRepr {
     fn try_clone(&self, alloc: Global) -> Result<Self, Error> {
-        let raw = self.raw.try_clone(alloc)?;
-        Ok(RawAuthenticatedSafeDataRepr { raw })
+        clone_of!(self, alloc, RawAuthenticatedSafeDataRepr { raw })
     }
 }
 

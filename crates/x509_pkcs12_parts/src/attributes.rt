@@ -9,12 +9,7 @@ ghost use Rattle.x509_pkcs12_parts.specs.AttributesEqual.{attribute_equal};
 use crate::oids::{FRIENDLY_NAME, Known, LOCAL_KEY_ID};
 use crate::sets::{SetOfOne, SetRef};
 use asn1_choices::{AnyOid, AnyOidRef, Arm, Chosen, WriteChoice};
-use asn1_core::{
-    Asn1RawDer, Asn1SetOf, DerDeserialize, DerSerialize, EqualByText, Error, ObjectIdentifier,
-    OctetStringAsn1, Reader, TryClone,
-};
-use asn1_core_format::{Alone, Either, End, Maybe, ReadRow, WriteRow, put_within, read_within};
-use asn1_core_writers::{WriteError, Writer, put_element};
+use asn1_core::prelude::*;
 use asn1_leaves::{BmpString, BmpStringAsn1};
 use std::alloc::Global;
 

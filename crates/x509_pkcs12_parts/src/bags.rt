@@ -7,12 +7,8 @@ ghost use Rattle.x509_pkcs12_parts.specs.BagsEqual.{secret_equal, encrypted_key_
 
 use crate::oids::{Known, X509_CERTIFICATE, X509_CRL};
 use asn1_choices::{AnyOid, AnyOidRef, Arm, Chosen, WriteChoice};
-use asn1_core::{
-    Asn1RawDer, DerDeserialize, DerSerialize, EqualByText, Error, ExplicitContextTag0,
-    ObjectIdentifier, ObjectIdentifierAsn1, OctetStringAsn1, OidRef, Reader, TryClone,
-};
-use asn1_core_format::{Alone, Either, End, Part, WriteRow, put_within, read_within};
-use asn1_core_writers::{WriteError, Writer};
+use asn1_core::prelude::*;
+use asn1_core::OidRef;
 use pkcs12_algs::Pkcs12EncryptionAlgorithm;
 use std::alloc::Global;
 
@@ -166,9 +162,7 @@ impl EqualByText for SecretBag {
 
 impl TryClone for SecretBag {
     fn try_clone(&self, alloc: Global) -> Result<Self, Error> {
-        let type_id = self.type_id.try_clone(alloc)?;
-        let value = self.value.try_clone(alloc)?;
-        Ok(SecretBag { type_id, value })
+        clone_of!(self, alloc, SecretBag { type_id, value })
     }
 }
 
@@ -221,11 +215,6 @@ impl EqualByText for EncryptedKeyBag {
 
 impl TryClone for EncryptedKeyBag {
     fn try_clone(&self, alloc: Global) -> Result<Self, Error> {
-        let algorithm = self.algorithm.try_clone(alloc)?;
-        let encrypted_data = self.encrypted_data.try_clone(alloc)?;
-        Ok(EncryptedKeyBag {
-            algorithm,
-            encrypted_data,
-        })
+        clone_of!(self, alloc, EncryptedKeyBag { algorithm, encrypted_data })
     }
 }

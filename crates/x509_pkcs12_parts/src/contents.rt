@@ -6,12 +6,7 @@ ghost use Rattle.x509_pkcs12_parts.specs.Contents.{only_octets, fixed_oid, encry
 ghost use Rattle.x509_pkcs12_parts.specs.ContentsEqual.{encrypted_contents_equal};
 
 use crate::oids::DATA;
-use asn1_core::{
-    DerDeserialize, DerSerialize, DerTagged, EqualByText, Error, ImplicitContextTag0,
-    OctetStringAsn1, Reader, TryClone,
-};
-use asn1_core_format::{End, Leaf, Maybe, Part, WriteRow, put_within, read_leaf, read_within};
-use asn1_core_writers::{WriteError, Writer, put_element};
+use asn1_core::prelude::*;
 use pkcs12_algs::Pkcs12EncryptionAlgorithm;
 use std::alloc::Global;
 
@@ -151,11 +146,6 @@ impl EqualByText for EncryptedSafeContents {
 
 impl TryClone for EncryptedSafeContents {
     fn try_clone(&self, alloc: Global) -> Result<Self, Error> {
-        let algorithm = self.algorithm.try_clone(alloc)?;
-        let encrypted_content = self.encrypted_content.try_clone(alloc)?;
-        Ok(EncryptedSafeContents {
-            algorithm,
-            encrypted_content,
-        })
+        clone_of!(self, alloc, EncryptedSafeContents { algorithm, encrypted_content })
     }
 }

@@ -6,9 +6,7 @@ ghost use Rattle.asn1_core_format.specs.Rows.{within};
 ghost use Rattle.asn1_core_format.specs.RowLaws.{lawful_within};
 ghost use Rattle.asn1_core_format.specs.Sequences.{set_of};
 
-use asn1_core::{DerDeserialize, DerSerialize, Error, Reader};
-use asn1_core_format::{Alone, ReadRow, WriteRow, put_within, read_within};
-use asn1_core_writers::{WriteError, Writer};
+use asn1_core::prelude::*;
 use std::alloc::Global;
 
 /// `SET (SIZE (1)) OF T`

@@ -3,11 +3,7 @@
 ghost use Rattle.x509_pkcs7.specs.Descriptors.{DescriptorValue, descriptor_value, descriptor, lawful_descriptor, GeneralDescriptorValue, general_descriptor_value, general_descriptor, lawful_general_descriptor};
 ghost use Rattle.x509_pkcs7.specs.Equal.{descriptor_equal, general_descriptor_equal};
 
-use asn1_core::prelude::{End, Part, WriteError, WriteRow, Writer, put_within, read_within};
-use asn1_core::{
-    Asn1SequenceOf, DerDeserialize, DerSerialize, EqualByText, Error, ObjectIdentifierAsn1, Reader,
-    TryClone,
-};
+use asn1_core::prelude::*;
 use asn1_leaves::Utf8StringAsn1;
 use std::alloc::Global;
 
@@ -58,12 +54,7 @@ impl EqualByText for ProtectionDescriptor {
 
 impl TryClone for ProtectionDescriptor {
     fn try_clone(&self, alloc: Global) -> Result<Self, Error> {
-        let descriptor_type = self.descriptor_type.try_clone(alloc)?;
-        let descriptor_value = self.descriptor_value.try_clone(alloc)?;
-        Ok(ProtectionDescriptor {
-            descriptor_type,
-            descriptor_value,
-        })
+        clone_of!(self, alloc, ProtectionDescriptor { descriptor_type, descriptor_value })
     }
 }
 
@@ -117,11 +108,6 @@ impl EqualByText for GeneralProtectionDescriptor {
 
 impl TryClone for GeneralProtectionDescriptor {
     fn try_clone(&self, alloc: Global) -> Result<Self, Error> {
-        let descriptor_type = self.descriptor_type.try_clone(alloc)?;
-        let descriptors = self.descriptors.try_clone(alloc)?;
-        Ok(GeneralProtectionDescriptor {
-            descriptor_type,
-            descriptors,
-        })
+        clone_of!(self, alloc, GeneralProtectionDescriptor { descriptor_type, descriptors })
     }
 }

@@ -8,13 +8,7 @@ ghost use Rattle.x509_pkcs7.specs.Equal.{encrypted_content_equal, originator_equ
 
 use crate::contents::ContentType;
 use crate::recipients::RecipientInfo;
-use asn1_core::prelude::{
-    End, Maybe, Part, WriteError, WriteRow, Writer, put_within, read_row_contents, read_within,
-};
-use asn1_core::{
-    Asn1SetOf, DerDeserialize, DerSerialize, DerTagged, EqualByText, Error, ImplicitContextTag0,
-    ImplicitContextTag1, OctetStringAsn1, Optional, Reader,
-};
+use asn1_core::prelude::*;
 use pkcs7_content::CmsVersion;
 use pkcs7_signed_parts::{CertificateSet, RevocationInfoChoices};
 use std::alloc::Global;

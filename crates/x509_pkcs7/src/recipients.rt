@@ -6,14 +6,7 @@ ghost use Rattle.asn1_core_format.specs.TaggedLaws.{within_tagged};
 ghost use Rattle.x509_pkcs7.specs.Equal.{other_key_equal, kek_id_equal, kek_recipient_equal, recipient_equal};
 ghost use Rattle.x509_pkcs7.specs.Recipients.{OtherKeyValue, other_key_value, other_key, lawful_other_key, KekIdValue, kek_id_value, kek_id, lawful_kek_id, KekRecipientValue, kek_recipient_value, kek_recipient_row, kek_recipient, lawful_kek_recipient, recipient_value, recipient, lawful_recipient};
 
-use asn1_core::prelude::{
-    ApartFrom, End, FirstTags, Maybe, Part, WriteError, WriteRow, Writer, put_within,
-    read_retagged, read_row_contents, read_within,
-};
-use asn1_core::{
-    Asn1RawDer, DerDeserialize, DerSerialize, DerTagged, EqualByText, Error, ObjectIdentifierAsn1,
-    OctetStringAsn1, Optional, Reader, TryClone,
-};
+use asn1_core::prelude::*;
 use asn1_leaves::GeneralizedTimeAsn1;
 use pkcs7_content::CmsVersion;
 use std::alloc::Global;
@@ -82,12 +75,7 @@ impl EqualByText for OtherKeyAttribute {
 
 impl TryClone for OtherKeyAttribute {
     fn try_clone(&self, alloc: Global) -> Result<Self, Error> {
-        let key_attr_id = self.key_attr_id.try_clone(alloc)?;
-        let key_attr = self.key_attr.try_clone(alloc)?;
-        Ok(OtherKeyAttribute {
-            key_attr_id,
-            key_attr,
-        })
+        clone_of!(self, alloc, OtherKeyAttribute { key_attr_id, key_attr })
     }
 }
 
@@ -140,14 +128,7 @@ impl EqualByText for KekIdentifier {
 
 impl TryClone for KekIdentifier {
     fn try_clone(&self, alloc: Global) -> Result<Self, Error> {
-        let key_identifier = self.key_identifier.try_clone(alloc)?;
-        let date = self.date.try_clone(alloc)?;
-        let other = self.other.try_clone(alloc)?;
-        Ok(KekIdentifier {
-            key_identifier,
-            date,
-            other,
-        })
+        clone_of!(self, alloc, KekIdentifier { key_identifier, date, other })
     }
 }
 
