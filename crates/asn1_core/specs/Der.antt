@@ -17,10 +17,10 @@ pub use Rattle.asn1_core.specs.Nulls.{null_element, lawful_null_element}
 pub use Rattle.asn1_core.specs.Objects.{object_identifier, lawful_object_identifier}
 pub use Rattle.asn1_core.specs.Octets.{octet_string, lawful_octet_string}
 pub use Rattle.asn1_core.specs.Raw.{element_of, lawful_element_of, raw, lawful_raw}
-pub use Rattle.asn1_core.specs.Tagged.{perhaps_last, sequence_of, lawful_sequence_of, explicit, lawful_explicit, implicit_set, lawful_implicit_set, only_oid, lawful_only_oid}
+pub use Rattle.asn1_core.specs.Tagged.{perhaps_last, sequence_of, lawful_sequence_of, explicit, lawful_explicit, implicit_set, lawful_implicit_set, lawful_implicit_octets, only_oid, lawful_only_oid}
 pub use Rattle.asn1_core.specs.Versions.{version, lawful_version_0, lawful_version_1, lawful_version_3}
 pub use Rattle.asn1_core.specs.Words.{Octets, OidOctets, IntegerOctets, BitStringOctets, StringOctets, ElementOctets}
 
 -- The laws of parts that are always there, and of a last part that may be absent. Any other that may be absent is said
 -- by hand, with `perhaps` or `lawful_omitted`, since its tags are told from those of what follows it.
-pub ruleset der_laws = (arith, followed_by, perhaps_last, lawful_sequence, lawful_sequence_of, lawful_set, lawful_explicit, lawful_implicit_set, lawful_implicit, leaf_tagged, within_tagged, lawful_each, lawful_nothing, lawful_number, lawful_object_identifier, lawful_only_oid, lawful_octet_string, lawful_raw, lawful_null_element, lawful_version_0, lawful_version_1, lawful_version_3)
+pub ruleset der_laws = (arith, followed_by, perhaps_last, lawful_sequence, lawful_sequence_of, lawful_set, lawful_explicit, lawful_implicit_set, lawful_implicit_octets, lawful_each, lawful_nothing, lawful_number, lawful_object_identifier, lawful_only_oid, lawful_octet_string, lawful_raw, lawful_null_element, lawful_version_0, lawful_version_1, lawful_version_3)

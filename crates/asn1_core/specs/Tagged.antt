@@ -1,6 +1,7 @@
 -- The words of ASN.1 for lists and for context tags (X.690, 8.10, 8.12, 8.14), each with its law.
-use Rattle.std.specs.Prelude.{◌≡◌, ℕ, ◌+◌, ◌<◌, List}
+use Rattle.std.specs.Prelude.{◌≡◌, ℕ, ◌+◌, List}
 use Rattle.std.proofs.Common.{arith}
+use Rattle.asn1_core_element.specs.Element.{IsTagByte}
 use Rattle.asn1_core_format.specs.Format.{Format, IsLawful, IsLawfulRow}
 use Rattle.asn1_core_format.specs.Leaf.{leaf, kept}
 use Rattle.asn1_core_format.specs.LeafLaws.{lawful_leaf, lawful_kept}
@@ -9,6 +10,9 @@ use Rattle.asn1_core_format.specs.ListLaws.{lawful_each}
 use Rattle.asn1_core_format.specs.Rows.{within, optional, nothing}
 use Rattle.asn1_core_format.specs.RowLaws.{lawful_within, lawful_nothing}
 use Rattle.asn1_core_format.specs.Sequences.{sequence, perhaps, lawful_sequence}
+use Rattle.asn1_core_format.specs.Tagged.{implicit}
+use Rattle.asn1_core_format.specs.TaggedLaws.{lawful_implicit, leaf_tagged}
+use Rattle.asn1_core.specs.Octets.{any_octets, octet_string, lawful_octet_string}
 
 -- the last part, where it may be absent
 pub perhaps_last : {V : Type 0} {F : Format V} → IsLawful F → IsLawfulRow (optional F nothing)
@@ -25,15 +29,20 @@ lawful_sequence_of {V} {F} f = lawful_sequence (lawful_each F f)
 abbrev pub explicit : {V : Type 0} → ℕ → Format V → Format V
 explicit n F = within (0xA0 + n) F
 
-pub lawful_explicit : {V : Type 0} (n : ℕ) {F : Format V} → n < 31 → IsLawful F → IsLawful (explicit n F)
-lawful_explicit n {F} h f = lawful_within F f.row (0xA0 + n) (omega (arith, h))
+-- by the tag as a whole, for `search`
+pub lawful_explicit : {V : Type 0} {tag : ℕ} {F : Format V} → IsTagByte tag → IsLawful F → IsLawful (within tag F)
+lawful_explicit {V} {tag} {F} h f = lawful_within F f.row tag h
 
 -- [n] IMPLICIT SET OF
 abbrev pub implicit_set : {V : Type 0} → ℕ → Format V → Format (List V)
 implicit_set n F = within (0xA0 + n) (each F)
 
-pub lawful_implicit_set : {V : Type 0} (n : ℕ) {F : Format V} → n < 31 → IsLawful F → IsLawful (implicit_set n F)
-lawful_implicit_set n {F} h f = lawful_within (each F) (lawful_each F f) (0xA0 + n) (omega (arith, h))
+pub lawful_implicit_set : {V : Type 0} {tag : ℕ} {F : Format V} → IsTagByte tag → IsLawful F → IsLawful (within tag (each F))
+lawful_implicit_set {V} {tag} {F} h f = lawful_within (each F) (lawful_each F f) tag h
+
+-- [n] IMPLICIT OCTET STRING
+pub lawful_implicit_octets : {tag : ℕ} → IsTagByte tag → IsLawful (implicit tag 0x04 octet_string)
+lawful_implicit_octets {tag} h = lawful_implicit tag 0x04 octet_string lawful_octet_string (leaf_tagged 0x04 (omega arith) any_octets) h
 
 -- an object identifier and no other
 abbrev pub only_oid : List ℕ → Format (List ℕ)
