@@ -8,8 +8,8 @@ ghost use Rattle.asn1_core_oid.specs.Oid.{IsOid};
 ghost use Rattle.asn1_core_oid.specs.OidValue.{octets_of};
 
 use crate::choices::{ReadChoice, WriteChoice};
-use asn1_core::prelude::*;
 use asn1_core::OidRef;
+use asn1_core::prelude::*;
 use std::alloc::Global;
 use std::marker::PhantomData;
 

@@ -3,7 +3,7 @@
 -- ContentEncryptionAlgorithmIdentifier ::= AlgorithmIdentifier (RFC 2315, 6.2), whose algorithm is id-PBES2 with
 -- PBES2-params (RFC 8018, appendix A.4), one of pkcs-12PbeIds with pkcs-12PbeParams (RFC 7292, appendix C), or any other.
 use Rattle.std.specs.Prelude.{◌⊎◌}
-use Rattle.asn1_core.specs.Der.{Format, IsLawful, sequence, lawful_sequence}
+use Rattle.asn1_core.specs.Der.{Format, IsLawful, sequence, der_laws}
 use Rattle.std.proofs.Common.{inl, inr}
 use Rattle.asn1_core_format.specs.Choices.{Choice, IsLawfulChoice, known, lawful_known}
 use Rattle.asn1_choices.specs.Tables.{among, lawful_among}
@@ -38,4 +38,4 @@ abbrev pub encryption_algorithm : Format EncryptionAlgorithmValue
 encryption_algorithm = sequence encryption_choice.row
 
 pub lawful_encryption_algorithm : IsLawful encryption_algorithm
-lawful_encryption_algorithm = lawful_sequence lawful_encryption_choice.row
+lawful_encryption_algorithm = search (der_laws, lawful_encryption_choice) depth 20

@@ -2,7 +2,7 @@
 --
 -- pkcs-12PbeParams ::= SEQUENCE { salt OCTET STRING, iterations INTEGER }
 use Rattle.std.specs.Prelude.{◌≡◌, ◌^◌, ℕ, List, [], ◌∷◌, Some}
-use Rattle.asn1_core.specs.Der.{Format, IsLawful, sequence, part, nothing, octet_string, number_below, lawful_sequence, followed_by, lawful_nothing, lawful_octet_string, lawful_number, Octets}
+use Rattle.asn1_core.specs.Der.{Format, IsLawful, sequence, part, nothing, octet_string, number_below, Octets, der_laws}
 use Rattle.std.proofs.Common.{refl, rules}
 use Rattle.asn1_core_oid.specs.Oid.{IsOid}
 use Rattle.asn1_choices.specs.Tables.{Table, IsTable}
@@ -44,4 +44,4 @@ abbrev pub pbes1_params : Format Pbes1Value
 pbes1_params = sequence (part octet_string (part (number_below (2 ^ 32)) nothing))
 
 pub lawful_pbes1_params : IsLawful pbes1_params
-lawful_pbes1_params = lawful_sequence (followed_by lawful_octet_string (followed_by (lawful_number (2 ^ 32)) lawful_nothing))
+lawful_pbes1_params = search der_laws depth 20

@@ -1,7 +1,7 @@
 -- The laws of encapsulated content.
 use Rattle.std.specs.Prelude.{◌≡◌, ℕ, ◌+◌, List, [], ◌++◌, Some, None}
 use Rattle.std.proofs.Common.{arith, refl, sym, ap, subst, inl, inr}
-use Rattle.asn1_core.specs.Der.{IsLawful, IsLawfulRow, part, nothing, within, octet_string, lawful_sequence, followed_by, perhaps, lawful_nothing, lawful_within, lawful_octet_string}
+use Rattle.asn1_core.specs.Der.{IsLawful, IsLawfulRow, part, nothing, within, octet_string, followed_by, perhaps, lawful_nothing, lawful_within, lawful_octet_string, der_laws}
 use Rattle.asn1_core_element.specs.Element.{element}
 use Rattle.asn1_core_oid.specs.Oid.{IsOid}
 use Rattle.asn1_core_oid.specs.OidTestLaws.{oid_from_test}
@@ -78,4 +78,4 @@ pub content_is_defined_by : IsDefinedBy content_defined_by
 content_is_defined_by = record { lawful = λ o. lawful_content_row (content_kind o); alike = λ o c. written_alike (content_kind o) c }
 
 pub lawful_encapsulated : IsLawful encapsulated
-lawful_encapsulated = lawful_sequence (lawful_any_defined_by content_defined_by content_is_defined_by)
+lawful_encapsulated = search (der_laws, lawful_any_defined_by) depth 20

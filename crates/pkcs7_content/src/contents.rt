@@ -12,8 +12,8 @@ ghost use Rattle.pkcs7_content.specs.Oids.{data_oid};
 
 use crate::indirect_data::SpcIndirectDataContent;
 use crate::oids::{DATA, INDIRECT_DATA, TRUST_LIST};
-use asn1_core::prelude::*;
 use asn1_choices::{AnyDefinedBy, OidAnd, read_sequence_defined_by};
+use asn1_core::prelude::*;
 use pkcs7_content_ctl::Ctl;
 use std::alloc::Global;
 
@@ -279,6 +279,13 @@ impl EqualByText for EncapsulatedContentInfo {
 
 impl TryClone for EncapsulatedContentInfo {
     fn try_clone(&self, alloc: Global) -> Result<Self, Error> {
-        clone_of!(self, alloc, EncapsulatedContentInfo { content_type, content })
+        clone_of!(
+            self,
+            alloc,
+            EncapsulatedContentInfo {
+                content_type,
+                content
+            }
+        )
     }
 }

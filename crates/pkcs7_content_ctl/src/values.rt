@@ -14,8 +14,8 @@ use crate::properties::{
     DISALLOWED_KEY_USAGES, DISALLOWED_TIME, FRIENDLY_NAME, KEY_IDENTIFIER, KEY_USAGES,
     RESERVED_126, RESERVED_127, ROOT_SHA256, SUBJECT_NAME_MD5, Shape, property_number,
 };
-use asn1_core::prelude::*;
 use asn1_choices::AnyDefinedBy;
+use asn1_core::prelude::*;
 use std::alloc::Global;
 
 type OctetsSet = Asn1SetOf<OctetStringAsn1>;

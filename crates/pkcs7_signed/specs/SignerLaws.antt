@@ -1,7 +1,7 @@
 -- The laws of signers and what they hold.
 use Rattle.std.specs.Prelude.{◌≡◌, ℕ, ◌+◌, List, [], ◌++◌}
-use Rattle.std.proofs.Common.{refl, ap, ap₂, inl, inr, arith}
-use Rattle.asn1_core.specs.Der.{Format, IsLawful, each, lawful_each, within, lawful_within, sequence, part, nothing, lawful_set}
+use Rattle.std.proofs.Common.{refl, ap, ap₂, inl, inr}
+use Rattle.asn1_core.specs.Der.{Format, IsLawful, sequence, part, nothing, explicit, der_laws}
 use Rattle.asn1_core_element.specs.Element.{element}
 use Rattle.asn1_core_format.specs.Levels.{Grammar, by_levels, less}
 use Rattle.asn1_core_format.specs.LevelLaws.{IsStep, lawful_levels, lawful_less}
@@ -60,7 +60,7 @@ module _ (F : Format (Value signers)) (f : IsLawful F) where
 module _ (g : ℕ → Grammar (Value signers)) where
   certificate_text : (v : Value certificates) → (certificate_with (by_levels (still tt) g)).text v ≡ fold_node Arm Plain holds text_of certificates v
   certificate_text v =
-      ap (λ t. (sequence (part (only_oid signed_data_oid) (within 0xA0 (sequence (signed_parts (ending (element 0x31 t) 0)))))).text (v.1.0, signed_end v.1.1 tt))
+      ap (λ t. (sequence (part (only_oid signed_data_oid) (explicit 0 (sequence (signed_parts (ending (element 0x31 t) 0)))))).text (v.1.0, signed_end v.1.1 tt))
       (texts_fold Arm Plain holds text_of (still tt).text (λ _. refl) v.2)
 
   attribute_text : (v : Value attributes) → (attribute_with (by_levels (still tt) g)).text v ≡ fold_node Arm Plain holds text_of attributes v
@@ -75,7 +75,7 @@ module _ (g : ℕ → Grammar (Value signers)) where
 
   certificate_least : (v : Value certificates) → (certificate_with (by_levels (still tt) g)).least v ≡ fold_node Arm Plain holds least_of certificates v
   certificate_least v =
-      ap (λ n. (sequence (part (only_oid signed_data_oid) (within 0xA0 (sequence (signed_parts (ending [] (1 + n))))))).least (v.1.0, signed_end v.1.1 tt))
+      ap (λ n. (sequence (part (only_oid signed_data_oid) (explicit 0 (sequence (signed_parts (ending [] (1 + n))))))).least (v.1.0, signed_end v.1.1 tt))
       (least_fold Arm Plain holds least_of (still tt).least (λ _. refl) v.2)
 
   attribute_least : (v : Value attributes) → (attribute_with (by_levels (still tt) g)).least v ≡ fold_node Arm Plain holds least_of attributes v
@@ -126,7 +126,7 @@ pub lawful_signed_data : IsLawful signed_data
 lawful_signed_data = lawful_signed_row (less signer) lawful_less_signer
 
 pub lawful_signer_infos : IsLawful signer_infos
-lawful_signer_infos = lawful_set signer lawful_signer
+lawful_signer_infos = search (der_laws, lawful_signer) depth 20
 
 pub lawful_unsigned_attributes : IsLawful unsigned_attributes
-lawful_unsigned_attributes = lawful_within (each attribute) (lawful_each attribute lawful_attribute) 0xA1 (omega arith)
+lawful_unsigned_attributes = search (der_laws, lawful_attribute) depth 20

@@ -25,7 +25,10 @@ use crate::signers::{
 };
 use asn1_core::prelude::*;
 use asn1_core_element::element::open_element;
-use asn1_core_format::{SetOrNone, Tail, read_row_within_with, read_set_below_with, read_set_or_none_with, read_set_with};
+use asn1_core_format::{
+    SetOrNone, Tail, read_row_within_with, read_set_below_with, read_set_or_none_with,
+    read_set_with,
+};
 use pkcs7_content::{CmsVersion, EncapsulatedContentInfo};
 use pkcs7_signed_parts::{
     Attributes, CertificateSet, DigestAlgorithmIdentifier, DigestAlgorithmIdentifiers,

@@ -3,7 +3,7 @@
 -- CertificateSet ::= SET OF CertificateChoices, under its tag [0] IMPLICIT (RFC 5652, 5.1 and 10.2.3)
 use Rattle.std.specs.Prelude.{◌≡◌, ◌≢◌, ◌≤◌, ◌⊎◌, ℕ, List, [], map}
 use Rattle.std.proofs.Common.{inl, inr, arith}
-use Rattle.asn1_core.specs.Der.{Format, IsLawful, within, each, element_of, lawful_within, lawful_each, lawful_element_of, ElementOctets}
+use Rattle.asn1_core.specs.Der.{Format, IsLawful, element_of, lawful_element_of, ElementOctets, implicit_set, der_laws}
 use Rattle.asn1_core_element.specs.Element.{element}
 use Rattle.asn1_core_format.specs.Eithers.{either, lawful_either}
 use Rattle.asn1_core_format.specs.EmptySets.{empty_left_out}
@@ -36,10 +36,10 @@ abbrev pub certificates_value : CertificateSet → List CertificateValue
 certificates_value x = map certificate_value x.0.items
 
 abbrev pub certificate_set : Format (List CertificateValue)
-certificate_set = within 0xA0 (each certificate_choice)
+certificate_set = implicit_set 0 certificate_choice
 
 pub lawful_certificate_set : IsLawful certificate_set
-lawful_certificate_set = lawful_within (each certificate_choice) (lawful_each certificate_choice lawful_certificate_choice) 0xA0 (omega arith)
+lawful_certificate_set = search (der_laws, lawful_certificate_choice) depth 20
 
 -- the empty set, which is left out
 abbrev pub no_certificates : List ℕ

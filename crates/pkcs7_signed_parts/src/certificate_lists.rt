@@ -197,8 +197,14 @@ impl EqualByText for CertificateList {
 
 impl TryClone for CertificateList {
     fn try_clone(&self, alloc: Global) -> Result<Self, Error> {
-        clone_of!(self, alloc, CertificateList {
-            tbs_cert_list, signature_algorithm, signature_value
-        })
+        clone_of!(
+            self,
+            alloc,
+            CertificateList {
+                tbs_cert_list,
+                signature_algorithm,
+                signature_value
+            }
+        )
     }
 }

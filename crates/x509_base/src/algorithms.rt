@@ -10,8 +10,8 @@ ghost use Rattle.x509_base.specs.OtherAlgorithms.{other_algorithm, lawful_other_
 ghost use Rattle.x509_base.specs.AlgorithmLaws.{lawful_algorithm_identifier, lawful_raw_algorithm_identifier};
 
 use asn1_choices::{AnyOid, ReadChoice, WriteChoice};
-use asn1_core::prelude::*;
 use asn1_core::OidRef;
+use asn1_core::prelude::*;
 use std::alloc::Global;
 
 type AlgorithmRow = Part<ObjectIdentifierAsn1, Maybe<Asn1RawDer, End>>;
@@ -95,7 +95,14 @@ impl EqualByText for AlgorithmIdentifier {
 
 impl TryClone for AlgorithmIdentifier {
     fn try_clone(&self, alloc: Global) -> Result<Self, Error> {
-        clone_of!(self, alloc, Self { algorithm, parameters })
+        clone_of!(
+            self,
+            alloc,
+            Self {
+                algorithm,
+                parameters
+            }
+        )
     }
 }
 

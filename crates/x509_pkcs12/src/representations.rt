@@ -4,8 +4,8 @@ ghost use Rattle.std.specs.Prelude.{◌≡◌, ◌↔◌, ◌<◌, ◌≤◌, Is
 ghost use Rattle.asn1_core_writers.specs.Sinks.{Emits};
 ghost use Rattle.asn1_core_writers.specs.Texts.{Measures, Writes};
 
-use asn1_core::prelude::*;
 use asn1_core::Sink;
+use asn1_core::prelude::*;
 use std::alloc::Global;
 
 /// A representation of the data of `authSafe`: what is read from the element in its OCTET STRING, and written as that

@@ -17,11 +17,11 @@ ghost use Rattle.x509_pkcs12_bags.specs.BagsLaws.{lawful_safe_bag, lawful_safe_c
 ghost use Rattle.x509_pkcs12_bags.specs.BagValues.{Kind, bag_value, kind_value, contents_value};
 
 use asn1_choices::{AnyOid, Arm, WriteChoice, read_nested_or};
-use asn1_core::prelude::*;
 use asn1_core::OidRef;
+use asn1_core::prelude::*;
 use asn1_core_element::element::open_element;
-use asn1_core_format::{Less, read_list_with};
 use asn1_core_format::Either::{self, First, Second};
+use asn1_core_format::{Less, read_list_with};
 use std::alloc::Global;
 use x509_pkcs12_parts::oids::{
     CERTIFICATE_BAG, CRL_BAG, KEY_BAG, Known, SAFE_CONTENTS_BAG, SECRET_BAG, SHROUDED_KEY_BAG,
