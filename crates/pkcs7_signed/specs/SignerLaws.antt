@@ -1,7 +1,7 @@
 -- The laws of signers and what they hold.
 use Rattle.std.specs.Prelude.{◌≡◌, ℕ, ◌+◌, List, [], ◌++◌}
 use Rattle.std.proofs.Common.{refl, ap, ap₂, inl, inr}
-use Rattle.asn1_core.specs.Der.{Format, IsLawful, sequence, part, nothing, explicit, der_laws}
+use Rattle.asn1_core.specs.Der.{Format, IsLawful, sequence, part, nothing, explicit, der_laws, only_oid}
 use Rattle.asn1_core_element.specs.Element.{element}
 use Rattle.asn1_core_format.specs.Levels.{Grammar, by_levels, less}
 use Rattle.asn1_core_format.specs.LevelLaws.{IsStep, lawful_levels, lawful_less}
@@ -9,7 +9,7 @@ use Rattle.asn1_core_format.specs.Omitted.{text_unless, least_unless}
 use Rattle.asn1_core_format.specs.Rolled.{lawful_rolled}
 use Rattle.pkcs7_signed.specs.Forest.{Forest, none, nodes_forest, forest_nodes, fold_node, same_all, same_node, nil_same, same_list, texts_fold, least_fold}
 use Rattle.pkcs7_signed.specs.Oids.{signed_data_oid}
-use Rattle.pkcs7_signed.specs.Parts.{signer_end, behind_signer, signer_parts, signed_end, behind_signed, signed_parts, only_oid, ending}
+use Rattle.pkcs7_signed.specs.Parts.{signer_end, behind_signer, signer_parts, signed_end, behind_signed, signed_parts, ending}
 use Rattle.pkcs7_signed.specs.Rows.{SignerRow, signer_row, CertificateRow, certificate_row, AttributeRow, attribute_row, lawful_signer_row, lawful_signed_row, lawful_certificate_row, lawful_attribute_row}
 use Rattle.pkcs7_signed.specs.Signers.{Sort, signers, attributes, certificates, nothing_inside, Arm, Plain, holds, Trees, Value, list, trees, signer_out, signer_into, certificate_out, certificate_into, attribute_out, attribute_into, certificate_with, attribute_with, signer_with, text_of, least_of, normal_in_attribute, normal_of, still, step, signer, attribute, certificate, signed_data, signer_infos, unsigned_attributes}
 use Rattle.pkcs7_signed.specs.declared.signers.Kind.TheVariants.{MsCounterSign, CounterSign, Foreign}
