@@ -2,10 +2,7 @@
 -- Holder ::= SEQUENCE { type OBJECT IDENTIFIER, value ANY DEFINED BY type }; under 1.3.6.1.4.1.32473.1 a token, an OCTET STRING
 use Rattle.std.specs.Prelude.{◌⊎◌, ℕ, ◌^◌, List, [], ◌∷◌, Option}
 use Rattle.std.proofs.Common.{inl, inr, arith}
-use Rattle.asn1_core.specs.Der.{Format, IsLawful, sequence, part, optional, nothing, explicit, octet_string, raw, number_below, octets_of, Octets, OidOctets, ElementOctets, lawful_sequence, followed_by, perhaps, lawful_nothing, lawful_explicit, lawful_octet_string, lawful_raw, lawful_number}
-use Rattle.asn1_core_format.specs.Choices.{Choice, known, otherwise, lawful_known, lawful_otherwise}
-use Rattle.asn1_core_oid.specs.Arcs.{arcs}
-use Rattle.asn1_core_oid.specs.Oid.{IsOid}
+use Rattle.asn1_core.specs.Der.{Format, IsLawful, sequence, part, optional, nothing, explicit, octet_string, raw, number_below, octets_of, Octets, OidOctets, ElementOctets, lawful_sequence, followed_by, perhaps, lawful_nothing, lawful_explicit, lawful_octet_string, lawful_raw, lawful_number, Choice, known, otherwise, lawful_known, lawful_otherwise, arcs, IsOid}
 use Rattle.example_ticket.specs.declared.Holder.{Holder}
 use Rattle.example_ticket.specs.declared.Holder.TheVariants as Arm
 

@@ -1,5 +1,5 @@
 -- `==` is equality of what the values contain.
-use Rattle.asn1_core.specs.Equal.{SeesEqual, der_equal, same_first, same_second}
+use Rattle.asn1_core.specs.Der.{SeesEqual, der_equal, same_first, same_second}
 use Rattle.std.specs.Prelude.{true, ◌≡◌, ◌⊎◌, ◌↔◌, ℕ, Bool, List}
 use Rattle.std.proofs.Common.{ap, inl, inr, rules}
 use Rattle.x509_base.specs.Algorithms.{AlgorithmValue}

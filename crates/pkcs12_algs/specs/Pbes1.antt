@@ -2,9 +2,8 @@
 --
 -- pkcs-12PbeParams ::= SEQUENCE { salt OCTET STRING, iterations INTEGER }
 use Rattle.std.specs.Prelude.{◌≡◌, ◌^◌, ℕ, List, [], ◌∷◌, Some}
-use Rattle.asn1_core.specs.Der.{Format, IsLawful, sequence, part, nothing, octet_string, number_below, Octets, der_laws}
+use Rattle.asn1_core.specs.Der.{Format, IsLawful, sequence, part, nothing, octet_string, number_below, Octets, der_laws, IsOid}
 use Rattle.std.proofs.Common.{refl, rules}
-use Rattle.asn1_core_oid.specs.Oid.{IsOid}
 use Rattle.asn1_choices.specs.Tables.{Table, IsTable}
 use Rattle.pkcs12_algs.specs.Oids.{sha_and_40_bit_rc2_cbc_oid, sha_and_3_key_3_des_cbc_oid}
 use Rattle.pkcs12_algs.specs.Tables.{table, arm_with}

@@ -7,10 +7,8 @@
 -- PBES2-KDFs ALGORITHM-IDENTIFIER ::= { {PBKDF2-params IDENTIFIED BY id-PBKDF2}, ... }
 -- The parameters of AES in CBC mode are its initialization vector, an OCTET STRING (RFC 8018, appendix B.2.5).
 use Rattle.std.specs.Prelude.{◌≡◌, ◌⊎◌, ℕ, List, [], ◌∷◌, Some}
-use Rattle.asn1_core.specs.Der.{Format, IsLawful, sequence, part, nothing, octet_string, lawful_octet_string, Octets, der_laws}
+use Rattle.asn1_core.specs.Der.{Format, IsLawful, sequence, part, nothing, octet_string, lawful_octet_string, Octets, der_laws, Choice, IsLawfulChoice, known, lawful_known, IsOid}
 use Rattle.std.proofs.Common.{refl, inl, inr, rules}
-use Rattle.asn1_core_format.specs.Choices.{Choice, IsLawfulChoice, known, lawful_known}
-use Rattle.asn1_core_oid.specs.Oid.{IsOid}
 use Rattle.x509_base.specs.Algorithms.{AlgorithmValue}
 use Rattle.asn1_choices.specs.Tables.{Table, IsTable, among, lawful_among}
 use Rattle.x509_base.specs.OtherAlgorithms.{other_algorithm, lawful_other_algorithm}

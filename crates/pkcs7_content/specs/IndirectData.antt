@@ -3,10 +3,9 @@
 -- an SpcPeImageData or an SpcSipInfo
 -- SpcIndirectDataContent ::= SEQUENCE { data SpcAttributeTypeAndOptionalValue, messageDigest DigestInfo }
 use Rattle.std.specs.Prelude.{◌⊎◌, ℕ, List, ◌≡◌}
-use Rattle.asn1_core.specs.Der.{Format, sequence, part, nothing, OidOctets, IsLawful, IsLawfulRow, octets_of, der_laws}
+use Rattle.asn1_core.specs.Der.{Format, sequence, part, nothing, OidOctets, IsLawful, IsLawfulRow, octets_of, der_laws, either}
 use Rattle.std.specs.Str.{bytes_eq}
 use Rattle.std.proofs.Common.{inl, inr, refl}
-use Rattle.asn1_core_format.specs.Eithers.{either}
 use Rattle.asn1_choices.specs.DefinedBy.{DefinedBy, any_defined_by, arm, by_itself, no_arm, only_written}
 use Rattle.x509_base.specs.Digests.{DigestInfoValue, digest_info, lawful_digest_info, digest_info_value}
 use Rattle.pkcs7_content.specs.Oids.{pe_image_oid, sip_info_oid}

@@ -1,13 +1,9 @@
 -- The laws of what Authenticode says of a PE image.
 use Rattle.std.specs.Prelude.{◌≡◌, ◌↔◌, ℕ, ◌+◌, ◌≤◌, Bool, List, Option, Some, None, true, false}
 use Rattle.std.proofs.Common.{arith, refl, sym, ap, ◌∙◌, subst}
-use Rattle.asn1_core.specs.Der.{IsLawful, IsLawfulRow, lawful_sequence, perhaps, der_laws}
+use Rattle.asn1_core.specs.Der.{IsLawful, IsLawfulRow, lawful_sequence, perhaps, der_laws, element_same, begins_next, next_apart, IsLoosening, lawful_loosened, least_unless}
 use Rattle.std.specs.Str.{bytes_eq}
 use Rattle.std.proofs.lemmas.Slice.Eq.{bytes_eq-Decides}
-use Rattle.asn1_core_element.specs.ElementLaws.{element_same}
-use Rattle.asn1_core_format.specs.Laws.{begins_next, next_apart}
-use Rattle.asn1_core_format.specs.Loosened.{IsLoosening, lawful_loosened}
-use Rattle.asn1_core_format.specs.Omitted.{least_unless}
 use Rattle.asn1_leaves.specs.Strings.{lawful_bit_string}
 use Rattle.asn1_leaves_strings.specs.Bits.{IsBits}
 use Rattle.x509_base_spc.specs.Links.{LinkValue, lawful_spc_link}

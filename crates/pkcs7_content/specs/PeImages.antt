@@ -3,12 +3,8 @@
 -- SpcPeImageData ::= SEQUENCE { flags SpcPeImageFlags DEFAULT { includeResources }, file [0] EXPLICIT SpcLink }
 -- Absent flags are read as their default. Flags are always written, the default too.
 use Rattle.std.specs.Prelude.{◌≡◌, ℕ, ◌+◌, List, [], ◌∷◌, Option, Some, None}
-use Rattle.asn1_core.specs.Der.{Format, sequence, part, optional, nothing, BitStringOctets, explicit}
+use Rattle.asn1_core.specs.Der.{Format, sequence, part, optional, nothing, BitStringOctets, explicit, element, NextIs, Loosening, loosened, least_unless}
 use Rattle.std.specs.Str.{bytes_eq}
-use Rattle.asn1_core_element.specs.Element.{element}
-use Rattle.asn1_core_format.specs.Laws.{NextIs}
-use Rattle.asn1_core_format.specs.Loosened.{Loosening, loosened}
-use Rattle.asn1_core_format.specs.Omitted.{least_unless}
 use Rattle.asn1_leaves.specs.Strings.{bit_string}
 use Rattle.x509_base_spc.specs.Links.{LinkValue, spc_link, link_value}
 use Rattle.asn1_leaves_strings.specs.Octets.{contents_of}

@@ -5,10 +5,9 @@
 -- certificate policies OCTET STRING (CONTAINING SEQUENCE OF CertPolicy)
 -- any others ANY
 use Rattle.std.specs.Prelude.{◌⊎◌, ℕ, List, ◌≡◌, map}
-use Rattle.asn1_core.specs.Der.{Format, within, set_of, object_identifier, octet_string, raw, OidOctets, ElementOctets, IsLawful, IsLawfulRow, lawful_within, lawful_set, lawful_each, lawful_sequence, lawful_object_identifier, lawful_octet_string, lawful_raw, octets_of, sequence_of}
+use Rattle.asn1_core.specs.Der.{Format, within, set_of, object_identifier, octet_string, raw, OidOctets, ElementOctets, IsLawful, IsLawfulRow, lawful_within, lawful_set, lawful_each, lawful_sequence, lawful_object_identifier, lawful_octet_string, lawful_raw, octets_of, sequence_of, either}
 use Rattle.asn1_core.specs.Words as Words
 use Rattle.std.proofs.Common.{inl, inr, arith, refl}
-use Rattle.asn1_core_format.specs.Eithers.{either}
 use Rattle.asn1_choices.specs.DefinedBy.{DefinedBy, arm, by_itself, only_written}
 use Rattle.pkcs7_content_ctl.specs.Policies.{ChainPolicyValue, chain_policy, CertPolicyValue, cert_policy, lawful_chain_policy, lawful_cert_policy, chain_policy_value, cert_policy_value}
 use Rattle.pkcs7_content_ctl.specs.Properties.{property_of, shape_of}

@@ -1,10 +1,8 @@
 -- `==` is equality of what the values contain.
-use Rattle.asn1_core.specs.Equal.{SeesEqual, der_equal, list_equal, octets_equal, raw_equal, same_first, same_second}
+use Rattle.asn1_core.specs.Der.{SeesEqual, der_equal, list_equal, octets_equal, raw_equal, same_first, same_second, octets_of, equal_octets}
 use Rattle.std.specs.Prelude.{◌≡◌, ◌↔◌, ℕ, Bool, true}
 use Rattle.std.proofs.Common.{arith, rules, ap, inl, inr}
-use Rattle.asn1_core.specs.Der.{octets_of}
 use Rattle.asn1_core.specs.contracts.objects.ObjectIdentifierAsn1PartialEq.TheImpl as Oid
-use Rattle.asn1_core_oid.specs.OidValueLaws.{equal_octets}
 use Rattle.asn1_leaves.specs.contracts.integers.IntegerAsn1PartialEq.TheImpl as Integer
 use Rattle.asn1_leaves_times.specs.TimesLaws.{equal_utc}
 use Rattle.x509_base.specs.AlgorithmParts.{algorithm_value}

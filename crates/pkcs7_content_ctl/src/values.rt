@@ -2,7 +2,7 @@
 
 ghost use Rattle.std.specs.Prelude.{◌≡◌, ◌↔◌, IsTrue};
 ghost use Rattle.std.proofs.Common.{rules, inl, inr};
-ghost use Rattle.asn1_core_format.specs.Rows.{GivesRow};
+ghost use Rattle.asn1_core.specs.Der.{GivesRow};
 ghost use Rattle.pkcs7_content_ctl.specs.Equal.{values_equal};
 ghost use Rattle.pkcs7_content_ctl.specs.AttributeValues.{AttributeValues, attribute_values, values_defined_by, values_are_defined_by, octets_in, usages_in, attribute_values_value};
 ghost use Rattle.pkcs7_content_ctl.specs.Properties.{shape_of};

@@ -1,9 +1,7 @@
 -- What stands in a signer before its unsigned attributes, and in signed data before its signers.
 use Rattle.std.specs.Prelude.{◌≡◌, ℕ, List, Option}
 use Rattle.std.proofs.Common.{arith, ⊎_elim}
-use Rattle.asn1_core.specs.Der.{Format, IsLawfulRow, number_below, lawful_number, version, lawful_version_1, part, optional, followed_by, perhaps, octet_string, lawful_octet_string, Octets}
-use Rattle.asn1_core_format.specs.Levels.{no_grammar, always}
-use Rattle.asn1_core_format.specs.Omitted.{omitted, is_default, lawful_omitted}
+use Rattle.asn1_core.specs.Der.{Format, IsLawfulRow, number_below, lawful_number, version, lawful_version_1, part, optional, followed_by, perhaps, octet_string, lawful_octet_string, Octets, no_grammar, always, omitted, is_default, lawful_omitted}
 use Rattle.pkcs7_content.specs.Contents.{EncapsulatedValue, encapsulated}
 use Rattle.pkcs7_content.specs.ContentLaws.{lawful_encapsulated}
 use Rattle.pkcs7_signed_parts.specs.Algorithms.{algorithms, lawful_algorithms}

@@ -7,10 +7,7 @@
 use Rattle.std.specs.Prelude.{◌⊎◌, ℕ, List}
 use Rattle.std.specs.Str.{bytes_eq}
 use Rattle.std.proofs.Common.{refl, inl, inr}
-use Rattle.asn1_core.specs.Der.{Format, IsLawful, IsLawfulRow, sequence, lawful_sequence, part, raw, lawful_raw, OidOctets, ElementOctets, set_of, lawful_set, explicit, der_laws, only_oid}
-use Rattle.asn1_core_format.specs.Eithers.{either}
-use Rattle.asn1_core_format.specs.EmptySets.{set_or_none, lawful_set_or_none}
-use Rattle.asn1_core_format.specs.Gated.{gated, lawful_gated}
+use Rattle.asn1_core.specs.Der.{Format, IsLawful, IsLawfulRow, sequence, lawful_sequence, part, raw, lawful_raw, OidOctets, ElementOctets, set_of, lawful_set, explicit, der_laws, only_oid, either, set_or_none, lawful_set_or_none, gated, lawful_gated}
 use Rattle.asn1_choices.specs.DefinedBy.{DefinedBy, any_defined_by, arm, by_itself, only_written}
 use Rattle.asn1_choices.specs.DefinedByLaws.{IsDefinedBy, itself, lawful_arm, lawful_any_defined_by}
 use Rattle.pkcs7_signed.specs.Oids.{signed_data_oid, countersignature_oid, ms_counter_sign_oid}

@@ -1,12 +1,7 @@
 -- The laws of signers and what they hold.
 use Rattle.std.specs.Prelude.{◌≡◌, ℕ, ◌+◌, List, [], ◌++◌}
 use Rattle.std.proofs.Common.{refl, ap, ap₂, inl, inr}
-use Rattle.asn1_core.specs.Der.{Format, IsLawful, sequence, part, nothing, explicit, der_laws, only_oid}
-use Rattle.asn1_core_element.specs.Element.{element}
-use Rattle.asn1_core_format.specs.Levels.{Grammar, by_levels, less}
-use Rattle.asn1_core_format.specs.LevelLaws.{IsStep, lawful_levels, lawful_less}
-use Rattle.asn1_core_format.specs.Omitted.{text_unless, least_unless}
-use Rattle.asn1_core_format.specs.Rolled.{lawful_rolled}
+use Rattle.asn1_core.specs.Der.{Format, IsLawful, sequence, part, nothing, explicit, der_laws, only_oid, element, Grammar, by_levels, less, IsStep, lawful_levels, lawful_less, text_unless, least_unless, lawful_rolled}
 use Rattle.pkcs7_signed.specs.Forest.{Forest, none, nodes_forest, forest_nodes, fold_node, same_all, same_node, nil_same, same_list, texts_fold, least_fold}
 use Rattle.pkcs7_signed.specs.Oids.{signed_data_oid}
 use Rattle.pkcs7_signed.specs.Parts.{signer_end, behind_signer, signer_parts, signed_end, behind_signed, signed_parts, ending}

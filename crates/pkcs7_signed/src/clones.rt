@@ -1,7 +1,7 @@
 //! `==` and clones of signers, what they hold and signed data.
 
 ghost use Rattle.std.specs.Prelude.{map};
-ghost use Rattle.asn1_core_format.specs.Views.{Clones};
+ghost use Rattle.asn1_core.specs.Der.{Clones};
 ghost use Rattle.pkcs7_signed.specs.SignerEqual.{signer_equal, signers_equal, attributes_equal, attribute_equal, values_equal, certificate_equal, signed_equal};
 ghost use Rattle.pkcs7_signed.specs.SignerValues.{signer_value, certificate_value};
 

@@ -1,10 +1,7 @@
 -- SignedAttributes ::= SET OF Attribute, under its tag [0] IMPLICIT (RFC 5652, 5.3)
 use Rattle.std.specs.Prelude.{ℕ, List, [], map}
 use Rattle.std.proofs.Common.{arith}
-use Rattle.asn1_core.specs.Der.{Format, IsLawful, implicit_set, der_laws}
-use Rattle.asn1_core_element.specs.Element.{element}
-use Rattle.asn1_core_format.specs.EmptySets.{empty_left_out}
-use Rattle.asn1_core_format.specs.Omitted.{is_default, IsDefault}
+use Rattle.asn1_core.specs.Der.{Format, IsLawful, implicit_set, der_laws, element, empty_left_out, is_default, IsDefault}
 use Rattle.x509_base.specs.Names.{AttributeValue, attribute_value, attribute, lawful_attribute}
 use Rattle.pkcs7_signed_parts.specs.declared.attributes.Attributes.{Attributes}
 

@@ -3,11 +3,7 @@
 -- CertificateSet ::= SET OF CertificateChoices, under its tag [0] IMPLICIT (RFC 5652, 5.1 and 10.2.3)
 use Rattle.std.specs.Prelude.{◌≡◌, ◌≢◌, ◌≤◌, ◌⊎◌, ℕ, List, [], map}
 use Rattle.std.proofs.Common.{inl, inr, arith}
-use Rattle.asn1_core.specs.Der.{Format, IsLawful, element_of, lawful_element_of, ElementOctets, implicit_set, der_laws}
-use Rattle.asn1_core_element.specs.Element.{element}
-use Rattle.asn1_core_format.specs.Eithers.{either, lawful_either}
-use Rattle.asn1_core_format.specs.EmptySets.{empty_left_out}
-use Rattle.asn1_core_format.specs.Omitted.{is_default, IsDefault}
+use Rattle.asn1_core.specs.Der.{Format, IsLawful, element_of, lawful_element_of, ElementOctets, implicit_set, der_laws, element, either, lawful_either, empty_left_out, is_default, IsDefault}
 use Rattle.pkcs7_signed_parts.specs.declared.certificates.CertificateChoices.{CertificateChoices}
 use Rattle.pkcs7_signed_parts.specs.declared.certificates.CertificateChoices.TheVariants.{Certificate, Other}
 use Rattle.pkcs7_signed_parts.specs.declared.certificates.CertificateSet.{CertificateSet}

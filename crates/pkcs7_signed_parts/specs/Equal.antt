@@ -1,5 +1,5 @@
 -- `==` is equality of what the values contain.
-use Rattle.asn1_core.specs.Equal.{SeesEqual, der_equal, octets_equal, raw_equal, same_first, same_second}
+use Rattle.asn1_core.specs.Der.{SeesEqual, der_equal, octets_equal, raw_equal, same_first, same_second}
 use Rattle.x509_base.specs.Equal.{x509_equal}
 use Rattle.std.proofs.Common.{rules}
 use Rattle.asn1_leaves_strings.specs.Octets.{contents_of}

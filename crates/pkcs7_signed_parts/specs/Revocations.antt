@@ -4,10 +4,7 @@
 -- RevocationInfoChoices ::= SET OF RevocationInfoChoice, under its tag [1] IMPLICIT (RFC 5652, 5.1)
 use Rattle.std.specs.Prelude.{◌⊎◌, List, map}
 use Rattle.std.proofs.Common.{inl, inr, arith}
-use Rattle.asn1_core.specs.Der.{Format, IsLawful, sequence, part, nothing, object_identifier, null_element, octets_of, OidOctets, implicit_set, der_laws}
-use Rattle.asn1_core_format.specs.Eithers.{either, lawful_either}
-use Rattle.asn1_core_format.specs.Tagged.{implicit}
-use Rattle.asn1_core_format.specs.TaggedLaws.{lawful_implicit, within_tagged}
+use Rattle.asn1_core.specs.Der.{Format, IsLawful, sequence, part, nothing, object_identifier, null_element, octets_of, OidOctets, implicit_set, der_laws, either, lawful_either, implicit, lawful_implicit, within_tagged}
 use Rattle.pkcs7_signed_parts.specs.CertificateLists.{CertificateListValue, certificate_list_value, certificate_list, lawful_certificate_list}
 use Rattle.pkcs7_signed_parts.specs.declared.revocations.OtherRevocationInfoFormat.{OtherRevocationInfoFormat}
 use Rattle.pkcs7_signed_parts.specs.declared.revocations.RevocationInfoChoice.{RevocationInfoChoice}

@@ -4,9 +4,7 @@
 -- SignerIdentifier ::= CHOICE { issuerAndSerialNumber IssuerAndSerialNumber, subjectKeyIdentifier [0] SubjectKeyIdentifier } (RFC 5652, 5.3)
 use Rattle.std.specs.Prelude.{◌⊎◌}
 use Rattle.std.proofs.Common.{inl, inr, arith}
-use Rattle.asn1_core.specs.Der.{Format, IsLawful, sequence, part, nothing, octet_string, Octets, IntegerOctets, der_laws}
-use Rattle.asn1_core_format.specs.Eithers.{either, lawful_either}
-use Rattle.asn1_core_format.specs.Tagged.{implicit}
+use Rattle.asn1_core.specs.Der.{Format, IsLawful, sequence, part, nothing, octet_string, Octets, IntegerOctets, der_laws, either, lawful_either, implicit}
 use Rattle.asn1_leaves.specs.Integers.{integer, lawful_integer}
 use Rattle.x509_base.specs.Names.{NameParts, name_parts, name, lawful_name}
 use Rattle.pkcs7_signed_parts.specs.declared.signers.CertificateSerialNumber.{CertificateSerialNumber}

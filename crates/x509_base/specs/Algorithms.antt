@@ -1,13 +1,6 @@
 -- AlgorithmIdentifier ::= SEQUENCE { algorithm OBJECT IDENTIFIER, parameters ANY DEFINED BY algorithm OPTIONAL } (RFC 5280, 4.1.1.2)
 use Rattle.std.specs.Prelude.{◌≡◌, ◌≢◌, ℕ, List, [], ◌++◌, Option, Some, None}
-use Rattle.asn1_core.specs.Words.{OidOctets, ElementOctets}
-use Rattle.asn1_core_element.specs.Element.{element}
-use Rattle.asn1_core_format.specs.Format.{Format}
-use Rattle.asn1_core_format.specs.Rows.{nothing, part, optional}
-use Rattle.asn1_core_format.specs.Loosened.{Loosening, loosened}
-use Rattle.asn1_core.specs.Objects.{object_identifier}
-use Rattle.asn1_core.specs.Raw.{raw}
-use Rattle.asn1_core.specs.Der.{sequence}
+use Rattle.asn1_core.specs.Der.{OidOctets, ElementOctets, element, Format, nothing, part, optional, Loosening, loosened, object_identifier, raw, sequence}
 
 -- the object identifier, and the parameters
 abbrev pub AlgorithmValue : Type 0

@@ -1,15 +1,10 @@
 -- DigestInfo ::= SEQUENCE { digestAlgorithm AlgorithmIdentifier, digest OCTET STRING } (RFC 2315, 9.4)
-use Rattle.asn1_core.specs.Words.{Octets}
+use Rattle.asn1_core.specs.Der.{Octets, Format, IsLawful, nothing, part, lawful_nothing, lawful_part, lawful_within, octet_string, lawful_octet_string, sequence}
 use Rattle.std.proofs.Common.{arith}
-use Rattle.asn1_core_format.specs.Format.{Format, IsLawful}
-use Rattle.asn1_core_format.specs.Rows.{nothing, part}
-use Rattle.asn1_core_format.specs.RowLaws.{lawful_nothing, lawful_part, lawful_within}
-use Rattle.asn1_core.specs.Octets.{octet_string, lawful_octet_string}
 use Rattle.x509_base.specs.Algorithms.{AlgorithmValue, algorithm_identifier}
 use Rattle.x509_base.specs.AlgorithmLaws.{lawful_algorithm_identifier}
 use Rattle.x509_base.specs.AlgorithmParts.{algorithm_value}
 use Rattle.x509_base.specs.declared.digests.DigestInfo.{DigestInfo}
-use Rattle.asn1_core.specs.Der.{sequence}
 
 abbrev pub DigestInfoValue : Type 0
 DigestInfoValue = AlgorithmValue × (Octets × Unit {0})

@@ -3,8 +3,7 @@
 -- An explicit FALSE is read, since old producers write it, and never written.
 use Rattle.std.specs.Prelude.{Bool, List, map}
 use Rattle.std.proofs.Common.{arith}
-use Rattle.asn1_core.specs.Der.{Format, IsLawful, sequence, part, nothing, object_identifier, octet_string, octets_of, Octets, OidOctets, lawful_sequence, followed_by, lawful_nothing, lawful_object_identifier, lawful_octet_string, sequence_of, der_laws}
-use Rattle.asn1_core_format.specs.Omitted.{omitted, is_default, lawful_omitted}
+use Rattle.asn1_core.specs.Der.{Format, IsLawful, sequence, part, nothing, object_identifier, octet_string, octets_of, Octets, OidOctets, lawful_sequence, followed_by, lawful_nothing, lawful_object_identifier, lawful_octet_string, sequence_of, der_laws, omitted, is_default, lawful_omitted}
 use Rattle.x509_base.specs.declared.extensions.Extension.{Extension}
 use Rattle.x509_base.specs.declared.extensions.Extensions.{Extensions}
 use Rattle.x509_base.specs.Booleans.{boolean, lawful_boolean, explicit_false, false_left_out}

@@ -2,15 +2,8 @@
 -- SpcLink ::= CHOICE { url [0] IMPLICIT IA5String, moniker [1] IMPLICIT SpcSerializedObject, file [2] EXPLICIT SpcString }
 -- SpcSpOpusInfo ::= SEQUENCE { programName [0] EXPLICIT SpcString OPTIONAL, moreInfo [1] EXPLICIT SpcLink OPTIONAL }
 use Rattle.std.specs.Prelude.{◌≡◌, ◌⊎◌, ℕ, Option}
-use Rattle.asn1_core.specs.Words.{StringOctets}
+use Rattle.asn1_core.specs.Der.{StringOctets, Format, IsLawful, nothing, optional, within, lawful_nothing, lawful_optional, lawful_within, either, lawful_either, implicit, lawful_implicit, leaf_tagged, within_tagged, kept, sequence, explicit, der_laws}
 use Rattle.std.proofs.Common.{arith, ⊎_elim, inl, inr}
-use Rattle.asn1_core_format.specs.Format.{Format, IsLawful}
-use Rattle.asn1_core_format.specs.Rows.{nothing, optional, within}
-use Rattle.asn1_core_format.specs.RowLaws.{lawful_nothing, lawful_optional, lawful_within}
-use Rattle.asn1_core_format.specs.Eithers.{either, lawful_either}
-use Rattle.asn1_core_format.specs.Tagged.{implicit}
-use Rattle.asn1_core_format.specs.TaggedLaws.{lawful_implicit, leaf_tagged, within_tagged}
-use Rattle.asn1_core_format.specs.Leaf.{kept}
 use Rattle.asn1_leaves.specs.Strings.{bmp_string, lawful_bmp_string, ia5_string, lawful_ia5_string}
 use Rattle.asn1_leaves_strings.specs.Bmp.{IsBmp}
 use Rattle.asn1_leaves_strings.specs.Ia5.{IsIa5}
@@ -20,7 +13,6 @@ use Rattle.x509_base_spc.specs.declared.links.SpcString.{SpcString}
 use Rattle.x509_base_spc.specs.declared.links.SpcString.TheVariants.{Unicode, Ancii}
 use Rattle.x509_base_spc.specs.declared.links.SpcLink.{SpcLink}
 use Rattle.x509_base_spc.specs.declared.links.SpcLink.TheVariants.{Url, Moniker, File}
-use Rattle.asn1_core.specs.Der.{sequence, explicit, der_laws}
 
 -- octets of a BMPString, or of an IA5String
 abbrev pub StringValue : Type 0

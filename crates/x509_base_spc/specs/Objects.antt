@@ -1,13 +1,8 @@
 -- SpcUuid ::= OCTET STRING
 -- SpcSerializedObject ::= SEQUENCE { classId SpcUuid, serializedData OCTET STRING }
 use Rattle.std.specs.Prelude.{ℕ, List, [], ◌∷◌}
-use Rattle.asn1_core.specs.Words.{Octets}
+use Rattle.asn1_core.specs.Der.{Octets, Format, IsLawful, nothing, part, lawful_nothing, lawful_part, lawful_within, octet_string, lawful_octet_string, sequence}
 use Rattle.std.proofs.Common.{arith}
-use Rattle.asn1_core_format.specs.Format.{Format, IsLawful}
-use Rattle.asn1_core_format.specs.Rows.{nothing, part}
-use Rattle.asn1_core_format.specs.RowLaws.{lawful_nothing, lawful_part, lawful_within}
-use Rattle.asn1_core.specs.Octets.{octet_string, lawful_octet_string}
-use Rattle.asn1_core.specs.Der.{sequence}
 
 abbrev pub SerializedObjectValue : Type 0
 SerializedObjectValue = Octets × (Octets × Unit {0})

@@ -1,6 +1,6 @@
 -- What Authenticode signs, as kinds of input: their words, and what inputs are written as.
 use Rattle.std.specs.Prelude.{ℕ, List, [], ◌∷◌, codes}
-use Rattle.asn1_core.specs.Octets.{octet_string}
+use Rattle.asn1_core.specs.Der.{octet_string}
 use Rattle.asn1_leaves.specs.Strings.{bit_string}
 use Rattle.pkcs7_content.specs.IndirectData.{indirect_data, spc_attribute}
 use Rattle.pkcs7_content.specs.PeImages.{pe_image_data}

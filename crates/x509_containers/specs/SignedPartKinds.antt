@@ -1,6 +1,6 @@
 -- Revocation lists, certificates, signers, as kinds of input: their words, and what inputs are written as.
 use Rattle.std.specs.Prelude.{ℕ, List, [], ◌∷◌, codes}
-use Rattle.asn1_core.specs.Octets.{octet_string}
+use Rattle.asn1_core.specs.Der.{octet_string}
 use Rattle.asn1_leaves.specs.Integers.{integer}
 use Rattle.pkcs7_signed_parts.specs.Algorithms.{algorithms}
 use Rattle.pkcs7_signed_parts.specs.Attributes.{attributes}

@@ -1,6 +1,6 @@
 -- PKCS #12 files and their parts, as kinds of input: their words, and what inputs are written as.
 use Rattle.std.specs.Prelude.{ℕ, List, [], ◌∷◌, codes}
-use Rattle.asn1_core.specs.Raw.{raw}
+use Rattle.asn1_core.specs.Der.{raw}
 use Rattle.x509_pkcs12.specs.AuthSafes.{auth_safe}
 use Rattle.x509_pkcs12.specs.Contents.{content_info}
 use Rattle.x509_pkcs12.specs.Parsed.{parsed}

@@ -1,5 +1,5 @@
 -- `==` of contents sees what they contain.
-use Rattle.asn1_core.specs.Equal.{SeesEqual}
+use Rattle.asn1_core.specs.Der.{SeesEqual}
 use Rattle.std.proofs.Common.{rules}
 use Rattle.x509_pkcs12_bags.specs.BagEqual.{contents_equal}
 use Rattle.x509_pkcs12_parts.specs.ContentsEqual.{encrypted_contents_equal}

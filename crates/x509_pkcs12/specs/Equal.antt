@@ -1,5 +1,5 @@
 -- What is seen of values, by way of what is seen of them otherwise.
-use Rattle.asn1_core.specs.Equal.{SeesEqual}
+use Rattle.asn1_core.specs.Der.{SeesEqual}
 use Rattle.std.specs.Prelude.{◌≡◌, ◌↔◌, Bool}
 
 pub seen_as : {T V W : Type 0} {eq : T → T → Bool} {view : T → V} {value : T → W} → SeesEqual eq view → ((x y : T) → (view x ≡ view y) ↔ (value x ≡ value y)) → SeesEqual eq value

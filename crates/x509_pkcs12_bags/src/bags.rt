@@ -2,12 +2,9 @@
 
 ghost use Rattle.std.specs.Prelude.{◌≡◌, ◌++◌, ◌<◌, ◌⊎◌, ◌↔◌, IsTrue, List, false};
 ghost use Rattle.std.proofs.Common.{inl, inr};
-ghost use Rattle.asn1_core_format.specs.Format.{Gives};
-ghost use Rattle.asn1_core_format.specs.Levels.{less};
+ghost use Rattle.asn1_core.specs.Der.{Gives, less, element, octets_of};
 ghost use Rattle.asn1_core_format.specs.declared.eithers.Either.TheVariants.{First, Second};
 ghost use Rattle.x509_pkcs12_parts.specs.Attributes.{attributes_value};
-ghost use Rattle.asn1_core_element.specs.Element.{element};
-ghost use Rattle.asn1_core_oid.specs.OidValue.{octets_of};
 ghost use Rattle.x509_pkcs12_parts.specs.Oids.{oid};
 ghost use Rattle.x509_pkcs12_parts.specs.declared.oids.TheConstants.{KEY_BAG, SHROUDED_KEY_BAG, CERTIFICATE_BAG, CRL_BAG, SECRET_BAG, SAFE_CONTENTS_BAG};
 ghost use Rattle.x509_pkcs12_bags.specs.PlainBags.{bag_arm};

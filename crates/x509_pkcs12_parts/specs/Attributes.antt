@@ -1,10 +1,8 @@
 -- PKCS12Attribute ::= SEQUENCE { attrId OBJECT IDENTIFIER, attrValues SET OF ANY } (RFC 7292, 4.2)
 -- friendlyName: SET (SIZE (1)) OF BMPString; localKeyId: SET (SIZE (1)) OF OCTET STRING (RFC 2985, 5.5)
 use Rattle.std.specs.Prelude.{◌⊎◌, List, Option, map}
-use Rattle.asn1_core.specs.Der.{Format, within, set_of, sequence, optional, nothing, octet_string, raw, octets_of, option_value, Octets, OidOctets, StringOctets, ElementOctets, IsLawful, IsLawfulRow, lawful_octet_string, der_laws}
+use Rattle.asn1_core.specs.Der.{Format, within, set_of, sequence, optional, nothing, octet_string, raw, octets_of, option_value, Octets, OidOctets, StringOctets, ElementOctets, IsLawful, IsLawfulRow, lawful_octet_string, der_laws, Choice, known, otherwise, IsLawfulChoice, lawful_known, lawful_otherwise, IsOid}
 use Rattle.std.proofs.Common.{inl, inr, Vec, Global}
-use Rattle.asn1_core_format.specs.Choices.{Choice, known, otherwise, IsLawfulChoice, lawful_known, lawful_otherwise}
-use Rattle.asn1_core_oid.specs.Oid.{IsOid}
 use Rattle.asn1_leaves.specs.Strings.{bmp_string, lawful_bmp_string}
 use Rattle.asn1_leaves_strings.specs.Octets.{octets_of_bmp}
 use Rattle.x509_pkcs12_parts.specs.Oids.{oid}

@@ -1,5 +1,5 @@
 -- `==` of attributes sees what they contain.
-use Rattle.asn1_core.specs.Equal.{SeesEqual, list_equal, raw_equal}
+use Rattle.asn1_core.specs.Der.{SeesEqual, list_equal, raw_equal}
 use Rattle.std.proofs.Common.{rules}
 use Rattle.x509_pkcs12_parts.specs.Attributes.{attribute_value}
 use Rattle.x509_pkcs12_parts.specs.contracts.attributes.Pkcs12AttributePartialEq.TheImpl as Attribute

@@ -3,10 +3,8 @@
 -- SecretBag ::= SEQUENCE { secretTypeId OBJECT IDENTIFIER, secretValue [0] EXPLICIT ANY DEFINED BY secretTypeId } (RFC 7292, 4.2.5)
 -- EncryptedPrivateKeyInfo ::= SEQUENCE { encryptionAlgorithm AlgorithmIdentifier, encryptedData OCTET STRING } (RFC 5958, 3)
 use Rattle.std.specs.Prelude.{◌⊎◌, ℕ}
-use Rattle.asn1_core.specs.Der.{Format, sequence, part, nothing, object_identifier, octet_string, raw, octets_of, Octets, OidOctets, ElementOctets, IsLawful, lawful_sequence, explicit, der_laws}
+use Rattle.asn1_core.specs.Der.{Format, sequence, part, nothing, object_identifier, octet_string, raw, octets_of, Octets, OidOctets, ElementOctets, IsLawful, lawful_sequence, explicit, der_laws, Choice, known, otherwise, IsLawfulChoice, lawful_known, lawful_otherwise, IsOid}
 use Rattle.std.proofs.Common.{inl, inr}
-use Rattle.asn1_core_format.specs.Choices.{Choice, known, otherwise, IsLawfulChoice, lawful_known, lawful_otherwise}
-use Rattle.asn1_core_oid.specs.Oid.{IsOid}
 use Rattle.pkcs12_algs.specs.Encryption.{EncryptionAlgorithmValue, encryption_algorithm_value, encryption_algorithm, lawful_encryption_algorithm}
 use Rattle.x509_pkcs12_parts.specs.Oids.{oid}
 use Rattle.x509_pkcs12_parts.specs.declared.oids.TheConstants.{X509_CERTIFICATE, X509_CRL}

@@ -1,5 +1,5 @@
 -- `==` of encrypted contents sees what they contain.
-use Rattle.asn1_core.specs.Equal.{SeesEqual, der_equal}
+use Rattle.asn1_core.specs.Der.{SeesEqual, der_equal}
 use Rattle.asn1_core.specs.contracts.octets.OctetStringAsn1PartialEq.TheImpl as Octets
 use Rattle.pkcs12_algs.specs.EncryptionEqual.{encryption_algorithm_equal}
 use Rattle.x509_pkcs12_parts.specs.Contents.{encrypted_contents_value}

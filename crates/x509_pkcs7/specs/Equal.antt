@@ -1,5 +1,5 @@
 -- `==` is equality of what the values contain.
-use Rattle.asn1_core.specs.Equal.{SeesEqual, der_equal}
+use Rattle.asn1_core.specs.Der.{SeesEqual, der_equal}
 use Rattle.x509_base.specs.Equal.{x509_equal}
 use Rattle.std.proofs.Common.{rules}
 use Rattle.asn1_leaves_times.specs.TimesLaws.{equal_generalized}

@@ -6,9 +6,7 @@
 -- OtherKeyAttribute ::= SEQUENCE { keyAttrId OBJECT IDENTIFIER, keyAttr ANY DEFINED BY keyAttrId OPTIONAL } (RFC 5652, 10.2.7)
 use Rattle.std.specs.Prelude.{◌≡◌, ℕ, Option}
 use Rattle.std.proofs.Common.{arith, ⊎_elim}
-use Rattle.asn1_core.specs.Der.{Format, IsLawful, sequence, part, optional, nothing, number_below, object_identifier, octet_string, raw, octets_of, option_value, lawful_sequence, followed_by, perhaps, lawful_nothing, lawful_octet_string, Octets, OidOctets, ElementOctets, der_laws}
-use Rattle.asn1_core_format.specs.Tagged.{implicit}
-use Rattle.asn1_core_format.specs.TaggedLaws.{lawful_implicit, within_tagged}
+use Rattle.asn1_core.specs.Der.{Format, IsLawful, sequence, part, optional, nothing, number_below, object_identifier, octet_string, raw, octets_of, option_value, lawful_sequence, followed_by, perhaps, lawful_nothing, lawful_octet_string, Octets, OidOctets, ElementOctets, der_laws, implicit, lawful_implicit, within_tagged}
 use Rattle.asn1_leaves.specs.Times.{generalized_time, lawful_generalized_time}
 use Rattle.asn1_leaves_times.specs.Times.{moment_of_generalized}
 use Rattle.asn1_leaves_times.specs.declared.calendar.Moment.{Moment}
