@@ -2,6 +2,7 @@
 use Rattle.asn1_core.specs.Der.{SeesEqual, der_equal, same_first, same_second}
 use Rattle.std.specs.Prelude.{true, ◌≡◌, ◌⊎◌, ◌↔◌, ℕ, Bool, List}
 use Rattle.std.proofs.Common.{ap, inl, inr, rules}
+use Rattle.std.proofs.lemmas.Bool.Decides.{Decides-eqb}
 use Rattle.x509_base.specs.Algorithms.{AlgorithmValue}
 use Rattle.pkcs12_algs.specs.Algorithms.{KnownOrRaw, raw_value}
 use Rattle.pkcs12_algs.specs.Digests.{digest_oids, digest_value, digest_info_value, mac_value}
@@ -49,7 +50,7 @@ pub digest_info_equal : SeesEqual DigestInfo.ghosts.eq digest_info_value
 digest_info_equal x y = search (der_equal, digest_equal) depth 20
 
 pub mac_equal : SeesEqual Mac.ghosts.eq mac_value
-mac_equal x y = search (der_equal, digest_info_equal) depth 20
+mac_equal x y = search (der_equal, digest_info_equal, Decides-eqb) depth 20
 
 prf_plain : SeesEqual Prf.ghosts.eq (λ x. plain prf_oids (prf_value x))
 unfolding plain
@@ -62,7 +63,7 @@ salt_equal : SeesEqual Salt.ghosts.eq salt_value
 salt_equal = search rules
 
 pub pbkdf2_equal : SeesEqual Pbkdf2.ghosts.eq pbkdf2_value
-pbkdf2_equal x y = search (der_equal, salt_equal, prf_equal) depth 20
+pbkdf2_equal x y = search (der_equal, salt_equal, prf_equal, Decides-eqb) depth 20
 
 pub kdf_equal : SeesEqual Kdf.ghosts.eq kdf_value
 kdf_equal (ByPbkdf2 x) (ByPbkdf2 y) = same_first (pbkdf2_equal x y)
