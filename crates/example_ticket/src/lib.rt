@@ -162,6 +162,6 @@ impl TryClone for Holder {
 
 impl TryClone for Ticket {
     fn try_clone(&self, alloc: Global) -> Result<Self, Error> {
-        clone_of!(self, alloc, Ticket { note, holder; serial })
+        clone_of!(self, alloc; Ticket { note, holder; serial })
     }
 }

@@ -139,6 +139,6 @@ impl EqualByText for Pbes1Params {
 
 impl TryClone for Pbes1Params {
     fn try_clone(&self, alloc: Global) -> Result<Self, Error> {
-        clone_of!(self, alloc, Self { salt; iterations })
+        clone_of!(self, alloc; Self { salt; iterations })
     }
 }

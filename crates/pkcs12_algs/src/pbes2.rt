@@ -295,13 +295,6 @@ impl EqualByText for Pbes2Params {
 
 impl TryClone for Pbes2Params {
     fn try_clone(&self, alloc: Global) -> Result<Self, Error> {
-        clone_of!(
-            self,
-            alloc,
-            Self {
-                key_derivation_func,
-                encryption_scheme
-            }
-        )
+        clone_of!(self, alloc; Self { key_derivation_func, encryption_scheme })
     }
 }

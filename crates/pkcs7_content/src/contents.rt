@@ -278,13 +278,6 @@ impl EqualByText for EncapsulatedContentInfo {
 
 impl TryClone for EncapsulatedContentInfo {
     fn try_clone(&self, alloc: Global) -> Result<Self, Error> {
-        clone_of!(
-            self,
-            alloc,
-            EncapsulatedContentInfo {
-                content_type,
-                content
-            }
-        )
+        clone_of!(self, alloc; EncapsulatedContentInfo { content_type, content })
     }
 }

@@ -166,7 +166,7 @@ impl EqualByText for SpcAttributeAndOptionalValue {
 
 impl TryClone for SpcAttributeAndOptionalValue {
     fn try_clone(&self, alloc: Global) -> Result<Self, Error> {
-        clone_of!(self, alloc, SpcAttributeAndOptionalValue { ty, value })
+        clone_of!(self, alloc; SpcAttributeAndOptionalValue { ty, value })
     }
 }
 
@@ -219,13 +219,6 @@ impl EqualByText for SpcIndirectDataContent {
 
 impl TryClone for SpcIndirectDataContent {
     fn try_clone(&self, alloc: Global) -> Result<Self, Error> {
-        clone_of!(
-            self,
-            alloc,
-            SpcIndirectDataContent {
-                spc_data,
-                message_digest
-            }
-        )
+        clone_of!(self, alloc; SpcIndirectDataContent { spc_data, message_digest })
     }
 }

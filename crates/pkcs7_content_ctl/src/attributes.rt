@@ -48,6 +48,6 @@ impl EqualByText for CTLEntryAttribute {
 
 impl TryClone for CTLEntryAttribute {
     fn try_clone(&self, alloc: Global) -> Result<Self, Error> {
-        clone_of!(self, alloc, CTLEntryAttribute { oid, value })
+        clone_of!(self, alloc; CTLEntryAttribute { oid, value })
     }
 }

@@ -64,7 +64,7 @@ impl EqualByText for UnsignedAttribute {
 impl TryClone for UnsignedAttribute {
     #[cycle(copy)]
     fn try_clone(&self, alloc: Global) -> Result<Self, Error> {
-        clone_of!(self, alloc, UnsignedAttribute { ty, value })
+        clone_of!(self, alloc; UnsignedAttribute { ty, value })
     }
 }
 
@@ -104,7 +104,7 @@ impl EqualByText for SignedData {
 impl TryClone for SignedData {
     #[cycle(copy)]
     fn try_clone(&self, alloc: Global) -> Result<Self, Error> {
-        clone_of!(self, alloc, SignedData {
+        clone_of!(self, alloc; SignedData {
             digest_algorithms, content_info, certificates, crls, signers_infos; version
         })
     }

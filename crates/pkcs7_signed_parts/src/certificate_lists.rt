@@ -135,7 +135,7 @@ impl EqualByText for TbsCertList {
 
 impl TryClone for TbsCertList {
     fn try_clone(&self, alloc: Global) -> Result<Self, Error> {
-        clone_of!(self, alloc, TbsCertList {
+        clone_of!(self, alloc; TbsCertList {
             signature, issuer, this_update, next_update, revoked_certificates, crl_extension;
             version
         })
@@ -197,14 +197,8 @@ impl EqualByText for CertificateList {
 
 impl TryClone for CertificateList {
     fn try_clone(&self, alloc: Global) -> Result<Self, Error> {
-        clone_of!(
-            self,
-            alloc,
-            CertificateList {
-                tbs_cert_list,
-                signature_algorithm,
-                signature_value
-            }
-        )
+        clone_of!(self, alloc; CertificateList {
+            tbs_cert_list, signature_algorithm, signature_value
+        })
     }
 }

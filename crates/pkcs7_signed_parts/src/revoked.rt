@@ -71,15 +71,9 @@ impl EqualByText for RevokedCertificate {
 
 impl TryClone for RevokedCertificate {
     fn try_clone(&self, alloc: Global) -> Result<Self, Error> {
-        clone_of!(
-            self,
-            alloc,
-            RevokedCertificate {
-                user_certificate,
-                revocation_data,
-                crl_entry_extensions
-            }
-        )
+        clone_of!(self, alloc; RevokedCertificate {
+            user_certificate, revocation_data, crl_entry_extensions
+        })
     }
 }
 

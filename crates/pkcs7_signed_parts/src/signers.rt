@@ -103,14 +103,7 @@ impl EqualByText for IssuerAndSerialNumber {
 
 impl TryClone for IssuerAndSerialNumber {
     fn try_clone(&self, alloc: Global) -> Result<Self, Error> {
-        clone_of!(
-            self,
-            alloc,
-            IssuerAndSerialNumber {
-                issuer,
-                serial_number
-            }
-        )
+        clone_of!(self, alloc; IssuerAndSerialNumber { issuer, serial_number })
     }
 }
 

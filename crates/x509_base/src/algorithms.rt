@@ -95,14 +95,7 @@ impl EqualByText for AlgorithmIdentifier {
 
 impl TryClone for AlgorithmIdentifier {
     fn try_clone(&self, alloc: Global) -> Result<Self, Error> {
-        clone_of!(
-            self,
-            alloc,
-            Self {
-                algorithm,
-                parameters
-            }
-        )
+        clone_of!(self, alloc; Self { algorithm, parameters })
     }
 }
 
@@ -210,7 +203,7 @@ impl EqualByText for RawAlgorithmIdentifier {
 
 impl TryClone for RawAlgorithmIdentifier {
     fn try_clone(&self, alloc: Global) -> Result<Self, Error> {
-        clone_of!(self, alloc, RawAlgorithmIdentifier { parts })
+        clone_of!(self, alloc; RawAlgorithmIdentifier { parts })
     }
 }
 

@@ -48,7 +48,7 @@ impl EqualByText for DigestInfo {
 
 impl TryClone for DigestInfo {
     fn try_clone(&self, alloc: Global) -> Result<Self, Error> {
-        clone_of!(self, alloc, DigestInfo { oid, digest })
+        clone_of!(self, alloc; DigestInfo { oid, digest })
     }
 }
 

@@ -145,13 +145,6 @@ impl EqualByText for SpcSerializedObject {
 
 impl TryClone for SpcSerializedObject {
     fn try_clone(&self, alloc: Global) -> Result<Self, Error> {
-        clone_of!(
-            self,
-            alloc,
-            SpcSerializedObject {
-                class_id,
-                serialized_data
-            }
-        )
+        clone_of!(self, alloc; SpcSerializedObject { class_id, serialized_data })
     }
 }

@@ -61,13 +61,6 @@ impl EqualByText for SpcSpOpusInfo {
 
 impl TryClone for SpcSpOpusInfo {
     fn try_clone(&self, alloc: Global) -> Result<Self, Error> {
-        clone_of!(
-            self,
-            alloc,
-            SpcSpOpusInfo {
-                program_name,
-                more_info
-            }
-        )
+        clone_of!(self, alloc; SpcSpOpusInfo { program_name, more_info })
     }
 }

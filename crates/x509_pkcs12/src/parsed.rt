@@ -49,7 +49,7 @@ impl EqualByText for ParsedAuthenticatedSafeDataRepr {
 
 impl TryClone for ParsedAuthenticatedSafeDataRepr {
     fn try_clone(&self, alloc: Global) -> Result<Self, Error> {
-        clone_of!(self, alloc, ParsedAuthenticatedSafeDataRepr { contents })
+        clone_of!(self, alloc; ParsedAuthenticatedSafeDataRepr { contents })
     }
 }
 

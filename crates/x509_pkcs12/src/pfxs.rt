@@ -75,6 +75,6 @@ impl<R: AuthenticatedSafeDataRepr> EqualByText for Pfx<R> {
 
 impl<R: AuthenticatedSafeDataRepr> TryClone for Pfx<R> {
     fn try_clone(&self, alloc: Global) -> Result<Self, Error> {
-        clone_of!(self, alloc, Pfx { auth_safe, mac_data; version })
+        clone_of!(self, alloc; Pfx { auth_safe, mac_data; version })
     }
 }

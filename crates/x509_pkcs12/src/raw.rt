@@ -56,7 +56,7 @@ impl EqualByText for RawAuthenticatedSafeDataRepr {
 
 impl TryClone for RawAuthenticatedSafeDataRepr {
     fn try_clone(&self, alloc: Global) -> Result<Self, Error> {
-        clone_of!(self, alloc, RawAuthenticatedSafeDataRepr { raw })
+        clone_of!(self, alloc; RawAuthenticatedSafeDataRepr { raw })
     }
 }
 

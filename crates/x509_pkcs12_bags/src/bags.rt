@@ -312,7 +312,7 @@ impl Viewed for SafeBagKind {
 impl TryClone for SafeBag {
     #[cycle(copy)]
     fn try_clone(&self, alloc: Global) -> Result<Self, Error> {
-        clone_of!(self, alloc, SafeBag { kind, attributes })
+        clone_of!(self, alloc; SafeBag { kind, attributes })
     }
 }
 

@@ -162,7 +162,7 @@ impl EqualByText for SecretBag {
 
 impl TryClone for SecretBag {
     fn try_clone(&self, alloc: Global) -> Result<Self, Error> {
-        clone_of!(self, alloc, SecretBag { type_id, value })
+        clone_of!(self, alloc; SecretBag { type_id, value })
     }
 }
 
@@ -215,13 +215,6 @@ impl EqualByText for EncryptedKeyBag {
 
 impl TryClone for EncryptedKeyBag {
     fn try_clone(&self, alloc: Global) -> Result<Self, Error> {
-        clone_of!(
-            self,
-            alloc,
-            EncryptedKeyBag {
-                algorithm,
-                encrypted_data
-            }
-        )
+        clone_of!(self, alloc; EncryptedKeyBag { algorithm, encrypted_data })
     }
 }

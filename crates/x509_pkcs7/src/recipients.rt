@@ -75,14 +75,7 @@ impl EqualByText for OtherKeyAttribute {
 
 impl TryClone for OtherKeyAttribute {
     fn try_clone(&self, alloc: Global) -> Result<Self, Error> {
-        clone_of!(
-            self,
-            alloc,
-            OtherKeyAttribute {
-                key_attr_id,
-                key_attr
-            }
-        )
+        clone_of!(self, alloc; OtherKeyAttribute { key_attr_id, key_attr })
     }
 }
 
@@ -135,15 +128,7 @@ impl EqualByText for KekIdentifier {
 
 impl TryClone for KekIdentifier {
     fn try_clone(&self, alloc: Global) -> Result<Self, Error> {
-        clone_of!(
-            self,
-            alloc,
-            KekIdentifier {
-                key_identifier,
-                date,
-                other
-            }
-        )
+        clone_of!(self, alloc; KekIdentifier { key_identifier, date, other })
     }
 }
 
