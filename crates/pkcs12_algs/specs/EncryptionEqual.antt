@@ -1,5 +1,5 @@
 -- `==` of encryption algorithms is equality of what they contain.
-use Rattle.asn1_core.specs.Der.{SeesEqual, two_equal, raw_equal, same_first, same_second}
+use Rattle.asn1_core.specs.Der.{SeesEqual, two_equal, same_first, same_second}
 use Rattle.std.proofs.Common.{rules}
 use Rattle.pkcs12_algs.specs.Equal.{raw_equal, pbes2_equal}
 use Rattle.pkcs12_algs.specs.Encryption.{encryption_algorithm_value}

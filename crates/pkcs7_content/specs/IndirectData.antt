@@ -3,7 +3,7 @@
 -- an SpcPeImageData or an SpcSipInfo
 -- SpcIndirectDataContent ::= SEQUENCE { data SpcAttributeTypeAndOptionalValue, messageDigest DigestInfo }
 use Rattle.std.specs.Prelude.{◌⊎◌, ℕ, List, ◌≡◌}
-use Rattle.asn1_core.specs.Der.{Format, sequence, part, nothing, OidOctets, IsLawful, IsLawfulRow, octets_of, der_laws, either}
+use Rattle.asn1_core.specs.Der.{Format, sequence, part, nothing, OidOctets, IsLawful, IsLawfulRow, octets_of, der_laws, either, lawful_sequence}
 use Rattle.std.specs.Str.{bytes_eq}
 use Rattle.std.proofs.Common.{inl, inr, refl}
 use Rattle.asn1_choices.specs.DefinedBy.{DefinedBy, any_defined_by, arm, by_itself, no_arm, only_written}
@@ -76,7 +76,7 @@ pub spc_is_defined_by : IsDefinedBy spc_defined_by
 spc_is_defined_by = record { lawful = λ o. lawful_spc_row (subject_of o); alike = λ o v. written_alike (subject_of o) v }
 
 pub lawful_spc_attribute : IsLawful spc_attribute
-lawful_spc_attribute = search (der_laws, lawful_any_defined_by) depth 20
+lawful_spc_attribute = lawful_sequence (lawful_any_defined_by spc_defined_by spc_is_defined_by)
 
 pub lawful_indirect_data : IsLawful indirect_data
 lawful_indirect_data = search (der_laws, lawful_spc_attribute, lawful_digest_info) depth 20

@@ -4,7 +4,7 @@
 -- CertificateTrustList ::= SEQUENCE { subjectUsage SEQUENCE OF OBJECT IDENTIFIER, sequenceNumber INTEGER,
 --   thisUpdate UTCTime, subjectAlgorithm AlgorithmIdentifier, trustedSubjects SEQUENCE OF TrustedSubject }
 use Rattle.std.specs.Prelude.{List, map}
-use Rattle.asn1_core.specs.Der.{Format, IsLawful, sequence, part, nothing, set_of, object_identifier, octet_string, Octets, OidOctets, IntegerOctets, octets_of, sequence_of, der_laws}
+use Rattle.asn1_core.specs.Der.{Format, IsLawful, sequence, part, nothing, set_of, object_identifier, octet_string, Octets, OidOctets, IntegerOctets, octets_of, sequence_of, der_laws, lawful_sequence}
 use Rattle.asn1_leaves.specs.Integers.{integer, lawful_integer}
 use Rattle.asn1_leaves.specs.Times.{utc_time, lawful_utc_time}
 use Rattle.asn1_leaves_times.specs.declared.calendar.Moment.{Moment}
@@ -12,7 +12,7 @@ use Rattle.asn1_choices.specs.DefinedBy.{any_defined_by}
 use Rattle.asn1_choices.specs.DefinedByLaws.{lawful_any_defined_by}
 use Rattle.x509_base.specs.Algorithms.{AlgorithmValue, algorithm_identifier}
 use Rattle.x509_base.specs.AlgorithmLaws.{lawful_algorithm_identifier}
-use Rattle.pkcs7_content_ctl.specs.AttributeValues.{AttributeValues, values_defined_by, attribute_values_value}
+use Rattle.pkcs7_content_ctl.specs.AttributeValues.{AttributeValues, values_defined_by, values_are_defined_by, attribute_values_value}
 use Rattle.pkcs7_content_ctl.specs.declared.attributes.CTLEntryAttribute.{CTLEntryAttribute}
 use Rattle.pkcs7_content_ctl.specs.declared.entries.CTLEntry.{CTLEntry}
 use Rattle.asn1_leaves_times.specs.Times.{moment_of}
@@ -29,7 +29,7 @@ abbrev pub entry_attribute : Format EntryAttributeValue
 entry_attribute = sequence (any_defined_by values_defined_by)
 
 pub lawful_entry_attribute : IsLawful entry_attribute
-lawful_entry_attribute = search (der_laws, lawful_any_defined_by) depth 20
+lawful_entry_attribute = lawful_sequence (lawful_any_defined_by values_defined_by values_are_defined_by)
 
 abbrev pub EntryValue : Type 0
 EntryValue = Octets × (List EntryAttributeValue × Unit {0})

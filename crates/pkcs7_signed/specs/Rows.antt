@@ -6,8 +6,8 @@
 -- Absent unsigned attributes are none; signed data stand nowhere where no level is left.
 use Rattle.std.specs.Prelude.{◌⊎◌, ℕ, List}
 use Rattle.std.specs.Str.{bytes_eq}
-use Rattle.std.proofs.Common.{refl, inl, inr}
-use Rattle.asn1_core.specs.Der.{Format, IsLawful, IsLawfulRow, sequence, lawful_sequence, part, raw, lawful_raw, OidOctets, ElementOctets, set_of, lawful_set, explicit, der_laws, only_oid, either, set_or_none, lawful_set_or_none, gated, lawful_gated}
+use Rattle.std.proofs.Common.{refl, inl, inr, arith}
+use Rattle.asn1_core.specs.Der.{Format, IsLawful, IsLawfulRow, sequence, lawful_sequence, part, raw, lawful_raw, OidOctets, ElementOctets, set_of, lawful_set, explicit, only_oid, either, set_or_none, lawful_set_or_none, gated, lawful_gated, followed_by, lawful_only_oid, lawful_explicit}
 use Rattle.asn1_choices.specs.DefinedBy.{DefinedBy, any_defined_by, arm, by_itself, only_written}
 use Rattle.asn1_choices.specs.DefinedByLaws.{IsDefinedBy, itself, lawful_arm, lawful_any_defined_by}
 use Rattle.pkcs7_signed.specs.Oids.{signed_data_oid, countersignature_oid, ms_counter_sign_oid}
@@ -93,13 +93,13 @@ abbrev pub attribute_row : {C S : Type 0} → Format C → Format S → Format (
 attribute_row F G = sequence (any_defined_by (values_defined_by F G))
 
 pub lawful_signer_row : {A : Type 0} (F : Format A) → IsLawful F → IsLawful (signer_row F)
-lawful_signer_row F f = search (der_laws, lawful_signer_parts, lawful_set_or_none) depth 20
+lawful_signer_row F f = lawful_sequence (lawful_signer_parts (lawful_set_or_none 0xA1 (omega arith) F f))
 
 pub lawful_signed_row : {S : Type 0} (F : Format S) → IsLawful F → IsLawful (signed_row F)
 lawful_signed_row F f = lawful_gated (sequence (signed_parts (set_of F))) (lawful_sequence (lawful_signed_parts (lawful_set F f).row (λ t h. h)))
 
 pub lawful_certificate_row : {S : Type 0} (F : Format S) → IsLawful F → IsLawful (certificate_row F)
-lawful_certificate_row F f = search (der_laws, lawful_signed_row) depth 20
+lawful_certificate_row F f = lawful_sequence (followed_by (lawful_only_oid signed_data_oid) (lawful_explicit (omega arith) (lawful_signed_row F f)).row)
 
 module _ {C S : Type 0} (F : Format C) (G : Format S) (f : IsLawful F) (g : IsLawful G) where
   lawful_values : (i : Kind) → IsLawfulRow (values_row F G i)

@@ -1,7 +1,7 @@
 -- The laws of signers and what they hold.
 use Rattle.std.specs.Prelude.{◌≡◌, ℕ, ◌+◌, List, [], ◌++◌}
-use Rattle.std.proofs.Common.{refl, ap, ap₂, inl, inr}
-use Rattle.asn1_core.specs.Der.{Format, IsLawful, sequence, part, nothing, explicit, der_laws, only_oid, element, Grammar, by_levels, less, IsStep, lawful_levels, lawful_less, text_unless, least_unless, lawful_rolled}
+use Rattle.std.proofs.Common.{refl, ap, ap₂, inl, inr, arith}
+use Rattle.asn1_core.specs.Der.{Format, IsLawful, sequence, part, nothing, explicit, only_oid, element, Grammar, by_levels, less, IsStep, lawful_levels, lawful_less, text_unless, least_unless, lawful_rolled, lawful_set, lawful_implicit_set}
 use Rattle.pkcs7_signed.specs.Forest.{Forest, none, nodes_forest, forest_nodes, fold_node, same_all, same_node, nil_same, same_list, texts_fold, least_fold}
 use Rattle.pkcs7_signed.specs.Oids.{signed_data_oid}
 use Rattle.pkcs7_signed.specs.Parts.{signer_end, behind_signer, signer_parts, signed_end, behind_signed, signed_parts, ending}
@@ -121,7 +121,7 @@ pub lawful_signed_data : IsLawful signed_data
 lawful_signed_data = lawful_signed_row (less signer) lawful_less_signer
 
 pub lawful_signer_infos : IsLawful signer_infos
-lawful_signer_infos = search (der_laws, lawful_signer) depth 20
+lawful_signer_infos = lawful_set signer lawful_signer
 
 pub lawful_unsigned_attributes : IsLawful unsigned_attributes
-lawful_unsigned_attributes = search (der_laws, lawful_attribute) depth 20
+lawful_unsigned_attributes = lawful_implicit_set (omega arith) lawful_attribute

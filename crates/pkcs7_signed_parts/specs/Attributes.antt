@@ -1,7 +1,7 @@
 -- SignedAttributes ::= SET OF Attribute, under its tag [0] IMPLICIT (RFC 5652, 5.3)
 use Rattle.std.specs.Prelude.{ℕ, List, [], map}
 use Rattle.std.proofs.Common.{arith}
-use Rattle.asn1_core.specs.Der.{Format, IsLawful, implicit_set, der_laws, element, empty_left_out, is_default, IsDefault}
+use Rattle.asn1_core.specs.Der.{Format, IsLawful, implicit_set, element, empty_left_out, is_default, IsDefault, lawful_implicit_set}
 use Rattle.x509_base.specs.Names.{AttributeValue, attribute_value, attribute, lawful_attribute}
 use Rattle.pkcs7_signed_parts.specs.declared.attributes.Attributes.{Attributes}
 
@@ -12,7 +12,7 @@ abbrev pub attributes : Format (List AttributeValue)
 attributes = implicit_set 0 attribute
 
 pub lawful_attributes : IsLawful attributes
-lawful_attributes = search (der_laws, lawful_attribute) depth 20
+lawful_attributes = lawful_implicit_set (omega arith) lawful_attribute
 
 -- the empty set, which is left out
 abbrev pub no_attributes : List ℕ

@@ -4,7 +4,7 @@
 -- RevocationInfoChoices ::= SET OF RevocationInfoChoice, under its tag [1] IMPLICIT (RFC 5652, 5.1)
 use Rattle.std.specs.Prelude.{◌⊎◌, List, map}
 use Rattle.std.proofs.Common.{inl, inr, arith}
-use Rattle.asn1_core.specs.Der.{Format, IsLawful, sequence, part, nothing, object_identifier, null_element, octets_of, OidOctets, implicit_set, der_laws, either, lawful_either, implicit, lawful_implicit, within_tagged}
+use Rattle.asn1_core.specs.Der.{Format, IsLawful, sequence, part, nothing, object_identifier, null_element, octets_of, OidOctets, implicit_set, der_laws, either, lawful_either, implicit, lawful_implicit, within_tagged, lawful_implicit_set}
 use Rattle.pkcs7_signed_parts.specs.CertificateLists.{CertificateListValue, certificate_list_value, certificate_list, lawful_certificate_list}
 use Rattle.pkcs7_signed_parts.specs.declared.revocations.OtherRevocationInfoFormat.{OtherRevocationInfoFormat}
 use Rattle.pkcs7_signed_parts.specs.declared.revocations.RevocationInfoChoice.{RevocationInfoChoice}
@@ -53,4 +53,4 @@ abbrev pub revocations : Format (List RevocationValue)
 revocations = implicit_set 1 revocation
 
 pub lawful_revocations : IsLawful revocations
-lawful_revocations = search (der_laws, lawful_revocation) depth 20
+lawful_revocations = lawful_implicit_set (omega arith) lawful_revocation
