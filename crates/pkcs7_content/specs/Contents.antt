@@ -1,7 +1,7 @@
 -- EncapsulatedContentInfo ::= SEQUENCE { eContentType ContentType, eContent [0] EXPLICIT OCTET STRING OPTIONAL }
 -- (RFC 5652, 5.2; ContentType ::= OBJECT IDENTIFIER). In signatures of Authenticode and in signed trust lists the content
 -- is no octet string, but an SpcIndirectDataContent or a CertificateTrustList (RFC 2315, 7: ANY DEFINED BY contentType).
-use Rattle.std.specs.Prelude.{◌⊎◌, ℕ, List, Option, Some}
+use Rattle.std.specs.Prelude.{◌⊎◌, ℕ, List, Option, Some, if◌then◌else◌}
 use Rattle.asn1_core.specs.Der.{Format, sequence, part, optional, nothing, octet_string, option_value, Octets, OidOctets, octets_of, explicit, either}
 use Rattle.std.specs.Str.{bytes_eq}
 use Rattle.std.proofs.Common.{inl, inr}

@@ -1,7 +1,7 @@
 -- The laws of what Authenticode says of a PE image.
 use Rattle.std.specs.Prelude.{◌≡◌, ◌↔◌, ℕ, ◌+◌, ◌≤◌, Bool, List, Option, Some, None, true, false}
 use Rattle.std.proofs.Common.{arith, refl, sym, ap, ◌∙◌, subst}
-use Rattle.asn1_core.specs.Der.{IsLawful, IsLawfulRow, lawful_sequence, perhaps, der_laws, element_same, begins_next, next_apart, IsLoosening, lawful_loosened, least_unless}
+use Rattle.asn1_core.specs.Der.{IsLawful, IsLawfulRow, lawful_sequence, followed_by, lawful_explicit, lawful_nothing, perhaps, element_same, begins_next, next_apart, IsLoosening, lawful_loosened, least_unless}
 use Rattle.std.specs.Str.{bytes_eq}
 use Rattle.std.proofs.lemmas.Slice.Eq.{bytes_eq-Decides}
 use Rattle.asn1_leaves.specs.Strings.{lawful_bit_string}
@@ -10,7 +10,7 @@ use Rattle.x509_base_spc.specs.Links.{LinkValue, lawful_spc_link}
 use Rattle.pkcs7_content.specs.PeImages.{default_flags, PeImageValue, file_row, pe_image_spelled, HasFlags, flags_written, pe_image_data}
 
 lawful_file_row : IsLawfulRow file_row
-lawful_file_row = search (der_laws, lawful_spc_link) depth 20
+lawful_file_row = followed_by (lawful_explicit (omega arith) lawful_spc_link) lawful_nothing
 
 pub lawful_pe_image_spelled : IsLawful pe_image_spelled
 lawful_pe_image_spelled = lawful_sequence (perhaps lawful_bit_string (λ t h e. omega arith) lawful_file_row)

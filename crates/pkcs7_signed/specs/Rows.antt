@@ -4,7 +4,7 @@
 -- Pkcs7Certificate ::= SEQUENCE { contentType OBJECT IDENTIFIER (id-signedData), content [0] EXPLICIT SignedData } (RFC 5652, 3)
 -- UnsignedAttribute ::= SEQUENCE { type OBJECT IDENTIFIER, values SET OF ANY DEFINED BY type } (RFC 5652, 5.3)
 -- Absent unsigned attributes are none; signed data stand nowhere where no level is left.
-use Rattle.std.specs.Prelude.{◌⊎◌, ℕ, List}
+use Rattle.std.specs.Prelude.{◌⊎◌, ℕ, List, if◌then◌else◌}
 use Rattle.std.specs.Str.{bytes_eq}
 use Rattle.std.proofs.Common.{refl, inl, inr, arith}
 use Rattle.asn1_core.specs.Der.{Format, IsLawful, IsLawfulRow, sequence, lawful_sequence, part, raw, lawful_raw, OidOctets, ElementOctets, set_of, lawful_set, explicit, only_oid, either, set_or_none, lawful_set_or_none, gated, lawful_gated, followed_by, lawful_only_oid, lawful_explicit}
