@@ -1,6 +1,5 @@
 -- `==` of certificates, revocation lists, secrets and encrypted keys sees what they contain.
 use Rattle.asn1_core.specs.Der.{SeesEqual, der_equal}
-use Rattle.x509_base.specs.Equal.{x509_equal}
 use denote.Param.{value_of}
 use denote.RattleType.{RattleType}
 use Rattle.std.proofs.Common.{rules}
