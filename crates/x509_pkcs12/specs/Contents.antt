@@ -2,7 +2,7 @@
 -- of pkcs7-data, an OCTET STRING round SafeContents; of pkcs7-encryptedData, EncryptedData:
 -- EncryptedData ::= SEQUENCE { version Version, encryptedContentInfo EncryptedContentInfo } with version 0 (RFC 2315, 13)
 use Rattle.std.specs.Prelude.{◌⊎◌, ℕ, List, Option}
-use Rattle.asn1_core.specs.Der.{Format, within, sequence, part, optional, nothing, raw, octets_of, option_value, OidOctets, ElementOctets, IsLawful, IsLawfulRow, version, lawful_within, lawful_raw, perhaps, lawful_nothing, explicit, der_laws, Choice, known, otherwise, IsLawfulChoice, lawful_known, lawful_otherwise, IsOid}
+use Rattle.asn1_core.specs.Der.{Format, within, sequence, part, optional, nothing, raw, octets_of, option_value, OidOctets, ElementOctets, IsLawful, IsLawfulRow, version, lawful_within, lawful_raw, perhaps, lawful_nothing, explicit, der_laws, Choice, known, otherwise, IsLawfulChoice, lawful_known, lawful_otherwise, IsOid, lawful_explicit, lawful_sequence, followed_by, lawful_version_0}
 use Rattle.std.proofs.Common.{inl, inr, arith}
 use Rattle.x509_pkcs12_bags.specs.Bags.{Bag, safe_contents}
 use Rattle.x509_pkcs12_bags.specs.BagValues.{contents_value}
@@ -55,7 +55,8 @@ pub lawful_data_content : {V : Type 0} (F : Format V) → IsLawful F → IsLawfu
 lawful_data_content F f = lawful_within (within 0x04 F) (lawful_within F f.row 0x04 (omega arith)).row 0xA0 (omega arith)
 
 lawful_encrypted_content : IsLawful encrypted_content
-lawful_encrypted_content = search (der_laws, lawful_encrypted_contents) depth 20
+lawful_encrypted_content =
+    lawful_explicit (omega arith) (lawful_sequence (followed_by lawful_version_0 (followed_by lawful_encrypted_contents lawful_nothing)))
 
 pub lawful_any_content : IsLawfulRow any_content
 lawful_any_content = perhaps (lawful_within raw lawful_raw.row 0xA0 (omega arith)) (λ t h e. e) lawful_nothing
