@@ -1,5 +1,6 @@
 -- ContentInfo ::= SEQUENCE { contentType ContentType, content [0] EXPLICIT ANY DEFINED BY contentType } (RFC 5652, 3)
-use Rattle.asn1_core.specs.Der.{Format, IsLawful, sequence, part, nothing, object_identifier, raw, octets_of, OidOctets, ElementOctets, explicit, der_laws}
+use Rattle.std.proofs.Common.{arith}
+use Rattle.asn1_core.specs.Der.{Format, IsLawful, sequence, part, nothing, object_identifier, raw, octets_of, OidOctets, ElementOctets, explicit, lawful_sequence, followed_by, lawful_object_identifier, lawful_explicit, lawful_raw, lawful_nothing}
 use Rattle.x509_pkcs7.specs.declared.contents.ContentInfo.{ContentInfo}
 
 abbrev pub ContentInfoValue : Type 0
@@ -12,4 +13,4 @@ abbrev pub content_info : Format ContentInfoValue
 content_info = sequence (part object_identifier (part (explicit 0 raw) nothing))
 
 pub lawful_content_info : IsLawful content_info
-lawful_content_info = search der_laws depth 20
+lawful_content_info = lawful_sequence (followed_by lawful_object_identifier (followed_by (lawful_explicit (omega arith) lawful_raw) lawful_nothing))

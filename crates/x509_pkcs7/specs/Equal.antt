@@ -1,6 +1,8 @@
 -- `==` is equality of what the values contain.
-use Rattle.asn1_core.specs.Der.{SeesEqual, der_equal}
-use Rattle.x509_base.specs.Equal.{x509_equal}
+use Rattle.std.specs.Prelude.{map}
+use Rattle.x509_base.specs.Names.{attribute_value}
+use Rattle.asn1_core.specs.Der.{SeesEqual, der_equal, two_equal, with_end, option_equal, list_equal}
+use Rattle.x509_base.specs.Equal.{x509_equal, attribute_equal}
 use Rattle.std.proofs.Common.{rules}
 use Rattle.asn1_leaves_times.specs.TimesLaws.{equal_generalized}
 use Rattle.pkcs7_content.specs.contracts.versions.CmsVersionPartialEq.TheImpl as Version
@@ -47,7 +49,12 @@ pub originator_equal : SeesEqual Originator.ghosts.eq originator_value
 originator_equal x y = search (der_equal, certificates_equal, revocations_equal) depth 20
 
 pub enveloped_equal : SeesEqual Enveloped.ghosts.eq enveloped_value
-enveloped_equal x y = search (x509_equal, version_equal, originator_equal, recipient_equal, encrypted_content_equal) depth 20
+enveloped_equal x y =
+    two_equal (version_equal x.version y.version)
+    (two_equal (option_equal _ (λ o. originator_value o.0) (λ a b. originator_equal a.0 b.0) x.originator_info.0 y.originator_info.0)
+    (two_equal (list_equal _ _ recipient_equal x.recipient_infos.0.items y.recipient_infos.0.items)
+    (two_equal (encrypted_content_equal x.encrypted_content_info y.encrypted_content_info)
+    (with_end (option_equal _ (λ a. map attribute_value a.0.0.items) (λ a b. list_equal _ _ attribute_equal a.0.0.items b.0.0.items) x.unprotected_attrs.0 y.unprotected_attrs.0)))))
 
 pub descriptor_equal : SeesEqual Descriptor.ghosts.eq descriptor_value
 descriptor_equal x y = search rules
