@@ -1,12 +1,7 @@
 -- Reading an object identifier and what it picks, and reading an arm.
 use Rattle.std.proofs.Common.{◌≡◌, ℕ, List, ◌++◌, length, refl, sym, ap, ◌∙◌, subst, arith, length-append}
-use Rattle.asn1_core.specs.Objects.{object_identifier}
-use Rattle.asn1_core_element.specs.Element.{element}
-use Rattle.asn1_core_element.specs.ElementLaws.{element_cut}
-use Rattle.asn1_core_element.specs.Position.{Position}
+use Rattle.asn1_core.specs.Der.{object_identifier, element, element_cut, Position, Format, Took, GaveUp, TookRow, GaveUpRow}
 use Rattle.asn1_core_element.specs.declared.error.Error.{Error}
-use Rattle.asn1_core_format.specs.Format.{Format, Took, GaveUp}
-use Rattle.asn1_core_format.specs.Rows.{TookRow, GaveUpRow}
 use Rattle.asn1_choices.specs.DefinedBy.{DefinedBy, any_defined_by, Arm, arm}
 use Rattle.asn1_choices.specs.DefinedByLaws.{IsArm}
 

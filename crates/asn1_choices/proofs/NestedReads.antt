@@ -1,16 +1,7 @@
 -- Reading a choice of which one arm holds what stands a level down.
 use Rattle.std.proofs.Common.{◌≡◌, ℕ, List, inl, inr}
-use Rattle.asn1_core_element.specs.Element.{IsTagByte}
-use Rattle.asn1_core_element.specs.Position.{Position}
-use Rattle.asn1_core_element.specs.Reading.{TookElement}
+use Rattle.asn1_core.specs.Der.{IsTagByte, Position, TookElement, Choice, IsLawfulChoice, known, lawful_known, Format, IsLawful, IsLawfulRow, Took, GaveUp, less, lawful_less, part, within, TookRow, GaveUpRow, lawful_within, followed_by}
 use Rattle.asn1_core_element.specs.declared.error.Error.{Error}
-use Rattle.asn1_core_format.specs.Choices.{Choice, IsLawfulChoice, known, lawful_known}
-use Rattle.asn1_core_format.specs.Format.{Format, IsLawful, IsLawfulRow, Took, GaveUp}
-use Rattle.asn1_core_format.specs.Levels.{less}
-use Rattle.asn1_core_format.specs.LevelLaws.{lawful_less}
-use Rattle.asn1_core_format.specs.Rows.{part, within, TookRow, GaveUpRow}
-use Rattle.asn1_core_format.specs.RowLaws.{lawful_within}
-use Rattle.asn1_core_format.specs.Sequences.{followed_by}
 use Rattle.asn1_core_format.proofs.RowReads.{first_refused, rest_refused, part_took}
 use Rattle.asn1_choices.specs.Chosen.{after_oid}
 use Rattle.asn1_choices.proofs.OidReads.{choice_took, behind_refused, here, here_refused, there, there_refused}

@@ -1,17 +1,9 @@
 -- Reading a choice by object identifier: the object identifier, and then what stands behind it in the arm that it picks.
 use Rattle.std.proofs.Common.{◌≡◌, ◌≢◌, ◌⊎◌, ℕ, List, ◌++◌, length, Option, Some, None, refl, sym, ap, ◌∙◌, subst, inl, inr, arith, length-append}
-use Rattle.asn1_core_element.specs.Element.{element}
-use Rattle.asn1_core_element.specs.ElementLaws.{element_cut, element_long}
-use Rattle.asn1_core_element.specs.Position.{Position}
-use Rattle.asn1_core_element.specs.Reading.{TookElement, RefusedElement}
+use Rattle.asn1_core.specs.Der.{element, element_cut, element_long, Position, TookElement, RefusedElement, Choice, IsLawfulChoice, known, otherwise, same_head, Format, TookRow, GaveUpRow, IsOid, IsRefusal}
 use Rattle.asn1_core_element.specs.declared.error.Error.{Error}
 use Rattle.asn1_core_element.specs.declared.error.Error.TheVariants.{Memory, Invalid}
-use Rattle.asn1_core_format.specs.Choices.{Choice, IsLawfulChoice, known, otherwise, same_head}
-use Rattle.asn1_core_format.specs.Format.{Format}
-use Rattle.asn1_core_format.specs.Rows.{TookRow, GaveUpRow}
 use Rattle.asn1_core_element.specs.declared.error.Error.TheVariants.{TooLong}
-use Rattle.asn1_core_oid.specs.Oid.{IsOid}
-use Rattle.asn1_core_oid.specs.Refusal.{IsRefusal}
 use Rattle.asn1_choices.specs.Chosen.{after_oid}
 use Rattle.asn1_choices.specs.Tables.{Table, IsTable, among}
 

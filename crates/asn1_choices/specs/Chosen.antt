@@ -1,8 +1,6 @@
 -- Choices by object identifier, as they are read: the object identifier first, and then what stands behind it.
 use Rattle.std.specs.Prelude.{ℕ, ◌-◌, List, ◌++◌}
-use Rattle.asn1_core_element.specs.Element.{element}
-use Rattle.asn1_core_format.specs.Choices.{Choice}
-use Rattle.asn1_core_format.specs.Format.{Format}
+use Rattle.asn1_core.specs.Der.{element, Choice, Format}
 
 -- what stands behind an object identifier that was read
 abbrev pub after_oid : {V : Type 0} → List ℕ → Choice V → Format V

@@ -1,8 +1,6 @@
 -- An object identifier, which is kept, and behind it, to the end of the contents, what it picks.
 use Rattle.std.specs.Prelude.{◌≡◌, ℕ, ◌+◌, List, ◌++◌}
-use Rattle.asn1_core_element.specs.Element.{element}
-use Rattle.asn1_core_format.specs.Format.{Format}
-use Rattle.asn1_core_oid.specs.Oid.{IsOid}
+use Rattle.asn1_core.specs.Der.{element, Format, IsOid}
 
 -- how the values V are written, behind whatever object identifier, and the row that each object identifier picks
 pub record DefinedBy (V : Type 0) : Type 1 where

@@ -1,10 +1,7 @@
 -- The laws of what an object identifier picks, and of its arms.
 use Rattle.std.specs.Prelude.{◌≡◌, ◌↔◌, ℕ, List, ◌++◌}
 use Rattle.std.proofs.Common.{refl, sym, ap, ◌∙◌, subst}
-use Rattle.asn1_core_element.specs.Element.{element}
-use Rattle.asn1_core_element.specs.ElementLaws.{element_cut}
-use Rattle.asn1_core_format.specs.Choices.{heads_begin}
-use Rattle.asn1_core_format.specs.Format.{Format, IsLawfulRow}
+use Rattle.asn1_core.specs.Der.{element, element_cut, heads_begin, Format, IsLawfulRow}
 use Rattle.asn1_choices.specs.DefinedBy.{DefinedBy, any_defined_by, Arm, arm, by_itself, no_arm}
 
 -- each row is lawful, and writes as all do

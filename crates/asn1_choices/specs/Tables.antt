@@ -1,11 +1,7 @@
 -- Tables of object identifiers: arms that all have the same behind them.
 use Rattle.std.specs.Prelude.{◌≡◌, ◌⊎◌, ℕ, ◌+◌, List, ◌++◌, Option, Some, None}
 use Rattle.std.proofs.Common.{refl, sym, ap, ◌∙◌, subst, inl, inr}
-use Rattle.asn1_core_element.specs.Element.{element}
-use Rattle.asn1_core_element.specs.ElementLaws.{element_cut}
-use Rattle.asn1_core_format.specs.Choices.{Choice, Heads, IsLawfulChoice, same_head, heads_begin}
-use Rattle.asn1_core_format.specs.Eithers.{OneOf, from_one, map_one}
-use Rattle.asn1_core_format.specs.Format.{Format, IsLawfulRow}
+use Rattle.asn1_core.specs.Der.{element, element_cut, Choice, Heads, IsLawfulChoice, same_head, heads_begin, OneOf, from_one, map_one, Format, IsLawfulRow}
 
 -- an object identifier for each arm, and the arm of an object identifier
 pub record Table (A : Type 0) : Type 0 where

@@ -2,14 +2,12 @@
 
 ghost use Rattle.std.specs.Prelude.{◌≡◌, ◌↔◌, ◌⊎◌, ℕ, List, IsTrue};
 ghost use Rattle.std.proofs.Common.{inl, inr};
-ghost use Rattle.asn1_core_format.specs.Choices.{known, otherwise, lawful_known, lawful_otherwise};
+ghost use Rattle.asn1_core.specs.Der.{known, otherwise, lawful_known, lawful_otherwise, IsOid, octets_of};
 ghost use Rattle.asn1_core_format.specs.declared.eithers.Either.TheVariants.{First, Second};
-ghost use Rattle.asn1_core_oid.specs.Oid.{IsOid};
-ghost use Rattle.asn1_core_oid.specs.OidValue.{octets_of};
 
 use crate::choices::{ReadChoice, WriteChoice};
-use asn1_core::prelude::*;
 use asn1_core::OidRef;
+use asn1_core::prelude::*;
 use std::alloc::Global;
 use std::marker::PhantomData;
 

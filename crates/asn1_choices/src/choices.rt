@@ -1,8 +1,7 @@
 //! Choices as contents.
 
 ghost use Rattle.std.specs.Prelude.{◌≡◌, ◌↔◌, ℕ, List, IsTrue, false};
-ghost use Rattle.asn1_core_format.specs.Choices.{Choice, IsLawfulChoice};
-ghost use Rattle.asn1_core_format.specs.Rows.{GivesRow};
+ghost use Rattle.asn1_core.specs.Der.{Choice, IsLawfulChoice, GivesRow};
 ghost use Rattle.asn1_choices.specs.Chosen.{after_oid};
 
 use asn1_core::prelude::*;

@@ -2,9 +2,7 @@
 //! ANY DEFINED BY type }` and the like, with the values that are known.
 
 ghost use Rattle.std.specs.Prelude.{◌≡◌, List, ℕ, false};
-ghost use Rattle.asn1_core_format.specs.Format.{IsLawful, Gives};
-ghost use Rattle.asn1_core_format.specs.Rows.{GivesRow, within};
-ghost use Rattle.asn1_core_oid.specs.OidValue.{octets_of};
+ghost use Rattle.asn1_core.specs.Der.{IsLawful, Gives, GivesRow, within, octets_of};
 ghost use Rattle.asn1_choices.specs.DefinedBy.{DefinedBy, any_defined_by};
 ghost use Rattle.asn1_choices.specs.DefinedByLaws.{IsDefinedBy};
 

@@ -2,12 +2,7 @@
 
 ghost use Rattle.std.specs.Prelude.{◌≡◌, false};
 ghost use Rattle.std.proofs.Common.{inl, inr};
-ghost use Rattle.asn1_core_element.specs.Element.{IsTagByte};
-ghost use Rattle.asn1_core_format.specs.Calls.{MayBelow, GivesBelow};
-ghost use Rattle.asn1_core_format.specs.Choices.{known};
-ghost use Rattle.asn1_core_format.specs.Format.{IsLawful};
-ghost use Rattle.asn1_core_format.specs.Levels.{less};
-ghost use Rattle.asn1_core_format.specs.Rows.{GivesRow, part, within};
+ghost use Rattle.asn1_core.specs.Der.{IsTagByte, MayBelow, GivesBelow, known, IsLawful, less, GivesRow, part, within};
 ghost use Rattle.asn1_core_format.specs.declared.eithers.Either.TheVariants.{First, Second};
 
 use crate::arms::{Named, is_named};

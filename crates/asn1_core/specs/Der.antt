@@ -2,24 +2,56 @@
 -- the laws by which `search` finds that a type is lawful. The words of std come from its own modules,
 -- `Rattle.std.specs.Prelude` and `Rattle.std.proofs.Common`.
 use Rattle.std.proofs.Common.{arith}
-pub use Rattle.asn1_core_format.specs.Format.{Format, IsLawfulRow, IsLawful}
-pub use Rattle.asn1_core_format.specs.Lists.{each}
+pub use Rattle.asn1_core_format.specs.Format.{Format, IsLawfulRow, IsLawful, GaveUp, Gives, Took}
+pub use Rattle.asn1_core_format.specs.Lists.{each, least_all}
 pub use Rattle.asn1_core_format.specs.ListLaws.{lawful_each}
-pub use Rattle.asn1_core_format.specs.Numbers.{number_below, lawful_number}
-pub use Rattle.asn1_core_format.specs.Rows.{nothing, part, optional, within, option_value}
+pub use Rattle.asn1_core_format.specs.Numbers.{number_below, lawful_number, numbers_below}
+pub use Rattle.asn1_core_format.specs.Rows.{nothing, part, optional, within, option_value, GaveUpRow, GivesRow, TookRow, text_if}
 pub use Rattle.asn1_core_format.specs.RowLaws.{lawful_nothing, lawful_part, lawful_optional, lawful_within}
 pub use Rattle.asn1_core_format.specs.Sequences.{sequence, followed_by, perhaps, lawful_sequence, set_of, lawful_set}
-pub use Rattle.asn1_core_format.specs.Omitted.{omitted, is_default, lawful_omitted}
-pub use Rattle.asn1_core_format.specs.Tagged.{implicit}
-pub use Rattle.asn1_core_format.specs.TaggedLaws.{lawful_implicit, leaf_tagged, within_tagged}
+pub use Rattle.asn1_core_format.specs.Omitted.{omitted, is_default, lawful_omitted, IsDefault, least_unless, text_unless}
+pub use Rattle.asn1_core_format.specs.Tagged.{implicit, context_tag}
+pub use Rattle.asn1_core_format.specs.TaggedLaws.{lawful_implicit, leaf_tagged, within_tagged, context_tag_is}
 pub use Rattle.asn1_core_oid.specs.OidValue.{octets_of}
 pub use Rattle.asn1_core.specs.Nulls.{null_element, lawful_null_element}
 pub use Rattle.asn1_core.specs.Objects.{object_identifier, lawful_object_identifier}
-pub use Rattle.asn1_core.specs.Octets.{octet_string, lawful_octet_string}
+pub use Rattle.asn1_core.specs.Octets.{octet_string, lawful_octet_string, any_octets}
 pub use Rattle.asn1_core.specs.Raw.{element_of, lawful_element_of, raw, lawful_raw}
 pub use Rattle.asn1_core.specs.Tagged.{perhaps_last, sequence_of, lawful_sequence_of, explicit, lawful_explicit, implicit_set, lawful_implicit_set, lawful_implicit_octets, only_oid, lawful_only_oid}
 pub use Rattle.asn1_core.specs.Versions.{version, lawful_version_0, lawful_version_1, lawful_version_3}
 pub use Rattle.asn1_core.specs.Words.{Octets, OidOctets, IntegerOctets, BitStringOctets, StringOctets, ElementOctets}
+pub use Rattle.asn1_core.specs.Equal.{der_equal, octets_equal, raw_equal, same_first, same_second, with_end}
+pub use Rattle.asn1_core_element.specs.Element.{IsElement, IsTagByte, element, head, length_octets}
+pub use Rattle.asn1_core_element.specs.ElementLaws.{element_cut, element_long, element_same, octets_long, octets_short}
+pub use Rattle.asn1_core_element.specs.Numbers.{integer_octets}
+pub use Rattle.asn1_core_element.specs.Position.{Position}
+pub use Rattle.asn1_core_element.specs.Reading.{RefusedElement, TookElement}
+pub use Rattle.asn1_core_element.specs.Words.{word_of}
+pub use Rattle.asn1_core_format.specs.Calls.{GivesBelow, MayBelow}
+pub use Rattle.asn1_core_format.specs.Choices.{Choice, Heads, IsLawfulChoice, heads_begin, known, lawful_known, lawful_otherwise, otherwise, same_head}
+pub use Rattle.asn1_core_format.specs.Eithers.{OneOf, either, from_one, lawful_either, map_one}
+pub use Rattle.asn1_core_format.specs.EmptySets.{empty_left_out, is_nil, lawful_set_or_none, set_or_none}
+pub use Rattle.asn1_core_format.specs.Gated.{gated, lawful_gated}
+pub use Rattle.asn1_core_format.specs.Laws.{NextIs, begins_next, element_some, next_apart}
+pub use Rattle.asn1_core_format.specs.Leaf.{IsLawfulSpelling, Spelling, kept, leaf}
+pub use Rattle.asn1_core_format.specs.LeafLaws.{lawful_leaf}
+pub use Rattle.asn1_core_format.specs.LevelLaws.{IsStep, lawful_less, lawful_levels, unroll_formed, unroll_text}
+pub use Rattle.asn1_core_format.specs.Levels.{Grammar, Still, always, by_levels, less, levels, no_grammar}
+pub use Rattle.asn1_core_format.specs.Loosened.{IsLoosening, Loosening, lawful_loosened, lawful_loosened_row, loosened}
+pub use Rattle.asn1_core_format.specs.Rolled.{lawful_rolled, rolled}
+pub use Rattle.asn1_core_format.specs.Same.{all_same, least_same, texts_same}
+pub use Rattle.asn1_core_format.specs.Views.{Clones, SeesEqual, list_equal, option_equal, two_equal}
+pub use Rattle.asn1_core_format.specs.Whole.{AnswersInput, HasNoValue, IsValueOf}
+pub use Rattle.asn1_core_oid.specs.Arcs.{arcs}
+pub use Rattle.asn1_core_oid.specs.Oid.{IsOid}
+pub use Rattle.asn1_core_oid.specs.OidTest.{is_oid}
+pub use Rattle.asn1_core_oid.specs.OidTestLaws.{oid_from_test}
+pub use Rattle.asn1_core_oid.specs.OidValueLaws.{equal_octets}
+pub use Rattle.asn1_core_oid.specs.Refusal.{IsRefusal}
+pub use Rattle.asn1_core_streams.specs.Streams.{AppendsBeginning}
+pub use Rattle.asn1_core_writers.specs.Comparing.{IsBefore}
+pub use Rattle.asn1_core_writers.specs.Sinks.{Emits}
+pub use Rattle.asn1_core_writers.specs.Texts.{Measures, Writes}
 
 -- The laws of parts that are always there, and of a last part that may be absent. Any other that may be absent is said
 -- by hand, with `perhaps` or `lawful_omitted`, since its tags are told from those of what follows it.

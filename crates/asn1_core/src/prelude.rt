@@ -1,11 +1,11 @@
 //! All that a new type is made of, for `use asn1_core::prelude::*`: the traits that read and write, the parts of a
 //! SEQUENCE, elements around them, and the writers.
 
-pub use crate::clone_of;
 pub use crate::{
     Asn1RawDer, Asn1SequenceOf, Asn1SetOf, ExplicitContextTag0, ExplicitContextTag1,
     ExplicitContextTag2, FixedVersion, ImplicitContextTag0, ImplicitContextTag1, KnownOid, Null,
     ObjectIdentifierAsn1, OctetStringAsn1, OctetStringAsn1Container, Optional, SeenByText,
+    clone_of,
 };
 pub use asn1_core_element::{Error, Reader};
 pub use asn1_core_format::{

@@ -2,7 +2,7 @@
 
 ghost use Rattle.std.specs.Prelude.{◌≡◌, ℕ, List};
 ghost use Rattle.std.proofs.Common.{refl};
-ghost use Rattle.asn1_core.specs.Octets.{octet_string, lawful_octet_string};
+ghost use Rattle.asn1_core.specs.Der.{octet_string, lawful_octet_string};
 
 use asn1_core::{DerDeserialize, DerSerialize, Error, OctetStringAsn1, Reader, WriteError, Writer};
 use std::alloc::Global;

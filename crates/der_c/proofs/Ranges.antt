@@ -1,10 +1,9 @@
 -- From the range of a MAC to its status.
 use Rattle.std.proofs.Common.{◌≡◌, ◌≢◌, ℕ, ◌+◌, ◌-◌, ◌≤◌, List, ap, subst, sym, arith, inl, inr, refl}
 use Rattle.std.specs.Prelude.{Some}
-use Rattle.asn1_core.specs.Raw.{raw}
+use Rattle.asn1_core.specs.Der.{raw, HasNoValue}
 use Rattle.asn1_core_element.specs.declared.error.Error.{Error}
 use Rattle.asn1_core_element.specs.declared.error.Error.TheVariants.{Malformed, Missing, Invalid, TooDeep, TooLong, Memory}
-use Rattle.asn1_core_format.specs.Whole.{HasNoValue}
 use Rattle.x509_pkcs12.specs.MacRanges.{IsMacRange}
 use Rattle.x509_pkcs12.specs.Pfxs.{pfx}
 use Rattle.der_c.specs.Calls.{status_of, FindsRange}

@@ -1,9 +1,8 @@
 -- What the calls from C say of an input, by their status.
 use Rattle.std.specs.Prelude.{◌≡◌, ◌≢◌, ◌≤◌, ◌<◌, ◌⊎◌, ◌+◌, ◌^◌, ℕ, List, ◌++◌, length, drop, get_or, Some, None}
-use Rattle.asn1_core.specs.Raw.{raw}
+use Rattle.asn1_core.specs.Der.{raw, IsValueOf}
 use Rattle.asn1_core_element.specs.declared.error.Error.{Error}
 use Rattle.asn1_core_element.specs.declared.error.Error.TheVariants.{Malformed, Missing, Invalid, TooDeep, TooLong, Memory}
-use Rattle.asn1_core_format.specs.Whole.{IsValueOf}
 use Rattle.der_engine.specs.Engine.{Rewriting}
 use Rattle.x509_containers.specs.Kinds.{kinds, rewriting_as, word_of}
 use Rattle.x509_containers.specs.declared.kinds.Kind.{Kind}

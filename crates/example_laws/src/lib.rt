@@ -3,11 +3,7 @@
 #![tactic(auto)]
 
 ghost use Rattle.std.specs.Prelude.{◌≡◌, ℕ, ◌+◌, List, [], ◌++◌, Some};
-ghost use Rattle.asn1_core.specs.Raw.{raw};
-ghost use Rattle.asn1_core_element.specs.Element.{element, IsTagByte};
-ghost use Rattle.asn1_core_format.specs.EmptySets.{set_or_none};
-ghost use Rattle.asn1_core_format.specs.Gated.{gated};
-ghost use Rattle.asn1_core_format.specs.Rows.{within};
+ghost use Rattle.asn1_core.specs.Der.{raw, element, IsTagByte, set_or_none, gated, within};
 ghost use Rattle.asn1_choices.specs.DefinedBy.{any_defined_by};
 ghost use Rattle.x509_pkcs12.specs.MacOctets.{mac_octets, auth_safe_of, Covers};
 ghost use Rattle.x509_pkcs12.specs.Pfxs.{PfxValue, pfx};

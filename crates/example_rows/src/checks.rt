@@ -221,16 +221,24 @@ pub fn is_so_without_clones<T: DerDeserialize + SeenByText + Debug>(
     is_kept::<T>(alloc, row)
 }
 
+/// Asks of an accepted input that its value is cloned.
+pub fn is_cloned<T: DerDeserialize + SeenByText + TryClone>(
+    alloc: Global,
+    row: &Row,
+) -> Result<(), Fail> {
+    if row.levels.is_none() && !row.said.starts_with(b"refused") {
+        let _value: T = is_rewritten(alloc, &row.input, &row.text)?;
+    }
+    Ok(())
+}
+
 /// Asks what a row says of its input as the type, and of an accepted one that its value is cloned.
 pub fn is_so<T: DerDeserialize + SeenByText + TryClone + Debug>(
     alloc: Global,
     row: &Row,
 ) -> Result<(), Fail> {
     is_so_without_clones::<T>(alloc, row)?;
-    if row.levels.is_none() && !row.said.starts_with(b"refused") {
-        let _value: T = is_rewritten(alloc, &row.input, &row.text)?;
-    }
-    Ok(())
+    is_cloned::<T>(alloc, row)
 }
 
 /// A tag that no type here begins with.

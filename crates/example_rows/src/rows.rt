@@ -2,7 +2,7 @@
 
 use crate::checks::{is_said_by_kind, is_said_within};
 use crate::coverage::Said;
-use crate::subjects;
+use crate::subjects::{self, kinds};
 use std::alloc::Global;
 use std::test::Fail;
 use x509_containers::Kind;
@@ -87,10 +87,13 @@ pub fn kind_of(line: &str) -> Option<(Kind, Said)> {
 
 /// Asks what a row says of the type that a word names.
 fn is_so(alloc: Global, word: &str, row: &Row) -> Result<(), Fail> {
-    if let (Some(kind), None) = (Kind::from_word(word), row.levels) {
+    let Some(kind) = Kind::from_word(word) else {
+        return subjects::is_so(alloc, word, row);
+    };
+    if row.levels.is_none() {
         is_said_by_kind(alloc, kind, row)?;
     }
-    subjects::is_so(alloc, word, row)
+    kinds::is_so(alloc, kind, row)
 }
 
 /// Asks what a row says. Its first column is the word of a type, with ` of N headers` or ` within N levels` behind it.

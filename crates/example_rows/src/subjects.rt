@@ -1,11 +1,7 @@
-//! The types that words name.
+//! The types that rows are of.
 
-mod contents;
-mod enveloped;
+pub mod kinds;
 mod leaves;
-mod signed_data;
-mod signed_parts;
-mod stores;
 mod wrappers;
 mod x509;
 
@@ -13,16 +9,11 @@ use crate::rows::Row;
 use std::alloc::Global;
 use std::test::Fail;
 
-/// Asks what a row says of the type that the word names.
+/// Asks what a row says of the type that the word names, which is no kind of `derbox`.
 pub fn is_so(alloc: Global, word: &str, row: &Row) -> Result<(), Fail> {
     if leaves::is_so(alloc, word, row)?
         || wrappers::is_so(alloc, word, row)?
         || x509::is_so(alloc, word, row)?
-        || stores::is_so(alloc, word, row)?
-        || contents::is_so(alloc, word, row)?
-        || enveloped::is_so(alloc, word, row)?
-        || signed_data::is_so(alloc, word, row)?
-        || signed_parts::is_so(alloc, word, row)?
     {
         return Ok(());
     }

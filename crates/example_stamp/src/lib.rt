@@ -54,6 +54,6 @@ impl EqualByText for Stamp {
 
 impl TryClone for Stamp {
     fn try_clone(&self, alloc: Global) -> Result<Self, Error> {
-        clone_of!(self, alloc, Stamp { id, data; count })
+        clone_of!(self, alloc; Stamp { id, data; count })
     }
 }

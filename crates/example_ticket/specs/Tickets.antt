@@ -2,10 +2,7 @@
 -- Holder ::= SEQUENCE { type OBJECT IDENTIFIER, value ANY DEFINED BY type }; under 1.3.6.1.4.1.32473.1 a token, an OCTET STRING
 use Rattle.std.specs.Prelude.{◌⊎◌, ℕ, ◌^◌, List, [], ◌∷◌, Option}
 use Rattle.std.proofs.Common.{inl, inr, arith}
-use Rattle.asn1_core.specs.Der.{Format, IsLawful, sequence, part, optional, nothing, within, octet_string, raw, number_below, octets_of, Octets, OidOctets, ElementOctets, lawful_sequence, followed_by, perhaps, lawful_nothing, lawful_within, lawful_octet_string, lawful_raw, lawful_number}
-use Rattle.asn1_core_format.specs.Choices.{Choice, known, otherwise, lawful_known, lawful_otherwise}
-use Rattle.asn1_core_oid.specs.Arcs.{arcs}
-use Rattle.asn1_core_oid.specs.Oid.{IsOid}
+use Rattle.asn1_core.specs.Der.{Format, IsLawful, sequence, part, optional, nothing, explicit, octet_string, raw, number_below, octets_of, Octets, OidOctets, ElementOctets, lawful_sequence, followed_by, perhaps, lawful_nothing, lawful_explicit, lawful_octet_string, lawful_raw, lawful_number, Choice, known, otherwise, lawful_known, lawful_otherwise, arcs, IsOid}
 use Rattle.example_ticket.specs.declared.Holder.{Holder}
 use Rattle.example_ticket.specs.declared.Holder.TheVariants as Arm
 
@@ -33,9 +30,9 @@ abbrev pub TicketValue : Type 0
 TicketValue = ℕ × (Option (List ℕ) × (HolderValue × Unit {0}))
 
 abbrev pub ticket : Format TicketValue
-ticket = sequence (part (number_below (2 ^ 32)) (optional (within 0xA0 octet_string) (part holder nothing)))
+ticket = sequence (part (number_below (2 ^ 32)) (optional (explicit 0 octet_string) (part holder nothing)))
 
 pub lawful_ticket : IsLawful ticket
 lawful_ticket =
     lawful_sequence (followed_by (lawful_number (2 ^ 32))
-    (perhaps (lawful_within octet_string lawful_octet_string.row 0xA0 (omega arith)) (λ t h e. omega arith) (followed_by lawful_holder lawful_nothing)))
+    (perhaps (lawful_explicit (omega arith) lawful_octet_string) (λ t h e. omega arith) (followed_by lawful_holder lawful_nothing)))

@@ -4,8 +4,7 @@
 
 ghost use Rattle.std.specs.Prelude.{◌≡◌};
 ghost use Rattle.std.proofs.Common.{arith, refl, rules};
-ghost use Rattle.asn1_core.specs.Der.{option_value};
-ghost use Rattle.asn1_core_oid.specs.OidTestLaws.{oid_from_test};
+ghost use Rattle.asn1_core.specs.Der.{option_value, oid_from_test};
 ghost use Rattle.example_ticket.specs.Tickets.{token_oid, HolderValue, holder_value, holder, lawful_holder, TicketValue, ticket, lawful_ticket};
 
 use asn1_choices::{AnyOid, AnyOidRef, Arm, Chosen, Named, WriteChoice};
@@ -163,6 +162,6 @@ impl TryClone for Holder {
 
 impl TryClone for Ticket {
     fn try_clone(&self, alloc: Global) -> Result<Self, Error> {
-        clone_of!(self, alloc, Ticket { note, holder; serial })
+        clone_of!(self, alloc; Ticket { note, holder; serial })
     }
 }

@@ -1,8 +1,7 @@
 -- Reading an algorithm identifier whose object identifier picks an arm.
 use Rattle.std.proofs.Common.{◌≡◌, ℕ, List, refl, sym, subst}
-use Rattle.asn1_core_element.specs.Position.{Position}
+use Rattle.asn1_core.specs.Der.{Position, Took, GaveUp}
 use Rattle.asn1_core_element.specs.declared.error.Error.{Error}
-use Rattle.asn1_core_format.specs.Format.{Took, GaveUp}
 use Rattle.asn1_core_format.proofs.LooseReads.{loosened_took, loosened_refused}
 use Rattle.x509_base.specs.Algorithms.{AlgorithmValue, algorithm_identifier, raw_algorithm_identifier}
 use Rattle.x509_base.specs.AlgorithmChoices.{arm_written}

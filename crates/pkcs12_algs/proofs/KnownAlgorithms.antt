@@ -1,6 +1,6 @@
 -- Algorithms by their known object identifiers.
 use Rattle.std.proofs.Common.{◌≡◌, ℕ, List, true, sym, ap, ◌∙◌, subst, inl, inr}
-use Rattle.asn1_core_oid.specs.Oid.{IsOid}
+use Rattle.asn1_core.specs.Der.{IsOid}
 use Rattle.x509_base.specs.Algorithms.{AlgorithmValue}
 use Rattle.x509_base.specs.AlgorithmLaws.{null_is_element}
 use Rattle.x509_base.specs.AlgorithmChoices.{arm_read}

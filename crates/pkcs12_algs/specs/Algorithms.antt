@@ -1,8 +1,7 @@
 -- Algorithms that are known by their object identifiers, whatever their parameters are, and any other.
 use Rattle.std.specs.Prelude.{◌≡◌, ◌⊎◌, ℕ, List, None}
 use Rattle.std.proofs.Common.{inl, inr}
-use Rattle.asn1_core_format.specs.Eithers.{from_one}
-use Rattle.asn1_core_format.specs.Format.{Format}
+use Rattle.asn1_core.specs.Der.{from_one, Format}
 use Rattle.x509_base.specs.Algorithms.{AlgorithmValue}
 use Rattle.x509_base.specs.AlgorithmParts.{parts_of, algorithm_value}
 use Rattle.x509_base.specs.AlgorithmChoices.{arm_read, algorithm_choice}

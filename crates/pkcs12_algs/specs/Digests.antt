@@ -5,7 +5,7 @@
 -- Digest ::= OCTET STRING
 -- MacData ::= SEQUENCE { mac DigestInfo, macSalt OCTET STRING, iterations INTEGER DEFAULT 1 } (RFC 7292, 4)
 use Rattle.std.specs.Prelude.{◌^◌, ℕ, List, [], ◌∷◌, Option, map}
-use Rattle.asn1_core.specs.Der.{Format, IsLawful, sequence, part, optional, nothing, octet_string, number_below, option_value, lawful_sequence, followed_by, perhaps, lawful_nothing, lawful_octet_string, lawful_number, Octets}
+use Rattle.asn1_core.specs.Der.{Format, IsLawful, sequence, part, optional, nothing, octet_string, number_below, option_value, lawful_sequence, followed_by, perhaps, lawful_nothing, lawful_octet_string, lawful_number, Octets, der_laws}
 use Rattle.std.proofs.Common.{inr}
 use Rattle.x509_base.specs.AlgorithmChoiceLaws.{lawful_algorithm_choice}
 use Rattle.pkcs12_algs.specs.Algorithms.{KnownOrRaw, known_or_raw, raw_value, from_oid}
@@ -52,7 +52,7 @@ abbrev pub digest_info : Format DigestInfoValue
 digest_info = sequence (part digest_algorithm (part octet_string nothing))
 
 pub lawful_digest_info : IsLawful digest_info
-lawful_digest_info = lawful_sequence (followed_by lawful_digest_algorithm (followed_by lawful_octet_string lawful_nothing))
+lawful_digest_info = search (der_laws, lawful_digest_algorithm) depth 20
 
 -- the digest, the salt, and the count
 abbrev pub MacValue : Type 0

@@ -3,9 +3,8 @@
 -- ContentEncryptionAlgorithmIdentifier ::= AlgorithmIdentifier (RFC 2315, 6.2), whose algorithm is id-PBES2 with
 -- PBES2-params (RFC 8018, appendix A.4), one of pkcs-12PbeIds with pkcs-12PbeParams (RFC 7292, appendix C), or any other.
 use Rattle.std.specs.Prelude.{◌⊎◌}
-use Rattle.asn1_core.specs.Der.{Format, IsLawful, sequence, lawful_sequence}
+use Rattle.asn1_core.specs.Der.{Format, IsLawful, sequence, der_laws, Choice, IsLawfulChoice, known, lawful_known}
 use Rattle.std.proofs.Common.{inl, inr}
-use Rattle.asn1_core_format.specs.Choices.{Choice, IsLawfulChoice, known, lawful_known}
 use Rattle.asn1_choices.specs.Tables.{among, lawful_among}
 use Rattle.x509_base.specs.Algorithms.{AlgorithmValue}
 use Rattle.pkcs12_algs.specs.Algorithms.{raw_value}
@@ -38,4 +37,4 @@ abbrev pub encryption_algorithm : Format EncryptionAlgorithmValue
 encryption_algorithm = sequence encryption_choice.row
 
 pub lawful_encryption_algorithm : IsLawful encryption_algorithm
-lawful_encryption_algorithm = lawful_sequence lawful_encryption_choice.row
+lawful_encryption_algorithm = search (der_laws, lawful_encryption_choice) depth 20

@@ -1,8 +1,6 @@
 -- `==` of encryption algorithms is equality of what they contain.
+use Rattle.asn1_core.specs.Der.{SeesEqual, two_equal, same_first, same_second}
 use Rattle.std.proofs.Common.{rules}
-use Rattle.asn1_core.specs.Der.{two_equal}
-use Rattle.asn1_core_format.specs.Views.{SeesEqual}
-use Rattle.asn1_core.specs.Equal.{same_first, same_second}
 use Rattle.pkcs12_algs.specs.Equal.{raw_equal, pbes2_equal}
 use Rattle.pkcs12_algs.specs.Encryption.{encryption_algorithm_value}
 use Rattle.pkcs12_algs.specs.Pbes1.{pbes1_value}

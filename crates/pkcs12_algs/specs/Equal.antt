@@ -1,10 +1,8 @@
 -- `==` is equality of what the values contain.
-use Rattle.asn1_core.specs.Der.{two_equal, option_equal}
+use Rattle.asn1_core.specs.Der.{SeesEqual, der_equal, same_first, same_second}
 use Rattle.std.specs.Prelude.{true, ◌≡◌, ◌⊎◌, ◌↔◌, ℕ, Bool, List}
 use Rattle.std.proofs.Common.{ap, inl, inr, rules}
 use Rattle.std.proofs.lemmas.Bool.Decides.{Decides-eqb}
-use Rattle.asn1_core.specs.Equal.{octets_equal, with_end, same_first, same_second}
-use Rattle.asn1_core_format.specs.Views.{SeesEqual}
 use Rattle.x509_base.specs.Algorithms.{AlgorithmValue}
 use Rattle.pkcs12_algs.specs.Algorithms.{KnownOrRaw, raw_value}
 use Rattle.pkcs12_algs.specs.Digests.{digest_oids, digest_value, digest_info_value, mac_value}
@@ -49,10 +47,10 @@ pub digest_equal : SeesEqual Digest.ghosts.eq digest_value
 digest_equal x y = same_plain digest_oids (digest_plain x y)
 
 pub digest_info_equal : SeesEqual DigestInfo.ghosts.eq digest_info_value
-digest_info_equal x y = two_equal (digest_equal x.digest_algorithm y.digest_algorithm) (with_end (octets_equal x.digest y.digest))
+digest_info_equal x y = search (der_equal, digest_equal) depth 20
 
 pub mac_equal : SeesEqual Mac.ghosts.eq mac_value
-mac_equal x y = two_equal (digest_info_equal x.mac y.mac) (two_equal (octets_equal x.salt y.salt) (with_end (option_equal _ (λ n. n) Decides-eqb x.iterations y.iterations)))
+mac_equal x y = search (der_equal, digest_info_equal, Decides-eqb) depth 20
 
 prf_plain : SeesEqual Prf.ghosts.eq (λ x. plain prf_oids (prf_value x))
 unfolding plain
@@ -65,9 +63,7 @@ salt_equal : SeesEqual Salt.ghosts.eq salt_value
 salt_equal = search rules
 
 pub pbkdf2_equal : SeesEqual Pbkdf2.ghosts.eq pbkdf2_value
-pbkdf2_equal x y =
-    two_equal (salt_equal x.salt y.salt) (two_equal (Decides-eqb x.iteration_count y.iteration_count)
-    (two_equal (option_equal _ (λ n. n) Decides-eqb x.key_length y.key_length) (with_end (option_equal Prf.ghosts.eq prf_value prf_equal x.prf y.prf))))
+pbkdf2_equal x y = search (der_equal, salt_equal, prf_equal, Decides-eqb) depth 20
 
 pub kdf_equal : SeesEqual Kdf.ghosts.eq kdf_value
 kdf_equal (ByPbkdf2 x) (ByPbkdf2 y) = same_first (pbkdf2_equal x y)
@@ -79,4 +75,4 @@ scheme_equal : SeesEqual Scheme.ghosts.eq scheme_value
 scheme_equal = search rules
 
 pub pbes2_equal : SeesEqual Pbes2.ghosts.eq pbes2_value
-pbes2_equal x y = two_equal (kdf_equal x.key_derivation_func y.key_derivation_func) (with_end (scheme_equal x.encryption_scheme y.encryption_scheme))
+pbes2_equal x y = search (der_equal, kdf_equal, scheme_equal) depth 20

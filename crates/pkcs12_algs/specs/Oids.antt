@@ -1,6 +1,6 @@
 -- Known object identifiers of algorithms, each by its arcs: the contents octets that spell them.
 use Rattle.std.specs.Prelude.{ℕ, List, [], ◌∷◌}
-use Rattle.asn1_core_oid.specs.Arcs.{arcs}
+use Rattle.asn1_core.specs.Der.{arcs}
 
 -- what stands below rsadsi, 1.2.840.113549
 abbrev rsadsi : List ℕ → List ℕ

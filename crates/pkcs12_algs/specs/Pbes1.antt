@@ -2,9 +2,8 @@
 --
 -- pkcs-12PbeParams ::= SEQUENCE { salt OCTET STRING, iterations INTEGER }
 use Rattle.std.specs.Prelude.{◌≡◌, ◌^◌, ℕ, List, [], ◌∷◌, Some}
-use Rattle.asn1_core.specs.Der.{Format, IsLawful, sequence, part, nothing, octet_string, number_below, lawful_sequence, followed_by, lawful_nothing, lawful_octet_string, lawful_number, Octets}
+use Rattle.asn1_core.specs.Der.{Format, IsLawful, sequence, part, nothing, octet_string, number_below, Octets, der_laws, IsOid}
 use Rattle.std.proofs.Common.{refl, rules}
-use Rattle.asn1_core_oid.specs.Oid.{IsOid}
 use Rattle.asn1_choices.specs.Tables.{Table, IsTable}
 use Rattle.pkcs12_algs.specs.Oids.{sha_and_40_bit_rc2_cbc_oid, sha_and_3_key_3_des_cbc_oid}
 use Rattle.pkcs12_algs.specs.Tables.{table, arm_with}
@@ -44,4 +43,4 @@ abbrev pub pbes1_params : Format Pbes1Value
 pbes1_params = sequence (part octet_string (part (number_below (2 ^ 32)) nothing))
 
 pub lawful_pbes1_params : IsLawful pbes1_params
-lawful_pbes1_params = lawful_sequence (followed_by lawful_octet_string (followed_by (lawful_number (2 ^ 32)) lawful_nothing))
+lawful_pbes1_params = search der_laws depth 20

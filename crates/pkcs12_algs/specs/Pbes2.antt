@@ -7,10 +7,8 @@
 -- PBES2-KDFs ALGORITHM-IDENTIFIER ::= { {PBKDF2-params IDENTIFIED BY id-PBKDF2}, ... }
 -- The parameters of AES in CBC mode are its initialization vector, an OCTET STRING (RFC 8018, appendix B.2.5).
 use Rattle.std.specs.Prelude.{◌≡◌, ◌⊎◌, ℕ, List, [], ◌∷◌, Some}
-use Rattle.asn1_core.specs.Der.{Format, IsLawful, sequence, part, nothing, octet_string, lawful_sequence, followed_by, lawful_nothing, lawful_octet_string, Octets}
+use Rattle.asn1_core.specs.Der.{Format, IsLawful, sequence, part, nothing, octet_string, lawful_octet_string, Octets, der_laws, Choice, IsLawfulChoice, known, lawful_known, IsOid}
 use Rattle.std.proofs.Common.{refl, inl, inr, rules}
-use Rattle.asn1_core_format.specs.Choices.{Choice, IsLawfulChoice, known, lawful_known}
-use Rattle.asn1_core_oid.specs.Oid.{IsOid}
 use Rattle.x509_base.specs.Algorithms.{AlgorithmValue}
 use Rattle.asn1_choices.specs.Tables.{Table, IsTable, among, lawful_among}
 use Rattle.x509_base.specs.OtherAlgorithms.{other_algorithm, lawful_other_algorithm}
@@ -65,7 +63,7 @@ abbrev pub kdf : Format KdfValue
 kdf = sequence kdf_choice.row
 
 pub lawful_kdf : IsLawful kdf
-lawful_kdf = lawful_sequence lawful_kdf_choice.row
+lawful_kdf = search (der_laws, lawful_kdf_choice) depth 20
 
 -- AES in CBC mode with its initialization vector, or any other scheme
 abbrev pub SchemeValue : Type 0
@@ -85,7 +83,7 @@ abbrev pub scheme : Format SchemeValue
 scheme = sequence scheme_choice.row
 
 pub lawful_scheme : IsLawful scheme
-lawful_scheme = lawful_sequence lawful_scheme_choice.row
+lawful_scheme = search (der_laws, lawful_scheme_choice) depth 20
 
 -- the function, and the scheme
 abbrev pub Pbes2Value : Type 0
@@ -98,4 +96,4 @@ abbrev pub pbes2_params : Format Pbes2Value
 pbes2_params = sequence (part kdf (part scheme nothing))
 
 pub lawful_pbes2_params : IsLawful pbes2_params
-lawful_pbes2_params = lawful_sequence (followed_by lawful_kdf (followed_by lawful_scheme lawful_nothing))
+lawful_pbes2_params = search (der_laws, lawful_kdf, lawful_scheme) depth 20

@@ -8,9 +8,8 @@
 --
 -- Counts and lengths of 0 are read, up to 2^32 - 1. A PRF that is left out and one that is HMAC with SHA-1 are told apart.
 use Rattle.std.specs.Prelude.{◌≡◌, ◌⊎◌, ◌^◌, ℕ, List, [], ◌∷◌, Option, map}
-use Rattle.asn1_core.specs.Der.{Format, IsLawful, sequence, part, optional, nothing, octet_string, number_below, option_value, lawful_sequence, followed_by, perhaps, lawful_nothing, lawful_octet_string, lawful_number, Octets}
+use Rattle.asn1_core.specs.Der.{Format, IsLawful, sequence, part, optional, nothing, octet_string, number_below, option_value, lawful_sequence, followed_by, perhaps, lawful_nothing, lawful_octet_string, lawful_number, Octets, either, lawful_either}
 use Rattle.std.proofs.Common.{inl, inr, ⊎_elim, arith}
-use Rattle.asn1_core_format.specs.Eithers.{either, lawful_either}
 use Rattle.x509_base.specs.Algorithms.{AlgorithmValue, raw_algorithm_identifier}
 use Rattle.x509_base.specs.AlgorithmLaws.{lawful_raw_algorithm_identifier}
 use Rattle.x509_base.specs.AlgorithmChoiceLaws.{lawful_algorithm_choice}

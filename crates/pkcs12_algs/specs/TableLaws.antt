@@ -6,9 +6,7 @@ use mathlib.Core.HLevel.{Σ_prop_path}
 use Rattle.std.proofs.lemmas.Bool.{and_parts}
 use Rattle.std.proofs.lemmas.Slice.Eq.{bytes_eq-Decides}
 use Rattle.std.specs.Str.{bytes_eq}
-use Rattle.asn1_core_oid.specs.Oid.{IsOid}
-use Rattle.asn1_core_oid.specs.OidTest.{is_oid}
-use Rattle.asn1_core_oid.specs.OidTestLaws.{oid_from_test}
+use Rattle.asn1_core.specs.Der.{IsOid, is_oid, oid_from_test}
 use Rattle.asn1_choices.specs.Tables.{IsTable}
 use Rattle.pkcs12_algs.specs.Tables.{arm_with, table, is_listed, Listed, listed_where, listing, are_oids}
 

@@ -2,7 +2,7 @@
 use Rattle.std.specs.Prelude.{◌≡◌, ℕ, Bool, true, false, List, [], ◌∷◌, ◌&&◌, Option, Some, None, if◌then◌else◌}
 use Rattle.std.proofs.Common.{refl}
 use Rattle.std.specs.Str.{bytes_eq}
-use Rattle.asn1_core_oid.specs.OidTest.{is_oid}
+use Rattle.asn1_core.specs.Der.{is_oid}
 use Rattle.asn1_choices.specs.Tables.{Table}
 
 -- the first of the arms with that object identifier

@@ -3,7 +3,7 @@
 ghost use Rattle.std.specs.Prelude.{◌≡◌, ℕ, List, Bool, true, false, MatchResult, MatchOption};
 ghost use Rattle.std.proofs.Common.{arith, inr};
 ghost use Rattle.asn1_core_element.specs.declared.error.Error.TheVariants.{Memory};
-ghost use Rattle.asn1_core_format.specs.Views.{Clones};
+ghost use Rattle.asn1_core.specs.Der.{Clones};
 ghost use Rattle.x509_base.specs.AlgorithmChoiceLaws.{lawful_algorithm_choice};
 ghost use Rattle.pkcs12_algs.specs.Algorithms.{KnownOrRaw, known_or_raw, raw_value, from_raw, into_raw, IsKnown};
 ghost use Rattle.pkcs12_algs.specs.Tables.{is_listed, listing, are_oids};

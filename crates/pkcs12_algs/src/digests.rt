@@ -187,6 +187,6 @@ impl EqualByText for Pkcs12DigestInfo {
 
 impl TryClone for Pkcs12DigestInfo {
     fn try_clone(&self, alloc: Global) -> Result<Self, Error> {
-        clone_of!(self, alloc, Self { digest_algorithm, digest })
+        clone_of!(self, alloc; Self { digest_algorithm, digest })
     }
 }

@@ -2,8 +2,7 @@
 
 ghost use Rattle.std.specs.Prelude.{◌≡◌, MatchResult};
 ghost use Rattle.asn1_core_element.specs.declared.error.Error.TheVariants.{Memory};
-ghost use Rattle.asn1_core_oid.specs.Oid.{IsOid};
-ghost use Rattle.asn1_core_oid.specs.OidValue.{octets_of};
+ghost use Rattle.asn1_core.specs.Der.{IsOid, octets_of};
 
 use crate::oids::known_oid;
 use asn1_choices::OidTable;

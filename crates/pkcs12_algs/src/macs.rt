@@ -79,6 +79,6 @@ impl EqualByText for MacData {
 
 impl TryClone for MacData {
     fn try_clone(&self, alloc: Global) -> Result<Self, Error> {
-        clone_of!(self, alloc, Self { mac, salt; iterations })
+        clone_of!(self, alloc; Self { mac, salt; iterations })
     }
 }

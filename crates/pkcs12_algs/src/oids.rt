@@ -3,9 +3,7 @@
 ghost use Rattle.std.specs.Prelude.{◌≡◌, MatchResult};
 ghost use Rattle.std.proofs.Common.{refl};
 ghost use Rattle.asn1_core_element.specs.declared.error.Error.TheVariants.{Memory};
-ghost use Rattle.asn1_core_oid.specs.Oid.{IsOid};
-ghost use Rattle.asn1_core_oid.specs.OidTestLaws.{oid_from_test};
-ghost use Rattle.asn1_core_oid.specs.OidValue.{octets_of};
+ghost use Rattle.asn1_core.specs.Der.{IsOid, oid_from_test, octets_of};
 ghost use Rattle.pkcs12_algs.specs.Oids.{pbes2_oid, pbkdf2_oid};
 
 use asn1_choices::Named;

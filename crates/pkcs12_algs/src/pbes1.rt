@@ -3,7 +3,7 @@
 ghost use Rattle.std.specs.Prelude.{◌≡◌, MatchResult, Some};
 ghost use Rattle.std.proofs.Common.{rules};
 ghost use Rattle.asn1_core_element.specs.declared.error.Error.TheVariants.{Memory};
-ghost use Rattle.asn1_core_oid.specs.OidValue.{octets_of};
+ghost use Rattle.asn1_core.specs.Der.{octets_of};
 ghost use Rattle.pkcs12_algs.specs.Pbes1.{pbe_oid, pbe_table, pbe_is_table, pbe_valid, Pbes1Value, pbes1_value, pbes1_params, lawful_pbes1_params};
 ghost use Rattle.pkcs12_algs.specs.declared.pbes1.Pbes1AlgorithmKind.{Pbes1AlgorithmKind};
 ghost use Rattle.pkcs12_algs.specs.Names.{pbe_name};
@@ -139,6 +139,6 @@ impl EqualByText for Pbes1Params {
 
 impl TryClone for Pbes1Params {
     fn try_clone(&self, alloc: Global) -> Result<Self, Error> {
-        clone_of!(self, alloc, Self { salt; iterations })
+        clone_of!(self, alloc; Self { salt; iterations })
     }
 }

@@ -3,7 +3,7 @@
 ghost use Rattle.std.specs.Prelude.{◌≡◌, MatchResult, Some};
 ghost use Rattle.std.proofs.Common.{rules};
 ghost use Rattle.asn1_core_element.specs.declared.error.Error.TheVariants.{Memory};
-ghost use Rattle.asn1_core_oid.specs.OidValue.{octets_of};
+ghost use Rattle.asn1_core.specs.Der.{octets_of};
 ghost use Rattle.pkcs12_algs.specs.Pbes2.{aes_oid, aes_table, aes_is_table, aes_valid, KdfValue, kdf_value, kdf, lawful_kdf, SchemeValue, scheme_value, scheme, lawful_scheme, Pbes2Value, pbes2_value, pbes2_params, lawful_pbes2_params};
 ghost use Rattle.pkcs12_algs.specs.declared.pbes2.Pbes2AesCbcEncryption.{Pbes2AesCbcEncryption};
 ghost use Rattle.pkcs12_algs.specs.Equal.{kdf_equal, pbes2_equal};
@@ -295,6 +295,6 @@ impl EqualByText for Pbes2Params {
 
 impl TryClone for Pbes2Params {
     fn try_clone(&self, alloc: Global) -> Result<Self, Error> {
-        clone_of!(self, alloc, Self { key_derivation_func, encryption_scheme })
+        clone_of!(self, alloc; Self { key_derivation_func, encryption_scheme })
     }
 }

@@ -180,6 +180,6 @@ impl EqualByText for Pbkdf2Params {
 
 impl TryClone for Pbkdf2Params {
     fn try_clone(&self, alloc: Global) -> Result<Self, Error> {
-        clone_of!(self, alloc, Self { salt, prf; iteration_count, key_length })
+        clone_of!(self, alloc; Self { salt, prf; iteration_count, key_length })
     }
 }

@@ -1,10 +1,7 @@
 -- The laws of encapsulated content.
 use Rattle.std.specs.Prelude.{◌≡◌, ℕ, ◌+◌, List, [], ◌++◌, Some, None}
 use Rattle.std.proofs.Common.{arith, refl, sym, ap, subst, inl, inr}
-use Rattle.asn1_core.specs.Der.{IsLawful, IsLawfulRow, part, nothing, within, octet_string, lawful_sequence, followed_by, perhaps, lawful_nothing, lawful_within, lawful_octet_string}
-use Rattle.asn1_core_element.specs.Element.{element}
-use Rattle.asn1_core_oid.specs.Oid.{IsOid}
-use Rattle.asn1_core_oid.specs.OidTestLaws.{oid_from_test}
+use Rattle.asn1_core.specs.Der.{IsLawful, IsLawfulRow, part, nothing, within, octet_string, followed_by, perhaps, lawful_nothing, lawful_within, lawful_octet_string, element, IsOid, oid_from_test, lawful_sequence}
 use Rattle.asn1_choices.specs.DefinedBy.{Arm}
 use Rattle.asn1_choices.specs.DefinedByLaws.{IsDefinedBy, IsArm, itself, lawful_arm, lawful_any_defined_by}
 use Rattle.pkcs7_content.specs.Contents.{ContentValues, content_values, ContentRow, written_content, content_kind, as_data, as_octets, OctetsRow, octets_row, to_data, to_octets, perhaps_in, data_arm, octets_arm, content_row, content_defined_by, encapsulated}

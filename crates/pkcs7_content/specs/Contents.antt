@@ -2,10 +2,9 @@
 -- (RFC 5652, 5.2; ContentType ::= OBJECT IDENTIFIER). In signatures of Authenticode and in signed trust lists the content
 -- is no octet string, but an SpcIndirectDataContent or a CertificateTrustList (RFC 2315, 7: ANY DEFINED BY contentType).
 use Rattle.std.specs.Prelude.{◌⊎◌, ℕ, List, Option, Some, if◌then◌else◌}
-use Rattle.asn1_core.specs.Der.{Format, sequence, part, optional, nothing, within, octet_string, option_value, Octets, OidOctets, octets_of}
+use Rattle.asn1_core.specs.Der.{Format, sequence, part, optional, nothing, octet_string, option_value, Octets, OidOctets, octets_of, explicit, either}
 use Rattle.std.specs.Str.{bytes_eq}
 use Rattle.std.proofs.Common.{inl, inr}
-use Rattle.asn1_core_format.specs.Eithers.{either}
 use Rattle.asn1_choices.specs.DefinedBy.{DefinedBy, any_defined_by, Arm, arm, by_itself, only_written}
 use Rattle.pkcs7_content.specs.IndirectData.{IndirectDataValue, indirect_data, indirect_data_value}
 use Rattle.pkcs7_content.specs.Oids.{data_oid, indirect_data_oid, trust_list_oid}
@@ -38,7 +37,7 @@ abbrev pub content_row_value : Option (ExplicitContextTag0 ContentValue) → Con
 content_row_value c = (option_value (λ x. content_value x.0) c, tt)
 
 abbrev pub written_content : Format ContentRow
-written_content = optional (within 0xA0 content_values) nothing
+written_content = optional (explicit 0 content_values) nothing
 
 abbrev pub content_kind : List ℕ → Kind
 content_kind o =
@@ -71,7 +70,7 @@ abbrev pub OctetsRow : Type 0
 OctetsRow = Option Octets × Unit {0}
 
 abbrev pub octets_row : Format OctetsRow
-octets_row = optional (within 0xA0 octet_string) nothing
+octets_row = optional (explicit 0 octet_string) nothing
 
 -- Octets are written alike under both arms. They are read under that of data behind its object identifier, and under
 -- that of octets behind a foreign one.
@@ -92,8 +91,8 @@ abbrev pub octets_arm : Arm OctetsRow ContentRow
 octets_arm = perhaps_in to_octets
 
 abbrev pub content_row : Kind → Format ContentRow
-content_row IndirectData = arm written_content (by_itself (λ p. (Some (inl p.0), p.1))) (part (within 0xA0 indirect_data) nothing)
-content_row TrustList = arm written_content (by_itself (λ p. (Some (inr (inr (inr p.0))), p.1))) (part (within 0xA0 ctl) nothing)
+content_row IndirectData = arm written_content (by_itself (λ p. (Some (inl p.0), p.1))) (part (explicit 0 indirect_data) nothing)
+content_row TrustList = arm written_content (by_itself (λ p. (Some (inr (inr (inr p.0))), p.1))) (part (explicit 0 ctl) nothing)
 content_row PlainData = arm written_content data_arm octets_row
 content_row Foreign = arm written_content octets_arm octets_row
 

@@ -1,8 +1,6 @@
 -- `==` is equality of what the values contain.
+use Rattle.asn1_core.specs.Der.{SeesEqual, der_equal, octets_equal, same_first, same_second}
 use Rattle.std.proofs.Common.{rules}
-use Rattle.asn1_core.specs.Der.{two_equal, option_equal}
-use Rattle.asn1_core.specs.Equal.{octets_equal, with_end, same_first, same_second}
-use Rattle.asn1_core_format.specs.Views.{SeesEqual}
 use Rattle.asn1_leaves_strings.specs.Octets.{contents_of}
 use Rattle.x509_base.specs.contracts.digests.DigestInfoPartialEq.TheImpl as Digest
 use Rattle.x509_base_spc.specs.Links.{link_value}
@@ -22,7 +20,7 @@ use Rattle.pkcs7_content.specs.contracts.contents.ContentValuePartialEq.TheImpl 
 use Rattle.pkcs7_content.specs.contracts.contents.EncapsulatedContentInfoPartialEq.TheImpl as Encapsulated
 use Rattle.pkcs7_content.specs.declared.indirect_data.SpcAttributeAndOptionalValueValue.TheVariants.{SpcPeImageData, SpcSipInfo}
 use Rattle.pkcs7_content.specs.declared.contents.ContentValue.TheVariants.{SpcIndirectDataContent, OctetString, Data, CertificateTrustList}
-use Rattle.pkcs7_content_ctl.specs.Equal.{oid_equal, integer_equal, ctl_equal}
+use Rattle.pkcs7_content_ctl.specs.Equal.{integer_equal, ctl_equal}
 
 flags_equal : SeesEqual Flags.ghosts.eq (λ x. contents_of x.0.0)
 flags_equal x y = search rules
@@ -31,17 +29,10 @@ link_equal : SeesEqual Link.ghosts.eq link_value
 link_equal x y = search rules
 
 pub pe_image_equal : SeesEqual PeImage.ghosts.eq pe_image_value
-pe_image_equal x y = two_equal (flags_equal x.flags y.flags) (with_end (link_equal x.file.0 y.file.0))
+pe_image_equal x y = search (der_equal, flags_equal, link_equal) depth 20
 
 pub sip_info_equal : SeesEqual SipInfo.ghosts.eq sip_info_value
-sip_info_equal x y =
-    two_equal (integer_equal x.version y.version)
-    (two_equal (octets_equal x.uuid y.uuid)
-    (two_equal (integer_equal x.reserved1 y.reserved1)
-    (two_equal (integer_equal x.reserved2 y.reserved2)
-    (two_equal (integer_equal x.reserved3 y.reserved3)
-    (two_equal (integer_equal x.reserved4 y.reserved4)
-    (with_end (integer_equal x.reserved5 y.reserved5)))))))
+sip_info_equal x y = search (der_equal, integer_equal) depth 20
 
 pub spc_value_equal : SeesEqual Value.ghosts.eq spc_value
 spc_value_equal (SpcPeImageData x) (SpcPeImageData y) = same_first (pe_image_equal x y)
@@ -49,13 +40,13 @@ spc_value_equal (SpcSipInfo x) (SpcSipInfo y) = same_second (sip_info_equal x y)
 spc_value_equal x y = (λ e. cc, λ e. cc)
 
 pub spc_attribute_equal : SeesEqual Attribute.ghosts.eq spc_attribute_value
-spc_attribute_equal x y = two_equal (oid_equal x.ty y.ty) (spc_value_equal x.value y.value)
+spc_attribute_equal x y = search (der_equal, spc_value_equal) depth 20
 
 digest_equal : SeesEqual Digest.ghosts.eq digest_info_value
 digest_equal x y = search rules
 
 pub indirect_data_equal : SeesEqual Indirect.ghosts.eq indirect_data_value
-indirect_data_equal x y = two_equal (spc_attribute_equal x.spc_data y.spc_data) (with_end (digest_equal x.message_digest y.message_digest))
+indirect_data_equal x y = search (der_equal, spc_attribute_equal, digest_equal) depth 20
 
 pub content_value_equal : SeesEqual Content.ghosts.eq content_value
 content_value_equal (SpcIndirectDataContent x) (SpcIndirectDataContent y) = same_first (indirect_data_equal x y)
@@ -65,4 +56,4 @@ content_value_equal (CertificateTrustList x) (CertificateTrustList y) = same_sec
 content_value_equal x y = (λ e. cc, λ e. cc)
 
 pub encapsulated_equal : SeesEqual Encapsulated.ghosts.eq encapsulated_value
-encapsulated_equal x y = two_equal (oid_equal x.content_type y.content_type) (with_end (option_equal _ _ (λ a b. content_value_equal a.0 b.0) x.content y.content))
+encapsulated_equal x y = search (der_equal, content_value_equal) depth 20

@@ -2,11 +2,10 @@
 -- SpcAttributeTypeAndOptionalValue ::= SEQUENCE { type OBJECT IDENTIFIER, value ANY DEFINED BY type }, the value being
 -- an SpcPeImageData or an SpcSipInfo
 -- SpcIndirectDataContent ::= SEQUENCE { data SpcAttributeTypeAndOptionalValue, messageDigest DigestInfo }
-use Rattle.std.specs.Prelude.{◌⊎◌, ℕ, List, if◌then◌else◌, ◌≡◌}
-use Rattle.asn1_core.specs.Der.{Format, sequence, part, nothing, OidOctets, IsLawful, IsLawfulRow, lawful_sequence, followed_by, lawful_nothing, octets_of}
+use Rattle.std.specs.Prelude.{◌⊎◌, ℕ, List, ◌≡◌, if◌then◌else◌}
+use Rattle.asn1_core.specs.Der.{Format, sequence, part, nothing, OidOctets, IsLawful, IsLawfulRow, octets_of, der_laws, either, lawful_sequence}
 use Rattle.std.specs.Str.{bytes_eq}
 use Rattle.std.proofs.Common.{inl, inr, refl}
-use Rattle.asn1_core_format.specs.Eithers.{either}
 use Rattle.asn1_choices.specs.DefinedBy.{DefinedBy, any_defined_by, arm, by_itself, no_arm, only_written}
 use Rattle.x509_base.specs.Digests.{DigestInfoValue, digest_info, lawful_digest_info, digest_info_value}
 use Rattle.pkcs7_content.specs.Oids.{pe_image_oid, sip_info_oid}
@@ -80,4 +79,4 @@ pub lawful_spc_attribute : IsLawful spc_attribute
 lawful_spc_attribute = lawful_sequence (lawful_any_defined_by spc_defined_by spc_is_defined_by)
 
 pub lawful_indirect_data : IsLawful indirect_data
-lawful_indirect_data = lawful_sequence (followed_by lawful_spc_attribute (followed_by lawful_digest_info lawful_nothing))
+lawful_indirect_data = search (der_laws, lawful_spc_attribute, lawful_digest_info) depth 20

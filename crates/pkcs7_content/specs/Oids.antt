@@ -1,6 +1,6 @@
 -- The object identifiers that are known, by their arcs.
 use Rattle.std.specs.Prelude.{ℕ, List, [], ◌∷◌}
-use Rattle.asn1_core_oid.specs.Arcs.{arcs}
+use Rattle.asn1_core.specs.Der.{arcs}
 pub use Rattle.asn1_core_oid.specs.Known.{data_oid}
 
 -- what stands below Microsoft's arc, 1.3.6.1.4.1.311

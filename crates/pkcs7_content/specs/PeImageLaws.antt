@@ -1,20 +1,16 @@
 -- The laws of what Authenticode says of a PE image.
 use Rattle.std.specs.Prelude.{◌≡◌, ◌↔◌, ℕ, ◌+◌, ◌≤◌, Bool, List, Option, Some, None, true, false}
 use Rattle.std.proofs.Common.{arith, refl, sym, ap, ◌∙◌, subst}
-use Rattle.asn1_core.specs.Der.{IsLawful, IsLawfulRow, lawful_sequence, followed_by, perhaps, lawful_nothing, lawful_within}
+use Rattle.asn1_core.specs.Der.{IsLawful, IsLawfulRow, lawful_sequence, followed_by, lawful_explicit, lawful_nothing, perhaps, element_same, begins_next, next_apart, IsLoosening, lawful_loosened, least_unless}
 use Rattle.std.specs.Str.{bytes_eq}
 use Rattle.std.proofs.lemmas.Slice.Eq.{bytes_eq-Decides}
-use Rattle.asn1_core_element.specs.ElementLaws.{element_same}
-use Rattle.asn1_core_format.specs.Laws.{begins_next, next_apart}
-use Rattle.asn1_core_format.specs.Loosened.{IsLoosening, lawful_loosened}
-use Rattle.asn1_core_format.specs.Omitted.{least_unless}
 use Rattle.asn1_leaves.specs.Strings.{lawful_bit_string}
 use Rattle.asn1_leaves_strings.specs.Bits.{IsBits}
-use Rattle.x509_base_spc.specs.Links.{LinkValue, spc_link, lawful_spc_link}
+use Rattle.x509_base_spc.specs.Links.{LinkValue, lawful_spc_link}
 use Rattle.pkcs7_content.specs.PeImages.{default_flags, PeImageValue, file_row, pe_image_spelled, HasFlags, flags_written, pe_image_data}
 
 lawful_file_row : IsLawfulRow file_row
-lawful_file_row = followed_by (lawful_within spc_link lawful_spc_link.row 0xA0 (omega arith)) lawful_nothing
+lawful_file_row = followed_by (lawful_explicit (omega arith) lawful_spc_link) lawful_nothing
 
 pub lawful_pe_image_spelled : IsLawful pe_image_spelled
 lawful_pe_image_spelled = lawful_sequence (perhaps lawful_bit_string (λ t h e. omega arith) lawful_file_row)

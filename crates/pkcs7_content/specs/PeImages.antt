@@ -3,12 +3,8 @@
 -- SpcPeImageData ::= SEQUENCE { flags SpcPeImageFlags DEFAULT { includeResources }, file [0] EXPLICIT SpcLink }
 -- Absent flags are read as their default. Flags are always written, the default too.
 use Rattle.std.specs.Prelude.{◌≡◌, ℕ, ◌+◌, List, [], ◌∷◌, Option, Some, None}
-use Rattle.asn1_core.specs.Der.{Format, sequence, part, optional, nothing, within, BitStringOctets}
+use Rattle.asn1_core.specs.Der.{Format, sequence, part, optional, nothing, BitStringOctets, explicit, element, NextIs, Loosening, loosened, least_unless}
 use Rattle.std.specs.Str.{bytes_eq}
-use Rattle.asn1_core_element.specs.Element.{element}
-use Rattle.asn1_core_format.specs.Laws.{NextIs}
-use Rattle.asn1_core_format.specs.Loosened.{Loosening, loosened}
-use Rattle.asn1_core_format.specs.Omitted.{least_unless}
 use Rattle.asn1_leaves.specs.Strings.{bit_string}
 use Rattle.x509_base_spc.specs.Links.{LinkValue, spc_link, link_value}
 use Rattle.asn1_leaves_strings.specs.Octets.{contents_of}
@@ -25,7 +21,7 @@ abbrev pub pe_image_value : SpcPeImageData → PeImageValue
 pe_image_value x = (contents_of x.flags.0.0, (link_value x.file.0, tt))
 
 abbrev pub file_row : Format (LinkValue × Unit {0})
-file_row = part (within 0xA0 spc_link) nothing
+file_row = part (explicit 0 spc_link) nothing
 
 -- with the flags as they are spelled, there or not
 abbrev pub pe_image_spelled : Format (Option BitStringOctets × (LinkValue × Unit {0}))

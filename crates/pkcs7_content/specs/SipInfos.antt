@@ -1,8 +1,8 @@
 -- What Authenticode says of a file that a subject interface package signs.
 -- SpcSipInfo ::= SEQUENCE { version INTEGER, uuid OCTET STRING, reserved1 INTEGER, reserved2 INTEGER, reserved3 INTEGER,
 --   reserved4 INTEGER, reserved5 INTEGER }
-use Rattle.std.specs.Prelude.{ℕ, List}
-use Rattle.asn1_core.specs.Der.{Format, IsLawful, sequence, part, nothing, octet_string, lawful_sequence, followed_by, lawful_nothing, lawful_octet_string, Octets, IntegerOctets}
+use Rattle.std.specs.Prelude.{ℕ}
+use Rattle.asn1_core.specs.Der.{Format, IsLawful, sequence, part, nothing, octet_string, Octets, IntegerOctets, der_laws}
 use Rattle.asn1_leaves.specs.Integers.{integer, lawful_integer}
 use Rattle.pkcs7_content.specs.declared.sip_infos.SpcSipInfo.{SpcSipInfo}
 
@@ -16,7 +16,4 @@ abbrev pub sip_info : Format SipInfoValue
 sip_info = sequence (part integer (part octet_string (part integer (part integer (part integer (part integer (part integer nothing)))))))
 
 pub lawful_sip_info : IsLawful sip_info
-lawful_sip_info =
-    lawful_sequence (followed_by lawful_integer (followed_by lawful_octet_string
-    (followed_by lawful_integer (followed_by lawful_integer (followed_by lawful_integer
-    (followed_by lawful_integer (followed_by lawful_integer lawful_nothing)))))))
+lawful_sip_info = search (der_laws, lawful_integer) depth 20

@@ -1,10 +1,9 @@
 //! Encapsulated content (RFC 5652, 5.2).
 
 ghost use Rattle.std.specs.Prelude.{◌≡◌, ◌↔◌, Some, false, IsTrue, MatchResult};
-ghost use Rattle.asn1_core.specs.Der.{option_value, octets_of};
+ghost use Rattle.asn1_core.specs.Der.{option_value, octets_of, GivesRow};
 ghost use Rattle.std.proofs.Common.{inl, inr};
 ghost use Rattle.asn1_core_element.specs.declared.error.Error.TheVariants.{Memory};
-ghost use Rattle.asn1_core_format.specs.Rows.{GivesRow};
 ghost use Rattle.pkcs7_content.specs.Contents.{ContentValues, content_values, ContentRow, content_kind, IsPlain, octets_row, content_row, content_defined_by, EncapsulatedValue, encapsulated, content_value, content_row_value, encapsulated_value};
 ghost use Rattle.pkcs7_content.specs.ContentLaws.{content_is_defined_by, lawful_encapsulated};
 ghost use Rattle.pkcs7_content.specs.Equal.{content_value_equal, encapsulated_equal};
@@ -12,8 +11,8 @@ ghost use Rattle.pkcs7_content.specs.Oids.{data_oid};
 
 use crate::indirect_data::SpcIndirectDataContent;
 use crate::oids::{DATA, INDIRECT_DATA, TRUST_LIST};
-use asn1_core::prelude::*;
 use asn1_choices::{AnyDefinedBy, OidAnd, read_sequence_defined_by};
+use asn1_core::prelude::*;
 use pkcs7_content_ctl::Ctl;
 use std::alloc::Global;
 
@@ -279,6 +278,6 @@ impl EqualByText for EncapsulatedContentInfo {
 
 impl TryClone for EncapsulatedContentInfo {
     fn try_clone(&self, alloc: Global) -> Result<Self, Error> {
-        clone_of!(self, alloc, EncapsulatedContentInfo { content_type, content })
+        clone_of!(self, alloc; EncapsulatedContentInfo { content_type, content })
     }
 }

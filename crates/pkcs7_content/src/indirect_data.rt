@@ -7,8 +7,8 @@ ghost use Rattle.pkcs7_content.specs.IndirectData.{SpcValue, spc_values, subject
 use crate::oids::{PE_IMAGE, SIP_INFO};
 use crate::pe_images::SpcPeImageData;
 use crate::sip_infos::SpcSipInfo;
-use asn1_core::prelude::*;
 use asn1_choices::{AnyDefinedBy, OidAnd, read_sequence_defined_by};
+use asn1_core::prelude::*;
 use std::alloc::Global;
 use x509_base::DigestInfo;
 
@@ -166,7 +166,7 @@ impl EqualByText for SpcAttributeAndOptionalValue {
 
 impl TryClone for SpcAttributeAndOptionalValue {
     fn try_clone(&self, alloc: Global) -> Result<Self, Error> {
-        clone_of!(self, alloc, SpcAttributeAndOptionalValue { ty, value })
+        clone_of!(self, alloc; SpcAttributeAndOptionalValue { ty, value })
     }
 }
 
@@ -219,6 +219,6 @@ impl EqualByText for SpcIndirectDataContent {
 
 impl TryClone for SpcIndirectDataContent {
     fn try_clone(&self, alloc: Global) -> Result<Self, Error> {
-        clone_of!(self, alloc, SpcIndirectDataContent { spc_data, message_digest })
+        clone_of!(self, alloc; SpcIndirectDataContent { spc_data, message_digest })
     }
 }

@@ -121,6 +121,6 @@ impl EqualByText for SpcPeImageData {
 
 impl TryClone for SpcPeImageData {
     fn try_clone(&self, alloc: Global) -> Result<Self, Error> {
-        clone_of!(self, alloc, SpcPeImageData { flags, file })
+        clone_of!(self, alloc; SpcPeImageData { flags, file })
     }
 }

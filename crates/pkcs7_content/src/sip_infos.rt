@@ -89,7 +89,7 @@ impl EqualByText for SpcSipInfo {
 
 impl TryClone for SpcSipInfo {
     fn try_clone(&self, alloc: Global) -> Result<Self, Error> {
-        clone_of!(self, alloc, SpcSipInfo {
+        clone_of!(self, alloc; SpcSipInfo {
             version, uuid, reserved1, reserved2, reserved3, reserved4, reserved5
         })
     }

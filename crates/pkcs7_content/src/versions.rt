@@ -3,8 +3,7 @@
 ghost use Rattle.std.specs.Prelude.{◌≡◌, ◌≢◌, ◌<◌, ℕ, false, IfErr, MatchOption};
 ghost use Rattle.std.proofs.Common.{rules};
 ghost use Rattle.asn1_core_element.specs.declared.error.Error.TheVariants.{Memory};
-ghost use Rattle.asn1_core_format.specs.Format.{Gives};
-ghost use Rattle.asn1_core_format.specs.Numbers.{numbers_below, number_below, lawful_number};
+ghost use Rattle.asn1_core.specs.Der.{Gives, numbers_below, number_below, lawful_number};
 ghost use Rattle.pkcs7_content.specs.Versions.{number_of};
 
 use asn1_core::prelude::*;

@@ -5,10 +5,9 @@
 -- certificate policies OCTET STRING (CONTAINING SEQUENCE OF CertPolicy)
 -- any others ANY
 use Rattle.std.specs.Prelude.{◌⊎◌, ℕ, List, ◌≡◌, map}
-use Rattle.asn1_core.specs.Der.{Format, within, set_of, sequence, each, object_identifier, octet_string, raw, OidOctets, ElementOctets, IsLawful, IsLawfulRow, lawful_within, lawful_set, lawful_each, lawful_sequence, lawful_object_identifier, lawful_octet_string, lawful_raw, octets_of}
+use Rattle.asn1_core.specs.Der.{Format, within, set_of, object_identifier, octet_string, raw, OidOctets, ElementOctets, IsLawful, IsLawfulRow, lawful_within, lawful_set, lawful_each, lawful_sequence, lawful_object_identifier, lawful_octet_string, lawful_raw, octets_of, sequence_of, either}
 use Rattle.asn1_core.specs.Words as Words
 use Rattle.std.proofs.Common.{inl, inr, arith, refl}
-use Rattle.asn1_core_format.specs.Eithers.{either}
 use Rattle.asn1_choices.specs.DefinedBy.{DefinedBy, arm, by_itself, only_written}
 use Rattle.pkcs7_content_ctl.specs.Policies.{ChainPolicyValue, chain_policy, CertPolicyValue, cert_policy, lawful_chain_policy, lawful_cert_policy, chain_policy_value, cert_policy_value}
 use Rattle.pkcs7_content_ctl.specs.Properties.{property_of, shape_of}
@@ -33,13 +32,13 @@ abbrev pub UsageValue : Type 0
 UsageValue = List OidOctets
 
 abbrev pub usages_set : Format (List UsageValue)
-usages_set = set_of (within 0x04 (sequence (each object_identifier)))
+usages_set = set_of (within 0x04 (sequence_of object_identifier))
 
 abbrev pub chain_policies_set : Format (List ChainPolicyValue)
 chain_policies_set = set_of (within 0x04 chain_policy)
 
 abbrev pub cert_policies_set : Format (List (List CertPolicyValue))
-cert_policies_set = set_of (within 0x04 (sequence (each cert_policy)))
+cert_policies_set = set_of (within 0x04 (sequence_of cert_policy))
 
 abbrev pub raws_set : Format (List ElementOctets)
 raws_set = set_of raw

@@ -1,12 +1,8 @@
 -- `==` is equality of what the values contain.
+use Rattle.asn1_core.specs.Der.{SeesEqual, der_equal, list_equal, octets_equal, raw_equal, same_first, same_second, octets_of, equal_octets}
 use Rattle.std.specs.Prelude.{◌≡◌, ◌↔◌, ℕ, Bool, true}
 use Rattle.std.proofs.Common.{arith, rules, ap, inl, inr}
-use Rattle.asn1_core.specs.Der.{octets_of, list_equal, two_equal}
-use Rattle.std.proofs.lemmas.Slice.Eq.{bytes_eq-Decides}
-use Rattle.asn1_core.specs.Equal.{octets_equal, raw_equal, with_end, same_first, same_second}
 use Rattle.asn1_core.specs.contracts.objects.ObjectIdentifierAsn1PartialEq.TheImpl as Oid
-use Rattle.asn1_core_format.specs.Views.{SeesEqual}
-use Rattle.asn1_core_oid.specs.OidValueLaws.{equal_octets}
 use Rattle.asn1_leaves.specs.contracts.integers.IntegerAsn1PartialEq.TheImpl as Integer
 use Rattle.asn1_leaves_times.specs.TimesLaws.{equal_utc}
 use Rattle.x509_base.specs.AlgorithmParts.{algorithm_value}
@@ -30,9 +26,7 @@ pub qualifier_equal : SeesEqual Qualifier.ghosts.eq qualifier_value
 qualifier_equal x y = search rules
 
 pub cert_policy_equal : SeesEqual Policy.ghosts.eq cert_policy_value
-cert_policy_equal x y =
-    let q = list_equal _ _ qualifier_equal x.qualifier.0.items y.qualifier.0.items in
-    search rules
+cert_policy_equal x y = search (der_equal, qualifier_equal, rules) depth 20
 
 -- a test of what stands beside a number is one of the whole
 same_number : {B : Type 0} {n : ℕ} {p : Bool} {a c : B} → (p ≡ true) ↔ (a ≡ c) → (p ≡ true) ↔ (◌≡◌ {A = ℕ × B} (n, a) (n, c))
@@ -65,21 +59,16 @@ values_equal (Unknown s) (Unknown t) = same_second (same_second (same_second (sa
 values_equal x y = (λ e. cc, λ e. absurd (omega (arith, ap number_at e)))
 
 pub attribute_equal : SeesEqual Attribute.ghosts.eq entry_attribute_value
-attribute_equal x y = two_equal (oid_equal x.oid y.oid) (values_equal x.value y.value)
+attribute_equal x y = search (der_equal, values_equal) depth 20
 
 pub entry_equal : SeesEqual Entry.ghosts.eq entry_value
-entry_equal x y = two_equal (octets_equal x.cert_fingerprint y.cert_fingerprint) (with_end (list_equal _ _ attribute_equal x.attributes.0.items y.attributes.0.items))
+entry_equal x y = search (der_equal, attribute_equal) depth 20
 
 pub integer_equal : SeesEqual Integer.ghosts.eq (λ x. x.0.items)
-integer_equal x y = bytes_eq-Decides x.0.items y.0.items
+integer_equal x y = search der_equal depth 20
 
 algorithm_equal : SeesEqual Algorithm.ghosts.eq algorithm_value
 algorithm_equal x y = search rules
 
 pub ctl_equal : SeesEqual TrustList.ghosts.eq ctl_value
-ctl_equal x y =
-    two_equal (list_equal _ _ oid_equal x.signers.0.items y.signers.0.items)
-    (two_equal (integer_equal x.sequence_number y.sequence_number)
-    (two_equal (equal_utc x.effective_date.0 y.effective_date.0)
-    (two_equal (algorithm_equal x.digest_algorithm y.digest_algorithm)
-    (with_end (list_equal _ _ entry_equal x.crl_entries.0.items y.crl_entries.0.items)))))
+ctl_equal x y = search (der_equal, integer_equal, equal_utc, algorithm_equal, entry_equal) depth 20

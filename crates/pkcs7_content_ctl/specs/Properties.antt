@@ -1,7 +1,7 @@
 -- Properties of certificates, which trust lists give as attributes: each has a number, and the object identifier
 -- 1.3.6.1.4.1.311.10.11 with the number behind it.
 use Rattle.std.specs.Prelude.{◌==◌, ℕ, List, [], ◌∷◌, if◌then◌else◌}
-use Rattle.asn1_core_oid.specs.Arcs.{arcs}
+use Rattle.asn1_core.specs.Der.{arcs}
 use Rattle.pkcs7_content_ctl.specs.declared.properties.Shape.{Shape}
 use Rattle.pkcs7_content_ctl.specs.declared.properties.Shape.TheVariants.{Octets, Usages, ChainPolicies, CertPolicies, Raws}
 

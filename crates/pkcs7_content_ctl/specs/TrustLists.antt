@@ -4,7 +4,7 @@
 -- CertificateTrustList ::= SEQUENCE { subjectUsage SEQUENCE OF OBJECT IDENTIFIER, sequenceNumber INTEGER,
 --   thisUpdate UTCTime, subjectAlgorithm AlgorithmIdentifier, trustedSubjects SEQUENCE OF TrustedSubject }
 use Rattle.std.specs.Prelude.{List, map}
-use Rattle.asn1_core.specs.Der.{Format, IsLawful, sequence, part, nothing, set_of, each, object_identifier, octet_string, lawful_sequence, followed_by, lawful_nothing, lawful_set, lawful_each, lawful_object_identifier, lawful_octet_string, Octets, OidOctets, IntegerOctets, octets_of}
+use Rattle.asn1_core.specs.Der.{Format, IsLawful, sequence, part, nothing, set_of, object_identifier, octet_string, Octets, OidOctets, IntegerOctets, octets_of, sequence_of, der_laws, lawful_sequence}
 use Rattle.asn1_leaves.specs.Integers.{integer, lawful_integer}
 use Rattle.asn1_leaves.specs.Times.{utc_time, lawful_utc_time}
 use Rattle.asn1_leaves_times.specs.declared.calendar.Moment.{Moment}
@@ -41,9 +41,7 @@ abbrev pub entry : Format EntryValue
 entry = sequence (part octet_string (part (set_of entry_attribute) nothing))
 
 pub lawful_entry : IsLawful entry
-lawful_entry =
-    lawful_sequence (followed_by lawful_octet_string
-    (followed_by (lawful_set entry_attribute lawful_entry_attribute) lawful_nothing))
+lawful_entry = search (der_laws, lawful_entry_attribute) depth 20
 
 abbrev pub CtlValue : Type 0
 CtlValue = List OidOctets × (IntegerOctets × (Moment × (AlgorithmValue × (List EntryValue × Unit {0}))))
@@ -52,10 +50,7 @@ abbrev pub ctl_value : Ctl → CtlValue
 ctl_value x = (map (λ o. octets_of o.0) x.signers.0.items, (x.sequence_number.0.items, (moment_of x.effective_date.0, (algorithm_value x.digest_algorithm, (map entry_value x.crl_entries.0.items, tt)))))
 
 abbrev pub ctl : Format CtlValue
-ctl = sequence (part (sequence (each object_identifier)) (part integer (part utc_time (part algorithm_identifier (part (sequence (each entry)) nothing)))))
+ctl = sequence (part (sequence_of object_identifier) (part integer (part utc_time (part algorithm_identifier (part (sequence_of entry) nothing)))))
 
 pub lawful_ctl : IsLawful ctl
-lawful_ctl =
-    lawful_sequence (followed_by (lawful_sequence (lawful_each object_identifier lawful_object_identifier))
-    (followed_by lawful_integer (followed_by lawful_utc_time (followed_by lawful_algorithm_identifier
-    (followed_by (lawful_sequence (lawful_each entry lawful_entry)) lawful_nothing)))))
+lawful_ctl = search (der_laws, lawful_integer, lawful_utc_time, lawful_algorithm_identifier, lawful_entry) depth 20

@@ -5,8 +5,8 @@ ghost use Rattle.pkcs7_content_ctl.specs.TrustLists.{EntryAttributeValue, entry_
 ghost use Rattle.pkcs7_content_ctl.specs.AttributeValues.{attribute_values_value};
 
 use crate::values::CTLEntryAttributeValues;
-use asn1_core::prelude::*;
 use asn1_choices::{OidAnd, read_sequence_defined_by};
+use asn1_core::prelude::*;
 use std::alloc::Global;
 
 /// `Attribute ::= SEQUENCE { type OBJECT IDENTIFIER, values SET OF ANY DEFINED BY type }`, whose type says which
@@ -48,6 +48,6 @@ impl EqualByText for CTLEntryAttribute {
 
 impl TryClone for CTLEntryAttribute {
     fn try_clone(&self, alloc: Global) -> Result<Self, Error> {
-        clone_of!(self, alloc, CTLEntryAttribute { oid, value })
+        clone_of!(self, alloc; CTLEntryAttribute { oid, value })
     }
 }

@@ -58,7 +58,7 @@ impl EqualByText for CTLEntry {
 
 impl TryClone for CTLEntry {
     fn try_clone(&self, alloc: Global) -> Result<Self, Error> {
-        clone_of!(self, alloc, CTLEntry { cert_fingerprint, attributes })
+        clone_of!(self, alloc; CTLEntry { cert_fingerprint, attributes })
     }
 }
 
@@ -147,7 +147,7 @@ impl EqualByText for Ctl {
 
 impl TryClone for Ctl {
     fn try_clone(&self, alloc: Global) -> Result<Self, Error> {
-        clone_of!(self, alloc, Ctl {
+        clone_of!(self, alloc; Ctl {
             signers, sequence_number, effective_date, digest_algorithm, crl_entries
         })
     }

@@ -44,7 +44,7 @@ impl EqualByText for RootProgramChainPolicy {
 
 impl TryClone for RootProgramChainPolicy {
     fn try_clone(&self, alloc: Global) -> Result<Self, Error> {
-        clone_of!(self, alloc, RootProgramChainPolicy { oid })
+        clone_of!(self, alloc; RootProgramChainPolicy { oid })
     }
 }
 
@@ -88,7 +88,7 @@ impl EqualByText for PolicyQualifier {
 
 impl TryClone for PolicyQualifier {
     fn try_clone(&self, alloc: Global) -> Result<Self, Error> {
-        clone_of!(self, alloc, PolicyQualifier { oid, bits })
+        clone_of!(self, alloc; PolicyQualifier { oid, bits })
     }
 }
 
@@ -132,6 +132,6 @@ impl EqualByText for CertPolicy {
 
 impl TryClone for CertPolicy {
     fn try_clone(&self, alloc: Global) -> Result<Self, Error> {
-        clone_of!(self, alloc, CertPolicy { oid, qualifier })
+        clone_of!(self, alloc; CertPolicy { oid, qualifier })
     }
 }

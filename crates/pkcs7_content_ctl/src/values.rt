@@ -2,7 +2,7 @@
 
 ghost use Rattle.std.specs.Prelude.{◌≡◌, ◌↔◌, IsTrue};
 ghost use Rattle.std.proofs.Common.{rules, inl, inr};
-ghost use Rattle.asn1_core_format.specs.Rows.{GivesRow};
+ghost use Rattle.asn1_core.specs.Der.{GivesRow};
 ghost use Rattle.pkcs7_content_ctl.specs.Equal.{values_equal};
 ghost use Rattle.pkcs7_content_ctl.specs.AttributeValues.{AttributeValues, attribute_values, values_defined_by, values_are_defined_by, octets_in, usages_in, attribute_values_value};
 ghost use Rattle.pkcs7_content_ctl.specs.Properties.{shape_of};
@@ -14,8 +14,8 @@ use crate::properties::{
     DISALLOWED_KEY_USAGES, DISALLOWED_TIME, FRIENDLY_NAME, KEY_IDENTIFIER, KEY_USAGES,
     RESERVED_126, RESERVED_127, ROOT_SHA256, SUBJECT_NAME_MD5, Shape, property_number,
 };
-use asn1_core::prelude::*;
 use asn1_choices::AnyDefinedBy;
+use asn1_core::prelude::*;
 use std::alloc::Global;
 
 type OctetsSet = Asn1SetOf<OctetStringAsn1>;

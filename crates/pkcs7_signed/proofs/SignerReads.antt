@@ -1,13 +1,9 @@
 -- Reading signers, what they hold and signed data, one level of them.
 use Rattle.std.proofs.Common.{◌≡◌, ℕ, List, map, Vec, Global, Option, ap, ◌∙◌, subst, rules}
-use Rattle.asn1_core.specs.Der.{octets_of}
+use Rattle.asn1_core.specs.Der.{octets_of, Position, Took, GaveUp, less, TookRow, GaveUpRow}
 use Rattle.asn1_core.specs.declared.objects.ObjectIdentifierAsn1.{ObjectIdentifierAsn1}
 use Rattle.asn1_core.specs.declared.lists.Asn1SetOf.{Asn1SetOf}
-use Rattle.asn1_core_element.specs.Position.{Position}
 use Rattle.asn1_core_element.specs.declared.error.Error.{Error}
-use Rattle.asn1_core_format.specs.Format.{Took, GaveUp}
-use Rattle.asn1_core_format.specs.Levels.{less}
-use Rattle.asn1_core_format.specs.Rows.{TookRow, GaveUpRow}
 use Rattle.asn1_core_format.proofs.LevelReads.{took_level, refused_level, took_rolled, refused_rolled}
 use Rattle.pkcs7_content.specs.declared.contents.EncapsulatedContentInfo.{EncapsulatedContentInfo}
 use Rattle.pkcs7_content.specs.declared.versions.CmsVersion.{CmsVersion}

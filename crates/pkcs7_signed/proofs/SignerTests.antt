@@ -1,9 +1,6 @@
 -- Testing signers, what they hold and signed data, one level of them.
 use Rattle.std.proofs.Common.{◌≡◌, ◌↔◌, ℕ, zero, suc, IsTrue, false, List, [], ◌∷◌, map, refl, sym, subst, inl, inr, rules}
-use Rattle.asn1_core.specs.Der.{Format, nothing, set_of}
-use Rattle.asn1_core_format.specs.Levels.{less}
-use Rattle.asn1_core_format.specs.EmptySets.{set_or_none}
-use Rattle.asn1_core_format.specs.LevelLaws.{unroll_formed}
+use Rattle.asn1_core.specs.Der.{Format, nothing, set_of, less, set_or_none, unroll_formed}
 use Rattle.pkcs7_signed.specs.Parts.{SignerParts, signer_end, behind_signer, signer_parts, SignedParts, signed_end, behind_signed, signed_parts}
 use Rattle.pkcs7_signed.specs.Rows.{SignerRow, signer_row, UnsignedValues, IsOfKind, values_row}
 use Rattle.pkcs7_signed.specs.Signers.{Value, signers, attributes, certificates, still, step, signer, attribute, certificate, signed_data, signer_infos, unsigned_attributes, values}

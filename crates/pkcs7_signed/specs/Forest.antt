@@ -3,8 +3,7 @@
 use Rattle.std.specs.Prelude.{◌≡◌, ℕ, ◌+◌, List, [], ◌∷◌, ◌++◌, map}
 use Rattle.std.specs.List.{flat_map}
 use Rattle.std.proofs.Common.{refl, ap, ap₂}
-use Rattle.asn1_core_format.specs.EmptySets.{is_nil}
-use Rattle.asn1_core_format.specs.Lists.{least_all}
+use Rattle.asn1_core.specs.Der.{is_nil, least_all}
 
 pub data Forest {I : Type 0} (A : I → Type 0) (P : (i : I) → A i → Type 0) (c : (i : I) → A i → I) : I → Type 0 where
   none : {i : I} → Forest A P c i

@@ -1,10 +1,8 @@
 -- The values of a signer's parts, and of those of signed data, before what holds further signers.
 use Rattle.std.specs.Prelude.{◌≡◌, ℕ, List, [], ◌++◌, Option, map}
 use Rattle.std.proofs.Common.{refl, ap, ◌∙◌, append_assoc, Vec, Global}
-use Rattle.asn1_core.specs.Der.{Format, nothing, number_below, version, octet_string, option_value, ElementOctets}
+use Rattle.asn1_core.specs.Der.{Format, nothing, number_below, version, octet_string, option_value, ElementOctets, is_default, text_unless, text_if}
 use Rattle.asn1_core.specs.declared.raw.Asn1RawDer.{Asn1RawDer}
-use Rattle.asn1_core_format.specs.Omitted.{is_default, text_unless}
-use Rattle.asn1_core_format.specs.Rows.{text_if}
 use Rattle.pkcs7_content.specs.Contents.{encapsulated, encapsulated_value}
 use Rattle.pkcs7_content.specs.Versions.{number_of}
 use Rattle.pkcs7_content.specs.declared.contents.EncapsulatedContentInfo.{EncapsulatedContentInfo}

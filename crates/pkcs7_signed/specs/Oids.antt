@@ -1,6 +1,6 @@
 -- The object identifiers that are known, by their arcs.
 use Rattle.std.specs.Prelude.{ℕ, List, [], ◌∷◌}
-use Rattle.asn1_core_oid.specs.Arcs.{arcs}
+use Rattle.asn1_core.specs.Der.{arcs}
 
 -- id-signedData (RFC 5652, 5.1)
 abbrev pub signed_data_oid : List ℕ

@@ -1,11 +1,7 @@
 -- What stands in a signer before its unsigned attributes, and in signed data before its signers.
 use Rattle.std.specs.Prelude.{◌≡◌, ℕ, List, Option}
 use Rattle.std.proofs.Common.{arith, ⊎_elim}
-use Rattle.asn1_core.specs.Der.{Format, IsLawful, IsLawfulRow, number_below, lawful_number, version, lawful_version_1, part, optional, followed_by, perhaps, octet_string, lawful_octet_string, Octets}
-use Rattle.asn1_core_format.specs.Leaf.{leaf, kept}
-use Rattle.asn1_core_format.specs.LeafLaws.{lawful_leaf, lawful_kept}
-use Rattle.asn1_core_format.specs.Levels.{no_grammar, always}
-use Rattle.asn1_core_format.specs.Omitted.{omitted, is_default, lawful_omitted}
+use Rattle.asn1_core.specs.Der.{Format, IsLawfulRow, number_below, lawful_number, version, lawful_version_1, part, optional, followed_by, perhaps, octet_string, lawful_octet_string, Octets, no_grammar, always, omitted, is_default, lawful_omitted}
 use Rattle.pkcs7_content.specs.Contents.{EncapsulatedValue, encapsulated}
 use Rattle.pkcs7_content.specs.ContentLaws.{lawful_encapsulated}
 use Rattle.pkcs7_signed_parts.specs.Algorithms.{algorithms, lawful_algorithms}
@@ -63,13 +59,6 @@ lawful_signed_parts {V} {R} r is_set =
     (perhaps lawful_revocations (λ t h e. omega (arith, h, is_set t e)) r)
     no_certificates_left_out
     (λ t h e. ⊎_elim (λ (x : t ≡ 0xA1). omega (arith, h, x)) (λ (x : R.IsTag t). omega (arith, h, is_set t x)) e))))
-
--- an object identifier and no other
-abbrev pub only_oid : List ℕ → Format (List ℕ)
-only_oid o = leaf 0x06 (kept (λ c. c ≡ o))
-
-pub lawful_only_oid : (o : List ℕ) → IsLawful (only_oid o)
-lawful_only_oid o = lawful_leaf 0x06 (omega arith) (kept (λ c. c ≡ o)) (lawful_kept (λ c. c ≡ o))
 
 -- something that is written so and has so many elements
 abbrev pub ending : List ℕ → ℕ → Format (Unit {0})

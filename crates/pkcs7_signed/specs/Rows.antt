@@ -7,14 +7,11 @@
 use Rattle.std.specs.Prelude.{◌⊎◌, ℕ, List, if◌then◌else◌}
 use Rattle.std.specs.Str.{bytes_eq}
 use Rattle.std.proofs.Common.{refl, inl, inr, arith}
-use Rattle.asn1_core.specs.Der.{Format, IsLawful, IsLawfulRow, within, lawful_within, sequence, lawful_sequence, part, followed_by, raw, lawful_raw, OidOctets, ElementOctets, set_of, lawful_set}
-use Rattle.asn1_core_format.specs.Eithers.{either}
-use Rattle.asn1_core_format.specs.EmptySets.{set_or_none, lawful_set_or_none}
-use Rattle.asn1_core_format.specs.Gated.{gated, lawful_gated}
+use Rattle.asn1_core.specs.Der.{Format, IsLawful, IsLawfulRow, sequence, lawful_sequence, part, raw, lawful_raw, OidOctets, ElementOctets, set_of, lawful_set, explicit, only_oid, either, set_or_none, lawful_set_or_none, gated, lawful_gated, followed_by, lawful_only_oid, lawful_explicit}
 use Rattle.asn1_choices.specs.DefinedBy.{DefinedBy, any_defined_by, arm, by_itself, only_written}
 use Rattle.asn1_choices.specs.DefinedByLaws.{IsDefinedBy, itself, lawful_arm, lawful_any_defined_by}
 use Rattle.pkcs7_signed.specs.Oids.{signed_data_oid, countersignature_oid, ms_counter_sign_oid}
-use Rattle.pkcs7_signed.specs.Parts.{SignerParts, signer_parts, lawful_signer_parts, SignedParts, signed_parts, lawful_signed_parts, only_oid, lawful_only_oid}
+use Rattle.pkcs7_signed.specs.Parts.{SignerParts, signer_parts, lawful_signer_parts, SignedParts, signed_parts, lawful_signed_parts}
 use Rattle.pkcs7_signed.specs.declared.signers.Kind.{Kind}
 use Rattle.pkcs7_signed.specs.declared.signers.Kind.TheVariants.{MsCounterSign, CounterSign, Foreign}
 
@@ -36,7 +33,7 @@ abbrev pub CertificateRow : Type 0 → Type 0
 CertificateRow S = OidOctets × SignedRow S
 
 abbrev pub certificate_row : {S : Type 0} → Format S → Format (CertificateRow S)
-certificate_row F = sequence (part (only_oid signed_data_oid) (within 0xA0 (signed_row F)))
+certificate_row F = sequence (part (only_oid signed_data_oid) (explicit 0 (signed_row F)))
 
 -- what an attribute's object identifier says
 abbrev pub kind_of : List ℕ → Kind
@@ -102,7 +99,7 @@ pub lawful_signed_row : {S : Type 0} (F : Format S) → IsLawful F → IsLawful 
 lawful_signed_row F f = lawful_gated (sequence (signed_parts (set_of F))) (lawful_sequence (lawful_signed_parts (lawful_set F f).row (λ t h. h)))
 
 pub lawful_certificate_row : {S : Type 0} (F : Format S) → IsLawful F → IsLawful (certificate_row F)
-lawful_certificate_row F f = lawful_sequence (followed_by (lawful_only_oid signed_data_oid) (lawful_within (signed_row F) (lawful_signed_row F f).row 0xA0 (omega arith)).row)
+lawful_certificate_row F f = lawful_sequence (followed_by (lawful_only_oid signed_data_oid) (lawful_explicit (omega arith) (lawful_signed_row F f)).row)
 
 module _ {C S : Type 0} (F : Format C) (G : Format S) (f : IsLawful F) (g : IsLawful G) where
   lawful_values : (i : Kind) → IsLawfulRow (values_row F G i)

@@ -2,9 +2,7 @@
 use Rattle.std.proofs.Common.{◌≡◌, ◌↔◌, List, [], ◌∷◌, map, Bool, true, rules, refl, sym, ap, ap₂, ◌∙◌, subst, inl, inr}
 use Rattle.std.specs.List.{AllByRecursion}
 use lib.Pointwise.{pointwise}
-use Rattle.asn1_core.specs.Equal.{octets_equal, raw_equal, with_end, same_first, same_second}
-use Rattle.asn1_core_format.specs.Views.{SeesEqual, two_equal, option_equal, list_equal}
-use Rattle.asn1_core_oid.specs.OidValueLaws.{equal_octets}
+use Rattle.asn1_core.specs.Der.{octets_equal, raw_equal, with_end, same_first, same_second, SeesEqual, two_equal, option_equal, list_equal, equal_octets}
 use Rattle.x509_base.specs.Equal.{algorithm_equal}
 use Rattle.pkcs7_content.specs.Equal.{encapsulated_equal}
 use Rattle.pkcs7_content.specs.Versions.{number_of}

@@ -1,15 +1,10 @@
 -- The laws of signers and what they hold.
 use Rattle.std.specs.Prelude.{◌≡◌, ℕ, ◌+◌, List, [], ◌++◌}
 use Rattle.std.proofs.Common.{refl, ap, ap₂, inl, inr, arith}
-use Rattle.asn1_core.specs.Der.{Format, IsLawful, each, lawful_each, within, lawful_within, sequence, part, nothing, lawful_set}
-use Rattle.asn1_core_element.specs.Element.{element}
-use Rattle.asn1_core_format.specs.Levels.{Grammar, by_levels, less}
-use Rattle.asn1_core_format.specs.LevelLaws.{IsStep, lawful_levels, lawful_less}
-use Rattle.asn1_core_format.specs.Omitted.{text_unless, least_unless}
-use Rattle.asn1_core_format.specs.Rolled.{lawful_rolled}
+use Rattle.asn1_core.specs.Der.{Format, IsLawful, sequence, part, nothing, explicit, only_oid, element, Grammar, by_levels, less, IsStep, lawful_levels, lawful_less, text_unless, least_unless, lawful_rolled, lawful_set, lawful_implicit_set}
 use Rattle.pkcs7_signed.specs.Forest.{Forest, none, nodes_forest, forest_nodes, fold_node, same_all, same_node, nil_same, same_list, texts_fold, least_fold}
 use Rattle.pkcs7_signed.specs.Oids.{signed_data_oid}
-use Rattle.pkcs7_signed.specs.Parts.{signer_end, behind_signer, signer_parts, signed_end, behind_signed, signed_parts, only_oid, ending}
+use Rattle.pkcs7_signed.specs.Parts.{signer_end, behind_signer, signer_parts, signed_end, behind_signed, signed_parts, ending}
 use Rattle.pkcs7_signed.specs.Rows.{SignerRow, signer_row, CertificateRow, certificate_row, AttributeRow, attribute_row, lawful_signer_row, lawful_signed_row, lawful_certificate_row, lawful_attribute_row}
 use Rattle.pkcs7_signed.specs.Signers.{Sort, signers, attributes, certificates, nothing_inside, Arm, Plain, holds, Trees, Value, list, trees, signer_out, signer_into, certificate_out, certificate_into, attribute_out, attribute_into, certificate_with, attribute_with, signer_with, text_of, least_of, normal_in_attribute, normal_of, still, step, signer, attribute, certificate, signed_data, signer_infos, unsigned_attributes}
 use Rattle.pkcs7_signed.specs.declared.signers.Kind.TheVariants.{MsCounterSign, CounterSign, Foreign}
@@ -60,7 +55,7 @@ module _ (F : Format (Value signers)) (f : IsLawful F) where
 module _ (g : ℕ → Grammar (Value signers)) where
   certificate_text : (v : Value certificates) → (certificate_with (by_levels (still tt) g)).text v ≡ fold_node Arm Plain holds text_of certificates v
   certificate_text v =
-      ap (λ t. (sequence (part (only_oid signed_data_oid) (within 0xA0 (sequence (signed_parts (ending (element 0x31 t) 0)))))).text (v.1.0, signed_end v.1.1 tt))
+      ap (λ t. (sequence (part (only_oid signed_data_oid) (explicit 0 (sequence (signed_parts (ending (element 0x31 t) 0)))))).text (v.1.0, signed_end v.1.1 tt))
       (texts_fold Arm Plain holds text_of (still tt).text (λ _. refl) v.2)
 
   attribute_text : (v : Value attributes) → (attribute_with (by_levels (still tt) g)).text v ≡ fold_node Arm Plain holds text_of attributes v
@@ -75,7 +70,7 @@ module _ (g : ℕ → Grammar (Value signers)) where
 
   certificate_least : (v : Value certificates) → (certificate_with (by_levels (still tt) g)).least v ≡ fold_node Arm Plain holds least_of certificates v
   certificate_least v =
-      ap (λ n. (sequence (part (only_oid signed_data_oid) (within 0xA0 (sequence (signed_parts (ending [] (1 + n))))))).least (v.1.0, signed_end v.1.1 tt))
+      ap (λ n. (sequence (part (only_oid signed_data_oid) (explicit 0 (sequence (signed_parts (ending [] (1 + n))))))).least (v.1.0, signed_end v.1.1 tt))
       (least_fold Arm Plain holds least_of (still tt).least (λ _. refl) v.2)
 
   attribute_least : (v : Value attributes) → (attribute_with (by_levels (still tt) g)).least v ≡ fold_node Arm Plain holds least_of attributes v
@@ -129,4 +124,4 @@ pub lawful_signer_infos : IsLawful signer_infos
 lawful_signer_infos = lawful_set signer lawful_signer
 
 pub lawful_unsigned_attributes : IsLawful unsigned_attributes
-lawful_unsigned_attributes = lawful_within (each attribute) (lawful_each attribute lawful_attribute) 0xA1 (omega arith)
+lawful_unsigned_attributes = lawful_implicit_set (omega arith) lawful_attribute

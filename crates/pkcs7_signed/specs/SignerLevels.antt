@@ -1,13 +1,9 @@
 -- The values of signers, what they hold and signed data, level by level.
 use Rattle.std.specs.Prelude.{◌≡◌, ℕ, false, List, [], ◌∷◌, ◌++◌, map}
 use Rattle.std.proofs.Common.{refl, sym, ap, ◌∙◌, inl, inr, rules, append-nil}
-use Rattle.asn1_core.specs.Der.{octets_of, nothing}
+use Rattle.asn1_core.specs.Der.{octets_of, nothing, element, is_nil, unroll_text, text_unless}
 use Rattle.asn1_core.specs.declared.lists.Asn1SetOf.{Asn1SetOf}
 use Rattle.asn1_core.specs.declared.raw.Asn1RawDer.{Asn1RawDer}
-use Rattle.asn1_core_element.specs.Element.{element}
-use Rattle.asn1_core_format.specs.EmptySets.{is_nil}
-use Rattle.asn1_core_format.specs.LevelLaws.{unroll_text}
-use Rattle.asn1_core_format.specs.Omitted.{text_unless}
 use Rattle.pkcs7_signed.specs.Heads.{elements, signer_parts_value, signed_parts_value, signer_head_text, signed_head_text}
 use Rattle.pkcs7_signed.specs.Parts.{SignerParts, signer_parts, SignedParts, signed_parts, ending}
 use Rattle.pkcs7_signed.specs.Rows.{signer_row}

@@ -2,9 +2,7 @@
 -- signed data, which take a level themselves.
 use Rattle.std.specs.Prelude.{◌≡◌, ℕ, List, [], map}
 use Rattle.std.proofs.Common.{inl, inr}
-use Rattle.asn1_core.specs.Der.{Format, each, within, nothing, raw, OidOctets, ElementOctets, set_of}
-use Rattle.asn1_core_format.specs.Levels.{Still, no_grammar, always, less, levels}
-use Rattle.asn1_core_format.specs.Rolled.{rolled}
+use Rattle.asn1_core.specs.Der.{Format, nothing, raw, OidOctets, ElementOctets, set_of, implicit_set, Still, no_grammar, always, less, levels, rolled}
 use Rattle.pkcs7_signed.specs.Forest.{Forest, none, Node, nodes, forest, fold_node, same_node}
 use Rattle.pkcs7_signed.specs.Parts.{SignerParts, signer_end, behind_signer, signer_parts, SignedParts, signed_end, behind_signed, signed_parts}
 use Rattle.pkcs7_signed.specs.Rows.{SignerRow, signer_row, SignedRow, signed_row, CertificateRow, certificate_row, UnsignedValues, attribute_values, AttributeRow, attribute_row}
@@ -157,7 +155,7 @@ signer_infos = set_of signer
 
 -- UnsignedAttributes ::= [1] IMPLICIT SET OF UnsignedAttribute
 abbrev pub unsigned_attributes : Format (List (Value attributes))
-unsigned_attributes = within 0xA1 (each attribute)
+unsigned_attributes = implicit_set 1 attribute
 
 -- what an attribute holds, which only writes
 abbrev pub values : Format (UnsignedValues (Value certificates) (Value signers))

@@ -1,7 +1,7 @@
 //! `==` and clones of signers, what they hold and signed data.
 
 ghost use Rattle.std.specs.Prelude.{map};
-ghost use Rattle.asn1_core_format.specs.Views.{Clones};
+ghost use Rattle.asn1_core.specs.Der.{Clones};
 ghost use Rattle.pkcs7_signed.specs.SignerEqual.{signer_equal, signers_equal, attributes_equal, attribute_equal, values_equal, certificate_equal, signed_equal};
 ghost use Rattle.pkcs7_signed.specs.SignerValues.{signer_value, certificate_value};
 
@@ -64,7 +64,7 @@ impl EqualByText for UnsignedAttribute {
 impl TryClone for UnsignedAttribute {
     #[cycle(copy)]
     fn try_clone(&self, alloc: Global) -> Result<Self, Error> {
-        clone_of!(self, alloc, UnsignedAttribute { ty, value })
+        clone_of!(self, alloc; UnsignedAttribute { ty, value })
     }
 }
 
@@ -104,7 +104,7 @@ impl EqualByText for SignedData {
 impl TryClone for SignedData {
     #[cycle(copy)]
     fn try_clone(&self, alloc: Global) -> Result<Self, Error> {
-        clone_of!(self, alloc, SignedData {
+        clone_of!(self, alloc; SignedData {
             digest_algorithms, content_info, certificates, crls, signers_infos; version
         })
     }

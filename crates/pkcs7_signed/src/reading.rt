@@ -3,16 +3,8 @@
 
 ghost use Rattle.std.specs.Prelude.{◌≡◌, ◌<◌, ℕ, List, map, false};
 ghost use Rattle.std.proofs.Common.{arith};
-ghost use Rattle.asn1_core_format.specs.Calls.{MayBelow, GivesBelow};
-ghost use Rattle.asn1_core_format.specs.EmptySets.{set_or_none};
-ghost use Rattle.asn1_core_format.specs.Format.{Gives};
-ghost use Rattle.asn1_core_format.specs.Leaf.{kept};
-ghost use Rattle.asn1_core_format.specs.Levels.{less};
-ghost use Rattle.asn1_core_format.specs.Rows.{GivesRow, within};
-ghost use Rattle.asn1_core_oid.specs.OidValue.{octets_of};
+ghost use Rattle.asn1_core.specs.Der.{MayBelow, GivesBelow, set_or_none, Gives, kept, less, GivesRow, within, octets_of, set_of, only_oid, lawful_only_oid};
 ghost use Rattle.pkcs7_signed.specs.Oids.{signed_data_oid};
-ghost use Rattle.asn1_core.specs.Der.{set_of};
-ghost use Rattle.pkcs7_signed.specs.Parts.{only_oid, lawful_only_oid};
 ghost use Rattle.pkcs7_signed.specs.Rows.{kind_of, values_row};
 ghost use Rattle.pkcs7_signed.specs.SignerLaws.{lawful_signer, lawful_attribute, lawful_certificate, lawful_signed_data, lawful_signer_infos, lawful_unsigned_attributes};
 ghost use Rattle.pkcs7_signed.specs.SignerValues.{signer_value, attribute_value, values_value, certificate_value, signed_value};
@@ -25,7 +17,10 @@ use crate::signers::{
 };
 use asn1_core::prelude::*;
 use asn1_core_element::element::open_element;
-use asn1_core_format::{SetOrNone, Tail, read_row_within_with, read_set_below_with, read_set_or_none_with, read_set_with};
+use asn1_core_format::{
+    SetOrNone, Tail, read_row_within_with, read_set_below_with, read_set_or_none_with,
+    read_set_with,
+};
 use pkcs7_content::{CmsVersion, EncapsulatedContentInfo};
 use pkcs7_signed_parts::{
     Attributes, CertificateSet, DigestAlgorithmIdentifier, DigestAlgorithmIdentifiers,

@@ -1,9 +1,7 @@
 //! Signers, what they hold, and signed data: their types, and how these are read, written and tested.
 
 ghost use Rattle.std.specs.Prelude.{◌≡◌, ◌↔◌, IsTrue, List, [], map, false};
-ghost use Rattle.asn1_core_oid.specs.OidValue.{octets_of};
-ghost use Rattle.asn1_core_format.specs.Levels.{less};
-ghost use Rattle.asn1_core.specs.Der.{set_of};
+ghost use Rattle.asn1_core.specs.Der.{octets_of, less, set_of};
 ghost use Rattle.pkcs7_signed.specs.Rows.{UnsignedValues, kind_of, IsOfKind};
 ghost use Rattle.pkcs7_signed.specs.Heads.{signer_head_value, signed_head_value};
 ghost use Rattle.pkcs7_signed.specs.SignerLevels.{parts_of_signer, parts_of_signed};

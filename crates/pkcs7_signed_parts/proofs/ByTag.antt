@@ -1,13 +1,10 @@
 -- An element, told apart by its tag.
 use Rattle.std.proofs.Common.{◌≡◌, ◌≢◌, ◌↔◌, ℕ, List, [], ◌++◌, sym, subst, inl, inr}
 use Rattle.std.proofs.lemmas.List.{append-nil}
-use Rattle.asn1_core.specs.Der.{raw}
-use Rattle.asn1_core_element.specs.Element.{head, IsElement, IsTagByte}
-use Rattle.asn1_core_element.specs.Position.{Position}
+use Rattle.asn1_core.specs.Der.{raw, IsElement, IsTagByte, Position, Took, GaveUp, NextIs, begins_next}
+use Rattle.asn1_core_element.specs.Element.{head}
 use Rattle.asn1_core_element.specs.declared.error.Error.{Error}
 use Rattle.asn1_core_element.specs.declared.error.Error.TheVariants.{Memory}
-use Rattle.asn1_core_format.specs.Format.{Took, GaveUp}
-use Rattle.asn1_core_format.specs.Laws.{NextIs, begins_next}
 use Rattle.pkcs7_signed_parts.specs.Certificates.{CertificateValue, certificate_choice}
 
 abbrev any_tag : {S : ℕ → Type 0} {b : List ℕ} → IsElement S b → IsElement IsTagByte b

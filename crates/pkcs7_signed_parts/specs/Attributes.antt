@@ -1,10 +1,7 @@
 -- SignedAttributes ::= SET OF Attribute, under its tag [0] IMPLICIT (RFC 5652, 5.3)
 use Rattle.std.specs.Prelude.{ℕ, List, [], map}
 use Rattle.std.proofs.Common.{arith}
-use Rattle.asn1_core.specs.Der.{Format, IsLawful, within, each, lawful_within, lawful_each}
-use Rattle.asn1_core_element.specs.Element.{element}
-use Rattle.asn1_core_format.specs.EmptySets.{empty_left_out}
-use Rattle.asn1_core_format.specs.Omitted.{is_default, IsDefault}
+use Rattle.asn1_core.specs.Der.{Format, IsLawful, implicit_set, element, empty_left_out, is_default, IsDefault, lawful_implicit_set}
 use Rattle.x509_base.specs.Names.{AttributeValue, attribute_value, attribute, lawful_attribute}
 use Rattle.pkcs7_signed_parts.specs.declared.attributes.Attributes.{Attributes}
 
@@ -12,10 +9,10 @@ abbrev pub attributes_value : Attributes → List AttributeValue
 attributes_value x = map attribute_value x.0.0.items
 
 abbrev pub attributes : Format (List AttributeValue)
-attributes = within 0xA0 (each attribute)
+attributes = implicit_set 0 attribute
 
 pub lawful_attributes : IsLawful attributes
-lawful_attributes = lawful_within (each attribute) (lawful_each attribute lawful_attribute) 0xA0 (omega arith)
+lawful_attributes = lawful_implicit_set (omega arith) lawful_attribute
 
 -- the empty set, which is left out
 abbrev pub no_attributes : List ℕ

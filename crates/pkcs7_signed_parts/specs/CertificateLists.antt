@@ -4,7 +4,7 @@
 -- CertificateList ::= SEQUENCE { tbsCertList TBSCertList, signatureAlgorithm AlgorithmIdentifier, signatureValue BIT STRING }
 use Rattle.std.specs.Prelude.{◌≡◌, ◌⊎◌, ℕ, List, Option}
 use Rattle.std.proofs.Common.{arith, inl, inr, ⊎_elim}
-use Rattle.asn1_core.specs.Der.{Format, IsLawful, IsLawfulRow, sequence, within, part, optional, nothing, version, option_value, lawful_sequence, lawful_within, followed_by, perhaps, lawful_nothing, lawful_version_1, BitStringOctets}
+use Rattle.asn1_core.specs.Der.{Format, IsLawful, IsLawfulRow, sequence, part, optional, nothing, version, option_value, lawful_sequence, lawful_within, followed_by, perhaps, lawful_nothing, lawful_version_1, BitStringOctets, explicit, der_laws}
 use Rattle.asn1_leaves.specs.Strings.{bit_string, lawful_bit_string}
 use Rattle.asn1_leaves_strings.specs.Octets.{contents_of}
 use Rattle.x509_base.specs.Algorithms.{AlgorithmValue, algorithm_identifier}
@@ -23,7 +23,7 @@ abbrev pub UpdatesValue : Type 0
 UpdatesValue = Option TimeValue × (Option (List RevokedValue) × (Option (List ExtensionValue) × Unit {0}))
 
 abbrev pub updates : Format UpdatesValue
-updates = optional time (optional all_revoked (optional (within 0xA0 extensions) nothing))
+updates = optional time (optional all_revoked (optional (explicit 0 extensions) nothing))
 
 -- what stands behind the version
 abbrev pub ListValue : Type 0
@@ -74,5 +74,4 @@ abbrev pub certificate_list : Format CertificateListValue
 certificate_list = sequence (part tbs_list (part algorithm_identifier (part bit_string nothing)))
 
 pub lawful_certificate_list : IsLawful certificate_list
-lawful_certificate_list =
-    lawful_sequence (followed_by lawful_tbs_list (followed_by lawful_algorithm_identifier (followed_by lawful_bit_string lawful_nothing)))
+lawful_certificate_list = search (der_laws, lawful_tbs_list, lawful_algorithm_identifier, lawful_bit_string) depth 20

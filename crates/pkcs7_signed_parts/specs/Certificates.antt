@@ -3,11 +3,7 @@
 -- CertificateSet ::= SET OF CertificateChoices, under its tag [0] IMPLICIT (RFC 5652, 5.1 and 10.2.3)
 use Rattle.std.specs.Prelude.{◌≡◌, ◌≢◌, ◌≤◌, ◌⊎◌, ℕ, List, [], map}
 use Rattle.std.proofs.Common.{inl, inr, arith}
-use Rattle.asn1_core.specs.Der.{Format, IsLawful, within, each, element_of, lawful_within, lawful_each, lawful_element_of, ElementOctets}
-use Rattle.asn1_core_element.specs.Element.{element}
-use Rattle.asn1_core_format.specs.Eithers.{either, lawful_either}
-use Rattle.asn1_core_format.specs.EmptySets.{empty_left_out}
-use Rattle.asn1_core_format.specs.Omitted.{is_default, IsDefault}
+use Rattle.asn1_core.specs.Der.{Format, IsLawful, element_of, lawful_element_of, ElementOctets, implicit_set, element, either, lawful_either, empty_left_out, is_default, IsDefault, lawful_implicit_set}
 use Rattle.pkcs7_signed_parts.specs.declared.certificates.CertificateChoices.{CertificateChoices}
 use Rattle.pkcs7_signed_parts.specs.declared.certificates.CertificateChoices.TheVariants.{Certificate, Other}
 use Rattle.pkcs7_signed_parts.specs.declared.certificates.CertificateSet.{CertificateSet}
@@ -36,10 +32,10 @@ abbrev pub certificates_value : CertificateSet → List CertificateValue
 certificates_value x = map certificate_value x.0.items
 
 abbrev pub certificate_set : Format (List CertificateValue)
-certificate_set = within 0xA0 (each certificate_choice)
+certificate_set = implicit_set 0 certificate_choice
 
 pub lawful_certificate_set : IsLawful certificate_set
-lawful_certificate_set = lawful_within (each certificate_choice) (lawful_each certificate_choice lawful_certificate_choice) 0xA0 (omega arith)
+lawful_certificate_set = lawful_implicit_set (omega arith) lawful_certificate_choice
 
 -- the empty set, which is left out
 abbrev pub no_certificates : List ℕ

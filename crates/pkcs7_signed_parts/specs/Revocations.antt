@@ -4,10 +4,7 @@
 -- RevocationInfoChoices ::= SET OF RevocationInfoChoice, under its tag [1] IMPLICIT (RFC 5652, 5.1)
 use Rattle.std.specs.Prelude.{◌⊎◌, List, map}
 use Rattle.std.proofs.Common.{inl, inr, arith}
-use Rattle.asn1_core.specs.Der.{Format, IsLawful, sequence, within, part, nothing, each, object_identifier, null_element, octets_of, lawful_sequence, lawful_within, followed_by, lawful_nothing, lawful_each, lawful_object_identifier, lawful_null_element, OidOctets}
-use Rattle.asn1_core_format.specs.Eithers.{either, lawful_either}
-use Rattle.asn1_core_format.specs.Tagged.{implicit}
-use Rattle.asn1_core_format.specs.TaggedLaws.{lawful_implicit, within_tagged}
+use Rattle.asn1_core.specs.Der.{Format, IsLawful, sequence, part, nothing, object_identifier, null_element, octets_of, OidOctets, implicit_set, der_laws, either, lawful_either, implicit, lawful_implicit, within_tagged, lawful_implicit_set}
 use Rattle.pkcs7_signed_parts.specs.CertificateLists.{CertificateListValue, certificate_list_value, certificate_list, lawful_certificate_list}
 use Rattle.pkcs7_signed_parts.specs.declared.revocations.OtherRevocationInfoFormat.{OtherRevocationInfoFormat}
 use Rattle.pkcs7_signed_parts.specs.declared.revocations.RevocationInfoChoice.{RevocationInfoChoice}
@@ -27,7 +24,7 @@ abbrev pub other_format : Format OtherFormatValue
 other_format = sequence other_format_row
 
 pub lawful_other_format : IsLawful other_format
-lawful_other_format = lawful_sequence (followed_by lawful_object_identifier (followed_by lawful_null_element lawful_nothing))
+lawful_other_format = search der_laws depth 20
 
 -- a revocation list, or the name of another format
 abbrev pub RevocationValue : Type 0
@@ -53,7 +50,7 @@ abbrev pub revocations_value : RevocationInfoChoices → List RevocationValue
 revocations_value x = map revocation_value x.0.items
 
 abbrev pub revocations : Format (List RevocationValue)
-revocations = within 0xA1 (each revocation)
+revocations = implicit_set 1 revocation
 
 pub lawful_revocations : IsLawful revocations
-lawful_revocations = lawful_within (each revocation) (lawful_each revocation lawful_revocation) 0xA1 (omega arith)
+lawful_revocations = lawful_implicit_set (omega arith) lawful_revocation

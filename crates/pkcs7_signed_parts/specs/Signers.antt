@@ -4,11 +4,7 @@
 -- SignerIdentifier ::= CHOICE { issuerAndSerialNumber IssuerAndSerialNumber, subjectKeyIdentifier [0] SubjectKeyIdentifier } (RFC 5652, 5.3)
 use Rattle.std.specs.Prelude.{◌⊎◌}
 use Rattle.std.proofs.Common.{inl, inr, arith}
-use Rattle.asn1_core.specs.Der.{Format, IsLawful, sequence, part, nothing, octet_string, lawful_sequence, followed_by, lawful_nothing, lawful_octet_string, Octets, IntegerOctets}
-use Rattle.asn1_core.specs.Octets.{any_octets}
-use Rattle.asn1_core_format.specs.Eithers.{either, lawful_either}
-use Rattle.asn1_core_format.specs.Tagged.{implicit}
-use Rattle.asn1_core_format.specs.TaggedLaws.{lawful_implicit, leaf_tagged}
+use Rattle.asn1_core.specs.Der.{Format, IsLawful, sequence, part, nothing, octet_string, Octets, IntegerOctets, der_laws, either, lawful_either, implicit}
 use Rattle.asn1_leaves.specs.Integers.{integer, lawful_integer}
 use Rattle.x509_base.specs.Names.{NameParts, name_parts, name, lawful_name}
 use Rattle.pkcs7_signed_parts.specs.declared.signers.CertificateSerialNumber.{CertificateSerialNumber}
@@ -29,7 +25,7 @@ abbrev pub issuer_serial : Format IssuerSerialValue
 issuer_serial = sequence (part name (part integer nothing))
 
 pub lawful_issuer_serial : IsLawful issuer_serial
-lawful_issuer_serial = lawful_sequence (followed_by lawful_name (followed_by lawful_integer lawful_nothing))
+lawful_issuer_serial = search (der_laws, lawful_name, lawful_integer) depth 20
 
 -- an issuer with a serial number, or the identifier of a key
 abbrev pub SignerIdValue : Type 0
@@ -46,7 +42,7 @@ abbrev pub signer_id : Format SignerIdValue
 signer_id = either issuer_serial key_id
 
 lawful_key_id : IsLawful key_id
-lawful_key_id = lawful_implicit 0x80 0x04 octet_string lawful_octet_string (leaf_tagged 0x04 (omega arith) any_octets) (omega arith)
+lawful_key_id = search der_laws depth 20
 
 pub lawful_signer_id : IsLawful signer_id
 lawful_signer_id = lawful_either issuer_serial key_id lawful_issuer_serial lawful_key_id (λ t h e. omega arith)

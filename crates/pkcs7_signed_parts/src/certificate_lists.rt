@@ -2,7 +2,7 @@
 
 ghost use Rattle.std.specs.Prelude.{◌≡◌};
 ghost use Rattle.std.proofs.Common.{arith};
-ghost use Rattle.asn1_core_format.specs.Rows.{option_value};
+ghost use Rattle.asn1_core.specs.Der.{option_value};
 ghost use Rattle.x509_base.specs.Extensions.{extensions_value};
 ghost use Rattle.x509_base.specs.Versions.{number_of};
 ghost use Rattle.pkcs7_signed_parts.specs.CertificateLists.{list_value, TbsListValue, tbs_list_value, tbs_list, lawful_tbs_list, CertificateListValue, certificate_list_value, certificate_list, lawful_certificate_list};
@@ -135,7 +135,7 @@ impl EqualByText for TbsCertList {
 
 impl TryClone for TbsCertList {
     fn try_clone(&self, alloc: Global) -> Result<Self, Error> {
-        clone_of!(self, alloc, TbsCertList {
+        clone_of!(self, alloc; TbsCertList {
             signature, issuer, this_update, next_update, revoked_certificates, crl_extension;
             version
         })
@@ -197,7 +197,7 @@ impl EqualByText for CertificateList {
 
 impl TryClone for CertificateList {
     fn try_clone(&self, alloc: Global) -> Result<Self, Error> {
-        clone_of!(self, alloc, CertificateList {
+        clone_of!(self, alloc; CertificateList {
             tbs_cert_list, signature_algorithm, signature_value
         })
     }

@@ -2,8 +2,7 @@
 
 ghost use Rattle.std.specs.Prelude.{◌≡◌, List, []};
 ghost use Rattle.std.proofs.Common.{arith};
-ghost use Rattle.asn1_core_format.specs.Lists.{each};
-ghost use Rattle.asn1_core_format.specs.TaggedLaws.{within_tagged};
+ghost use Rattle.asn1_core.specs.Der.{each, within_tagged};
 ghost use Rattle.pkcs7_signed_parts.specs.Equal.{other_format_equal, revocation_equal, revocations_equal};
 ghost use Rattle.pkcs7_signed_parts.specs.Revocations.{OtherFormatValue, other_format_value, other_format_row, other_format, lawful_other_format, RevocationValue, revocation_value, revocation, lawful_revocation, revocations_value, revocations, lawful_revocations};
 

@@ -71,7 +71,7 @@ impl EqualByText for RevokedCertificate {
 
 impl TryClone for RevokedCertificate {
     fn try_clone(&self, alloc: Global) -> Result<Self, Error> {
-        clone_of!(self, alloc, RevokedCertificate {
+        clone_of!(self, alloc; RevokedCertificate {
             user_certificate, revocation_data, crl_entry_extensions
         })
     }

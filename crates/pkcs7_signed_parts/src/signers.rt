@@ -1,8 +1,7 @@
 //! Which signer a signature is of, and the signature (RFC 5652, 5.3 and 10.2.4).
 
 ghost use Rattle.std.proofs.Common.{arith};
-ghost use Rattle.asn1_core.specs.Der.{Octets, IntegerOctets, octet_string, lawful_octet_string};
-ghost use Rattle.asn1_core.specs.Equal.{octets_equal};
+ghost use Rattle.asn1_core.specs.Der.{Octets, IntegerOctets, octet_string, lawful_octet_string, octets_equal};
 ghost use Rattle.asn1_leaves.specs.Integers.{integer, lawful_integer};
 ghost use Rattle.pkcs7_signed_parts.specs.Equal.{serial_equal, issuer_serial_equal, signer_id_equal};
 ghost use Rattle.pkcs7_signed_parts.specs.Signers.{serial_number, IssuerSerialValue, issuer_serial_value, issuer_serial, lawful_issuer_serial, SignerIdValue, signer_id_value, signer_id, lawful_signer_id};
@@ -104,7 +103,7 @@ impl EqualByText for IssuerAndSerialNumber {
 
 impl TryClone for IssuerAndSerialNumber {
     fn try_clone(&self, alloc: Global) -> Result<Self, Error> {
-        clone_of!(self, alloc, IssuerAndSerialNumber { issuer, serial_number })
+        clone_of!(self, alloc; IssuerAndSerialNumber { issuer, serial_number })
     }
 }
 

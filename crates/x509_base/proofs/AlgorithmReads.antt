@@ -1,11 +1,7 @@
 -- Reading the last arm of a choice of algorithms.
 use Rattle.std.specs.Prelude.{ℕ, List}
-use Rattle.asn1_core_element.specs.Position.{Position}
+use Rattle.asn1_core.specs.Der.{Position, otherwise, GaveUpRow, nothing, optional, raw, IsOid}
 use Rattle.asn1_core_element.specs.declared.error.Error.{Error}
-use Rattle.asn1_core_format.specs.Choices.{otherwise}
-use Rattle.asn1_core_format.specs.Rows.{GaveUpRow, nothing, optional}
-use Rattle.asn1_core.specs.Raw.{raw}
-use Rattle.asn1_core_oid.specs.Oid.{IsOid}
 use Rattle.asn1_choices.specs.Chosen.{after_oid}
 use Rattle.x509_base.specs.OtherAlgorithms.{other_algorithm}
 

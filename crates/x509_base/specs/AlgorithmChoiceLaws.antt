@@ -1,10 +1,7 @@
 -- The laws of a choice of algorithms.
 use Rattle.std.specs.Prelude.{◌≡◌, ◌⊎◌, ◌↔◌, ℕ, ◌≤◌, List, ◌++◌, Option, Some, None, IsSome}
 use Rattle.std.proofs.Common.{refl, sym, ap, ◌∙◌, subst, arith, inl, inr}
-use Rattle.asn1_core_element.specs.Element.{element}
-use Rattle.asn1_core_format.specs.Format.{IsLawful}
-use Rattle.asn1_core_format.specs.Loosened.{IsLoosening, lawful_loosened}
-use Rattle.asn1_core_oid.specs.Oid.{IsOid}
+use Rattle.asn1_core.specs.Der.{element, IsLawful, IsLoosening, lawful_loosened, IsOid}
 use Rattle.asn1_choices.specs.Tables.{Table, IsTable}
 use Rattle.x509_base.specs.Algorithms.{AlgorithmValue, algorithm_identifier, null, null_written}
 use Rattle.x509_base.specs.AlgorithmLaws.{lawful_algorithm_identifier, null_is_element, parts_of, same_parts, some_parameters, element_is_some, or_null_formed, null_reread}

@@ -2,10 +2,7 @@
 -- are, and dropped, and written as NULL; those of an unknown one are as in any other.
 use Rattle.std.specs.Prelude.{◌≡◌, ◌≢◌, ◌⊎◌, ℕ, List, [], ◌++◌, Option, Some, None, IsSome}
 use Rattle.std.proofs.Common.{inl, inr}
-use Rattle.asn1_core_element.specs.Element.{element}
-use Rattle.asn1_core_format.specs.Format.{Format}
-use Rattle.asn1_core_format.specs.Eithers.{OneOf, from_one, map_one}
-use Rattle.asn1_core_format.specs.Loosened.{Loosening, loosened}
+use Rattle.asn1_core.specs.Der.{element, Format, OneOf, from_one, map_one, Loosening, loosened}
 use Rattle.asn1_choices.specs.Tables.{Table}
 use Rattle.x509_base.specs.Algorithms.{AlgorithmValue, algorithm_identifier, null, null_written}
 

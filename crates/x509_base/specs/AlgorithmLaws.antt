@@ -1,14 +1,7 @@
 -- The laws of algorithm identifiers.
 use Rattle.std.specs.Prelude.{◌≡◌, ◌≢◌, ◌↔◌, ℕ, List, [], ◌++◌, Option, Some, None}
 use Rattle.std.proofs.Common.{refl, sym, ap, ◌∙◌, arith, append-nil, length}
-use Rattle.asn1_core_element.specs.Element.{element, IsElement, IsTagByte}
-use Rattle.asn1_core_element.specs.ElementLaws.{element_cut, element_same, element_long}
-use Rattle.asn1_core_format.specs.Format.{IsLawful}
-use Rattle.asn1_core_format.specs.Rows.{nothing, optional}
-use Rattle.asn1_core_format.specs.RowLaws.{lawful_nothing, lawful_part, lawful_optional, lawful_within}
-use Rattle.asn1_core_format.specs.Loosened.{IsLoosening, lawful_loosened}
-use Rattle.asn1_core.specs.Objects.{object_identifier, lawful_object_identifier}
-use Rattle.asn1_core.specs.Raw.{raw, lawful_raw}
+use Rattle.asn1_core.specs.Der.{element, IsElement, IsTagByte, element_cut, element_same, element_long, IsLawful, nothing, optional, lawful_nothing, lawful_part, lawful_optional, lawful_within, IsLoosening, lawful_loosened, object_identifier, lawful_object_identifier, raw, lawful_raw}
 use Rattle.x509_base.specs.Algorithms.{AlgorithmValue, algorithm_identifier, null, or_null, HasParameters, null_written, raw_algorithm_identifier}
 
 pub lawful_algorithm_identifier : IsLawful algorithm_identifier

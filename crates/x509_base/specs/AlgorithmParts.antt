@@ -1,8 +1,7 @@
 -- What an algorithm identifier holds.
 use Rattle.std.specs.Prelude.{Option}
 use Rattle.asn1_core.specs.declared.raw.Asn1RawDer.{Asn1RawDer}
-use Rattle.asn1_core_format.specs.Rows.{option_value}
-use Rattle.asn1_core_oid.specs.OidValue.{octets_of}
+use Rattle.asn1_core.specs.Der.{option_value, octets_of}
 use Rattle.asn1_core_oid.specs.declared.oid.ObjectIdentifier.{ObjectIdentifier}
 use Rattle.x509_base.specs.Algorithms.{AlgorithmValue}
 use Rattle.x509_base.specs.declared.algorithms.AlgorithmIdentifier.{AlgorithmIdentifier}

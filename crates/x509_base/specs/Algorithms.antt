@@ -1,12 +1,6 @@
 -- AlgorithmIdentifier ::= SEQUENCE { algorithm OBJECT IDENTIFIER, parameters ANY DEFINED BY algorithm OPTIONAL } (RFC 5280, 4.1.1.2)
 use Rattle.std.specs.Prelude.{◌≡◌, ◌≢◌, ℕ, List, [], ◌++◌, Option, Some, None}
-use Rattle.asn1_core.specs.Words.{OidOctets, ElementOctets}
-use Rattle.asn1_core_element.specs.Element.{element}
-use Rattle.asn1_core_format.specs.Format.{Format}
-use Rattle.asn1_core_format.specs.Rows.{nothing, part, optional, within}
-use Rattle.asn1_core_format.specs.Loosened.{Loosening, loosened}
-use Rattle.asn1_core.specs.Objects.{object_identifier}
-use Rattle.asn1_core.specs.Raw.{raw}
+use Rattle.asn1_core.specs.Der.{OidOctets, ElementOctets, element, Format, nothing, part, optional, Loosening, loosened, object_identifier, raw, sequence}
 
 -- the object identifier, and the parameters
 abbrev pub AlgorithmValue : Type 0
@@ -14,7 +8,7 @@ AlgorithmValue = OidOctets × (Option ElementOctets × Unit {0})
 
 -- as it stands
 abbrev pub algorithm_identifier : Format AlgorithmValue
-algorithm_identifier = within 0x30 (part object_identifier (optional raw nothing))
+algorithm_identifier = sequence (part object_identifier (optional raw nothing))
 
 -- NULL
 abbrev pub null : List ℕ

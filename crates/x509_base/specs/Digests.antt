@@ -1,10 +1,6 @@
 -- DigestInfo ::= SEQUENCE { digestAlgorithm AlgorithmIdentifier, digest OCTET STRING } (RFC 2315, 9.4)
-use Rattle.asn1_core.specs.Words.{Octets}
+use Rattle.asn1_core.specs.Der.{Octets, Format, IsLawful, nothing, part, lawful_nothing, lawful_part, lawful_within, octet_string, lawful_octet_string, sequence}
 use Rattle.std.proofs.Common.{arith}
-use Rattle.asn1_core_format.specs.Format.{Format, IsLawful}
-use Rattle.asn1_core_format.specs.Rows.{nothing, part, within}
-use Rattle.asn1_core_format.specs.RowLaws.{lawful_nothing, lawful_part, lawful_within}
-use Rattle.asn1_core.specs.Octets.{octet_string, lawful_octet_string}
 use Rattle.x509_base.specs.Algorithms.{AlgorithmValue, algorithm_identifier}
 use Rattle.x509_base.specs.AlgorithmLaws.{lawful_algorithm_identifier}
 use Rattle.x509_base.specs.AlgorithmParts.{algorithm_value}
@@ -17,7 +13,7 @@ abbrev pub digest_info_value : DigestInfo → DigestInfoValue
 digest_info_value x = (algorithm_value x.oid, (x.digest.0.items, tt))
 
 abbrev pub digest_info : Format DigestInfoValue
-digest_info = within 0x30 (part algorithm_identifier (part octet_string nothing))
+digest_info = sequence (part algorithm_identifier (part octet_string nothing))
 
 pub lawful_digest_info : IsLawful digest_info
 lawful_digest_info =

@@ -1,7 +1,6 @@
 -- `==` is equality of what the values contain.
+use Rattle.asn1_core.specs.Der.{SeesEqual, der_equal, same_first, same_second}
 use Rattle.std.proofs.Common.{rules}
-use Rattle.asn1_core.specs.Equal.{raw_equal, same_first, same_second}
-use Rattle.asn1_core_format.specs.Views.{SeesEqual, list_equal}
 use Rattle.asn1_leaves_times.specs.TimesLaws.{equal_utc, equal_generalized}
 use Rattle.x509_base.specs.AlgorithmParts.{algorithm_value}
 use Rattle.x509_base.specs.Extensions.{extension_value, extensions_value}
@@ -28,19 +27,22 @@ pub name_value_equal : SeesEqual NameValues.ghosts.eq name_value_value
 name_value_equal x y = search rules
 
 pub name_equal : SeesEqual Names.ghosts.eq name_parts
-name_equal x y = list_equal _ _ (λ a b. list_equal _ _ name_value_equal a.0.items b.0.items) x.0.0.items y.0.0.items
+name_equal x y = search (der_equal, name_value_equal) depth 20
 
 pub attribute_equal : SeesEqual AnAttribute.ghosts.eq attribute_value
-attribute_equal x y = let values = list_equal _ _ raw_equal x.value.0.items y.value.0.items in search rules
+attribute_equal x y = search (der_equal, rules) depth 20
 
 pub extension_equal : SeesEqual AnExtension.ghosts.eq extension_value
 extension_equal x y = search rules
 
 pub extensions_equal : SeesEqual AllExtensions.ghosts.eq extensions_value
-extensions_equal x y = list_equal _ _ extension_equal x.0.items y.0.items
+extensions_equal x y = search (der_equal, extension_equal) depth 20
 
 pub time_equal : SeesEqual Times.ghosts.eq time_of
 time_equal (Utc x) (Utc y) = same_first (equal_utc x.0 y.0)
 time_equal (Utc x) (Generalized y) = (λ e. cc, λ e. cc)
 time_equal (Generalized x) (Utc y) = (λ e. cc, λ e. cc)
 time_equal (Generalized x) (Generalized y) = same_second (equal_generalized x.0 y.0)
+
+-- the types of X.509, for `search`
+pub ruleset x509_equal = (der_equal, algorithm_equal, version_equal, name_equal, attribute_equal, extension_equal, extensions_equal, time_equal)

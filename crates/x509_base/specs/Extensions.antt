@@ -3,8 +3,7 @@
 -- An explicit FALSE is read, since old producers write it, and never written.
 use Rattle.std.specs.Prelude.{Bool, List, map}
 use Rattle.std.proofs.Common.{arith}
-use Rattle.asn1_core.specs.Der.{Format, IsLawful, sequence, each, part, nothing, object_identifier, octet_string, octets_of, Octets, OidOctets, lawful_sequence, lawful_each, followed_by, lawful_nothing, lawful_object_identifier, lawful_octet_string}
-use Rattle.asn1_core_format.specs.Omitted.{omitted, is_default, lawful_omitted}
+use Rattle.asn1_core.specs.Der.{Format, IsLawful, sequence, part, nothing, object_identifier, octet_string, octets_of, Octets, OidOctets, lawful_sequence, followed_by, lawful_nothing, lawful_object_identifier, lawful_octet_string, sequence_of, der_laws, omitted, is_default, lawful_omitted}
 use Rattle.x509_base.specs.declared.extensions.Extension.{Extension}
 use Rattle.x509_base.specs.declared.extensions.Extensions.{Extensions}
 use Rattle.x509_base.specs.Booleans.{boolean, lawful_boolean, explicit_false, false_left_out}
@@ -27,7 +26,7 @@ abbrev pub extensions_value : Extensions → List ExtensionValue
 extensions_value x = map extension_value x.0.items
 
 abbrev pub extensions : Format (List ExtensionValue)
-extensions = sequence (each extension)
+extensions = sequence_of extension
 
 pub lawful_extensions : IsLawful extensions
-lawful_extensions = lawful_sequence (lawful_each extension lawful_extension)
+lawful_extensions = search (der_laws, lawful_extension) depth 20

@@ -2,7 +2,7 @@
 -- AttributeTypeAndValue ::= SEQUENCE { type OBJECT IDENTIFIER, value ANY }
 -- Attribute ::= SEQUENCE { type OBJECT IDENTIFIER, values SET OF ANY } (RFC 5652, 5.3)
 use Rattle.std.specs.Prelude.{List, map}
-use Rattle.asn1_core.specs.Der.{Format, IsLawful, sequence, set_of, each, part, nothing, object_identifier, raw, octets_of, OidOctets, ElementOctets, lawful_sequence, lawful_set, lawful_each, followed_by, lawful_nothing, lawful_object_identifier, lawful_raw}
+use Rattle.asn1_core.specs.Der.{Format, IsLawful, sequence, set_of, part, nothing, object_identifier, raw, octets_of, OidOctets, ElementOctets, sequence_of, der_laws}
 use Rattle.x509_base.specs.declared.names.NameValue.{NameValue}
 use Rattle.x509_base.specs.declared.names.Name.{Name}
 use Rattle.x509_base.specs.declared.names.Attribute.{Attribute}
@@ -17,7 +17,7 @@ abbrev pub name_value : Format NameValueValue
 name_value = sequence (part object_identifier (part raw nothing))
 
 pub lawful_name_value : IsLawful name_value
-lawful_name_value = lawful_sequence (followed_by lawful_object_identifier (followed_by lawful_raw lawful_nothing))
+lawful_name_value = search der_laws depth 20
 
 abbrev pub NameParts : Type 0
 NameParts = List (List NameValueValue)
@@ -26,10 +26,10 @@ abbrev pub name_parts : Name → NameParts
 name_parts x = map (λ s. map name_value_value s.0.items) x.0.0.items
 
 abbrev pub name : Format NameParts
-name = sequence (each (set_of name_value))
+name = sequence_of (set_of name_value)
 
 pub lawful_name : IsLawful name
-lawful_name = lawful_sequence (lawful_each _ (lawful_set name_value lawful_name_value))
+lawful_name = search (der_laws, lawful_name_value) depth 20
 
 abbrev pub AttributeValue : Type 0
 AttributeValue = OidOctets × (List ElementOctets × Unit {0})
@@ -41,4 +41,4 @@ abbrev pub attribute : Format AttributeValue
 attribute = sequence (part object_identifier (part (set_of raw) nothing))
 
 pub lawful_attribute : IsLawful attribute
-lawful_attribute = lawful_sequence (followed_by lawful_object_identifier (followed_by (lawful_set raw lawful_raw) lawful_nothing))
+lawful_attribute = search der_laws depth 20

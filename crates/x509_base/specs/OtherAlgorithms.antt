@@ -2,15 +2,7 @@
 -- they stand in an algorithm identifier.
 use Rattle.std.specs.Prelude.{◌≡◌, ◌≢◌, ◌↔◌, ℕ, List, [], ◌++◌}
 use Rattle.std.proofs.Common.{refl, ap, ◌∙◌, subst, arith}
-use Rattle.asn1_core_element.specs.Element.{element}
-use Rattle.asn1_core_element.specs.ElementLaws.{element_same}
-use Rattle.asn1_core_format.specs.Choices.{Choice, Heads, IsLawfulChoice}
-use Rattle.asn1_core_format.specs.Format.{Format, IsLawfulRow}
-use Rattle.asn1_core_format.specs.Loosened.{Loosening, loosened, IsLoosening, lawful_loosened_row}
-use Rattle.asn1_core_format.specs.Rows.{nothing, part, optional}
-use Rattle.asn1_core_format.specs.RowLaws.{lawful_nothing, lawful_part, lawful_optional}
-use Rattle.asn1_core.specs.Objects.{object_identifier, lawful_object_identifier}
-use Rattle.asn1_core.specs.Raw.{raw, lawful_raw}
+use Rattle.asn1_core.specs.Der.{element, element_same, Choice, Heads, IsLawfulChoice, Format, IsLawfulRow, Loosening, loosened, IsLoosening, lawful_loosened_row, nothing, part, optional, lawful_nothing, lawful_part, lawful_optional, object_identifier, lawful_object_identifier, raw, lawful_raw}
 use Rattle.x509_base.specs.Algorithms.{AlgorithmValue, HasParameters, null_written}
 use Rattle.x509_base.specs.AlgorithmLaws.{null_loosening}
 

@@ -1,8 +1,7 @@
 -- Time ::= CHOICE { utcTime UTCTime, generalTime GeneralizedTime } (RFC 5280, 4.1.2.5)
 use Rattle.std.specs.Prelude.{◌⊎◌}
 use Rattle.std.proofs.Common.{arith, inl, inr}
-use Rattle.asn1_core_format.specs.Format.{Format, IsLawful}
-use Rattle.asn1_core_format.specs.Eithers.{either, lawful_either}
+use Rattle.asn1_core.specs.Der.{Format, IsLawful, either, lawful_either}
 use Rattle.asn1_leaves.specs.Times.{utc_time, generalized_time, lawful_utc_time, lawful_generalized_time}
 use Rattle.asn1_leaves_times.specs.Times.{moment_of, moment_of_generalized}
 use Rattle.asn1_leaves_times.specs.declared.calendar.Moment.{Moment}

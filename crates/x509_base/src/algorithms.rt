@@ -2,7 +2,7 @@
 
 ghost use Rattle.std.specs.Prelude.{◌≡◌, Some};
 ghost use Rattle.std.proofs.Common.{rules, arith};
-ghost use Rattle.asn1_core_format.specs.Rows.{option_value};
+ghost use Rattle.asn1_core.specs.Der.{option_value};
 ghost use Rattle.x509_base.specs.Algorithms.{AlgorithmValue, algorithm_identifier, raw_algorithm_identifier, null};
 ghost use Rattle.x509_base.specs.AlgorithmParts.{algorithm_of, parameters_of, parts_of, algorithm_value};
 ghost use Rattle.x509_base.specs.Equal.{algorithm_equal};
@@ -10,8 +10,8 @@ ghost use Rattle.x509_base.specs.OtherAlgorithms.{other_algorithm, lawful_other_
 ghost use Rattle.x509_base.specs.AlgorithmLaws.{lawful_algorithm_identifier, lawful_raw_algorithm_identifier};
 
 use asn1_choices::{AnyOid, ReadChoice, WriteChoice};
-use asn1_core::prelude::*;
 use asn1_core::OidRef;
+use asn1_core::prelude::*;
 use std::alloc::Global;
 
 type AlgorithmRow = Part<ObjectIdentifierAsn1, Maybe<Asn1RawDer, End>>;
@@ -95,7 +95,7 @@ impl EqualByText for AlgorithmIdentifier {
 
 impl TryClone for AlgorithmIdentifier {
     fn try_clone(&self, alloc: Global) -> Result<Self, Error> {
-        clone_of!(self, alloc, Self { algorithm, parameters })
+        clone_of!(self, alloc; Self { algorithm, parameters })
     }
 }
 
@@ -203,7 +203,7 @@ impl EqualByText for RawAlgorithmIdentifier {
 
 impl TryClone for RawAlgorithmIdentifier {
     fn try_clone(&self, alloc: Global) -> Result<Self, Error> {
-        clone_of!(self, alloc, RawAlgorithmIdentifier { parts })
+        clone_of!(self, alloc; RawAlgorithmIdentifier { parts })
     }
 }
 

@@ -1,8 +1,7 @@
 //! Digests, and the identifier of a key (RFC 2315, 9.4; RFC 5280, 4.2.1.2).
 
 ghost use Rattle.std.proofs.Common.{rules, arith};
-ghost use Rattle.asn1_core.specs.Octets.{any_octets, octet_string, lawful_octet_string};
-ghost use Rattle.asn1_core_format.specs.TaggedLaws.{leaf_tagged};
+ghost use Rattle.asn1_core.specs.Der.{any_octets, octet_string, lawful_octet_string, leaf_tagged};
 ghost use Rattle.x509_base.specs.Digests.{DigestInfoValue, digest_info, lawful_digest_info};
 
 use crate::algorithms::AlgorithmIdentifier;
@@ -49,7 +48,7 @@ impl EqualByText for DigestInfo {
 
 impl TryClone for DigestInfo {
     fn try_clone(&self, alloc: Global) -> Result<Self, Error> {
-        clone_of!(self, alloc, DigestInfo { oid, digest })
+        clone_of!(self, alloc; DigestInfo { oid, digest })
     }
 }
 

@@ -133,7 +133,7 @@ impl EqualByText for Extension {
 
 impl TryClone for Extension {
     fn try_clone(&self, alloc: Global) -> Result<Self, Error> {
-        clone_of!(self, alloc, Extension { extn_id, extn_value; critical })
+        clone_of!(self, alloc; Extension { extn_id, extn_value; critical })
     }
 }
 

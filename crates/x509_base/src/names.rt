@@ -46,7 +46,7 @@ impl EqualByText for NameValue {
 
 impl TryClone for NameValue {
     fn try_clone(&self, alloc: Global) -> Result<Self, Error> {
-        clone_of!(self, alloc, NameValue { ty, value })
+        clone_of!(self, alloc; NameValue { ty, value })
     }
 }
 
@@ -134,6 +134,6 @@ impl EqualByText for Attribute {
 
 impl TryClone for Attribute {
     fn try_clone(&self, alloc: Global) -> Result<Self, Error> {
-        clone_of!(self, alloc, Attribute { ty, value })
+        clone_of!(self, alloc; Attribute { ty, value })
     }
 }

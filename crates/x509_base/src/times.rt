@@ -1,7 +1,7 @@
 //! Times (RFC 5280, 4.1.2.5).
 
 ghost use Rattle.asn1_core_element.specs.declared.error.Error.TheVariants.{Memory};
-ghost use Rattle.asn1_core_format.specs.Format.{Gives};
+ghost use Rattle.asn1_core.specs.Der.{Gives};
 ghost use Rattle.std.specs.Prelude.{◌≡◌, ◌≢◌, false, IfErr};
 ghost use Rattle.std.proofs.Common.{arith, ⊎_elim};
 ghost use Rattle.x509_base.specs.Equal.{time_equal};

@@ -2,8 +2,7 @@
 
 ghost use Rattle.std.specs.Prelude.{◌≡◌, ◌≢◌, ℕ, false, IfErr};
 ghost use Rattle.asn1_core_element.specs.declared.error.Error.TheVariants.{Memory};
-ghost use Rattle.asn1_core_format.specs.Format.{Gives};
-ghost use Rattle.asn1_core_format.specs.Numbers.{numbers_below, number_below, lawful_number};
+ghost use Rattle.asn1_core.specs.Der.{Gives, numbers_below, number_below, lawful_number};
 ghost use Rattle.x509_base.specs.Equal.{version_equal};
 ghost use Rattle.x509_base.specs.Versions.{number_of};
 

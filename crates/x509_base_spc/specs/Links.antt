@@ -1,16 +1,9 @@
 -- SpcString ::= CHOICE { unicode [0] IMPLICIT BMPString, ascii [1] IMPLICIT IA5String }
 -- SpcLink ::= CHOICE { url [0] IMPLICIT IA5String, moniker [1] IMPLICIT SpcSerializedObject, file [2] EXPLICIT SpcString }
 -- SpcSpOpusInfo ::= SEQUENCE { programName [0] EXPLICIT SpcString OPTIONAL, moreInfo [1] EXPLICIT SpcLink OPTIONAL }
-use Rattle.std.specs.Prelude.{◌≡◌, ◌⊎◌, ℕ, List, Option}
-use Rattle.asn1_core.specs.Words.{StringOctets}
+use Rattle.std.specs.Prelude.{◌≡◌, ◌⊎◌, ℕ, Option}
+use Rattle.asn1_core.specs.Der.{StringOctets, Format, IsLawful, nothing, optional, within, lawful_nothing, lawful_optional, lawful_within, either, lawful_either, implicit, lawful_implicit, leaf_tagged, within_tagged, kept, sequence, explicit, der_laws}
 use Rattle.std.proofs.Common.{arith, ⊎_elim, inl, inr}
-use Rattle.asn1_core_format.specs.Format.{Format, IsLawful}
-use Rattle.asn1_core_format.specs.Rows.{nothing, optional, within}
-use Rattle.asn1_core_format.specs.RowLaws.{lawful_nothing, lawful_optional, lawful_within}
-use Rattle.asn1_core_format.specs.Eithers.{either, lawful_either}
-use Rattle.asn1_core_format.specs.Tagged.{implicit}
-use Rattle.asn1_core_format.specs.TaggedLaws.{lawful_implicit, leaf_tagged, within_tagged}
-use Rattle.asn1_core_format.specs.Leaf.{kept}
 use Rattle.asn1_leaves.specs.Strings.{bmp_string, lawful_bmp_string, ia5_string, lawful_ia5_string}
 use Rattle.asn1_leaves_strings.specs.Bmp.{IsBmp}
 use Rattle.asn1_leaves_strings.specs.Ia5.{IsIa5}
@@ -54,7 +47,7 @@ abbrev pub moniker : Format SerializedObjectValue
 moniker = implicit 0xA1 0x30 serialized_object
 
 abbrev pub file : Format StringValue
-file = within 0xA2 spc_string
+file = explicit 2 spc_string
 
 abbrev pub spc_link : Format LinkValue
 spc_link = either url (either moniker file)
@@ -63,7 +56,7 @@ abbrev pub OpusInfoValue : Type 0
 OpusInfoValue = Option StringValue × (Option LinkValue × Unit {0})
 
 abbrev pub opus_info : Format OpusInfoValue
-opus_info = within 0x30 (optional (within 0xA0 spc_string) (optional (within 0xA1 spc_link) nothing))
+opus_info = sequence (optional (explicit 0 spc_string) (optional (explicit 1 spc_link) nothing))
 
 lawful_unicode : IsLawful unicode
 lawful_unicode = lawful_implicit 0x80 0x1E bmp_string lawful_bmp_string (leaf_tagged 0x1E (omega arith) (kept IsBmp)) (omega arith)
@@ -81,7 +74,7 @@ pub lawful_moniker : IsLawful moniker
 lawful_moniker = lawful_implicit 0xA1 0x30 serialized_object lawful_serialized_object (within_tagged 0x30 (omega arith) serialized_object_row) (omega arith)
 
 pub lawful_file : IsLawful file
-lawful_file = lawful_within spc_string lawful_spc_string.row 0xA2 (omega arith)
+lawful_file = search (der_laws, lawful_spc_string) depth 20
 
 pub lawful_spc_link : IsLawful spc_link
 lawful_spc_link =

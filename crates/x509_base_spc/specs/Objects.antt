@@ -1,12 +1,8 @@
 -- SpcUuid ::= OCTET STRING
 -- SpcSerializedObject ::= SEQUENCE { classId SpcUuid, serializedData OCTET STRING }
 use Rattle.std.specs.Prelude.{ℕ, List, [], ◌∷◌}
-use Rattle.asn1_core.specs.Words.{Octets}
+use Rattle.asn1_core.specs.Der.{Octets, Format, IsLawful, nothing, part, lawful_nothing, lawful_part, lawful_within, octet_string, lawful_octet_string, sequence}
 use Rattle.std.proofs.Common.{arith}
-use Rattle.asn1_core_format.specs.Format.{Format, IsLawful}
-use Rattle.asn1_core_format.specs.Rows.{nothing, part, within}
-use Rattle.asn1_core_format.specs.RowLaws.{lawful_nothing, lawful_part, lawful_within}
-use Rattle.asn1_core.specs.Octets.{octet_string, lawful_octet_string}
 
 abbrev pub SerializedObjectValue : Type 0
 SerializedObjectValue = Octets × (Octets × Unit {0})
@@ -15,7 +11,7 @@ abbrev pub serialized_object_row : Format SerializedObjectValue
 serialized_object_row = part octet_string (part octet_string nothing)
 
 abbrev pub serialized_object : Format SerializedObjectValue
-serialized_object = within 0x30 serialized_object_row
+serialized_object = sequence serialized_object_row
 
 pub lawful_serialized_object : IsLawful serialized_object
 lawful_serialized_object =

@@ -3,8 +3,7 @@
 ghost use Rattle.std.specs.Prelude.{◌≡◌, [], MatchResult};
 ghost use Rattle.std.proofs.Common.{rules, arith};
 ghost use Rattle.asn1_core_element.specs.declared.error.Error.TheVariants.{Memory};
-ghost use Rattle.asn1_core.specs.Octets.{octet_string, lawful_octet_string};
-ghost use Rattle.asn1_core_format.specs.TaggedLaws.{within_tagged};
+ghost use Rattle.asn1_core.specs.Der.{octet_string, lawful_octet_string, within_tagged};
 ghost use Rattle.x509_base_spc.specs.Objects.{SerializedObjectValue, serialized_object_row, serialized_object, lawful_serialized_object, page_hash_class};
 
 use asn1_core::prelude::*;
@@ -146,6 +145,6 @@ impl EqualByText for SpcSerializedObject {
 
 impl TryClone for SpcSerializedObject {
     fn try_clone(&self, alloc: Global) -> Result<Self, Error> {
-        clone_of!(self, alloc, SpcSerializedObject { class_id, serialized_data })
+        clone_of!(self, alloc; SpcSerializedObject { class_id, serialized_data })
     }
 }

@@ -1,7 +1,7 @@
 //! What a signature says of the program that it signs.
 
 ghost use Rattle.std.proofs.Common.{rules};
-ghost use Rattle.asn1_core_format.specs.Rows.{option_value};
+ghost use Rattle.asn1_core.specs.Der.{option_value};
 ghost use Rattle.x509_base_spc.specs.Links.{OpusInfoValue, opus_info, lawful_opus_info, string_value, link_value};
 
 use crate::links::{SpcLink, SpcString};
@@ -61,6 +61,6 @@ impl EqualByText for SpcSpOpusInfo {
 
 impl TryClone for SpcSpOpusInfo {
     fn try_clone(&self, alloc: Global) -> Result<Self, Error> {
-        clone_of!(self, alloc, SpcSpOpusInfo { program_name, more_info })
+        clone_of!(self, alloc; SpcSpOpusInfo { program_name, more_info })
     }
 }

@@ -1,33 +1,23 @@
 -- Algorithms of PKCS #12 and of encryption by passwords, as kinds of input: their words, and what inputs are written as.
-use Rattle.std.specs.Prelude.{ℕ, List, [], ◌∷◌, codes}
+use Rattle.std.specs.Prelude.{List, [], ◌∷◌, codes}
 use Rattle.pkcs12_algs.specs.Digests.{digest_info, mac_data}
 use Rattle.pkcs12_algs.specs.Encryption.{encryption_algorithm}
 use Rattle.pkcs12_algs.specs.Pbes1.{pbes1_params}
 use Rattle.pkcs12_algs.specs.Pbes2.{kdf, pbes2_params, scheme}
 use Rattle.pkcs12_algs.specs.Pbkdf2.{pbkdf2_params}
-use Rattle.der_engine.specs.Engine.{Rewriting, rewriting_of}
+use Rattle.x509_containers.specs.Entries.{Entry, entry}
 use Rattle.x509_containers.specs.declared.kinds.algorithms.AlgorithmKind.{AlgorithmKind}
-use Rattle.x509_containers.specs.declared.kinds.algorithms.AlgorithmKind.TheVariants.{MacData, Pbes1Params, Pbes2EncryptionScheme, Pbes2KeyDerivationFunc, Pbes2Params, Pbkdf2Params, Pkcs12DigestInfo, Pkcs12EncryptionAlgorithm}
+use Rattle.x509_containers.specs.declared.kinds.algorithms.AlgorithmKind.TheVariants as Kind
 
-abbrev pub word_of : AlgorithmKind → List ℕ
-word_of MacData = codes "macdata"
-word_of Pbes1Params = codes "pbes1params"
-word_of Pbes2EncryptionScheme = codes "pbes2encryptionscheme"
-word_of Pbes2KeyDerivationFunc = codes "pbes2keyderivationfunc"
-word_of Pbes2Params = codes "pbes2params"
-word_of Pbkdf2Params = codes "pbkdf2params"
-word_of Pkcs12DigestInfo = codes "pkcs12digestinfo"
-word_of Pkcs12EncryptionAlgorithm = codes "pkcs12encryptionalgorithm"
-
-abbrev pub rewriting_as : AlgorithmKind → Rewriting
-rewriting_as MacData = rewriting_of mac_data
-rewriting_as Pbes1Params = rewriting_of pbes1_params
-rewriting_as Pbes2EncryptionScheme = rewriting_of scheme
-rewriting_as Pbes2KeyDerivationFunc = rewriting_of kdf
-rewriting_as Pbes2Params = rewriting_of pbes2_params
-rewriting_as Pbkdf2Params = rewriting_of pbkdf2_params
-rewriting_as Pkcs12DigestInfo = rewriting_of digest_info
-rewriting_as Pkcs12EncryptionAlgorithm = rewriting_of encryption_algorithm
+abbrev pub entry_of : AlgorithmKind → Entry
+entry_of Kind.MacData = entry (codes "macdata") mac_data
+entry_of Kind.Pbes1Params = entry (codes "pbes1params") pbes1_params
+entry_of Kind.Pbes2EncryptionScheme = entry (codes "pbes2encryptionscheme") scheme
+entry_of Kind.Pbes2KeyDerivationFunc = entry (codes "pbes2keyderivationfunc") kdf
+entry_of Kind.Pbes2Params = entry (codes "pbes2params") pbes2_params
+entry_of Kind.Pbkdf2Params = entry (codes "pbkdf2params") pbkdf2_params
+entry_of Kind.Pkcs12DigestInfo = entry (codes "pkcs12digestinfo") digest_info
+entry_of Kind.Pkcs12EncryptionAlgorithm = entry (codes "pkcs12encryptionalgorithm") encryption_algorithm
 
 abbrev pub kinds : List AlgorithmKind
-kinds = MacData ∷ Pbes1Params ∷ Pbes2EncryptionScheme ∷ Pbes2KeyDerivationFunc ∷ Pbes2Params ∷ Pbkdf2Params ∷ Pkcs12DigestInfo ∷ Pkcs12EncryptionAlgorithm ∷ []
+kinds = Kind.MacData ∷ Kind.Pbes1Params ∷ Kind.Pbes2EncryptionScheme ∷ Kind.Pbes2KeyDerivationFunc ∷ Kind.Pbes2Params ∷ Kind.Pbkdf2Params ∷ Kind.Pkcs12DigestInfo ∷ Kind.Pkcs12EncryptionAlgorithm ∷ []

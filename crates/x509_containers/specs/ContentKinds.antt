@@ -1,18 +1,14 @@
 -- Contents of PKCS #7, as kinds of input: their words, and what inputs are written as.
-use Rattle.std.specs.Prelude.{ℕ, List, [], ◌∷◌, codes}
+use Rattle.std.specs.Prelude.{List, [], ◌∷◌, codes}
 use Rattle.asn1_core.specs.Der.{number_below}
 use Rattle.pkcs7_content.specs.Contents.{encapsulated}
-use Rattle.der_engine.specs.Engine.{Rewriting, rewriting_of}
+use Rattle.x509_containers.specs.Entries.{Entry, entry}
 use Rattle.x509_containers.specs.declared.kinds.contents.ContentKind.{ContentKind}
-use Rattle.x509_containers.specs.declared.kinds.contents.ContentKind.TheVariants.{CmsVersion, EncapsulatedContentInfo}
+use Rattle.x509_containers.specs.declared.kinds.contents.ContentKind.TheVariants as Kind
 
-abbrev pub word_of : ContentKind → List ℕ
-word_of CmsVersion = codes "cmsversion"
-word_of EncapsulatedContentInfo = codes "encapsulatedcontentinfo"
-
-abbrev pub rewriting_as : ContentKind → Rewriting
-rewriting_as CmsVersion = rewriting_of (number_below 6)
-rewriting_as EncapsulatedContentInfo = rewriting_of encapsulated
+abbrev pub entry_of : ContentKind → Entry
+entry_of Kind.CmsVersion = entry (codes "cmsversion") (number_below 6)
+entry_of Kind.EncapsulatedContentInfo = entry (codes "encapsulatedcontentinfo") encapsulated
 
 abbrev pub kinds : List ContentKind
-kinds = CmsVersion ∷ EncapsulatedContentInfo ∷ []
+kinds = Kind.CmsVersion ∷ Kind.EncapsulatedContentInfo ∷ []

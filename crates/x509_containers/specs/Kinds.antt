@@ -4,6 +4,7 @@ use Rattle.std.specs.List.{flat_map}
 use Rattle.der_engine.specs.Engine.{Rewriting}
 use Rattle.x509_containers.specs.declared.kinds.Kind.{Kind}
 use Rattle.x509_containers.specs.declared.kinds.Kind.TheVariants.{Algorithm, Authenticode, Content, Enveloped, SignedData, SignedPart, Store, TrustList}
+use Rattle.x509_containers.specs.Entries.{Entry}
 use Rattle.x509_containers.specs.AlgorithmKinds
 use Rattle.x509_containers.specs.AuthenticodeKinds
 use Rattle.x509_containers.specs.ContentKinds
@@ -13,26 +14,22 @@ use Rattle.x509_containers.specs.SignedPartKinds
 use Rattle.x509_containers.specs.StoreKinds
 use Rattle.x509_containers.specs.TrustListKinds
 
+abbrev pub entry_of : Kind → Entry
+entry_of (Algorithm kind) = AlgorithmKinds.entry_of kind
+entry_of (Authenticode kind) = AuthenticodeKinds.entry_of kind
+entry_of (Content kind) = ContentKinds.entry_of kind
+entry_of (Enveloped kind) = EnvelopedKinds.entry_of kind
+entry_of (SignedData kind) = SignedDataKinds.entry_of kind
+entry_of (SignedPart kind) = SignedPartKinds.entry_of kind
+entry_of (Store kind) = StoreKinds.entry_of kind
+entry_of (TrustList kind) = TrustListKinds.entry_of kind
+
 abbrev pub word_of : Kind → List ℕ
-word_of (Algorithm kind) = AlgorithmKinds.word_of kind
-word_of (Authenticode kind) = AuthenticodeKinds.word_of kind
-word_of (Content kind) = ContentKinds.word_of kind
-word_of (Enveloped kind) = EnvelopedKinds.word_of kind
-word_of (SignedData kind) = SignedDataKinds.word_of kind
-word_of (SignedPart kind) = SignedPartKinds.word_of kind
-word_of (Store kind) = StoreKinds.word_of kind
-word_of (TrustList kind) = TrustListKinds.word_of kind
+word_of kind = (entry_of kind).word
 
 -- what the texts of inputs of that kind are
 abbrev pub rewriting_as : Kind → Rewriting
-rewriting_as (Algorithm kind) = AlgorithmKinds.rewriting_as kind
-rewriting_as (Authenticode kind) = AuthenticodeKinds.rewriting_as kind
-rewriting_as (Content kind) = ContentKinds.rewriting_as kind
-rewriting_as (Enveloped kind) = EnvelopedKinds.rewriting_as kind
-rewriting_as (SignedData kind) = SignedDataKinds.rewriting_as kind
-rewriting_as (SignedPart kind) = SignedPartKinds.rewriting_as kind
-rewriting_as (Store kind) = StoreKinds.rewriting_as kind
-rewriting_as (TrustList kind) = TrustListKinds.rewriting_as kind
+rewriting_as kind = (entry_of kind).rewriting
 
 -- those of each layer
 abbrev pub layers : List (List Kind)

@@ -1,3 +1,4 @@
+pub mod Entries
 pub mod AlgorithmKinds
 pub mod AuthenticodeKinds
 pub mod ContentKinds

@@ -1,6 +1,6 @@
 -- Revocation lists, certificates, signers, as kinds of input: their words, and what inputs are written as.
-use Rattle.std.specs.Prelude.{ℕ, List, [], ◌∷◌, codes}
-use Rattle.asn1_core.specs.Octets.{octet_string}
+use Rattle.std.specs.Prelude.{List, [], ◌∷◌, codes}
+use Rattle.asn1_core.specs.Der.{octet_string}
 use Rattle.asn1_leaves.specs.Integers.{integer}
 use Rattle.pkcs7_signed_parts.specs.Algorithms.{algorithms}
 use Rattle.pkcs7_signed_parts.specs.Attributes.{attributes}
@@ -10,47 +10,28 @@ use Rattle.pkcs7_signed_parts.specs.Revocations.{other_format, revocation, revoc
 use Rattle.pkcs7_signed_parts.specs.Revoked.{all_revoked, revoked}
 use Rattle.pkcs7_signed_parts.specs.Signers.{issuer_serial, signer_id}
 use Rattle.x509_base.specs.Algorithms.{algorithm_identifier}
-use Rattle.der_engine.specs.Engine.{Rewriting, rewriting_of}
+use Rattle.x509_containers.specs.Entries.{Entry, entry}
 use Rattle.x509_containers.specs.declared.kinds.signed_parts.SignedPartKind.{SignedPartKind}
-use Rattle.x509_containers.specs.declared.kinds.signed_parts.SignedPartKind.TheVariants.{Attributes, CertificateChoices, CertificateList, CertificateSerialNumber, CertificateSet, DigestAlgorithmIdentifier, DigestAlgorithmIdentifiers, IssuerAndSerialNumber, OtherRevocationInfoFormat, RevocationInfoChoice, RevocationInfoChoices, RevokedCertificate, RevokedCertificates, SignatureAlgorithmIdentifier, SignatureValue, SignerIdentifier, TbsCertList}
+use Rattle.x509_containers.specs.declared.kinds.signed_parts.SignedPartKind.TheVariants as Kind
 
-abbrev pub word_of : SignedPartKind → List ℕ
-word_of Attributes = codes "attributes"
-word_of CertificateChoices = codes "certificatechoices"
-word_of CertificateList = codes "certificatelist"
-word_of CertificateSerialNumber = codes "certificateserialnumber"
-word_of CertificateSet = codes "certificateset"
-word_of DigestAlgorithmIdentifier = codes "digestalgorithmidentifier"
-word_of DigestAlgorithmIdentifiers = codes "digestalgorithmidentifiers"
-word_of IssuerAndSerialNumber = codes "issuerandserialnumber"
-word_of OtherRevocationInfoFormat = codes "otherrevocationinfoformat"
-word_of RevocationInfoChoice = codes "revocationinfochoice"
-word_of RevocationInfoChoices = codes "revocationinfochoices"
-word_of RevokedCertificate = codes "revokedcertificate"
-word_of RevokedCertificates = codes "revokedcertificates"
-word_of SignatureAlgorithmIdentifier = codes "signaturealgorithmidentifier"
-word_of SignatureValue = codes "signaturevalue"
-word_of SignerIdentifier = codes "signeridentifier"
-word_of TbsCertList = codes "tbscertlist"
-
-abbrev pub rewriting_as : SignedPartKind → Rewriting
-rewriting_as Attributes = rewriting_of attributes
-rewriting_as CertificateChoices = rewriting_of certificate_choice
-rewriting_as CertificateList = rewriting_of certificate_list
-rewriting_as CertificateSerialNumber = rewriting_of integer
-rewriting_as CertificateSet = rewriting_of certificate_set
-rewriting_as DigestAlgorithmIdentifier = rewriting_of algorithm_identifier
-rewriting_as DigestAlgorithmIdentifiers = rewriting_of algorithms
-rewriting_as IssuerAndSerialNumber = rewriting_of issuer_serial
-rewriting_as OtherRevocationInfoFormat = rewriting_of other_format
-rewriting_as RevocationInfoChoice = rewriting_of revocation
-rewriting_as RevocationInfoChoices = rewriting_of revocations
-rewriting_as RevokedCertificate = rewriting_of revoked
-rewriting_as RevokedCertificates = rewriting_of all_revoked
-rewriting_as SignatureAlgorithmIdentifier = rewriting_of algorithm_identifier
-rewriting_as SignatureValue = rewriting_of octet_string
-rewriting_as SignerIdentifier = rewriting_of signer_id
-rewriting_as TbsCertList = rewriting_of tbs_list
+abbrev pub entry_of : SignedPartKind → Entry
+entry_of Kind.Attributes = entry (codes "attributes") attributes
+entry_of Kind.CertificateChoices = entry (codes "certificatechoices") certificate_choice
+entry_of Kind.CertificateList = entry (codes "certificatelist") certificate_list
+entry_of Kind.CertificateSerialNumber = entry (codes "certificateserialnumber") integer
+entry_of Kind.CertificateSet = entry (codes "certificateset") certificate_set
+entry_of Kind.DigestAlgorithmIdentifier = entry (codes "digestalgorithmidentifier") algorithm_identifier
+entry_of Kind.DigestAlgorithmIdentifiers = entry (codes "digestalgorithmidentifiers") algorithms
+entry_of Kind.IssuerAndSerialNumber = entry (codes "issuerandserialnumber") issuer_serial
+entry_of Kind.OtherRevocationInfoFormat = entry (codes "otherrevocationinfoformat") other_format
+entry_of Kind.RevocationInfoChoice = entry (codes "revocationinfochoice") revocation
+entry_of Kind.RevocationInfoChoices = entry (codes "revocationinfochoices") revocations
+entry_of Kind.RevokedCertificate = entry (codes "revokedcertificate") revoked
+entry_of Kind.RevokedCertificates = entry (codes "revokedcertificates") all_revoked
+entry_of Kind.SignatureAlgorithmIdentifier = entry (codes "signaturealgorithmidentifier") algorithm_identifier
+entry_of Kind.SignatureValue = entry (codes "signaturevalue") octet_string
+entry_of Kind.SignerIdentifier = entry (codes "signeridentifier") signer_id
+entry_of Kind.TbsCertList = entry (codes "tbscertlist") tbs_list
 
 abbrev pub kinds : List SignedPartKind
-kinds = Attributes ∷ CertificateChoices ∷ CertificateList ∷ CertificateSerialNumber ∷ CertificateSet ∷ DigestAlgorithmIdentifier ∷ DigestAlgorithmIdentifiers ∷ IssuerAndSerialNumber ∷ OtherRevocationInfoFormat ∷ RevocationInfoChoice ∷ RevocationInfoChoices ∷ RevokedCertificate ∷ RevokedCertificates ∷ SignatureAlgorithmIdentifier ∷ SignatureValue ∷ SignerIdentifier ∷ TbsCertList ∷ []
+kinds = Kind.Attributes ∷ Kind.CertificateChoices ∷ Kind.CertificateList ∷ Kind.CertificateSerialNumber ∷ Kind.CertificateSet ∷ Kind.DigestAlgorithmIdentifier ∷ Kind.DigestAlgorithmIdentifiers ∷ Kind.IssuerAndSerialNumber ∷ Kind.OtherRevocationInfoFormat ∷ Kind.RevocationInfoChoice ∷ Kind.RevocationInfoChoices ∷ Kind.RevokedCertificate ∷ Kind.RevokedCertificates ∷ Kind.SignatureAlgorithmIdentifier ∷ Kind.SignatureValue ∷ Kind.SignerIdentifier ∷ Kind.TbsCertList ∷ []

@@ -1,6 +1,6 @@
 -- PKCS #12 files and their parts, as kinds of input: their words, and what inputs are written as.
-use Rattle.std.specs.Prelude.{ℕ, List, [], ◌∷◌, codes}
-use Rattle.asn1_core.specs.Raw.{raw}
+use Rattle.std.specs.Prelude.{List, [], ◌∷◌, codes}
+use Rattle.asn1_core.specs.Der.{raw}
 use Rattle.x509_pkcs12.specs.AuthSafes.{auth_safe}
 use Rattle.x509_pkcs12.specs.Contents.{content_info}
 use Rattle.x509_pkcs12.specs.Parsed.{parsed}
@@ -9,43 +9,26 @@ use Rattle.x509_pkcs12_bags.specs.Bags.{safe_bag, safe_contents}
 use Rattle.x509_pkcs12_parts.specs.Attributes.{pkcs12_attribute}
 use Rattle.x509_pkcs12_parts.specs.Bags.{certificate_bag, crl_bag, encrypted_key_bag, secret_bag}
 use Rattle.x509_pkcs12_parts.specs.Contents.{encrypted_contents}
-use Rattle.der_engine.specs.Engine.{Rewriting, rewriting_of}
+use Rattle.x509_containers.specs.Entries.{Entry, entry}
 use Rattle.x509_containers.specs.declared.kinds.stores.StoreKind.{StoreKind}
-use Rattle.x509_containers.specs.declared.kinds.stores.StoreKind.TheVariants.{AuthenticatedSafeContentInfo, CertificateBag, CrlBag, EncryptedKeyBag, EncryptedSafeContents, ParsedAuthenticatedSafeDataRepr, Pfx, Pkcs12Attribute, RawAuthenticatedSafeContentInfo, RawAuthenticatedSafeDataRepr, RawPfx, SafeBag, SafeContents, SafeContentsContentInfo, SecretBag}
+use Rattle.x509_containers.specs.declared.kinds.stores.StoreKind.TheVariants as Kind
 
-abbrev pub word_of : StoreKind → List ℕ
-word_of AuthenticatedSafeContentInfo = codes "authenticatedsafecontentinfo"
-word_of CertificateBag = codes "certificatebag"
-word_of CrlBag = codes "crlbag"
-word_of EncryptedKeyBag = codes "encryptedkeybag"
-word_of EncryptedSafeContents = codes "encryptedsafecontents"
-word_of ParsedAuthenticatedSafeDataRepr = codes "parsedauthenticatedsafedatarepr"
-word_of Pfx = codes "pfx"
-word_of Pkcs12Attribute = codes "pkcs12attribute"
-word_of RawAuthenticatedSafeContentInfo = codes "rawauthenticatedsafecontentinfo"
-word_of RawAuthenticatedSafeDataRepr = codes "rawauthenticatedsafedatarepr"
-word_of RawPfx = codes "rawpfx"
-word_of SafeBag = codes "safebag"
-word_of SafeContents = codes "safecontents"
-word_of SafeContentsContentInfo = codes "safecontentscontentinfo"
-word_of SecretBag = codes "secretbag"
-
-abbrev pub rewriting_as : StoreKind → Rewriting
-rewriting_as AuthenticatedSafeContentInfo = rewriting_of (auth_safe parsed)
-rewriting_as CertificateBag = rewriting_of certificate_bag
-rewriting_as CrlBag = rewriting_of crl_bag
-rewriting_as EncryptedKeyBag = rewriting_of encrypted_key_bag
-rewriting_as EncryptedSafeContents = rewriting_of encrypted_contents
-rewriting_as ParsedAuthenticatedSafeDataRepr = rewriting_of parsed
-rewriting_as Pfx = rewriting_of (pfx parsed)
-rewriting_as Pkcs12Attribute = rewriting_of pkcs12_attribute
-rewriting_as RawAuthenticatedSafeContentInfo = rewriting_of (auth_safe raw)
-rewriting_as RawAuthenticatedSafeDataRepr = rewriting_of raw
-rewriting_as RawPfx = rewriting_of (pfx raw)
-rewriting_as SafeBag = rewriting_of safe_bag
-rewriting_as SafeContents = rewriting_of safe_contents
-rewriting_as SafeContentsContentInfo = rewriting_of content_info
-rewriting_as SecretBag = rewriting_of secret_bag
+abbrev pub entry_of : StoreKind → Entry
+entry_of Kind.AuthenticatedSafeContentInfo = entry (codes "authenticatedsafecontentinfo") (auth_safe parsed)
+entry_of Kind.CertificateBag = entry (codes "certificatebag") certificate_bag
+entry_of Kind.CrlBag = entry (codes "crlbag") crl_bag
+entry_of Kind.EncryptedKeyBag = entry (codes "encryptedkeybag") encrypted_key_bag
+entry_of Kind.EncryptedSafeContents = entry (codes "encryptedsafecontents") encrypted_contents
+entry_of Kind.ParsedAuthenticatedSafeDataRepr = entry (codes "parsedauthenticatedsafedatarepr") parsed
+entry_of Kind.Pfx = entry (codes "pfx") (pfx parsed)
+entry_of Kind.Pkcs12Attribute = entry (codes "pkcs12attribute") pkcs12_attribute
+entry_of Kind.RawAuthenticatedSafeContentInfo = entry (codes "rawauthenticatedsafecontentinfo") (auth_safe raw)
+entry_of Kind.RawAuthenticatedSafeDataRepr = entry (codes "rawauthenticatedsafedatarepr") raw
+entry_of Kind.RawPfx = entry (codes "rawpfx") (pfx raw)
+entry_of Kind.SafeBag = entry (codes "safebag") safe_bag
+entry_of Kind.SafeContents = entry (codes "safecontents") safe_contents
+entry_of Kind.SafeContentsContentInfo = entry (codes "safecontentscontentinfo") content_info
+entry_of Kind.SecretBag = entry (codes "secretbag") secret_bag
 
 abbrev pub kinds : List StoreKind
-kinds = AuthenticatedSafeContentInfo ∷ CertificateBag ∷ CrlBag ∷ EncryptedKeyBag ∷ EncryptedSafeContents ∷ ParsedAuthenticatedSafeDataRepr ∷ Pfx ∷ Pkcs12Attribute ∷ RawAuthenticatedSafeContentInfo ∷ RawAuthenticatedSafeDataRepr ∷ RawPfx ∷ SafeBag ∷ SafeContents ∷ SafeContentsContentInfo ∷ SecretBag ∷ []
+kinds = Kind.AuthenticatedSafeContentInfo ∷ Kind.CertificateBag ∷ Kind.CrlBag ∷ Kind.EncryptedKeyBag ∷ Kind.EncryptedSafeContents ∷ Kind.ParsedAuthenticatedSafeDataRepr ∷ Kind.Pfx ∷ Kind.Pkcs12Attribute ∷ Kind.RawAuthenticatedSafeContentInfo ∷ Kind.RawAuthenticatedSafeDataRepr ∷ Kind.RawPfx ∷ Kind.SafeBag ∷ Kind.SafeContents ∷ Kind.SafeContentsContentInfo ∷ Kind.SecretBag ∷ []

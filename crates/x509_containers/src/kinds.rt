@@ -12,20 +12,26 @@ mod enveloped;
 mod signed_data;
 mod signed_parts;
 mod stores;
+mod table;
 mod trust_lists;
 
+use crate::kinds::table::all_kinds;
+use crate::{
+    algorithm_kinds, authenticode_kinds, content_kinds, enveloped_kinds, signed_data_kinds,
+    signed_part_kinds, store_kinds, trust_list_kinds,
+};
 pub use algorithms::AlgorithmKind;
 use asn1_core::Error;
 use asn1_core_streams::{Sink, Source};
 pub use authenticode::AuthenticodeKind;
 pub use contents::ContentKind;
+use der_engine::{KindOfInput, Mode, Outcome};
 pub use enveloped::EnvelopedKind;
 pub use signed_data::SignedDataKind;
 pub use signed_parts::SignedPartKind;
 use std::alloc::Global;
 pub use stores::StoreKind;
 pub use trust_lists::TrustListKind;
-use der_engine::{KindOfInput, Mode, Outcome};
 
 /// The type that an input is read as, by layers.
 #[derive(Clone, Copy, Debug, PartialEq, Eq)]
@@ -48,85 +54,14 @@ impl Kind {
         ensures list { result.now ≡ kinds }
         ensures every { (kind : Kind) → IsAmong result.now kind }
     {
-        &[
-            Kind::Algorithm(AlgorithmKind::MacData),
-            Kind::Algorithm(AlgorithmKind::Pbes1Params),
-            Kind::Algorithm(AlgorithmKind::Pbes2EncryptionScheme),
-            Kind::Algorithm(AlgorithmKind::Pbes2KeyDerivationFunc),
-            Kind::Algorithm(AlgorithmKind::Pbes2Params),
-            Kind::Algorithm(AlgorithmKind::Pbkdf2Params),
-            Kind::Algorithm(AlgorithmKind::Pkcs12DigestInfo),
-            Kind::Algorithm(AlgorithmKind::Pkcs12EncryptionAlgorithm),
-            Kind::Authenticode(AuthenticodeKind::File),
-            Kind::Authenticode(AuthenticodeKind::Moniker),
-            Kind::Authenticode(AuthenticodeKind::SpcAttributeAndOptionalValue),
-            Kind::Authenticode(AuthenticodeKind::SpcIndirectDataContent),
-            Kind::Authenticode(AuthenticodeKind::SpcLink),
-            Kind::Authenticode(AuthenticodeKind::SpcPeImageData),
-            Kind::Authenticode(AuthenticodeKind::SpcPeImageFlags),
-            Kind::Authenticode(AuthenticodeKind::SpcSerializedObject),
-            Kind::Authenticode(AuthenticodeKind::SpcSipInfo),
-            Kind::Authenticode(AuthenticodeKind::SpcSpOpusInfo),
-            Kind::Authenticode(AuthenticodeKind::SpcString),
-            Kind::Authenticode(AuthenticodeKind::SpcUuid),
-            Kind::Authenticode(AuthenticodeKind::Url),
-            Kind::Content(ContentKind::CmsVersion),
-            Kind::Content(ContentKind::EncapsulatedContentInfo),
-            Kind::Enveloped(EnvelopedKind::ContentInfo),
-            Kind::Enveloped(EnvelopedKind::EncryptedContentInfo),
-            Kind::Enveloped(EnvelopedKind::EnvelopedData),
-            Kind::Enveloped(EnvelopedKind::GeneralProtectionDescriptor),
-            Kind::Enveloped(EnvelopedKind::KekIdentifier),
-            Kind::Enveloped(EnvelopedKind::KekRecipientInfo),
-            Kind::Enveloped(EnvelopedKind::OriginatorInfo),
-            Kind::Enveloped(EnvelopedKind::OtherKeyAttribute),
-            Kind::Enveloped(EnvelopedKind::ProtectionDescriptor),
-            Kind::Enveloped(EnvelopedKind::RecipientInfo),
-            Kind::SignedData(SignedDataKind::Pkcs7Certificate),
-            Kind::SignedData(SignedDataKind::SignedData),
-            Kind::SignedData(SignedDataKind::SignerInfo),
-            Kind::SignedData(SignedDataKind::SignersInfos),
-            Kind::SignedData(SignedDataKind::UnsignedAttribute),
-            Kind::SignedData(SignedDataKind::UnsignedAttributes),
-            Kind::SignedPart(SignedPartKind::Attributes),
-            Kind::SignedPart(SignedPartKind::CertificateChoices),
-            Kind::SignedPart(SignedPartKind::CertificateList),
-            Kind::SignedPart(SignedPartKind::CertificateSerialNumber),
-            Kind::SignedPart(SignedPartKind::CertificateSet),
-            Kind::SignedPart(SignedPartKind::DigestAlgorithmIdentifier),
-            Kind::SignedPart(SignedPartKind::DigestAlgorithmIdentifiers),
-            Kind::SignedPart(SignedPartKind::IssuerAndSerialNumber),
-            Kind::SignedPart(SignedPartKind::OtherRevocationInfoFormat),
-            Kind::SignedPart(SignedPartKind::RevocationInfoChoice),
-            Kind::SignedPart(SignedPartKind::RevocationInfoChoices),
-            Kind::SignedPart(SignedPartKind::RevokedCertificate),
-            Kind::SignedPart(SignedPartKind::RevokedCertificates),
-            Kind::SignedPart(SignedPartKind::SignatureAlgorithmIdentifier),
-            Kind::SignedPart(SignedPartKind::SignatureValue),
-            Kind::SignedPart(SignedPartKind::SignerIdentifier),
-            Kind::SignedPart(SignedPartKind::TbsCertList),
-            Kind::Store(StoreKind::AuthenticatedSafeContentInfo),
-            Kind::Store(StoreKind::CertificateBag),
-            Kind::Store(StoreKind::CrlBag),
-            Kind::Store(StoreKind::EncryptedKeyBag),
-            Kind::Store(StoreKind::EncryptedSafeContents),
-            Kind::Store(StoreKind::ParsedAuthenticatedSafeDataRepr),
-            Kind::Store(StoreKind::Pfx),
-            Kind::Store(StoreKind::Pkcs12Attribute),
-            Kind::Store(StoreKind::RawAuthenticatedSafeContentInfo),
-            Kind::Store(StoreKind::RawAuthenticatedSafeDataRepr),
-            Kind::Store(StoreKind::RawPfx),
-            Kind::Store(StoreKind::SafeBag),
-            Kind::Store(StoreKind::SafeContents),
-            Kind::Store(StoreKind::SafeContentsContentInfo),
-            Kind::Store(StoreKind::SecretBag),
-            Kind::TrustList(TrustListKind::CertPolicy),
-            Kind::TrustList(TrustListKind::Ctl),
-            Kind::TrustList(TrustListKind::CTLEntry),
-            Kind::TrustList(TrustListKind::CTLEntryAttribute),
-            Kind::TrustList(TrustListKind::PolicyQualifier),
-            Kind::TrustList(TrustListKind::RootProgramChainPolicy),
-        ]
+        algorithm_kinds!(all_kinds([] Algorithm,
+            authenticode_kinds Authenticode,
+            content_kinds Content,
+            enveloped_kinds Enveloped,
+            signed_data_kinds SignedData,
+            signed_part_kinds SignedPart,
+            store_kinds Store,
+            trust_list_kinds TrustList))
     }
 
     /// The kind that a word names: the name of its type in lower case.

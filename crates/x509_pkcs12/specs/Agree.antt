@@ -1,8 +1,7 @@
 -- A PFX that is read beside the raw one.
 use Rattle.std.specs.Prelude.{◌≡◌, ◌↔◌, ℕ, List, None, Some}
-use Rattle.asn1_core.specs.Der.{Format, IsLawful, raw}
+use Rattle.asn1_core.specs.Der.{Format, IsLawful, raw, IsElement, IsTagByte}
 use Rattle.std.proofs.Common.{refl, sym, subst, inl, inr}
-use Rattle.asn1_core_element.specs.Element.{IsElement, IsTagByte}
 use Rattle.x509_pkcs12.specs.AuthSafes.{AuthSafeValue, auth_safe_choice}
 use Rattle.x509_pkcs12.specs.MacOctets.{mac_octets, data_covers, same_some, Rewritten}
 use Rattle.x509_pkcs12.specs.Pfxs.{PfxValue, pfx}

@@ -1,8 +1,7 @@
 -- ContentInfo ::= SEQUENCE { contentType ContentType, content [0] EXPLICIT ANY DEFINED BY contentType OPTIONAL } (RFC 2315, 7)
 -- of pkcs7-data, an OCTET STRING round a text of F
 use Rattle.std.specs.Prelude.{◌⊎◌}
-use Rattle.asn1_core.specs.Der.{Format, IsLawful, sequence, lawful_sequence, OidOctets}
-use Rattle.asn1_core_format.specs.Choices.{Choice, known, IsLawfulChoice, lawful_known}
+use Rattle.asn1_core.specs.Der.{Format, IsLawful, sequence, lawful_sequence, OidOctets, Choice, known, IsLawfulChoice, lawful_known}
 use Rattle.x509_pkcs12_parts.specs.Oids.{data_oid}
 use Rattle.x509_pkcs12.specs.Contents.{data_content, AnyContentValue, unknown_content, lawful_data_content, lawful_unknown_content}
 

@@ -2,10 +2,8 @@
 -- of pkcs7-data, an OCTET STRING round SafeContents; of pkcs7-encryptedData, EncryptedData:
 -- EncryptedData ::= SEQUENCE { version Version, encryptedContentInfo EncryptedContentInfo } with version 0 (RFC 2315, 13)
 use Rattle.std.specs.Prelude.{◌⊎◌, ℕ, List, Option}
-use Rattle.asn1_core.specs.Der.{Format, within, sequence, part, optional, nothing, raw, octets_of, option_value, OidOctets, ElementOctets, IsLawful, IsLawfulRow, version, lawful_within, lawful_raw, lawful_version_0, followed_by, perhaps, lawful_nothing, lawful_sequence}
+use Rattle.asn1_core.specs.Der.{Format, within, sequence, part, optional, nothing, raw, octets_of, option_value, OidOctets, ElementOctets, IsLawful, IsLawfulRow, version, lawful_within, lawful_raw, perhaps, lawful_nothing, explicit, der_laws, Choice, known, otherwise, IsLawfulChoice, lawful_known, lawful_otherwise, IsOid}
 use Rattle.std.proofs.Common.{inl, inr, arith}
-use Rattle.asn1_core_format.specs.Choices.{Choice, known, otherwise, IsLawfulChoice, lawful_known, lawful_otherwise}
-use Rattle.asn1_core_oid.specs.Oid.{IsOid}
 use Rattle.x509_pkcs12_bags.specs.Bags.{Bag, safe_contents}
 use Rattle.x509_pkcs12_bags.specs.BagValues.{contents_value}
 use Rattle.x509_pkcs12_parts.specs.Contents.{EncryptedContentsValue, encrypted_contents_value, encrypted_contents, lawful_encrypted_contents}
@@ -17,20 +15,20 @@ use Rattle.x509_pkcs12_bags.specs.BagsLaws.{lawful_safe_contents}
 
 -- a text in the OCTET STRING of data
 abbrev pub data_content : {V : Type 0} → Format V → Format V
-data_content F = within 0xA0 (within 0x04 F)
+data_content F = explicit 0 (within 0x04 F)
 
 abbrev pub EncryptedValue : Type 0
 EncryptedValue = ℕ × (EncryptedContentsValue × Unit {0})
 
 abbrev pub encrypted_content : Format EncryptedValue
-encrypted_content = within 0xA0 (sequence (part (version 0) (part encrypted_contents nothing)))
+encrypted_content = explicit 0 (sequence (part (version 0) (part encrypted_contents nothing)))
 
 -- any content, or none
 abbrev pub AnyContentValue : Type 0
 AnyContentValue = Option ElementOctets × Unit {0}
 
 abbrev pub any_content : Format AnyContentValue
-any_content = optional (within 0xA0 raw) nothing
+any_content = optional (explicit 0 raw) nothing
 
 abbrev pub unknown_content : Choice (OidOctets × AnyContentValue)
 unknown_content = otherwise IsOid any_content
@@ -57,7 +55,7 @@ pub lawful_data_content : {V : Type 0} (F : Format V) → IsLawful F → IsLawfu
 lawful_data_content F f = lawful_within (within 0x04 F) (lawful_within F f.row 0x04 (omega arith)).row 0xA0 (omega arith)
 
 lawful_encrypted_content : IsLawful encrypted_content
-lawful_encrypted_content = lawful_within _ (lawful_sequence (followed_by lawful_version_0 (followed_by lawful_encrypted_contents lawful_nothing))).row 0xA0 (omega arith)
+lawful_encrypted_content = search (der_laws, lawful_encrypted_contents) depth 20
 
 pub lawful_any_content : IsLawfulRow any_content
 lawful_any_content = perhaps (lawful_within raw lawful_raw.row 0xA0 (omega arith)) (λ t h e. e) lawful_nothing
@@ -71,4 +69,4 @@ lawful_content_choice =
     (lawful_known (oid ENCRYPTED_DATA) encrypted_content unknown_content lawful_encrypted_content.row lawful_unknown_content)
 
 pub lawful_content_info : IsLawful content_info
-lawful_content_info = lawful_sequence lawful_content_choice.row
+lawful_content_info = search (der_laws, lawful_content_choice) depth 20

@@ -1,6 +1,6 @@
 -- `==` of contents sees what they contain.
+use Rattle.asn1_core.specs.Der.{SeesEqual}
 use Rattle.std.proofs.Common.{rules}
-use Rattle.asn1_core_format.specs.Views.{SeesEqual}
 use Rattle.x509_pkcs12_bags.specs.BagEqual.{contents_equal}
 use Rattle.x509_pkcs12_parts.specs.ContentsEqual.{encrypted_contents_equal}
 use Rattle.x509_pkcs12.specs.Contents.{content_info_value}

@@ -1,6 +1,6 @@
 -- What is seen of values, by way of what is seen of them otherwise.
+use Rattle.asn1_core.specs.Der.{SeesEqual}
 use Rattle.std.specs.Prelude.{◌≡◌, ◌↔◌, Bool}
-use Rattle.asn1_core_format.specs.Views.{SeesEqual}
 
 pub seen_as : {T V W : Type 0} {eq : T → T → Bool} {view : T → V} {value : T → W} → SeesEqual eq view → ((x y : T) → (view x ≡ view y) ↔ (value x ≡ value y)) → SeesEqual eq value
 seen_as s e x y = (λ h. (e x y).0 ((s x y).0 h), λ h. (s x y).1 ((e x y).1 h))

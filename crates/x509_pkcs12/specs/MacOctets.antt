@@ -1,9 +1,7 @@
 -- What a MAC covers: the contents octets of the OCTET STRING in authSafe.
 use Rattle.std.specs.Prelude.{◌≡◌, ◌↔◌, ℕ, List, ◌++◌, Option, None, Some}
-use Rattle.asn1_core.specs.Der.{Format, optional, nothing, raw}
+use Rattle.asn1_core.specs.Der.{Format, optional, nothing, raw, element, integer_octets}
 use Rattle.std.proofs.Common.{refl, ap, subst, inl, inr, ◌∙◌}
-use Rattle.asn1_core_element.specs.Element.{element}
-use Rattle.asn1_core_element.specs.Numbers.{integer_octets}
 use Rattle.pkcs12_algs.specs.Digests.{MacValue, mac_data}
 use Rattle.x509_pkcs12_parts.specs.Oids.{data_oid}
 use Rattle.x509_pkcs12.specs.Pfxs.{PfxValue, pfx}

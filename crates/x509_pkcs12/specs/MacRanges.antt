@@ -1,7 +1,6 @@
 -- Where the octets that a MAC covers stand in an input.
 use Rattle.std.specs.Prelude.{◌≡◌, ℕ, ◌≤◌, List, length, drop, Option, IfSome, slice_range}
-use Rattle.asn1_core.specs.Der.{raw, option_value, Octets}
-use Rattle.asn1_core_format.specs.Whole.{IsValueOf}
+use Rattle.asn1_core.specs.Der.{raw, option_value, Octets, IsValueOf}
 use Rattle.x509_pkcs12.specs.MacOctets.{mac_octets, Covers}
 use Rattle.x509_pkcs12.specs.Pfxs.{PfxValue, pfx}
 

@@ -1,6 +1,6 @@
 -- PFX ::= SEQUENCE { version INTEGER {v3(3)}(v3,...), authSafe ContentInfo, macData MacData OPTIONAL } (RFC 7292, 4)
 use Rattle.std.specs.Prelude.{ℕ, Option}
-use Rattle.asn1_core.specs.Der.{Format, IsLawful, sequence, part, optional, nothing, version, followed_by, perhaps, lawful_nothing, lawful_sequence, lawful_version_3}
+use Rattle.asn1_core.specs.Der.{Format, IsLawful, sequence, part, optional, nothing, version, der_laws}
 use Rattle.pkcs12_algs.specs.Digests.{MacValue, mac_data, lawful_mac_data}
 use Rattle.x509_pkcs12.specs.AuthSafes.{AuthSafeValue, auth_safe, lawful_auth_safe}
 
@@ -12,4 +12,4 @@ abbrev pub pfx : {V : Type 0} → Format V → Format (PfxValue V)
 pfx F = sequence (part (version 3) (part (auth_safe F) (optional mac_data nothing)))
 
 pub lawful_pfx : {V : Type 0} (F : Format V) → IsLawful F → IsLawful (pfx F)
-lawful_pfx F f = lawful_sequence (followed_by lawful_version_3 (followed_by (lawful_auth_safe F f) (perhaps lawful_mac_data (λ t h e. e) lawful_nothing)))
+lawful_pfx F f = search (der_laws, lawful_auth_safe, lawful_mac_data) depth 20

@@ -1,8 +1,7 @@
 //! The contents that a PKCS #12 file holds.
 
 ghost use Rattle.std.specs.Prelude.{◌≡◌};
-ghost use Rattle.asn1_core_format.specs.Rows.{option_value};
-ghost use Rattle.asn1_core_format.specs.Sequences.{sequence, lawful_sequence};
+ghost use Rattle.asn1_core.specs.Der.{option_value, sequence, lawful_sequence};
 ghost use Rattle.x509_pkcs12.specs.Contents.{AnyContentValue, any_content, ContentInfoValue, content_info_value, content_info, lawful_any_content, lawful_content_info};
 ghost use Rattle.x509_pkcs12.specs.ContentsEqual.{content_info_equal};
 

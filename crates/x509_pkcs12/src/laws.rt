@@ -1,7 +1,7 @@
 //! What holds of a PFX in every representation.
 
 ghost use Rattle.std.specs.Prelude.{◌≡◌, ◌↔◌, ℕ, List, Option, Some};
-ghost use Rattle.asn1_core.specs.Raw.{raw};
+ghost use Rattle.asn1_core.specs.Der.{raw};
 ghost use Rattle.x509_pkcs12.specs.Agree.{ReadsAs};
 ghost use Rattle.x509_pkcs12.specs.MacOctets.{mac_octets, Covers, Rewritten};
 ghost use Rattle.x509_pkcs12.specs.Pfxs.{PfxValue, pfx};

@@ -1,9 +1,7 @@
 //! Where the octets that a MAC covers stand in an input.
 
 ghost use Rattle.std.specs.Prelude.{◌≡◌, ◌+◌, ◌<◌, ◌≤◌, MatchResult};
-ghost use Rattle.asn1_core.specs.Raw.{raw};
-ghost use Rattle.asn1_core_format.specs.Rows.{option_value};
-ghost use Rattle.asn1_core_format.specs.Whole.{HasNoValue};
+ghost use Rattle.asn1_core.specs.Der.{raw, option_value, HasNoValue};
 ghost use Rattle.x509_pkcs12.specs.MacRanges.{IsMacRange};
 ghost use Rattle.x509_pkcs12.specs.Pfxs.{pfx};
 

@@ -2,7 +2,7 @@
 
 ghost use Rattle.std.specs.Prelude.{◌≡◌, List, map};
 ghost use Rattle.std.proofs.Common.{refl};
-ghost use Rattle.asn1_core_format.specs.Views.{list_equal};
+ghost use Rattle.asn1_core.specs.Der.{list_equal};
 ghost use Rattle.x509_pkcs12.specs.Contents.{ContentInfoValue, content_info_value};
 ghost use Rattle.x509_pkcs12.specs.ContentsEqual.{content_info_equal};
 ghost use Rattle.x509_pkcs12.specs.Parsed.{parsed, lawful_parsed};
@@ -49,7 +49,7 @@ impl EqualByText for ParsedAuthenticatedSafeDataRepr {
 
 impl TryClone for ParsedAuthenticatedSafeDataRepr {
     fn try_clone(&self, alloc: Global) -> Result<Self, Error> {
-        clone_of!(self, alloc, ParsedAuthenticatedSafeDataRepr { contents })
+        clone_of!(self, alloc; ParsedAuthenticatedSafeDataRepr { contents })
     }
 }
 

@@ -3,9 +3,7 @@
 ghost use Rattle.std.specs.Prelude.{◌≡◌, Option};
 ghost use Rattle.std.proofs.Common.{rules};
 ghost use Rattle.std.proofs.lemmas.Bool.Decides.{Decides-eqb};
-ghost use Rattle.asn1_core.specs.Equal.{with_end};
-ghost use Rattle.asn1_core_format.specs.Rows.{option_value};
-ghost use Rattle.asn1_core_format.specs.Views.{SeesEqual, option_equal, two_equal};
+ghost use Rattle.asn1_core.specs.Der.{with_end, option_value, SeesEqual, option_equal, two_equal};
 ghost use Rattle.pkcs12_algs.specs.Digests.{mac_value};
 ghost use Rattle.pkcs12_algs.specs.Equal.{mac_equal};
 ghost use Rattle.x509_pkcs12.specs.Equal.{seen_as};
@@ -77,6 +75,6 @@ impl<R: AuthenticatedSafeDataRepr> EqualByText for Pfx<R> {
 
 impl<R: AuthenticatedSafeDataRepr> TryClone for Pfx<R> {
     fn try_clone(&self, alloc: Global) -> Result<Self, Error> {
-        clone_of!(self, alloc, Pfx { auth_safe, mac_data; version })
+        clone_of!(self, alloc; Pfx { auth_safe, mac_data; version })
     }
 }

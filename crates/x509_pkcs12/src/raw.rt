@@ -2,8 +2,7 @@
 
 ghost use Rattle.std.specs.Prelude.{◌≡◌, ℕ, List};
 ghost use Rattle.std.proofs.Common.{refl, rules};
-ghost use Rattle.asn1_core.specs.Raw.{raw, lawful_raw};
-ghost use Rattle.asn1_core_format.specs.Rows.{option_value};
+ghost use Rattle.asn1_core.specs.Der.{raw, lawful_raw, option_value};
 ghost use Rattle.x509_pkcs12.specs.MacOctets.{mac_octets};
 
 use crate::auth_safes::AuthenticatedSafeContentInfo;
@@ -57,7 +56,7 @@ impl EqualByText for RawAuthenticatedSafeDataRepr {
 
 impl TryClone for RawAuthenticatedSafeDataRepr {
     fn try_clone(&self, alloc: Global) -> Result<Self, Error> {
-        clone_of!(self, alloc, RawAuthenticatedSafeDataRepr { raw })
+        clone_of!(self, alloc; RawAuthenticatedSafeDataRepr { raw })
     }
 }
 

@@ -1,11 +1,10 @@
 //! How the data of an authenticated safe is kept.
 
 ghost use Rattle.std.specs.Prelude.{◌≡◌, ◌↔◌, ◌<◌, ◌≤◌, IsTrue, vec_capacity};
-ghost use Rattle.asn1_core_writers.specs.Sinks.{Emits};
-ghost use Rattle.asn1_core_writers.specs.Texts.{Measures, Writes};
+ghost use Rattle.asn1_core.specs.Der.{Emits, Measures, Writes};
 
-use asn1_core::prelude::*;
 use asn1_core::Sink;
+use asn1_core::prelude::*;
 use std::alloc::Global;
 
 /// A representation of the data of `authSafe`: what is read from the element in its OCTET STRING, and written as that

@@ -2,12 +2,9 @@
 
 ghost use Rattle.std.specs.Prelude.{◌≡◌, ◌++◌, ◌<◌, ◌⊎◌, ◌↔◌, IsTrue, List, false};
 ghost use Rattle.std.proofs.Common.{inl, inr};
-ghost use Rattle.asn1_core_format.specs.Format.{Gives};
-ghost use Rattle.asn1_core_format.specs.Levels.{less};
+ghost use Rattle.asn1_core.specs.Der.{Gives, less, element, octets_of};
 ghost use Rattle.asn1_core_format.specs.declared.eithers.Either.TheVariants.{First, Second};
 ghost use Rattle.x509_pkcs12_parts.specs.Attributes.{attributes_value};
-ghost use Rattle.asn1_core_element.specs.Element.{element};
-ghost use Rattle.asn1_core_oid.specs.OidValue.{octets_of};
 ghost use Rattle.x509_pkcs12_parts.specs.Oids.{oid};
 ghost use Rattle.x509_pkcs12_parts.specs.declared.oids.TheConstants.{KEY_BAG, SHROUDED_KEY_BAG, CERTIFICATE_BAG, CRL_BAG, SECRET_BAG, SAFE_CONTENTS_BAG};
 ghost use Rattle.x509_pkcs12_bags.specs.PlainBags.{bag_arm};
@@ -17,11 +14,11 @@ ghost use Rattle.x509_pkcs12_bags.specs.BagsLaws.{lawful_safe_bag, lawful_safe_c
 ghost use Rattle.x509_pkcs12_bags.specs.BagValues.{Kind, bag_value, kind_value, contents_value};
 
 use asn1_choices::{AnyOid, Arm, WriteChoice, read_nested_or};
-use asn1_core::prelude::*;
 use asn1_core::OidRef;
+use asn1_core::prelude::*;
 use asn1_core_element::element::open_element;
-use asn1_core_format::{Less, read_list_with};
 use asn1_core_format::Either::{self, First, Second};
+use asn1_core_format::{Less, read_list_with};
 use std::alloc::Global;
 use x509_pkcs12_parts::oids::{
     CERTIFICATE_BAG, CRL_BAG, KEY_BAG, Known, SAFE_CONTENTS_BAG, SECRET_BAG, SHROUDED_KEY_BAG,
@@ -315,7 +312,7 @@ impl Viewed for SafeBagKind {
 impl TryClone for SafeBag {
     #[cycle(copy)]
     fn try_clone(&self, alloc: Global) -> Result<Self, Error> {
-        clone_of!(self, alloc, SafeBag { kind, attributes })
+        clone_of!(self, alloc; SafeBag { kind, attributes })
     }
 }
 

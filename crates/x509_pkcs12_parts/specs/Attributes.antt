@@ -1,10 +1,8 @@
 -- PKCS12Attribute ::= SEQUENCE { attrId OBJECT IDENTIFIER, attrValues SET OF ANY } (RFC 7292, 4.2)
 -- friendlyName: SET (SIZE (1)) OF BMPString; localKeyId: SET (SIZE (1)) OF OCTET STRING (RFC 2985, 5.5)
 use Rattle.std.specs.Prelude.{◌⊎◌, List, Option, map}
-use Rattle.asn1_core.specs.Der.{Format, within, set_of, sequence, optional, nothing, octet_string, raw, octets_of, option_value, Octets, OidOctets, StringOctets, ElementOctets, IsLawful, IsLawfulRow, lawful_within, lawful_set, lawful_octet_string, lawful_raw, perhaps, lawful_nothing, lawful_sequence}
-use Rattle.std.proofs.Common.{inl, inr, Vec, Global, arith}
-use Rattle.asn1_core_format.specs.Choices.{Choice, known, otherwise, IsLawfulChoice, lawful_known, lawful_otherwise}
-use Rattle.asn1_core_oid.specs.Oid.{IsOid}
+use Rattle.asn1_core.specs.Der.{Format, within, set_of, sequence, optional, nothing, octet_string, raw, octets_of, option_value, Octets, OidOctets, StringOctets, ElementOctets, IsLawful, IsLawfulRow, lawful_octet_string, der_laws, Choice, known, otherwise, IsLawfulChoice, lawful_known, lawful_otherwise, IsOid}
+use Rattle.std.proofs.Common.{inl, inr, Vec, Global}
 use Rattle.asn1_leaves.specs.Strings.{bmp_string, lawful_bmp_string}
 use Rattle.asn1_leaves_strings.specs.Octets.{octets_of_bmp}
 use Rattle.x509_pkcs12_parts.specs.Oids.{oid}
@@ -51,10 +49,10 @@ abbrev pub attributes : Format AttributesValue
 attributes = optional (set_of pkcs12_attribute) nothing
 
 pub lawful_set_of_one : {V : Type 0} (F : Format V) → IsLawful F → IsLawful (set_of_one F)
-lawful_set_of_one F f = lawful_within F f.row 0x31 (omega arith)
+lawful_set_of_one F f = search der_laws depth 20
 
 pub lawful_any_values : IsLawful any_values
-lawful_any_values = lawful_set raw lawful_raw
+lawful_any_values = search der_laws depth 20
 
 pub lawful_attribute_choice : IsLawfulChoice attribute_choice
 lawful_attribute_choice =
@@ -63,7 +61,7 @@ lawful_attribute_choice =
     (lawful_otherwise IsOid any_values lawful_any_values.row))
 
 pub lawful_pkcs12_attribute : IsLawful pkcs12_attribute
-lawful_pkcs12_attribute = lawful_sequence lawful_attribute_choice.row
+lawful_pkcs12_attribute = search (der_laws, lawful_attribute_choice) depth 20
 
 pub lawful_attributes : IsLawfulRow attributes
-lawful_attributes = perhaps (lawful_set pkcs12_attribute lawful_pkcs12_attribute) (λ t h e. e) lawful_nothing
+lawful_attributes = search (der_laws, lawful_pkcs12_attribute) depth 20

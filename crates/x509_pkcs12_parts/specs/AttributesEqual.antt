@@ -1,8 +1,6 @@
 -- `==` of attributes sees what they contain.
+use Rattle.asn1_core.specs.Der.{SeesEqual, list_equal, raw_equal}
 use Rattle.std.proofs.Common.{rules}
-use Rattle.asn1_core.specs.Der.{list_equal}
-use Rattle.asn1_core.specs.Equal.{raw_equal}
-use Rattle.asn1_core_format.specs.Views.{SeesEqual}
 use Rattle.x509_pkcs12_parts.specs.Attributes.{attribute_value}
 use Rattle.x509_pkcs12_parts.specs.contracts.attributes.Pkcs12AttributePartialEq.TheImpl as Attribute
 use Rattle.x509_pkcs12_parts.specs.declared.attributes.Pkcs12Attribute.TheVariants.{FriendlyName, LocalKeyId, Unknown}

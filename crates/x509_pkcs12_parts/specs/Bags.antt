@@ -2,11 +2,9 @@
 -- CRLBag ::= SEQUENCE { crlId OBJECT IDENTIFIER, crlValue [0] EXPLICIT ANY DEFINED BY crlId } (RFC 7292, 4.2.4)
 -- SecretBag ::= SEQUENCE { secretTypeId OBJECT IDENTIFIER, secretValue [0] EXPLICIT ANY DEFINED BY secretTypeId } (RFC 7292, 4.2.5)
 -- EncryptedPrivateKeyInfo ::= SEQUENCE { encryptionAlgorithm AlgorithmIdentifier, encryptedData OCTET STRING } (RFC 5958, 3)
-use Rattle.std.specs.Prelude.{◌⊎◌, ℕ, List}
-use Rattle.asn1_core.specs.Der.{Format, within, sequence, part, nothing, object_identifier, octet_string, raw, octets_of, Octets, OidOctets, ElementOctets, IsLawful, lawful_within, lawful_octet_string, lawful_raw, lawful_object_identifier, followed_by, lawful_nothing, lawful_sequence}
-use Rattle.std.proofs.Common.{inl, inr, arith}
-use Rattle.asn1_core_format.specs.Choices.{Choice, known, otherwise, IsLawfulChoice, lawful_known, lawful_otherwise}
-use Rattle.asn1_core_oid.specs.Oid.{IsOid}
+use Rattle.std.specs.Prelude.{◌⊎◌, ℕ}
+use Rattle.asn1_core.specs.Der.{Format, sequence, part, nothing, object_identifier, octet_string, raw, octets_of, Octets, OidOctets, ElementOctets, IsLawful, lawful_sequence, explicit, der_laws, Choice, known, otherwise, IsLawfulChoice, lawful_known, lawful_otherwise, IsOid}
+use Rattle.std.proofs.Common.{inl, inr}
 use Rattle.pkcs12_algs.specs.Encryption.{EncryptionAlgorithmValue, encryption_algorithm_value, encryption_algorithm, lawful_encryption_algorithm}
 use Rattle.x509_pkcs12_parts.specs.Oids.{oid}
 use Rattle.x509_pkcs12_parts.specs.declared.oids.TheConstants.{X509_CERTIFICATE, X509_CRL}
@@ -24,11 +22,11 @@ x509_value (X509 o) = inl o.0.items
 x509_value (Unknown t v) = inr (octets_of t, v.0.items)
 
 abbrev pub any_value : Choice (OidOctets × ElementOctets)
-any_value = otherwise IsOid (within 0xA0 raw)
+any_value = otherwise IsOid (explicit 0 raw)
 
 -- where X.509's is known by the object identifier with that number
 abbrev pub x509_bag : ℕ → Format OctetsOrAny
-x509_bag number = sequence (known (oid number) (within 0xA0 octet_string) any_value).row
+x509_bag number = sequence (known (oid number) (explicit 0 octet_string) any_value).row
 
 abbrev pub certificate_bag : Format OctetsOrAny
 certificate_bag = x509_bag X509_CERTIFICATE
@@ -43,7 +41,7 @@ abbrev pub secret_value : SecretBag → SecretValue
 secret_value b = (octets_of b.type_id, (b.value.0.items, tt))
 
 abbrev pub secret_bag : Format SecretValue
-secret_bag = sequence (part object_identifier (part (within 0xA0 raw) nothing))
+secret_bag = sequence (part object_identifier (part (explicit 0 raw) nothing))
 
 abbrev pub EncryptedKeyValue : Type 0
 EncryptedKeyValue = EncryptionAlgorithmValue × (Octets × Unit {0})
@@ -54,21 +52,21 @@ encrypted_key_value b = (encryption_algorithm_value b.algorithm, (b.encrypted_da
 abbrev pub encrypted_key_bag : Format EncryptedKeyValue
 encrypted_key_bag = sequence (part encryption_algorithm (part octet_string nothing))
 
-lawful_octets : IsLawful (within 0xA0 octet_string)
-lawful_octets = lawful_within octet_string lawful_octet_string.row 0xA0 (omega arith)
+lawful_octets : IsLawful (explicit 0 octet_string)
+lawful_octets = search der_laws depth 20
 
-pub lawful_any : IsLawful (within 0xA0 raw)
-lawful_any = lawful_within raw lawful_raw.row 0xA0 (omega arith)
+pub lawful_any : IsLawful (explicit 0 raw)
+lawful_any = search der_laws depth 20
 
 lawful_any_value : IsLawfulChoice any_value
-lawful_any_value = lawful_otherwise IsOid (within 0xA0 raw) lawful_any.row
+lawful_any_value = lawful_otherwise IsOid (explicit 0 raw) lawful_any.row
 
 pub lawful_x509_bag : (number : ℕ) → IsLawful (x509_bag number)
 lawful_x509_bag number =
-    lawful_sequence (lawful_known (oid number) (within 0xA0 octet_string) any_value lawful_octets.row lawful_any_value).row
+    lawful_sequence (lawful_known (oid number) (explicit 0 octet_string) any_value lawful_octets.row lawful_any_value).row
 
 pub lawful_secret_bag : IsLawful secret_bag
-lawful_secret_bag = lawful_sequence (followed_by lawful_object_identifier (followed_by lawful_any lawful_nothing))
+lawful_secret_bag = search (der_laws, lawful_any) depth 20
 
 pub lawful_encrypted_key_bag : IsLawful encrypted_key_bag
-lawful_encrypted_key_bag = lawful_sequence (followed_by lawful_encryption_algorithm (followed_by lawful_octet_string lawful_nothing))
+lawful_encrypted_key_bag = search (der_laws, lawful_encryption_algorithm) depth 20

@@ -1,9 +1,8 @@
 -- `==` of certificates, revocation lists, secrets and encrypted keys sees what they contain.
+use Rattle.asn1_core.specs.Der.{SeesEqual, der_equal}
 use denote.Param.{value_of}
 use denote.RattleType.{RattleType}
 use Rattle.std.proofs.Common.{rules}
-use Rattle.asn1_core.specs.Equal.{octets_equal, with_end}
-use Rattle.asn1_core_format.specs.Views.{SeesEqual, two_equal}
 use Rattle.pkcs12_algs.specs.EncryptionEqual.{encryption_algorithm_equal}
 use Rattle.x509_pkcs12_parts.specs.Bags.{x509_value, secret_value, encrypted_key_value}
 use Rattle.x509_pkcs12_parts.specs.contracts.bags.EncryptedKeyBagPartialEq.TheImpl as EncryptedKey
@@ -17,4 +16,4 @@ pub secret_equal : SeesEqual Secret.ghosts.eq secret_value
 secret_equal = search rules
 
 pub encrypted_key_equal : SeesEqual EncryptedKey.ghosts.eq encrypted_key_value
-encrypted_key_equal x y = two_equal (encryption_algorithm_equal x.algorithm y.algorithm) (with_end (octets_equal x.encrypted_data y.encrypted_data))
+encrypted_key_equal x y = search (der_equal, encryption_algorithm_equal) depth 20

@@ -1,16 +1,11 @@
 -- EncryptedContentInfo ::= SEQUENCE { contentType ContentType, contentEncryptionAlgorithm AlgorithmIdentifier, encryptedContent [0] IMPLICIT OCTET STRING OPTIONAL }
 -- (RFC 2315, 10.1), with contentType pkcs7-data (RFC 7292, 4.1)
 use Rattle.std.specs.Prelude.{◌≡◌, ℕ, List, Option}
-use Rattle.asn1_core.specs.Der.{Format, sequence, part, optional, nothing, octet_string, option_value, Octets, IsLawful, lawful_octet_string, followed_by, perhaps, lawful_nothing, lawful_sequence}
-use Rattle.asn1_core_format.specs.Leaf.{Spelling, leaf, IsLawfulSpelling}
-use Rattle.asn1_core_format.specs.Tagged.{implicit, context_tag}
+use Rattle.asn1_core.specs.Der.{Format, sequence, part, optional, nothing, octet_string, option_value, Octets, IsLawful, lawful_octet_string, der_laws, Spelling, leaf, IsLawfulSpelling, implicit, context_tag, any_octets, lawful_leaf, lawful_implicit, context_tag_is, leaf_tagged}
 use Rattle.pkcs12_algs.specs.Encryption.{EncryptionAlgorithmValue, encryption_algorithm_value, encryption_algorithm, lawful_encryption_algorithm}
 use Rattle.x509_pkcs12_parts.specs.Oids.{data_oid}
 use Rattle.x509_pkcs12_parts.specs.declared.contents.EncryptedSafeContents.{EncryptedSafeContents}
 use Rattle.std.proofs.Common.{refl, arith}
-use Rattle.asn1_core.specs.Octets.{any_octets}
-use Rattle.asn1_core_format.specs.LeafLaws.{lawful_leaf}
-use Rattle.asn1_core_format.specs.TaggedLaws.{lawful_implicit, context_tag_is, leaf_tagged}
 
 -- these contents and no others
 abbrev pub only_octets : List ℕ → Spelling (Unit {0})
@@ -42,4 +37,4 @@ lawful_encrypted_octets : IsLawful encrypted_octets
 lawful_encrypted_octets = lawful_implicit (context_tag 0 0x04) 0x04 octet_string lawful_octet_string (leaf_tagged 0x04 (omega arith) any_octets) (context_tag_is 0 0x04 (omega arith))
 
 pub lawful_encrypted_contents : IsLawful encrypted_contents
-lawful_encrypted_contents = lawful_sequence (followed_by (lawful_fixed_oid data_oid) (followed_by lawful_encryption_algorithm (perhaps lawful_encrypted_octets (λ t h e. e) lawful_nothing)))
+lawful_encrypted_contents = search (der_laws, lawful_fixed_oid, lawful_encryption_algorithm, lawful_encrypted_octets) depth 20

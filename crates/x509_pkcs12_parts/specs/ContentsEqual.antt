@@ -1,8 +1,7 @@
 -- `==` of encrypted contents sees what they contain.
 use Rattle.std.proofs.Common.{ap}
-use Rattle.asn1_core.specs.Equal.{octets_equal, with_end}
+use Rattle.asn1_core.specs.Der.{SeesEqual, two_equal, option_equal, octets_equal, with_end}
 use Rattle.asn1_core.specs.contracts.octets.OctetStringAsn1PartialEq.TheImpl as Octets
-use Rattle.asn1_core_format.specs.Views.{SeesEqual, two_equal, option_equal}
 use Rattle.pkcs12_algs.specs.EncryptionEqual.{encryption_algorithm_equal}
 use Rattle.x509_pkcs12_parts.specs.Contents.{encrypted_contents_value}
 use Rattle.x509_pkcs12_parts.specs.contracts.contents.EncryptedSafeContentsPartialEq.TheImpl as Contents

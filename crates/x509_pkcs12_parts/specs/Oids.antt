@@ -2,11 +2,8 @@
 use Rattle.std.specs.Prelude.{◌≡◌, ℕ, zero, suc, Bool, true, List, [], ◌∷◌, ◌&&◌}
 use Rattle.std.proofs.Common.{refl}
 use Rattle.std.proofs.lemmas.Bool.{and_parts}
-use Rattle.asn1_core_oid.specs.Arcs.{arcs}
+use Rattle.asn1_core.specs.Der.{arcs, IsOid, is_oid, oid_from_test}
 pub use Rattle.asn1_core_oid.specs.Known.{data_oid}
-use Rattle.asn1_core_oid.specs.Oid.{IsOid}
-use Rattle.asn1_core_oid.specs.OidTest.{is_oid}
-use Rattle.asn1_core_oid.specs.OidTestLaws.{oid_from_test}
 
 abbrev pkcs : List ℕ → List ℕ
 pkcs further = 1 ∷ 2 ∷ 840 ∷ 113549 ∷ 1 ∷ further

@@ -7,8 +7,8 @@ ghost use Rattle.x509_pkcs12_parts.specs.BagsEqual.{secret_equal, encrypted_key_
 
 use crate::oids::{Known, X509_CERTIFICATE, X509_CRL};
 use asn1_choices::{AnyOid, AnyOidRef, Arm, Chosen, WriteChoice};
-use asn1_core::prelude::*;
 use asn1_core::OidRef;
+use asn1_core::prelude::*;
 use pkcs12_algs::Pkcs12EncryptionAlgorithm;
 use std::alloc::Global;
 
@@ -162,7 +162,7 @@ impl EqualByText for SecretBag {
 
 impl TryClone for SecretBag {
     fn try_clone(&self, alloc: Global) -> Result<Self, Error> {
-        clone_of!(self, alloc, SecretBag { type_id, value })
+        clone_of!(self, alloc; SecretBag { type_id, value })
     }
 }
 
@@ -215,6 +215,6 @@ impl EqualByText for EncryptedKeyBag {
 
 impl TryClone for EncryptedKeyBag {
     fn try_clone(&self, alloc: Global) -> Result<Self, Error> {
-        clone_of!(self, alloc, EncryptedKeyBag { algorithm, encrypted_data })
+        clone_of!(self, alloc; EncryptedKeyBag { algorithm, encrypted_data })
     }
 }

@@ -146,6 +146,6 @@ impl EqualByText for EncryptedSafeContents {
 
 impl TryClone for EncryptedSafeContents {
     fn try_clone(&self, alloc: Global) -> Result<Self, Error> {
-        clone_of!(self, alloc, EncryptedSafeContents { algorithm, encrypted_content })
+        clone_of!(self, alloc; EncryptedSafeContents { algorithm, encrypted_content })
     }
 }

@@ -2,9 +2,7 @@
 
 ghost use Rattle.std.specs.Prelude.{List, map};
 ghost use Rattle.std.proofs.Common.{arith};
-ghost use Rattle.asn1_core_format.specs.Rows.{within};
-ghost use Rattle.asn1_core_format.specs.RowLaws.{lawful_within};
-ghost use Rattle.asn1_core_format.specs.Sequences.{set_of};
+ghost use Rattle.asn1_core.specs.Der.{within, lawful_within, set_of};
 
 use asn1_core::prelude::*;
 use std::alloc::Global;

@@ -5,10 +5,7 @@
 --   ContentEncryptionAlgorithmIdentifier, encryptedContent [0] IMPLICIT EncryptedContent OPTIONAL } (RFC 5652, 6.1)
 use Rattle.std.specs.Prelude.{◌≡◌, ℕ, List, Option, map}
 use Rattle.std.proofs.Common.{arith, ⊎_elim}
-use Rattle.asn1_core.specs.Der.{Format, IsLawful, sequence, part, optional, nothing, each, set_of, number_below, object_identifier, octet_string, octets_of, option_value, lawful_sequence, followed_by, perhaps, lawful_nothing, lawful_set, lawful_number, lawful_object_identifier, lawful_octet_string, Octets, OidOctets}
-use Rattle.asn1_core.specs.Octets.{any_octets}
-use Rattle.asn1_core_format.specs.Tagged.{implicit}
-use Rattle.asn1_core_format.specs.TaggedLaws.{lawful_implicit, within_tagged, leaf_tagged}
+use Rattle.asn1_core.specs.Der.{Format, IsLawful, sequence, part, optional, nothing, each, set_of, number_below, object_identifier, octet_string, octets_of, option_value, lawful_sequence, followed_by, perhaps, lawful_nothing, lawful_set, lawful_number, Octets, OidOctets, der_laws, implicit, lawful_implicit, within_tagged}
 use Rattle.pkcs7_content.specs.Versions.{number_of}
 use Rattle.pkcs7_signed_parts.specs.Certificates.{CertificateValue, certificates_value, certificate_choice, certificate_set, lawful_certificate_set}
 use Rattle.pkcs7_signed_parts.specs.Revocations.{RevocationValue, revocations_value, revocation, revocations, lawful_revocations}
@@ -31,12 +28,10 @@ abbrev pub encrypted_content : Format EncryptedContentValue
 encrypted_content = sequence (part object_identifier (part algorithm_identifier (optional (implicit 0x80 0x04 octet_string) nothing)))
 
 lawful_encrypted_octets : IsLawful (implicit 0x80 0x04 octet_string)
-lawful_encrypted_octets = lawful_implicit 0x80 0x04 octet_string lawful_octet_string (leaf_tagged 0x04 (omega arith) any_octets) (omega arith)
+lawful_encrypted_octets = search der_laws depth 20
 
 pub lawful_encrypted_content : IsLawful encrypted_content
-lawful_encrypted_content =
-    lawful_sequence (followed_by lawful_object_identifier (followed_by lawful_algorithm_identifier
-    (perhaps lawful_encrypted_octets (λ t h e. e) lawful_nothing)))
+lawful_encrypted_content = search (der_laws, lawful_algorithm_identifier, lawful_encrypted_octets) depth 20
 
 abbrev pub OriginatorValue : Type 0
 OriginatorValue = Option (List CertificateValue) × (Option (List RevocationValue) × Unit {0})

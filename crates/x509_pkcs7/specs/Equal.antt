@@ -1,19 +1,11 @@
 -- `==` is equality of what the values contain.
+use Rattle.asn1_core.specs.Der.{SeesEqual, der_equal}
+use Rattle.x509_base.specs.Equal.{x509_equal}
 use Rattle.std.proofs.Common.{rules}
-use Rattle.asn1_core.specs.Der.{list_equal, option_equal, two_equal}
-use Rattle.asn1_core.specs.Equal.{octets_equal, raw_equal, with_end}
-use Rattle.asn1_core_format.specs.Views.{SeesEqual}
-use Rattle.asn1_leaves_times.specs.Times.{moment_of_generalized}
 use Rattle.asn1_leaves_times.specs.TimesLaws.{equal_generalized}
 use Rattle.pkcs7_content.specs.contracts.versions.CmsVersionPartialEq.TheImpl as Version
 use Rattle.pkcs7_content.specs.Versions.{number_of}
-use Rattle.pkcs7_content_ctl.specs.Equal.{oid_equal}
-use Rattle.pkcs7_signed_parts.specs.Certificates.{certificates_value}
 use Rattle.pkcs7_signed_parts.specs.Equal.{certificates_equal, revocations_equal}
-use Rattle.pkcs7_signed_parts.specs.Revocations.{revocations_value}
-use Rattle.x509_base.specs.Equal.{algorithm_equal, attribute_equal}
-use Rattle.x509_base.specs.Names.{attribute_value}
-use Rattle.std.specs.Prelude.{map}
 use Rattle.x509_pkcs7.specs.ContentInfos.{content_info_value}
 use Rattle.x509_pkcs7.specs.Descriptors.{descriptor_value, general_descriptor_value}
 use Rattle.x509_pkcs7.specs.Enveloped.{encrypted_content_value, originator_value, enveloped_value}
@@ -34,50 +26,31 @@ version_equal : SeesEqual Version.ghosts.eq number_of
 version_equal x y = search rules
 
 pub content_info_equal : SeesEqual Content.ghosts.eq content_info_value
-content_info_equal x y = two_equal (oid_equal x.content_type y.content_type) (with_end (raw_equal x.content.0 y.content.0))
+content_info_equal x y = search der_equal depth 20
 
 pub other_key_equal : SeesEqual OtherKey.ghosts.eq other_key_value
-other_key_equal x y = two_equal (oid_equal x.key_attr_id y.key_attr_id) (with_end (option_equal _ (λ z. z.0.items) raw_equal x.key_attr y.key_attr))
+other_key_equal x y = search der_equal depth 20
 
 pub kek_id_equal : SeesEqual KekId.ghosts.eq kek_id_value
-kek_id_equal x y =
-    two_equal (octets_equal x.key_identifier y.key_identifier)
-    (two_equal (option_equal _ (λ t. moment_of_generalized t.0) (λ a b. equal_generalized a.0 b.0) x.date.0 y.date.0)
-    (with_end (option_equal _ other_key_value other_key_equal x.other.0 y.other.0)))
+kek_id_equal x y = search (der_equal, equal_generalized, other_key_equal) depth 20
 
 pub kek_recipient_equal : SeesEqual KekRecipient.ghosts.eq kek_recipient_value
-kek_recipient_equal x y =
-    two_equal (version_equal x.version y.version)
-    (two_equal (kek_id_equal x.kek_id y.kek_id)
-    (two_equal (algorithm_equal x.key_encryption_algorithm y.key_encryption_algorithm)
-    (with_end (octets_equal x.encrypted_key y.encrypted_key))))
+kek_recipient_equal x y = search (x509_equal, version_equal, kek_id_equal) depth 20
 
 pub recipient_equal : SeesEqual Recipient.ghosts.eq recipient_value
 recipient_equal (Kek x) (Kek y) = kek_recipient_equal x y
 
 pub encrypted_content_equal : SeesEqual Encrypted.ghosts.eq encrypted_content_value
-encrypted_content_equal x y =
-    two_equal (oid_equal x.content_type y.content_type)
-    (two_equal (algorithm_equal x.content_encryption_algorithm y.content_encryption_algorithm)
-    (with_end (option_equal _ (λ c. c.0.0.items) (λ a b. octets_equal a.0 b.0) x.encrypted_content.0 y.encrypted_content.0)))
+encrypted_content_equal x y = search x509_equal depth 20
 
 pub originator_equal : SeesEqual Originator.ghosts.eq originator_value
-originator_equal x y =
-    two_equal (option_equal _ (λ c. certificates_value c.0) (λ a b. certificates_equal a.0 b.0) x.certs.0 y.certs.0)
-    (with_end (option_equal _ (λ c. revocations_value c.0) (λ a b. revocations_equal a.0 b.0) x.crls.0 y.crls.0))
+originator_equal x y = search (der_equal, certificates_equal, revocations_equal) depth 20
 
 pub enveloped_equal : SeesEqual Enveloped.ghosts.eq enveloped_value
-enveloped_equal x y =
-    two_equal (version_equal x.version y.version)
-    (two_equal (option_equal _ (λ o. originator_value o.0) (λ a b. originator_equal a.0 b.0) x.originator_info.0 y.originator_info.0)
-    (two_equal (list_equal _ _ recipient_equal x.recipient_infos.0.items y.recipient_infos.0.items)
-    (two_equal (encrypted_content_equal x.encrypted_content_info y.encrypted_content_info)
-    (with_end (option_equal _ (λ a. map attribute_value a.0.0.items) (λ a b. list_equal _ _ attribute_equal a.0.0.items b.0.0.items) x.unprotected_attrs.0 y.unprotected_attrs.0)))))
+enveloped_equal x y = search (x509_equal, version_equal, originator_equal, recipient_equal, encrypted_content_equal) depth 20
 
 pub descriptor_equal : SeesEqual Descriptor.ghosts.eq descriptor_value
 descriptor_equal x y = search rules
 
 pub general_descriptor_equal : SeesEqual General.ghosts.eq general_descriptor_value
-general_descriptor_equal x y =
-    two_equal (oid_equal x.descriptor_type y.descriptor_type)
-    (with_end (list_equal _ _ (λ a b. list_equal _ _ descriptor_equal a.0.items b.0.items) x.descriptors.0.items y.descriptors.0.items))
+general_descriptor_equal x y = search (der_equal, descriptor_equal) depth 20

@@ -6,9 +6,7 @@
 -- OtherKeyAttribute ::= SEQUENCE { keyAttrId OBJECT IDENTIFIER, keyAttr ANY DEFINED BY keyAttrId OPTIONAL } (RFC 5652, 10.2.7)
 use Rattle.std.specs.Prelude.{◌≡◌, ℕ, Option}
 use Rattle.std.proofs.Common.{arith, ⊎_elim}
-use Rattle.asn1_core.specs.Der.{Format, IsLawful, sequence, part, optional, nothing, number_below, object_identifier, octet_string, raw, octets_of, option_value, lawful_sequence, followed_by, perhaps, lawful_nothing, lawful_number, lawful_object_identifier, lawful_octet_string, lawful_raw, Octets, OidOctets, ElementOctets}
-use Rattle.asn1_core_format.specs.Tagged.{implicit}
-use Rattle.asn1_core_format.specs.TaggedLaws.{lawful_implicit, within_tagged}
+use Rattle.asn1_core.specs.Der.{Format, IsLawful, sequence, part, optional, nothing, number_below, object_identifier, octet_string, raw, octets_of, option_value, lawful_sequence, followed_by, perhaps, lawful_nothing, lawful_octet_string, Octets, OidOctets, ElementOctets, der_laws, implicit, lawful_implicit, within_tagged}
 use Rattle.asn1_leaves.specs.Times.{generalized_time, lawful_generalized_time}
 use Rattle.asn1_leaves_times.specs.Times.{moment_of_generalized}
 use Rattle.asn1_leaves_times.specs.declared.calendar.Moment.{Moment}
@@ -32,7 +30,7 @@ abbrev pub other_key : Format OtherKeyValue
 other_key = sequence (part object_identifier (optional raw nothing))
 
 pub lawful_other_key : IsLawful other_key
-lawful_other_key = lawful_sequence (followed_by lawful_object_identifier (perhaps lawful_raw (λ t h e. e) lawful_nothing))
+lawful_other_key = search der_laws depth 20
 
 abbrev pub KekIdValue : Type 0
 KekIdValue = Octets × (Option Moment × (Option OtherKeyValue × Unit {0}))
@@ -62,9 +60,7 @@ abbrev pub kek_recipient : Format KekRecipientValue
 kek_recipient = sequence kek_recipient_row
 
 pub lawful_kek_recipient : IsLawful kek_recipient
-lawful_kek_recipient =
-    lawful_sequence (followed_by (lawful_number 6) (followed_by lawful_kek_id
-    (followed_by lawful_algorithm_identifier (followed_by lawful_octet_string lawful_nothing))))
+lawful_kek_recipient = search (der_laws, lawful_kek_id, lawful_algorithm_identifier) depth 20
 
 abbrev pub recipient_value : RecipientInfo → KekRecipientValue
 recipient_value (Kek k) = kek_recipient_value k

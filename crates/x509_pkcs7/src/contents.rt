@@ -1,12 +1,12 @@
 //! Content under its type (RFC 5652, 3).
 
 ghost use Rattle.std.specs.Prelude.{◌≡◌};
-ghost use Rattle.asn1_core_format.specs.Whole.{AnswersInput};
+ghost use Rattle.asn1_core.specs.Der.{AnswersInput};
 ghost use Rattle.x509_pkcs7.specs.ContentInfos.{ContentInfoValue, content_info_value, content_info, lawful_content_info};
 ghost use Rattle.x509_pkcs7.specs.Equal.{content_info_equal};
 
-use asn1_core::prelude::*;
 use asn1_core::from_bytes;
+use asn1_core::prelude::*;
 use std::alloc::Global;
 
 /// `ContentType ::= OBJECT IDENTIFIER`

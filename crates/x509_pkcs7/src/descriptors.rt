@@ -54,7 +54,7 @@ impl EqualByText for ProtectionDescriptor {
 
 impl TryClone for ProtectionDescriptor {
     fn try_clone(&self, alloc: Global) -> Result<Self, Error> {
-        clone_of!(self, alloc, ProtectionDescriptor { descriptor_type, descriptor_value })
+        clone_of!(self, alloc; ProtectionDescriptor { descriptor_type, descriptor_value })
     }
 }
 
@@ -108,6 +108,6 @@ impl EqualByText for GeneralProtectionDescriptor {
 
 impl TryClone for GeneralProtectionDescriptor {
     fn try_clone(&self, alloc: Global) -> Result<Self, Error> {
-        clone_of!(self, alloc, GeneralProtectionDescriptor { descriptor_type, descriptors })
+        clone_of!(self, alloc; GeneralProtectionDescriptor { descriptor_type, descriptors })
     }
 }

@@ -2,7 +2,7 @@
 
 ghost use Rattle.std.specs.Prelude.{◌≡◌};
 ghost use Rattle.std.proofs.Common.{arith};
-ghost use Rattle.asn1_core_format.specs.TaggedLaws.{within_tagged};
+ghost use Rattle.asn1_core.specs.Der.{within_tagged};
 ghost use Rattle.x509_pkcs7.specs.Enveloped.{EncryptedContentValue, encrypted_content_value, encrypted_content, lawful_encrypted_content, OriginatorValue, originator_value, originator_row, originator, lawful_originator, EnvelopedValue, enveloped_value, enveloped, lawful_enveloped};
 ghost use Rattle.x509_pkcs7.specs.Equal.{encrypted_content_equal, originator_equal, enveloped_equal};
 

@@ -2,7 +2,7 @@
 
 ghost use Rattle.std.specs.Prelude.{◌≡◌};
 ghost use Rattle.std.proofs.Common.{arith};
-ghost use Rattle.asn1_core_format.specs.TaggedLaws.{within_tagged};
+ghost use Rattle.asn1_core.specs.Der.{within_tagged};
 ghost use Rattle.x509_pkcs7.specs.Equal.{other_key_equal, kek_id_equal, kek_recipient_equal, recipient_equal};
 ghost use Rattle.x509_pkcs7.specs.Recipients.{OtherKeyValue, other_key_value, other_key, lawful_other_key, KekIdValue, kek_id_value, kek_id, lawful_kek_id, KekRecipientValue, kek_recipient_value, kek_recipient_row, kek_recipient, lawful_kek_recipient, recipient_value, recipient, lawful_recipient};
 
@@ -75,7 +75,7 @@ impl EqualByText for OtherKeyAttribute {
 
 impl TryClone for OtherKeyAttribute {
     fn try_clone(&self, alloc: Global) -> Result<Self, Error> {
-        clone_of!(self, alloc, OtherKeyAttribute { key_attr_id, key_attr })
+        clone_of!(self, alloc; OtherKeyAttribute { key_attr_id, key_attr })
     }
 }
 
@@ -128,7 +128,7 @@ impl EqualByText for KekIdentifier {
 
 impl TryClone for KekIdentifier {
     fn try_clone(&self, alloc: Global) -> Result<Self, Error> {
-        clone_of!(self, alloc, KekIdentifier { key_identifier, date, other })
+        clone_of!(self, alloc; KekIdentifier { key_identifier, date, other })
     }
 }
 

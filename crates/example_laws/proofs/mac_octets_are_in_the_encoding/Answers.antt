@@ -1,4 +1,4 @@
-use Rattle.asn1_core_element.specs.Element.{element}
+use Rattle.asn1_core.specs.Der.{element}
 use Rattle.example_laws.proofs.mac_octets_are_in_the_encoding.Goals as goal
 
 pub returns : goal.returns

@@ -1,14 +1,12 @@
 //! What Authenticode signs.
 
-ghost use Rattle.x509_containers.specs.AuthenticodeKinds.{rewriting_as, word_of};
+ghost use Rattle.x509_containers.specs.AuthenticodeKinds.{entry_of};
 
+use crate::at_type;
+use crate::kinds::table::word_of_kind;
 use asn1_core::Error;
-use pkcs7_content::{
-    File, Moniker, SpcAttributeAndOptionalValue, SpcIndirectDataContent, SpcLink, SpcPeImageData,
-    SpcPeImageFlags, SpcSerializedObject, SpcSipInfo, SpcSpOpusInfo, SpcString, SpcUuid, Url,
-};
-use std::alloc::Global;
 use der_engine::{KindOfInput, check_as, rewrite_as};
+use std::alloc::Global;
 
 /// What Authenticode signs.
 #[derive(Clone, Copy, Debug, PartialEq, Eq)]
@@ -28,55 +26,42 @@ pub enum AuthenticodeKind {
     Url,
 }
 
-/// The type of each kind, for a call at that type.
-macro_rules! by_type {
-    ($kind:expr, $call:ident($($argument:expr),*)) => {
-        match $kind {
-            AuthenticodeKind::File => $call::<File>($($argument),*),
-            AuthenticodeKind::Moniker => $call::<Moniker>($($argument),*),
-            AuthenticodeKind::SpcAttributeAndOptionalValue => $call::<SpcAttributeAndOptionalValue>($($argument),*),
-            AuthenticodeKind::SpcIndirectDataContent => $call::<SpcIndirectDataContent>($($argument),*),
-            AuthenticodeKind::SpcLink => $call::<SpcLink>($($argument),*),
-            AuthenticodeKind::SpcPeImageData => $call::<SpcPeImageData>($($argument),*),
-            AuthenticodeKind::SpcPeImageFlags => $call::<SpcPeImageFlags>($($argument),*),
-            AuthenticodeKind::SpcSerializedObject => $call::<SpcSerializedObject>($($argument),*),
-            AuthenticodeKind::SpcSipInfo => $call::<SpcSipInfo>($($argument),*),
-            AuthenticodeKind::SpcSpOpusInfo => $call::<SpcSpOpusInfo>($($argument),*),
-            AuthenticodeKind::SpcString => $call::<SpcString>($($argument),*),
-            AuthenticodeKind::SpcUuid => $call::<SpcUuid>($($argument),*),
-            AuthenticodeKind::Url => $call::<Url>($($argument),*),
+/// The table of these kinds.
+#[macro_export]
+macro_rules! authenticode_kinds {
+    ($by:ident $arguments:tt) => {
+        $crate::table_of_kinds! { $by $arguments AuthenticodeKind
+            File = "file",
+            Moniker = "moniker",
+            SpcAttributeAndOptionalValue = "spcattributeandoptionalvalue",
+            SpcIndirectDataContent = "spcindirectdatacontent",
+            SpcLink = "spclink",
+            SpcPeImageData = "spcpeimagedata",
+            SpcPeImageFlags = "spcpeimageflags",
+            SpcSerializedObject = "spcserializedobject",
+            SpcSipInfo = "spcsipinfo",
+            SpcSpOpusInfo = "spcspopusinfo",
+            SpcString = "spcstring",
+            SpcUuid = "spcuuid",
+            Url = "url",
         }
     };
 }
 
 impl KindOfInput for AuthenticodeKind {
-    ghost word_of = { word_of };
+    ghost word_of = { λ kind. (entry_of kind).word };
 
-    ghost rewriting_as = { rewriting_as };
+    ghost rewriting_as = { λ kind. (entry_of kind).rewriting };
 
     fn word(self) -> &'static str {
-        match self {
-            AuthenticodeKind::File => "file",
-            AuthenticodeKind::Moniker => "moniker",
-            AuthenticodeKind::SpcAttributeAndOptionalValue => "spcattributeandoptionalvalue",
-            AuthenticodeKind::SpcIndirectDataContent => "spcindirectdatacontent",
-            AuthenticodeKind::SpcLink => "spclink",
-            AuthenticodeKind::SpcPeImageData => "spcpeimagedata",
-            AuthenticodeKind::SpcPeImageFlags => "spcpeimageflags",
-            AuthenticodeKind::SpcSerializedObject => "spcserializedobject",
-            AuthenticodeKind::SpcSipInfo => "spcsipinfo",
-            AuthenticodeKind::SpcSpOpusInfo => "spcspopusinfo",
-            AuthenticodeKind::SpcString => "spcstring",
-            AuthenticodeKind::SpcUuid => "spcuuid",
-            AuthenticodeKind::Url => "url",
-        }
+        authenticode_kinds!(word_of_kind(self))
     }
 
     fn check(self, alloc: Global, input: &[u8]) -> Result<(bool, usize), Error> {
-        by_type!(self, check_as(alloc, input))
+        authenticode_kinds!(at_type(self, check_as, (alloc, input)))
     }
 
     fn rewrite(self, alloc: Global, input: &[u8], out: &mut Vec<u8>) -> Result<(), Error> {
-        by_type!(self, rewrite_as(alloc, input, out))
+        authenticode_kinds!(at_type(self, rewrite_as, (alloc, input, out)))
     }
 }

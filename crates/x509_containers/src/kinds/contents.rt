@@ -1,11 +1,12 @@
 //! Contents of PKCS #7.
 
-ghost use Rattle.x509_containers.specs.ContentKinds.{rewriting_as, word_of};
+ghost use Rattle.x509_containers.specs.ContentKinds.{entry_of};
 
+use crate::at_type;
+use crate::kinds::table::word_of_kind;
 use asn1_core::Error;
-use pkcs7_content::{CmsVersion, EncapsulatedContentInfo};
-use std::alloc::Global;
 use der_engine::{KindOfInput, check_as, rewrite_as};
+use std::alloc::Global;
 
 /// Contents of PKCS #7.
 #[derive(Clone, Copy, Debug, PartialEq, Eq)]
@@ -14,33 +15,31 @@ pub enum ContentKind {
     EncapsulatedContentInfo,
 }
 
-/// The type of each kind, for a call at that type.
-macro_rules! by_type {
-    ($kind:expr, $call:ident($($argument:expr),*)) => {
-        match $kind {
-            ContentKind::CmsVersion => $call::<CmsVersion>($($argument),*),
-            ContentKind::EncapsulatedContentInfo => $call::<EncapsulatedContentInfo>($($argument),*),
+/// The table of these kinds.
+#[macro_export]
+macro_rules! content_kinds {
+    ($by:ident $arguments:tt) => {
+        $crate::table_of_kinds! { $by $arguments ContentKind
+            CmsVersion = "cmsversion",
+            EncapsulatedContentInfo = "encapsulatedcontentinfo",
         }
     };
 }
 
 impl KindOfInput for ContentKind {
-    ghost word_of = { word_of };
+    ghost word_of = { λ kind. (entry_of kind).word };
 
-    ghost rewriting_as = { rewriting_as };
+    ghost rewriting_as = { λ kind. (entry_of kind).rewriting };
 
     fn word(self) -> &'static str {
-        match self {
-            ContentKind::CmsVersion => "cmsversion",
-            ContentKind::EncapsulatedContentInfo => "encapsulatedcontentinfo",
-        }
+        content_kinds!(word_of_kind(self))
     }
 
     fn check(self, alloc: Global, input: &[u8]) -> Result<(bool, usize), Error> {
-        by_type!(self, check_as(alloc, input))
+        content_kinds!(at_type(self, check_as, (alloc, input)))
     }
 
     fn rewrite(self, alloc: Global, input: &[u8], out: &mut Vec<u8>) -> Result<(), Error> {
-        by_type!(self, rewrite_as(alloc, input, out))
+        content_kinds!(at_type(self, rewrite_as, (alloc, input, out)))
     }
 }

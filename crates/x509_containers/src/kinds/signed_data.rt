@@ -1,13 +1,12 @@
 //! Signed data, signers, and what they hold.
 
-ghost use Rattle.x509_containers.specs.SignedDataKinds.{rewriting_as, word_of};
+ghost use Rattle.x509_containers.specs.SignedDataKinds.{entry_of};
 
+use crate::at_type;
+use crate::kinds::table::word_of_kind;
 use asn1_core::Error;
-use pkcs7_signed::{
-    Pkcs7Certificate, SignedData, SignerInfo, SignersInfos, UnsignedAttribute, UnsignedAttributes,
-};
-use std::alloc::Global;
 use der_engine::{KindOfInput, check_as, rewrite_as};
+use std::alloc::Global;
 
 /// Signed data, signers, and what they hold.
 #[derive(Clone, Copy, Debug, PartialEq, Eq)]
@@ -20,41 +19,35 @@ pub enum SignedDataKind {
     UnsignedAttributes,
 }
 
-/// The type of each kind, for a call at that type.
-macro_rules! by_type {
-    ($kind:expr, $call:ident($($argument:expr),*)) => {
-        match $kind {
-            SignedDataKind::Pkcs7Certificate => $call::<Pkcs7Certificate>($($argument),*),
-            SignedDataKind::SignedData => $call::<SignedData>($($argument),*),
-            SignedDataKind::SignerInfo => $call::<SignerInfo>($($argument),*),
-            SignedDataKind::SignersInfos => $call::<SignersInfos>($($argument),*),
-            SignedDataKind::UnsignedAttribute => $call::<UnsignedAttribute>($($argument),*),
-            SignedDataKind::UnsignedAttributes => $call::<UnsignedAttributes>($($argument),*),
+/// The table of these kinds.
+#[macro_export]
+macro_rules! signed_data_kinds {
+    ($by:ident $arguments:tt) => {
+        $crate::table_of_kinds! { $by $arguments SignedDataKind
+            Pkcs7Certificate = "pkcs7certificate",
+            SignedData = "signeddata",
+            SignerInfo = "signerinfo",
+            SignersInfos = "signersinfos",
+            UnsignedAttribute = "unsignedattribute",
+            UnsignedAttributes = "unsignedattributes",
         }
     };
 }
 
 impl KindOfInput for SignedDataKind {
-    ghost word_of = { word_of };
+    ghost word_of = { λ kind. (entry_of kind).word };
 
-    ghost rewriting_as = { rewriting_as };
+    ghost rewriting_as = { λ kind. (entry_of kind).rewriting };
 
     fn word(self) -> &'static str {
-        match self {
-            SignedDataKind::Pkcs7Certificate => "pkcs7certificate",
-            SignedDataKind::SignedData => "signeddata",
-            SignedDataKind::SignerInfo => "signerinfo",
-            SignedDataKind::SignersInfos => "signersinfos",
-            SignedDataKind::UnsignedAttribute => "unsignedattribute",
-            SignedDataKind::UnsignedAttributes => "unsignedattributes",
-        }
+        signed_data_kinds!(word_of_kind(self))
     }
 
     fn check(self, alloc: Global, input: &[u8]) -> Result<(bool, usize), Error> {
-        by_type!(self, check_as(alloc, input))
+        signed_data_kinds!(at_type(self, check_as, (alloc, input)))
     }
 
     fn rewrite(self, alloc: Global, input: &[u8], out: &mut Vec<u8>) -> Result<(), Error> {
-        by_type!(self, rewrite_as(alloc, input, out))
+        signed_data_kinds!(at_type(self, rewrite_as, (alloc, input, out)))
     }
 }

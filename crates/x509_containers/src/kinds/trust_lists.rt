@@ -1,13 +1,12 @@
 //! Trust lists and their parts.
 
-ghost use Rattle.x509_containers.specs.TrustListKinds.{rewriting_as, word_of};
+ghost use Rattle.x509_containers.specs.TrustListKinds.{entry_of};
 
+use crate::at_type;
+use crate::kinds::table::word_of_kind;
 use asn1_core::Error;
-use pkcs7_content::{
-    CTLEntry, CTLEntryAttribute, CertPolicy, Ctl, PolicyQualifier, RootProgramChainPolicy,
-};
-use std::alloc::Global;
 use der_engine::{KindOfInput, check_as, rewrite_as};
+use std::alloc::Global;
 
 /// Trust lists and their parts.
 #[derive(Clone, Copy, Debug, PartialEq, Eq)]
@@ -20,41 +19,35 @@ pub enum TrustListKind {
     RootProgramChainPolicy,
 }
 
-/// The type of each kind, for a call at that type.
-macro_rules! by_type {
-    ($kind:expr, $call:ident($($argument:expr),*)) => {
-        match $kind {
-            TrustListKind::CertPolicy => $call::<CertPolicy>($($argument),*),
-            TrustListKind::Ctl => $call::<Ctl>($($argument),*),
-            TrustListKind::CTLEntry => $call::<CTLEntry>($($argument),*),
-            TrustListKind::CTLEntryAttribute => $call::<CTLEntryAttribute>($($argument),*),
-            TrustListKind::PolicyQualifier => $call::<PolicyQualifier>($($argument),*),
-            TrustListKind::RootProgramChainPolicy => $call::<RootProgramChainPolicy>($($argument),*),
+/// The table of these kinds.
+#[macro_export]
+macro_rules! trust_list_kinds {
+    ($by:ident $arguments:tt) => {
+        $crate::table_of_kinds! { $by $arguments TrustListKind
+            CertPolicy = "certpolicy",
+            Ctl = "ctl",
+            CTLEntry = "ctlentry",
+            CTLEntryAttribute = "ctlentryattribute",
+            PolicyQualifier = "policyqualifier",
+            RootProgramChainPolicy = "rootprogramchainpolicy",
         }
     };
 }
 
 impl KindOfInput for TrustListKind {
-    ghost word_of = { word_of };
+    ghost word_of = { λ kind. (entry_of kind).word };
 
-    ghost rewriting_as = { rewriting_as };
+    ghost rewriting_as = { λ kind. (entry_of kind).rewriting };
 
     fn word(self) -> &'static str {
-        match self {
-            TrustListKind::CertPolicy => "certpolicy",
-            TrustListKind::Ctl => "ctl",
-            TrustListKind::CTLEntry => "ctlentry",
-            TrustListKind::CTLEntryAttribute => "ctlentryattribute",
-            TrustListKind::PolicyQualifier => "policyqualifier",
-            TrustListKind::RootProgramChainPolicy => "rootprogramchainpolicy",
-        }
+        trust_list_kinds!(word_of_kind(self))
     }
 
     fn check(self, alloc: Global, input: &[u8]) -> Result<(bool, usize), Error> {
-        by_type!(self, check_as(alloc, input))
+        trust_list_kinds!(at_type(self, check_as, (alloc, input)))
     }
 
     fn rewrite(self, alloc: Global, input: &[u8], out: &mut Vec<u8>) -> Result<(), Error> {
-        by_type!(self, rewrite_as(alloc, input, out))
+        trust_list_kinds!(at_type(self, rewrite_as, (alloc, input, out)))
     }
 }

@@ -1,9 +1,7 @@
 use Rattle.std.proofs.lemmas.Bool.{iff_false}
 use Rattle.std.proofs.lemmas.Result.{err_from_is_err_and}
 use Rattle.asn1_core_format.proofs.LevelReads.{gave_row}
-use Rattle.asn1_core_format.specs.Levels.{less}
-use Rattle.asn1_core_format.specs.Rows.{part, within}
-use Rattle.asn1_core_format.specs.Choices.{known}
+use Rattle.asn1_core.specs.Der.{less, part, within, known}
 use Rattle.asn1_choices.proofs.OidReads.{oid_refused}
 use Rattle.asn1_choices.proofs.NestedReads.{lawful_nested, held_failed, rest_failed, both_took, other_failed, other_took}
 use Rattle.asn1_choices.proofs.nested.read_nested_or.Goals as goal

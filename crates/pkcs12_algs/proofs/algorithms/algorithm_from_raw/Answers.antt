@@ -1,5 +1,5 @@
 use Rattle.std.proofs.Common.{sym, ap, ◌∙◌}
-use Rattle.asn1_core_oid.specs.OidValue.{octets_of}
+use Rattle.asn1_core.specs.Der.{octets_of}
 use Rattle.pkcs12_algs.proofs.KnownAlgorithms.{known_read}
 use Rattle.pkcs12_algs.specs.Algorithms.{raw_value}
 use Rattle.pkcs12_algs.proofs.algorithms.algorithm_from_raw.Goals as goal

@@ -1,5 +1,5 @@
 use Rattle.std.proofs.Common.{sym, subst}
-use Rattle.asn1_core_oid.specs.Oid.{IsOid}
+use Rattle.asn1_core.specs.Der.{IsOid}
 use Rattle.pkcs12_algs.proofs.kinds.oid_of_kind.Goals as goal
 
 pub known_oid-requires : goal.known_oid-requires

@@ -2,8 +2,7 @@ use Rattle.std.proofs.Common.{sym, subst}
 use Rattle.std.proofs.lemmas.Result.{err_from_is_err_and}
 use Rattle.asn1_core_format.proofs.LevelReads.{gave}
 use Rattle.asn1_core_format.proofs.RowReads.{within_refused, within_took}
-use Rattle.asn1_core_format.specs.Format.{Took}
-use Rattle.asn1_core_format.specs.Levels.{less}
+use Rattle.asn1_core.specs.Der.{Took, less}
 use Rattle.asn1_choices.proofs.DefinedByReads.{defined_took, oid_refused, row_refused}
 use Rattle.asn1_choices.specs.DefinedBy.{any_defined_by}
 use Rattle.pkcs7_signed.specs.Rows.{values_defined_by, attribute_row}

@@ -1,9 +1,7 @@
 use Rattle.std.proofs.Common.{sym, subst, arith}
 use Rattle.std.proofs.lemmas.Result.{err_from_is_err_and}
-use Rattle.asn1_core.specs.Der.{lawful_within}
+use Rattle.asn1_core.specs.Der.{lawful_within, Took, less}
 use Rattle.asn1_core_format.proofs.LevelReads.{gave}
-use Rattle.asn1_core_format.specs.Format.{Took}
-use Rattle.asn1_core_format.specs.Levels.{less}
 use Rattle.pkcs7_signed.specs.Rows.{certificate_row}
 use Rattle.pkcs7_signed.specs.Signers.{signer, signed_data, certificate}
 use Rattle.pkcs7_signed.specs.SignerLaws.{lawful_signed_data}

@@ -1,10 +1,7 @@
 use Rattle.std.proofs.Common.{◌≡◌, ◌-◌, suc, sym, subst, arith}
 use Rattle.std.proofs.lemmas.Result.{err_from_is_err_and}
-use Rattle.asn1_core.specs.Der.{sequence, set_of, lawful_set}
+use Rattle.asn1_core.specs.Der.{sequence, set_of, lawful_set, Took, less, lawful_less}
 use Rattle.asn1_core_format.proofs.LevelReads.{gave}
-use Rattle.asn1_core_format.specs.Format.{Took}
-use Rattle.asn1_core_format.specs.Levels.{less}
-use Rattle.asn1_core_format.specs.LevelLaws.{lawful_less}
 use Rattle.asn1_core_format.proofs.GateReads.{took_gated, refused_gated}
 use Rattle.pkcs7_signed.specs.Parts.{signed_parts}
 use Rattle.pkcs7_signed.specs.Signers.{signer, signed_data}

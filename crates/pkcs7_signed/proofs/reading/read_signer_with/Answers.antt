@@ -1,8 +1,7 @@
 use Rattle.std.proofs.Common.{sym, subst, arith}
 use Rattle.std.proofs.lemmas.Result.{err_from_is_err_and}
 use Rattle.asn1_core_format.proofs.LevelReads.{gave}
-use Rattle.asn1_core_format.specs.Format.{Took}
-use Rattle.asn1_core_format.specs.EmptySets.{lawful_set_or_none}
+use Rattle.asn1_core.specs.Der.{Took, lawful_set_or_none}
 use Rattle.pkcs7_content.specs.declared.versions.CmsVersion.TheVariants.{V1}
 use Rattle.pkcs7_signed.specs.Rows.{signer_row}
 use Rattle.pkcs7_signed.specs.Signers.{signer, attribute}

@@ -1,9 +1,7 @@
 use Rattle.std.proofs.Common.{sym, ◌∙◌, subst, refl}
 use Rattle.std.proofs.lemmas.Result.{err_from_is_err_and}
-use Rattle.asn1_core.specs.Der.{raw, set_of}
+use Rattle.asn1_core.specs.Der.{raw, set_of, less, TookRow}
 use Rattle.asn1_core_format.proofs.LevelReads.{gave_row}
-use Rattle.asn1_core_format.specs.Levels.{less}
-use Rattle.asn1_core_format.specs.Rows.{TookRow}
 use Rattle.asn1_choices.proofs.DefinedByReads.{arm_took, arm_refused, took_at, refused_at}
 use Rattle.asn1_choices.specs.DefinedByLaws.{itself}
 use Rattle.pkcs7_signed.specs.Rows.{kind_of, values_row}

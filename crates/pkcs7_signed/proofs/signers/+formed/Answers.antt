@@ -1,10 +1,7 @@
 use Rattle.std.proofs.Common.{◌≡◌, ◌-◌, ◌↔◌, suc, IsTrue, false, true, map, sym, ap, ◌∙◌, subst, arith, rules}
 use Rattle.std.proofs.lemmas.Bool.{iff_false}
-use Rattle.asn1_core.specs.Der.{octets_of}
+use Rattle.asn1_core.specs.Der.{octets_of, less, each, IsOid}
 use Rattle.asn1_core_format.proofs.ItemTests.{all_tested, one_failed}
-use Rattle.asn1_core_format.specs.Levels.{less}
-use Rattle.asn1_core_format.specs.Lists.{each}
-use Rattle.asn1_core_oid.specs.Oid.{IsOid}
 use Rattle.pkcs7_signed.specs.Rows.{kind_of, attribute_row, certificate_row}
 use Rattle.pkcs7_signed.specs.Signers.{signer, attribute, certificate, signer_infos, unsigned_attributes, values}
 use Rattle.pkcs7_signed.specs.SignerLevels.{value_ms_counter_sign, value_counter_sign, value_unknown, value_signers, value_attributes, out_certificate, out_attribute}

@@ -1,6 +1,6 @@
 use Rattle.std.proofs.Common.{◌↔◌, drop, map}
 use Rattle.std.specs.List.{AllByRecursion}
-use Rattle.asn1_core_format.specs.Lists.{each}
+use Rattle.asn1_core.specs.Der.{each}
 use Rattle.pkcs7_signed.specs.Signers.{signer, attribute, certificate}
 use Rattle.pkcs7_signed.specs.SignerValues.{signer_value, attribute_value, certificate_value}
 use Rattle.pkcs7_signed.proofs.signers.+formed.Given as goal

@@ -1,6 +1,6 @@
 use Rattle.std.proofs.Common.{sym, ap, ◌∙◌, subst}
 use Rattle.std.proofs.lemmas.Bool.{iff_false}
-use Rattle.asn1_core_format.specs.Levels.{less}
+use Rattle.asn1_core.specs.Der.{less}
 use Rattle.pkcs7_signed.specs.Rows.{attribute_row, certificate_row}
 use Rattle.pkcs7_signed.specs.Signers.{signer, certificate, signer_infos, unsigned_attributes, values}
 use Rattle.pkcs7_signed.specs.SignerLevels.{value_ms_counter_sign, value_counter_sign, value_unknown, value_signers, value_attributes, text_signed, out_certificate, out_attribute, short_text, long_text, none_in, some_in}

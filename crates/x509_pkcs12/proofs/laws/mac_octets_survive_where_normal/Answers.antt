@@ -1,4 +1,4 @@
-use Rattle.asn1_core.specs.Raw.{raw, lawful_raw}
+use Rattle.asn1_core.specs.Der.{raw, lawful_raw}
 use Rattle.x509_pkcs12.specs.Agree.{mac_octets_rewritten}
 use Rattle.x509_pkcs12.specs.Pfxs.{lawful_pfx}
 use Rattle.x509_pkcs12.proofs.laws.mac_octets_survive_where_normal.Goals as goal

@@ -1,9 +1,8 @@
 use Rattle.std.proofs.Common.{subst, sym}
 use Rattle.std.proofs.lemmas.Result.{err_from_is_err_and}
-use Rattle.asn1_core_format.specs.Format.{Took}
+use Rattle.asn1_core.specs.Der.{Took, less}
 use Rattle.asn1_core_format.proofs.LevelReads.{gave}
 use Rattle.asn1_core_format.proofs.RowReads.{within_refused, within_took}
-use Rattle.asn1_core_format.specs.Levels.{less}
 use Rattle.x509_pkcs12_bags.specs.Bags.{held_choice, bag_row, safe_bag, safe_contents}
 use Rattle.x509_pkcs12_bags.specs.BagsLaws.{lawful_safe_bag, lawful_safe_contents}
 use Rattle.x509_pkcs12_bags.specs.BagLevels.{value_rolled}

@@ -1,6 +1,6 @@
 use Rattle.std.proofs.Common.{rules, arith}
 use Rattle.std.proofs.lemmas.Bool.{iff_false}
-use Rattle.asn1_core.specs.Octets.{octet_string, lawful_octet_string}
+use Rattle.asn1_core.specs.Der.{octet_string, lawful_octet_string}
 use Rattle.asn1_core_format.proofs.EitherReads.{first_refused, second_refused}
 use Rattle.x509_base.specs.Algorithms.{raw_algorithm_identifier}
 use Rattle.x509_base.specs.AlgorithmLaws.{lawful_raw_algorithm_identifier}

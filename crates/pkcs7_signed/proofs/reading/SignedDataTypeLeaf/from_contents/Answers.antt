@@ -1,6 +1,5 @@
 use Rattle.std.proofs.Common.{◌≡◌, refl, sym, ◌∙◌, subst, rules}
-use Rattle.asn1_core_oid.specs.Oid.{IsOid}
-use Rattle.asn1_core_oid.specs.OidTestLaws.{oid_from_test}
+use Rattle.asn1_core.specs.Der.{IsOid, oid_from_test}
 use Rattle.pkcs7_signed.specs.Oids.{signed_data_oid}
 use Rattle.pkcs7_signed.proofs.reading.SignedDataTypeLeaf.from_contents.Goals as goal
 

@@ -1,5 +1,5 @@
 use Rattle.std.proofs.Common.{arith, rules}
-use Rattle.asn1_core_format.specs.Laws.{element_some}
+use Rattle.asn1_core.specs.Der.{element_some}
 use Rattle.asn1_core_format.proofs.RowReads.{alone_refused, alone_left}
 use Rattle.x509_pkcs12_parts.proofs.sets.OnlyReadRow.read_row.Goals as goal
 
