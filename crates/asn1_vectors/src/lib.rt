@@ -1,24 +1,14 @@
-//! Tests of the lower layers by their public calls, which no row of an input can say: readers, writers, streams and formats
-//! by themselves, values that are built, and large ones. Expected values are those of the standards, or of other tools.
+//! Tests of the lower layers by their public calls, of what neither a row nor a contract says: room and writes, kinds of
+//! refusal, words of errors, clones of what is copied, and ill-formed values. Expected values are those of the standards.
 #![tactic(auto)]
 
 #[cfg(test)]
-mod authenticode;
-#[cfg(test)]
 mod errors;
-#[cfg(test)]
-mod formats;
 #[cfg(test)]
 mod large;
 #[cfg(test)]
 mod objects;
 #[cfg(test)]
-mod streams;
-#[cfg(test)]
-mod strings;
-#[cfg(test)]
 mod times;
 #[cfg(test)]
 mod values;
-#[cfg(test)]
-mod writers;

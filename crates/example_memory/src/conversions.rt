@@ -1,6 +1,6 @@
 //! Values made from others.
 
-use crate::rounds::{Stop, expect, has_text, is_written};
+use crate::rounds::{Stop, expect, has_text, is_made, is_written};
 use crate::texts;
 use std::alloc::Global;
 use x509_containers::{
@@ -42,17 +42,21 @@ pub fn of_algorithms(alloc: Global) -> Result<(), Stop> {
         oid.octets() == texts::AES_256,
         "an object identifier of PBES2",
     )?;
-    let raw = Pkcs12DigestAlgorithm::Sha256.into_raw(alloc)?;
-    has_text(&raw, texts::SHA_256)?;
-    let raw = Pbkdf2Prf::HmacWithSha256.into_raw(alloc)?;
-    has_text(&raw, texts::HMAC_WITH_SHA_256)
+    is_made(
+        Pkcs12DigestAlgorithm::Sha256.into_raw(alloc),
+        texts::SHA_256,
+    )?;
+    is_made(
+        Pbkdf2Prf::HmacWithSha256.into_raw(alloc),
+        texts::HMAC_WITH_SHA_256,
+    )
 }
 
 /// Defaults and strings of Authenticode.
 pub fn of_authenticode(alloc: Global) -> Result<(), Stop> {
-    has_text(&SpcLink::default_in(alloc)?, texts::OBSOLETE_FILE)?;
-    has_text(&SpcSerializedObject::default_in(alloc)?, texts::PAGE_HASHES)?;
-    has_text(&SpcPeImageFlags::default_in(alloc)?, b"\x03\x02\x05\x80")?;
+    is_made(SpcLink::default_in(alloc), texts::OBSOLETE_FILE)?;
+    is_made(SpcSerializedObject::default_in(alloc), texts::PAGE_HASHES)?;
+    is_made(SpcPeImageFlags::default_in(alloc), b"\x03\x02\x05\x80")?;
     let text = String::from_str(alloc, "A\u{263A}")?;
     has_text(
         &SpcString::try_from_string(alloc, text)?,
@@ -64,8 +68,10 @@ pub fn of_authenticode(alloc: Global) -> Result<(), Stop> {
 
 /// Content, made and read as a type.
 pub fn of_contents(alloc: Global) -> Result<(), Stop> {
-    let data = EncapsulatedContentInfo::new_pkcs7_data(alloc, None)?;
-    has_text(&data, texts::NO_DATA)?;
+    is_made(
+        EncapsulatedContentInfo::new_pkcs7_data(alloc, None),
+        texts::NO_DATA,
+    )?;
     let info: ContentInfo = is_written(alloc, texts::CONTENT, texts::CONTENT)?;
     let outcome = info.content_typed::<OctetStringAsn1>(alloc);
     has_text(&info, texts::CONTENT)?;

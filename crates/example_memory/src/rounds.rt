@@ -59,6 +59,11 @@ pub fn has_text<T: DerSerialize>(value: &T, text: &[u8]) -> Result<(), Stop> {
     expect(is_written && compare.is_same(), "a value has another text")
 }
 
+/// Asks that a value is made that has the text. It is held here alone, so that its `drop` is proved for any type.
+pub fn is_made<T: DerDeserialize>(made: Result<T, Error>, text: &[u8]) -> Result<(), Stop> {
+    has_text(&made?, text)
+}
+
 /// Asks that the value is appended to a buffer, and that a refusal leaves both as they were.
 fn is_appended<T: DerSerialize>(alloc: Global, value: &T, text: &[u8]) -> Result<(), Stop> {
     let mut buffer = Vec::from_slice(alloc, b"ab")?;

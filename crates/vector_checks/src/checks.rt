@@ -91,28 +91,3 @@ pub fn is_rewritten<T: DerDeserialize + SeenByText + TryClone>(
     )?;
     Ok(value)
 }
-
-/// The value of the text, of which is asked that it is well-formed, is written back and equals its clone.
-pub fn is_read<T: DerDeserialize + SeenByText + TryClone>(
-    alloc: Global,
-    text: &[u8],
-) -> Result<T, Fail> {
-    is_rewritten(alloc, text, text)
-}
-
-/// The value of the text, of which is also asked that sinks get it, whatever they take a call.
-pub fn is_kept<T: DerDeserialize + SeenByText + TryClone>(
-    alloc: Global,
-    text: &[u8],
-) -> Result<T, Fail> {
-    let value: T = is_read(alloc, text)?;
-    is_sent(alloc, &value, text, 1)?;
-    is_sent(alloc, &value, text, usize::MAX)?;
-    Ok(value)
-}
-
-/// Why the text is refused.
-pub fn refusal<T: DerDeserialize>(alloc: Global, text: &[u8]) -> Option<Error> {
-    let outcome: Result<T, Error> = from_bytes(alloc, text);
-    outcome.err()
-}

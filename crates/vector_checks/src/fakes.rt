@@ -1,14 +1,10 @@
-//! Sources and sinks that move few bytes a call, and fail; and a type of a caller's own.
+//! Sources and sinks that move few bytes a call, and fail.
 
 ghost use Rattle.std.specs.Prelude.{◌≡◌, None};
 
-use asn1_core::Asn1RawDer;
-use asn1_core_format::DerSerialize;
 use asn1_core_streams::{Sink, Source};
-use asn1_core_writers::{WriteError, Writer};
 use std::alloc::Global;
-use std::io::{self, Error, ErrorKind, Read, Write};
-use std::rc::Rc;
+use std::io::{self, Error, ErrorKind};
 
 /// Gives one byte a read, and fails after a number of reads.
 #[derive(Drop)]
@@ -111,45 +107,5 @@ impl Sink for Narrow {
 
     fn failures(&self) -> u64 {
         self.failed
-    }
-}
-
-/// Fails at each call.
-#[derive(Drop)]
-pub struct Broken;
-
-impl Read for Broken {
-    fn read(&mut self, _buf: &mut [u8]) -> io::Result<usize> {
-        Err(Error::from(ErrorKind::BrokenPipe))
-    }
-}
-
-impl Write for Broken {
-    fn write(&mut self, _buf: &[u8]) -> io::Result<usize> {
-        Err(Error::from(ErrorKind::BrokenPipe))
-    }
-
-    fn flush(&mut self) -> io::Result<()> {
-        Ok(())
-    }
-}
-
-/// A raw element that several lists share, so that a text may be longer than the memory that it is made from.
-#[derive(Debug, Drop)]
-pub struct Shared(pub Rc<Asn1RawDer>);
-
-impl DerSerialize for Shared {
-    ghost Value = { ⟦<Asn1RawDer as DerSerialize>⟧.Value };
-
-    ghost value = { λ x. ⟦<Asn1RawDer as DerSerialize>⟧.value x.0.value };
-
-    ghost format = { ⟦<Asn1RawDer as DerSerialize>⟧.format };
-
-    fn put<W: Writer>(&self, w: &mut W) -> Result<(), WriteError> {
-        self.0.put(w)
-    }
-
-    fn well_formed_at(&self, limit: u8) -> bool {
-        self.0.well_formed_at(limit)
     }
 }
