@@ -1,7 +1,7 @@
 -- Trust lists and their parts, as kinds of input: their words, and what inputs are written as.
 use Rattle.std.specs.Prelude.{List, [], ◌∷◌, codes}
 use Rattle.pkcs7_content_ctl.specs.Policies.{cert_policy, chain_policy, policy_qualifier}
-use Rattle.pkcs7_content_ctl.specs.TrustLists.{ctl, entry, entry_attribute}
+use Rattle.pkcs7_content_ctl.specs.TrustLists.{ctl, entry as ctl_entry, entry_attribute}
 use Rattle.x509_containers.specs.Entries.{Entry, entry}
 use Rattle.x509_containers.specs.declared.kinds.trust_lists.TrustListKind.{TrustListKind}
 use Rattle.x509_containers.specs.declared.kinds.trust_lists.TrustListKind.TheVariants as Kind
@@ -9,7 +9,7 @@ use Rattle.x509_containers.specs.declared.kinds.trust_lists.TrustListKind.TheVar
 abbrev pub entry_of : TrustListKind → Entry
 entry_of Kind.CertPolicy = entry (codes "certpolicy") cert_policy
 entry_of Kind.Ctl = entry (codes "ctl") ctl
-entry_of Kind.CTLEntry = entry (codes "ctlentry") entry
+entry_of Kind.CTLEntry = entry (codes "ctlentry") ctl_entry
 entry_of Kind.CTLEntryAttribute = entry (codes "ctlentryattribute") entry_attribute
 entry_of Kind.PolicyQualifier = entry (codes "policyqualifier") policy_qualifier
 entry_of Kind.RootProgramChainPolicy = entry (codes "rootprogramchainpolicy") chain_policy
