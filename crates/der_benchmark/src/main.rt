@@ -5,30 +5,28 @@
 ghost use Rattle.std.specs.Prelude.{None};
 
 use asn1_core::{
-    Asn1RawDer, Asn1SequenceOf, Asn1SetOf, DerDeserialize, DerSerialize, Error,
-    ExplicitContextTag0, ObjectIdentifier, ObjectIdentifierAsn1, OctetStringAsn1, Optional, Sink,
-    TryClone, from_bytes, to_vec,
+    Asn1SequenceOf, DerDeserialize, DerSerialize, Error, ExplicitContextTag0, Sink, TryClone,
+    from_bytes, to_vec,
 };
-use asn1_leaves::{BmpString, BmpStringAsn1, CharSetError, IA5String, IA5StringAsn1};
+use asn1_leaves::{BmpStringAsn1, IA5StringAsn1};
 use std::alloc::Global;
 use std::time::Instant;
 use std::{env, io};
 use thiserror::Error as ThisError;
-use x509_base::{Extension, Extensions, Name, NameValue};
-use x509_containers::{
-    AuthenticatedSafeContentInfo, CertificateBag, CertificateChoices, CertificateList,
-    CertificateSet, ParsedAuthenticatedSafeDataRepr, Pfx, Pkcs12Attribute,
-    RawAuthenticatedSafeContentInfo, RawPfx, RevokedCertificates, SafeBag, SafeBagKind,
-    SafeContents, SafeContentsContentInfo, SignatureValue, SignedData, SignerInfo, SignersInfos,
-};
+use x509_base::{Extensions, Name};
+use x509_containers::{CertificateList, ParsedAuthenticatedSafeDataRepr, Pfx, RawPfx, SignedData};
 
 /// How often each call is timed; the shortest time counts.
 const ROUNDS: u32 = 30;
 
-/// A revocation list without entries.
-const REVOCATION_LIST: &[u8] = b"\
-    \x30\x24\x30\x18\x30\x05\x06\x03\x2A\x03\x04\x30\x00\x17\x0D\x32\x31\x30\x34\x32\x30\x30\x36\x35\
-    \x32\x32\x34\x5A\x30\x05\x06\x03\x2A\x03\x04\x03\x01\x00";
+/// Two extensions of 20 octets, of which one is critical.
+const EXTENSIONS: &[u8] = b"\
+    \x30\x1E\x06\x03\x55\x04\x03\x01\x01\xFF\x04\x14\x07\x07\x07\x07\x07\x07\x07\x07\x07\x07\x07\x07\
+    \x07\x07\x07\x07\x07\x07\x07\x07\x30\x1B\x06\x03\x55\x04\x03\x04\x14\x07\x07\x07\x07\x07\x07\x07\
+    \x07\x07\x07\x07\x07\x07\x07\x07\x07\x07\x07\x07\x07";
+
+/// An algorithm without parameters.
+const ALGORITHM: &[u8] = b"\x30\x05\x06\x03\x2A\x03\x04";
 
 /// An entry of a revocation list: a number of sixteen octets, a time and a reason.
 const REVOKED: &[u8] = b"\
@@ -36,22 +34,44 @@ const REVOKED: &[u8] = b"\
     \x30\x34\x32\x30\x30\x36\x35\x32\x32\x34\x5A\x30\x0C\x30\x0A\x06\x03\x55\x1D\x15\x04\x03\x0A\x01\
     \x01";
 
-/// Signed data without certificates and signers.
-const SIGNED_DATA: &[u8] = b"\
-    \x30\x14\x02\x01\x01\x31\x00\x30\x0B\x06\x09\x2A\x86\x48\x86\xF7\x0D\x01\x07\x01\x31\x00";
+/// What a revocation list begins with: an algorithm, a name of no parts and a time.
+const ISSUED: &[u8] = b"\
+    \x30\x05\x06\x03\x2A\x03\x04\x30\x00\x17\x0D\x32\x31\x30\x34\x32\x30\x30\x36\x35\x32\x32\x34\x5A";
 
-/// A signer by a number, with a signed attribute and an empty signature.
+/// What signed data begin with: version 1, no digests, and the content type of data.
+const UNSIGNED: &[u8] = b"\
+    \x02\x01\x01\x31\x00\x30\x0B\x06\x09\x2A\x86\x48\x86\xF7\x0D\x01\x07\x01";
+
+/// What a signer begins with: version 1, a number, algorithms and a signed attribute.
 const SIGNER: &[u8] = b"\
-    \x30\x2A\x02\x01\x01\x30\x05\x30\x00\x02\x01\x07\x30\x05\x06\x03\x2A\x03\x04\xA0\x0E\x30\x0C\x06\
-    \x03\x2A\x03\x04\x31\x05\x06\x03\x2A\x03\x05\x30\x05\x06\x03\x2A\x03\x04\x04\x00";
+    \x02\x01\x01\x30\x05\x30\x00\x02\x01\x07\x30\x05\x06\x03\x2A\x03\x04\xA0\x0E\x30\x0C\x06\x03\x2A\
+    \x03\x04\x31\x05\x06\x03\x2A\x03\x05\x30\x05\x06\x03\x2A\x03\x04";
+
+/// A set of one part of a name.
+const PARTS: &[u8] = b"\
+    \x31\x15\x30\x13\x06\x03\x55\x04\x03\x04\x0C\x07\x07\x07\x07\x07\x07\x07\x07\x07\x07\x07\x07";
+
+/// The content type of data.
+const DATA: &[u8] = b"\x06\x09\x2A\x86\x48\x86\xF7\x0D\x01\x07\x01";
+
+/// The type of bags with certificates, and that of X.509 certificates in them.
+const CERTIFICATE_BAG: &[u8] = b"\x06\x0B\x2A\x86\x48\x86\xF7\x0D\x01\x0C\x0A\x01\x03";
+
+const X509_CERTIFICATE: &[u8] = b"\x06\x0A\x2A\x86\x48\x86\xF7\x0D\x01\x09\x16\x01";
+
+/// The type of bags with keys.
+const KEY_BAG: &[u8] = b"\x06\x0B\x2A\x86\x48\x86\xF7\x0D\x01\x0C\x0A\x01\x01";
+
+/// A set of one local key identifier.
+const ATTRIBUTES: &[u8] = b"\
+    \x31\x25\x30\x23\x06\x09\x2A\x86\x48\x86\xF7\x0D\x01\x09\x15\x31\x16\x04\x14\x07\x07\x07\x07\x07\
+    \x07\x07\x07\x07\x07\x07\x07\x07\x07\x07\x07\x07\x07\x07\x07";
 
 /// Why nothing more was measured.
 #[derive(Debug, Drop, ThisError)]
 enum Failure {
     #[error("{0}")]
     Der(#[from] Error),
-    #[error("{0}")]
-    Text(#[from] CharSetError),
     #[error("{0}")]
     Clock(#[from] io::Error),
     #[error("not all of a text was sent")]
@@ -120,16 +140,6 @@ fn write_time<T: DerSerialize>(rt: &HostRuntime, value: &T) -> Result<Shortest, 
     Ok(best)
 }
 
-fn length_time<T: DerSerialize>(rt: &HostRuntime, value: &T) -> Result<Shortest, Failure> {
-    let mut best = Shortest(u64::MAX);
-    for _ in 0..ROUNDS {
-        let start = Instant::now(rt)?;
-        let _length = value.encoded_len()?;
-        best.take(rt, &start)?;
-    }
-    Ok(best)
-}
-
 /// The time of sending a value whose text has that many bytes, and in how many writes it was sent.
 fn send_time<T: DerSerialize>(
     rt: &HostRuntime,
@@ -177,258 +187,182 @@ fn clone_time<T: TryClone>(rt: &HostRuntime, value: &T) -> Result<Shortest, Fail
     Ok(best)
 }
 
-/// Prints one line: the ratios of a value's calls to a copy of its text, in hundredths.
+/// Prints one line: the ratios of the calls for the value of a text to a copy of the text, in hundredths.
 fn measure<T: DerDeserialize + TryClone>(
     rt: &HostRuntime,
     name: &str,
-    built: &T,
+    bytes: &[u8],
 ) -> Result<(), Failure> {
-    let bytes = to_vec(rt.alloc(), built)?;
-    let (value, read) = read_time::<T>(rt, bytes.as_slice())?;
-    let copy = copy_time(rt, bytes.as_slice())?;
+    let (value, read) = read_time::<T>(rt, bytes)?;
+    let copy = copy_time(rt, bytes)?;
     let size = bytes.len();
     let nanos = copy.0;
     let written = write_time(rt, &value)?.percent(&copy);
-    let measured = length_time(rt, &value)?.percent(&copy);
     let (sending, writes) = send_time(rt, &value, size)?;
     let sent = sending.percent(&copy);
     let read = read.percent(&copy);
     let cloned = clone_time(rt, &value)?.percent(&copy);
     println!(rt;
-        "{name}: {size} bytes, copy {nanos} ns; in % of it: to_vec {written}, encoded_len {measured}, emit {sent} ({writes} writes), from_bytes {read}, try_clone {cloned}"
+        "{name}: {size} bytes, copy {nanos} ns; in % of it: to_vec {written}, emit {sent} ({writes} writes), from_bytes {read}, try_clone {cloned}"
     )?;
     Ok(())
 }
 
-fn octets(alloc: Global, size: usize) -> Result<Vec<u8>, Error> {
-    let mut octets = Vec::new(alloc);
-    octets.resize(size, 7u8)?;
-    Ok(octets)
-}
-
-fn common_name(alloc: Global) -> Result<ObjectIdentifierAsn1, Error> {
-    Ok(ObjectIdentifierAsn1(ObjectIdentifier::from_octets(alloc, &[0x55, 0x04, 0x03])?))
-}
-
-fn extensions(alloc: Global, count: usize) -> Result<Extensions, Error> {
-    let mut items = Vec::new(alloc);
-    for i in 0..count {
-        items.push(Extension {
-            extn_id: common_name(alloc)?,
-            critical: i % 2 == 0,
-            extn_value: OctetStringAsn1(octets(alloc, 20)?),
-        })?;
-    }
-    Ok(Extensions(items))
-}
-
-fn revocation_list(alloc: Global, count: usize) -> Result<CertificateList, Error> {
-    let mut list: CertificateList = from_bytes(alloc, REVOCATION_LIST)?;
-    let mut entries = Vec::new(alloc);
+/// The bytes, so many times.
+fn repeated(alloc: Global, bytes: &[u8], count: usize) -> Result<Vec<u8>, Error> {
+    let mut all = Vec::new(alloc);
     for _ in 0..count {
-        entries.push(from_bytes(alloc, REVOKED)?)?;
+        all.extend_from_slice(bytes)?;
     }
-    list.tbs_cert_list.revoked_certificates = Some(RevokedCertificates(Asn1SequenceOf(entries)));
-    Ok(list)
+    Ok(all)
+}
+
+/// An element with that tag, of contents of less than 16 MB.
+fn element(alloc: Global, tag: u8, first: &[u8], then: &[u8]) -> Result<Vec<u8>, Error> {
+    let len = first.len().saturating_add(then.len());
+    let [.., high, middle, low] = len.to_be_bytes();
+    let mut text = Vec::new(alloc);
+    text.push(tag)?;
+    if len < 128 {
+        text.push(low)?;
+    } else if len < 256 {
+        text.extend_from_slice(&[0x81, low])?;
+    } else if len < 65536 {
+        text.extend_from_slice(&[0x82, middle, low])?;
+    } else {
+        text.extend_from_slice(&[0x83, high, middle, low])?;
+    }
+    text.extend_from_slice(first)?;
+    text.extend_from_slice(then)?;
+    Ok(text)
+}
+
+/// An element with that tag, of so many octets.
+fn octets(alloc: Global, tag: u8, size: usize) -> Result<Vec<u8>, Error> {
+    element(alloc, tag, &repeated(alloc, &[7], size)?, &[])
+}
+
+/// So many extensions, an even number.
+fn extensions(alloc: Global, count: usize) -> Result<Vec<u8>, Error> {
+    element(alloc, 0x30, &repeated(alloc, EXTENSIONS, count / 2)?, &[])
+}
+
+fn revocation_list(alloc: Global, count: usize) -> Result<Vec<u8>, Error> {
+    let entries = element(alloc, 0x30, &repeated(alloc, REVOKED, count)?, &[])?;
+    let list = element(alloc, 0x30, ISSUED, &entries)?;
+    let mut signature = Vec::from_slice(alloc, ALGORITHM)?;
+    signature.extend_from_slice(b"\x03\x01\x00")?;
+    element(alloc, 0x30, &list, &signature)
 }
 
 /// Signed data with so many certificates of 1,224 bytes, and as many signers.
-fn signed_data(alloc: Global, count: usize) -> Result<SignedData, Error> {
-    let mut signed: SignedData = from_bytes(alloc, SIGNED_DATA)?;
-    let mut certificates = Vec::new(alloc);
-    let mut signers = Vec::new(alloc);
-    for _ in 0..count {
-        let certificate = Asn1RawDer(to_vec(alloc, &extensions(alloc, 40)?)?);
-        certificates.push(CertificateChoices::Certificate(certificate))?;
-        let mut signer: SignerInfo = from_bytes(alloc, SIGNER)?;
-        signer.signature = SignatureValue(OctetStringAsn1(octets(alloc, 256)?));
-        signers.push(signer)?;
-    }
-    signed.certificates = Optional(CertificateSet(certificates));
-    signed.signers_infos = SignersInfos(Asn1SetOf(signers));
-    Ok(signed)
+fn signed_data(alloc: Global, count: usize) -> Result<Vec<u8>, Error> {
+    let signer = element(alloc, 0x30, SIGNER, &octets(alloc, 0x04, 256)?)?;
+    let certificates = repeated(alloc, &extensions(alloc, 40)?, count)?;
+    let certificates = element(alloc, 0xA0, &certificates, &[])?;
+    let signers = element(alloc, 0x31, &repeated(alloc, &signer, count)?, &[])?;
+    let mut parts = Vec::from_slice(alloc, UNSIGNED)?;
+    parts.extend_from_slice(&certificates)?;
+    element(alloc, 0x30, &parts, &signers)
 }
 
-fn name(alloc: Global, count: usize) -> Result<Name, Error> {
-    let mut sets = Vec::new(alloc);
-    for _ in 0..count {
-        let mut parts = Vec::new(alloc);
-        let value = Asn1RawDer(to_vec(alloc, &OctetStringAsn1(octets(alloc, 12)?))?);
-        parts.push(NameValue {
-            ty: common_name(alloc)?,
-            value,
-        })?;
-        sets.push(Asn1SetOf(parts))?;
-    }
-    Ok(Name(Asn1SequenceOf(sets)))
+fn name(alloc: Global, count: usize) -> Result<Vec<u8>, Error> {
+    element(alloc, 0x30, &repeated(alloc, PARTS, count)?, &[])
 }
 
-fn pfx(alloc: Global, size: usize) -> Result<RawPfx, Error> {
-    let content = Asn1RawDer(to_vec(alloc, &OctetStringAsn1(octets(alloc, size)?))?);
-    Ok(RawPfx {
-        version: 3,
-        auth_safe: RawAuthenticatedSafeContentInfo::Data(content),
-        mac_data: None,
-    })
+/// The bytes as data under their content type.
+fn content(alloc: Global, bytes: &[u8]) -> Result<Vec<u8>, Error> {
+    let octets = element(alloc, 0x04, bytes, &[])?;
+    element(alloc, 0x30, DATA, &element(alloc, 0xA0, &octets, &[])?)
 }
 
-/// A bag with a local key identifier.
-fn bag(alloc: Global, kind: SafeBagKind) -> Result<SafeBag, Error> {
-    let mut attributes = Vec::new(alloc);
-    let id = OctetStringAsn1(octets(alloc, 20)?);
-    attributes.push(Pkcs12Attribute::LocalKeyId(id))?;
-    Ok(SafeBag {
-        kind,
-        attributes: Some(attributes),
-    })
+/// A PFX around these data.
+fn pfx(alloc: Global, data: &[u8]) -> Result<Vec<u8>, Error> {
+    element(alloc, 0x30, b"\x02\x01\x03", &content(alloc, data)?)
 }
 
-fn certificates(alloc: Global, count: usize) -> Result<Vec<SafeBag>, Error> {
-    let mut bags = Vec::new(alloc);
-    for _ in 0..count {
-        let certificate = CertificateBag::X509(OctetStringAsn1(octets(alloc, 1_200)?));
-        bags.push(bag(alloc, SafeBagKind::Certificate(certificate))?)?;
-    }
-    Ok(bags)
+/// A PFX with so many bags of that type, each around an element and with a local key identifier.
+fn store(alloc: Global, kind: &[u8], held: &[u8], count: usize) -> Result<Vec<u8>, Error> {
+    let mut parts = Vec::from_slice(alloc, kind)?;
+    parts.extend_from_slice(&element(alloc, 0xA0, held, &[])?)?;
+    let bag = element(alloc, 0x30, &parts, ATTRIBUTES)?;
+    let bags = element(alloc, 0x30, &repeated(alloc, &bag, count)?, &[])?;
+    pfx(alloc, &element(alloc, 0x30, &content(alloc, &bags)?, &[])?)
 }
 
-fn keys(alloc: Global, count: usize) -> Result<Vec<SafeBag>, Error> {
-    let mut bags = Vec::new(alloc);
-    for _ in 0..count {
-        let key = Asn1RawDer(to_vec(alloc, &OctetStringAsn1(octets(alloc, 40)?))?);
-        bags.push(bag(alloc, SafeBagKind::Key(key))?)?;
-    }
-    Ok(bags)
+/// A certificate in a bag, of so many octets.
+fn certificate(alloc: Global, size: usize) -> Result<Vec<u8>, Error> {
+    let octets = element(alloc, 0xA0, &octets(alloc, 0x04, size)?, &[])?;
+    element(alloc, 0x30, X509_CERTIFICATE, &octets)
 }
 
 type Store = Pfx<ParsedAuthenticatedSafeDataRepr>;
-
-fn store(alloc: Global, bags: Vec<SafeBag>) -> Result<Store, Error> {
-    let mut contents = Vec::new(alloc);
-    contents.push(SafeContentsContentInfo::Data(SafeContents(bags)))?;
-    Ok(Pfx {
-        version: 3,
-        auth_safe: AuthenticatedSafeContentInfo::Data(contents),
-        mac_data: None,
-    })
-}
-
-/// Stores of many bags.
-fn measure_stores(rt: &HostRuntime) -> Result<(), Failure> {
-    let alloc = rt.alloc();
-    let few = certificates(alloc, 100)?;
-    measure(rt, "pfx, 100 certificates", &store(alloc, few)?)?;
-    let many = keys(alloc, 10_000)?;
-    measure(rt, "pfx, 10000 bags", &store(alloc, many)?)
-}
 
 type Four<T> = ExplicitContextTag0<
     ExplicitContextTag0<ExplicitContextTag0<ExplicitContextTag0<T>>>,
 >;
 
-fn four<T>(value: T) -> Four<T> {
-    ExplicitContextTag0(ExplicitContextTag0(ExplicitContextTag0(ExplicitContextTag0(value))))
+type Numbers = Asn1SequenceOf<u32>;
+
+/// So many numbers of three bytes, under so many explicit tags.
+fn numbers(alloc: Global, count: usize, tags: usize) -> Result<Vec<u8>, Error> {
+    let items = repeated(alloc, b"\x02\x01\x07", count)?;
+    let mut text = element(alloc, 0x30, &items, &[])?;
+    for _ in 0..tags {
+        text = element(alloc, 0xA0, &text, &[])?;
+    }
+    Ok(text)
 }
 
-/// The same octets under no tag, under four and under eight.
-fn measure_depths(rt: &HostRuntime) -> Result<(), Failure> {
-    let alloc = rt.alloc();
-    measure(
-        rt,
-        "octets, depth 1",
-        &OctetStringAsn1(octets(alloc, 100_000)?),
-    )?;
-    measure(
-        rt,
-        "octets, depth 5",
-        &four(OctetStringAsn1(octets(alloc, 100_000)?)),
-    )?;
-    measure(
-        rt,
-        "octets, depth 9",
-        &four(four(OctetStringAsn1(octets(alloc, 100_000)?))),
-    )
-}
-
-fn numbers(alloc: Global, count: usize) -> Result<Asn1SequenceOf<u32>, Error> {
-    let mut items = Vec::new(alloc);
-    items.resize(count, 7u32)?;
-    Ok(Asn1SequenceOf(items))
-}
-
-/// Prints one line: the times of writing and of sending a value, each in hundredths of another such time.
-fn measure_writing<T: DerSerialize>(
+/// Prints one line: the times of writing and of sending so many numbers under so many tags, each in hundredths of another
+/// such time.
+fn measure_writing<T: DerDeserialize>(
     rt: &HostRuntime,
-    name: &str,
-    value: &T,
+    count: usize,
+    tags: usize,
     writing: &Shortest,
     sending: &Shortest,
 ) -> Result<(), Failure> {
-    let size = value.encoded_len()?;
-    let written = write_time(rt, value)?.percent(writing);
-    let sent = send_time(rt, value, size)?.0.percent(sending);
+    let text = numbers(rt.alloc(), count, tags)?;
+    let value: T = from_bytes(rt.alloc(), &text)?;
+    let size = text.len();
+    let written = write_time(rt, &value)?.percent(writing);
+    let sent = send_time(rt, &value, size)?.0.percent(sending);
     println!(rt;
-        "{name}: {size} bytes; in % of the times of 10000 numbers at depth 1: to_vec {written}, emit {sent}"
+        "numbers, {tags} tags: {size} bytes; in % of the times of 10000 numbers under none: to_vec {written}, emit {sent}"
     )?;
     Ok(())
 }
 
 /// Many small items under no tag, under four and under eight, and then four times as many.
 fn measure_numbers(rt: &HostRuntime) -> Result<(), Failure> {
-    let alloc = rt.alloc();
-    let few = numbers(alloc, 10_000)?;
-    let size = few.encoded_len()?;
+    let text = numbers(rt.alloc(), 10_000, 0)?;
+    let few: Numbers = from_bytes(rt.alloc(), &text)?;
     let written = write_time(rt, &few)?;
-    let (sent, _) = send_time(rt, &few, size)?;
+    let (sent, _) = send_time(rt, &few, text.len())?;
     for count in [10_000, 40_000] {
-        measure_writing(
-            rt,
-            "numbers, depth 1",
-            &numbers(alloc, count)?,
-            &written,
-            &sent,
-        )?;
-        measure_writing(
-            rt,
-            "numbers, depth 5",
-            &four(numbers(alloc, count)?),
-            &written,
-            &sent,
-        )?;
-        measure_writing(
-            rt,
-            "numbers, depth 9",
-            &four(four(numbers(alloc, count)?)),
-            &written,
-            &sent,
-        )?;
+        measure_writing::<Numbers>(rt, count, 0, &written, &sent)?;
+        measure_writing::<Four<Numbers>>(rt, count, 4, &written, &sent)?;
+        measure_writing::<Four<Four<Numbers>>>(rt, count, 8, &written, &sent)?;
     }
     Ok(())
 }
 
-/// Strings whose octets are checked as they are read.
-fn measure_strings(rt: &HostRuntime) -> Result<(), Failure> {
-    let alloc = rt.alloc();
-    let letters = IA5String::new(octets(alloc, 100_000)?)?;
-    measure(rt, "IA5 string, 100000", &IA5StringAsn1(letters))?;
-    let units = BmpString::new(octets(alloc, 100_000)?)?;
-    measure(rt, "BMP string, 100000", &BmpStringAsn1(units))
-}
-
 fn measure_all(rt: &HostRuntime) -> Result<(), Failure> {
     let alloc = rt.alloc();
-    measure(rt, "extensions, 20000", &extensions(alloc, 20_000)?)?;
-    measure(
-        rt,
-        "revocation list, 20000",
-        &revocation_list(alloc, 20_000)?,
-    )?;
-    measure(rt, "signed data, 100", &signed_data(alloc, 100)?)?;
-    measure(rt, "name, 2000 parts", &name(alloc, 2_000)?)?;
-    measure(rt, "raw pfx, 1 MB", &pfx(alloc, 1_000_000)?)?;
-    measure_stores(rt)?;
-    measure_strings(rt)?;
-    measure_depths(rt)?;
+    measure::<Extensions>(rt, "extensions, 20000", &extensions(alloc, 20_000)?)?;
+    let list = revocation_list(alloc, 20_000)?;
+    measure::<CertificateList>(rt, "revocation list, 20000", &list)?;
+    measure::<SignedData>(rt, "signed data, 100", &signed_data(alloc, 100)?)?;
+    measure::<Name>(rt, "name, 2000 parts", &name(alloc, 2_000)?)?;
+    let data = octets(alloc, 0x04, 1_000_000)?;
+    measure::<RawPfx>(rt, "raw pfx, 1 MB", &pfx(alloc, &data)?)?;
+    let few = store(alloc, CERTIFICATE_BAG, &certificate(alloc, 1_200)?, 100)?;
+    measure::<Store>(rt, "pfx, 100 certificates", &few)?;
+    let many = store(alloc, KEY_BAG, &octets(alloc, 0x04, 40)?, 10_000)?;
+    measure::<Store>(rt, "pfx, 10000 bags", &many)?;
+    measure::<IA5StringAsn1>(rt, "IA5 string, 100000", &octets(alloc, 0x16, 100_000)?)?;
+    measure::<BmpStringAsn1>(rt, "BMP string, 100000", &octets(alloc, 0x1E, 100_000)?)?;
     measure_numbers(rt)
 }
 
