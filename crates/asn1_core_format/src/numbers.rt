@@ -10,8 +10,7 @@ ghost use Rattle.asn1_core_format.specs.TaggedLaws.{leaf_tagged};
 use crate::leaves::{Leaf, read_leaf, read_leaf_contents};
 use crate::tagged::DerTagged;
 use crate::traits::{DerDeserialize, DerSerialize};
-use asn1_core_element::{Error, Reader};
-use asn1_core_element::unsigned;
+use asn1_core_element::{Error, Reader, unsigned};
 use asn1_core_writers::{WriteError, Writer, put_unsigned};
 use std::alloc::Global;
 

@@ -8,13 +8,13 @@ ghost use Rattle.asn1_choices.specs.DefinedBy.{any_defined_by};
 ghost use Rattle.x509_pkcs12.specs.MacOctets.{mac_octets, auth_safe_of, Covers};
 ghost use Rattle.x509_pkcs12.specs.Pfxs.{PfxValue, pfx};
 
+use asn1_choices::{AnyDefinedBy, sequences_defined_by_are_lawful};
 use asn1_core::DerDeserialize;
 use asn1_core_format::laws::{
     gated_types_are_lawful, limits_agree, no_accepted_input_begins_another,
     normal_texts_stay_normal, rewriting_reaches_an_end, sets_left_out_are_lawful,
     texts_tell_normal_values,
 };
-use asn1_choices::{AnyDefinedBy, sequences_defined_by_are_lawful};
 use x509_pkcs12::{
     AuthenticatedSafeDataRepr, mac_octets_stand_in_the_input, mac_octets_stand_in_the_text,
     mac_octets_survive_where_normal, reads_as_the_raw_one,
