@@ -98,7 +98,10 @@ impl From<AllocError> for ReadError {
     }
 }
 
-/// Reads all that a source gives. The first read that fails ends it. What was read before an error is lost; a
+/// How many bytes are asked for at a time. They are read into an array on the stack.
+const PIECE: usize = 65_536;
+
+/// Reads all that a source gives, 64 KB at a time. The first read that fails ends it. What was read before an error is lost; a
 /// source that never ends gets `Memory`, once the vector holds what it may.
 pub fn read_all<S: Source>(alloc: Global, source: &mut S) -> Result<Vec<u8>, ReadError>
     requires { S.failed source.old < u64.MAX }
@@ -110,7 +113,7 @@ pub fn read_all<S: Source>(alloc: Global, source: &mut S) -> Result<Vec<u8>, Rea
         (λ e. S.failed source.new ≡ S.failed source.old + failed_reads e) }
 {
     let mut bytes = Vec::new(alloc);
-    let mut chunk = [0u8; 4096];
+    let mut chunk = [0u8; PIECE];
     loop {
         match source.read(&mut chunk) {
             Ok(0) => return Ok(bytes),
