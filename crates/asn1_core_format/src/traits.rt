@@ -3,12 +3,12 @@
 ghost use Rattle.std.specs.Prelude.{◌≡◌, ◌↔◌, ◌+◌, ◌-◌, ◌^◌, ◌<◌, ◌≤◌, ◌++◌, ℕ, IsTrue, false, length, take, vec_capacity, MatchResult};
 ghost use Rattle.asn1_core_element.specs.declared.error.Error.TheVariants.{TooLong};
 ghost use Rattle.asn1_core_format.specs.Format.{Format, IsLawful, Gives};
-ghost use Rattle.asn1_core_writers.specs.Sinks.{Emits};
+ghost use Rattle.asn1_core_writers.specs.Sinks.{Emits, Sends};
 ghost use Rattle.asn1_core_writers.specs.Texts.{Measures, Writes};
 
 use asn1_core_element::{Error, Reader};
 use asn1_core_streams::Sink;
-use asn1_core_writers::{Backward, Buffered, Forward, Measure, WriteError, Writer};
+use asn1_core_writers::{Backward, Buffered, Forward, Measure, SHORT, Short, WriteError, Writer};
 use std::alloc::Global;
 use std::mem;
 
@@ -68,22 +68,40 @@ pub trait DerSerialize {
         Ok(())
     }
 
-    /// Sends the text. Takes no memory: pieces of it wait in an array of 4 KB on the stack, so that the sink gets them
-    /// in few writes. A text that is too long is not begun.
+    /// Sends the text. Takes no memory. A text that is too long is not begun.
     ///
-    /// A header is sent before what it holds, which is measured for it. So what stands under n headers is measured n
-    /// times, and once at first: sending a deep value takes many times as long as `to_vec`, which measures all once.
+    /// A text of at most 16 KB is written into an array on the stack, and sent in one write. Of a longer one, pieces
+    /// wait in an array of 4 KB, so that the sink gets them in few writes. Then a header is sent before what it holds,
+    /// which is measured for it: what n headers enclose is measured n times, and once at first. So to send a long, deep
+    /// value takes many times as long as `to_vec`, which measures all once.
     final fn emit<S: Sink>(&self, sink: &mut S) -> Result<(), WriteError>
         requires { S.failed sink.old < u64.MAX }
         ensures { Emits (format.text (value self.now)) sink.old sink.new (S.held sink.old) (S.held sink.new) (S.failed sink.old) (S.failed sink.new) result }
     {
-        if self.encoded_len().is_err() {
+        let Ok(size) = self.encoded_len() else {
             return Err(WriteError::TooLong);
+        };
+        if size <= SHORT {
+            return send_short(self, sink);
         }
         let mut w = Buffered::new(sink);
         self.put(&mut w)?;
         w.flush()
     }
+}
+
+/// Sends a short text, which is written into an array at first.
+fn send_short<T: DerSerialize, S: Sink>(value: &T, sink: &mut S) -> Result<(), WriteError>
+    requires may { S.failed sink.old < u64.MAX }
+    requires short { length (T.format.text (T.value value.now)) ≤ 16384 }
+    ensures { Sends (T.format.text (T.value value.now)) (S.held sink.old) (S.held sink.new) (S.failed sink.old) (S.failed sink.new) result }
+{
+    let mut w = Short::new();
+    match value.put(&mut w) {
+        Ok(()) => {}
+        Err(_) => unreachable!(),
+    }
+    sink.bytes(w.as_slice())
 }
 
 /// From so many bytes on, a text of few pieces is appended from its front, so that no zeros are written first.

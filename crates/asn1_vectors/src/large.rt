@@ -6,16 +6,17 @@ use std::test::Fail;
 use vector_checks::checks::is_sent;
 use vector_checks::fakes::Narrow;
 
-/// Lengths of octet strings, and in how many writes a sink gets the list of them: at most 4,096 bytes wait for it.
+/// Lengths of octet strings, and in how many writes a sink gets the list of them: an encoding of at most 16,384 bytes is
+/// sent at once, and of a longer one at most 4,096 bytes wait.
 const WRITES: [(&[usize], usize); 8] = [
     (&[], 1),
-    (&[100, 100], 1),
-    (&[4088], 1),
-    (&[4089], 2),
-    (&[5000, 1], 3),
-    (&[3000, 3000, 3000], 3),
-    (&[10, 4096, 4097, 10], 5),
-    (&[20_000], 2),
+    (&[5000, 1], 1),
+    (&[16_376], 1),
+    (&[16_377], 2),
+    (&[4088, 12_500], 3),
+    (&[4089, 12_500], 4),
+    (&[3000, 3000, 3000, 3000, 3000, 3000], 6),
+    (&[10, 4096, 4097, 10, 10_000], 6),
 ];
 
 /// Where there is room, the buffer isn't grown; a new one has exactly the room of the text. How often memory is asked for
