@@ -38,16 +38,37 @@ fn put_items_back<T: DerSerialize, W: Writer>(items: &[T], w: &mut W) -> Result<
     Ok(())
 }
 
-/// Puts an item behind the others. Behind the last one comes none, so that it makes room for itself alone; before, a
-/// vector grows by itself, to four items at first. Refuses by `Memory` alone.
-pub(crate) fn push_item<T: Drop>(items: &mut Vec<T>, item: T, is_last: bool) -> Result<(), Error>
+/// Puts an item after the others, where the items with this one took so many bytes and so many are left. A full vector
+/// grows by what these bytes come to in items, so that a long list seldom moves, and has little room to spare at its end.
+/// Refuses by `Memory` alone.
+pub(crate) fn push_item<T: Drop>(
+    items: &mut Vec<T>,
+    item: T,
+    taken: usize,
+    left: usize,
+) -> Result<(), Error>
     ensures { MatchResult result (λ _. items.new.items ≡ items.old.items ++ item ∷ []) (λ e. e ≡ Memory) }
 {
-    if is_last {
-        items.reserve_exact(1)?;
+    if items.len() == items.capacity() {
+        items.reserve_exact(room_for(items.len(), taken, left))?;
     }
     items.push(item)?;
     Ok(())
+}
+
+/// How many items a full list of that length makes room for: one, and those that come if all take as many bytes as those
+/// so far. At most four times as many as are there, since the bytes that are left may be anything; at least a quarter
+/// more, since a list whose items become smaller would grow by one item each time.
+fn room_for(len: usize, taken: usize, left: usize) -> usize {
+    if left == 0 {
+        return 1;
+    }
+    let there = len.saturating_add(1);
+    let coming = left.saturating_mul(there) / taken.max(1);
+    coming
+        .max(len / 4)
+        .min(there.saturating_mul(3))
+        .saturating_add(1)
 }
 
 /// Items, one after another.
@@ -79,9 +100,10 @@ impl<T: DerSerialize> WriteRow for Vec<T> {
 impl<T: DerDeserialize> ReadRow for Vec<T> {
     fn read_row(alloc: Global, r: &mut Reader<'_>, nest: u8) -> Result<Self, Error> {
         let mut items = Vec::new(alloc);
+        let whole = r.left();
         'items: while r.left() > 0 {
             let item = T::read(alloc, r, nest)?;
-            push_item(&mut items, item, r.left() == 0)?;
+            push_item(&mut items, item, whole.saturating_sub(r.left()), r.left())?;
         }
         Ok(items)
     }

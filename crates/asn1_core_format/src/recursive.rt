@@ -59,9 +59,10 @@ pub(crate) fn read_all_with<T: DerSerialize + Drop, F: Fn(&mut Reader<'_>) -> Re
     ensures { GivesRow (λ v. map T.value v.items) (each T.format) nest r.old r.new result }
 {
     let mut items = Vec::new(alloc);
+    let whole = r.left();
     'items: while r.left() > 0 {
         let item = read_by(r, nest, by)?;
-        push_item(&mut items, item, r.left() == 0)?;
+        push_item(&mut items, item, whole.saturating_sub(r.left()), r.left())?;
     }
     Ok(items)
 }

@@ -36,9 +36,10 @@ fn read_all_below_with<T: DerSerialize + Drop, F: Fn(&mut Reader<'_>, u8) -> Res
     ensures { GivesRow (λ v. map T.value v.items) (each (less T.format)) nest r.old r.new result }
 {
     let mut items = Vec::new(alloc);
+    let whole = r.left();
     'items: while r.left() > 0 {
         let item = read_below(r, nest, by)?;
-        push_item(&mut items, item, r.left() == 0)?;
+        push_item(&mut items, item, whole.saturating_sub(r.left()), r.left())?;
     }
     Ok(items)
 }
