@@ -31,7 +31,7 @@ byte_with byte k value = byte - bit_at byte k * 2 ^ k + value_of_bit value * 2 ^
 abbrev pub with_bit : List ℕ → ℕ → Bool → List ℕ
 with_bit bytes i value = slice_set bytes (i / 8) (byte_with (slice_index bytes (i / 8)) (7 - i % 8) value)
 
--- bit index has this value, and every other bit stands as before
+-- bit `index` has this value, and every other bit is as before
 pub record SetsBit (old new : List ℕ) (index : ℕ) (value : Bool) : Type 0 where
   pub count : length new ≡ length old
   pub here : bit new index ≡ value_of_bit value
