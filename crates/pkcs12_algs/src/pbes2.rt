@@ -96,7 +96,7 @@ pub enum Pbes2AesCbcEncryption {
     Aes256,
 }
 
-/// The kinds, by their object identifiers: one row an arm.
+/// The kinds, by their object identifiers: one row for each.
 macro_rules! aes_kinds {
     ($by:ident($value:expr)) => {
         $by! {
@@ -176,7 +176,7 @@ pub enum Pbes2EncryptionScheme {
     AesCbc {
         /// Which one, by the length of its key.
         kind: Pbes2AesCbcEncryption,
-        /// The initialization vector, of 16 octets where the standard is kept; its length is not looked at.
+        /// The initialization vector, of 16 octets by the standard; its length is not checked.
         iv: OctetStringAsn1,
     },
     /// Any other, with its parameters. With the object identifier of a kind of AES it isn't well-formed.

@@ -22,7 +22,7 @@ pub enum Pbkdf2SaltSource {
     OtherSource(RawAlgorithmIdentifier),
 }
 
-/// A salt that is only lent, as a part that writes.
+/// A borrowed salt, as a part for writing.
 #[derive(Drop)]
 struct SaltRef<'a>(&'a Pbkdf2SaltSource);
 
@@ -48,7 +48,7 @@ impl DerSerialize for SaltRef<'_> {
     }
 }
 
-/// A salt as a part that is read.
+/// A salt, as a part for reading.
 #[derive(Drop)]
 struct SaltPart(Pbkdf2SaltSource);
 
