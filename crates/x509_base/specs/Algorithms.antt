@@ -6,7 +6,7 @@ use Rattle.asn1_core.specs.Der.{OidOctets, ElementOctets, element, Format, nothi
 abbrev pub AlgorithmValue : Type 0
 AlgorithmValue = OidOctets × (Option ElementOctets × Unit {0})
 
--- as it stands
+-- written as it is: absent parameters stay absent
 abbrev pub algorithm_identifier : Format AlgorithmValue
 algorithm_identifier = sequence (part object_identifier (optional raw nothing))
 
