@@ -35,7 +35,7 @@ impl Subject {
     }
 }
 
-/// What is signed, as the object identifier in front of it says. This only writes.
+/// What is signed, as the object identifier before it says. This only writes.
 #[derive(Debug, Drop, PartialEq, Eq)]
 pub enum SpcAttributeAndOptionalValueValue {
     SpcPeImageData(SpcPeImageData),
@@ -43,7 +43,7 @@ pub enum SpcAttributeAndOptionalValueValue {
 }
 
 impl SpcAttributeAndOptionalValueValue {
-    /// Whether this is well-formed behind an object identifier with these contents octets.
+    /// Whether this is well-formed after an object identifier with these contents octets.
     fn fits(&self, oid: &[u8], limit: u8) -> bool
         ensures { IsTrue result ↔ (spc_defined_by.row oid.now).IsWellFormed limit (spc_value self.now) }
     {
