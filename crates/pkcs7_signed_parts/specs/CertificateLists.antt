@@ -18,14 +18,14 @@ use Rattle.pkcs7_signed_parts.specs.Revoked.{RevokedValue, all_revoked_value, al
 use Rattle.pkcs7_signed_parts.specs.declared.certificate_lists.TbsCertList.{TbsCertList}
 use Rattle.pkcs7_signed_parts.specs.declared.certificate_lists.CertificateList.{CertificateList}
 
--- what stands behind thisUpdate
+-- what follows thisUpdate
 abbrev pub UpdatesValue : Type 0
 UpdatesValue = Option TimeValue × (Option (List RevokedValue) × (Option (List ExtensionValue) × Unit {0}))
 
 abbrev pub updates : Format UpdatesValue
 updates = optional time (optional all_revoked (optional (explicit 0 extensions) nothing))
 
--- what stands behind the version
+-- what follows the version
 abbrev pub ListValue : Type 0
 ListValue = AlgorithmValue × (NameParts × (TimeValue × UpdatesValue))
 
@@ -44,7 +44,7 @@ tbs_list_value x = (option_value number_of x.version, list_value x)
 abbrev pub tbs_list : Format TbsListValue
 tbs_list = sequence (optional (version 1) list_row)
 
--- the tags that stand behind nextUpdate are none of a time
+-- the tags that may follow nextUpdate are none of a time
 no_time : (t : ℕ) → time.IsTag t → (t ≡ 0x30) ⊎ ((t ≡ 0xA0) ⊎ ⊥) → ⊥
 no_time t (inl u) (inl r) = omega (arith, u, r)
 no_time t (inl u) (inr (inl x)) = omega (arith, u, x)

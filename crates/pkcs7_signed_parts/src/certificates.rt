@@ -1,4 +1,4 @@
-//! Certificates, each as it stands (RFC 5652, 10.2.2 and 10.2.3).
+//! Certificates, each kept as it is (RFC 5652, 10.2.2 and 10.2.3).
 
 ghost use Rattle.std.specs.Prelude.{◌≡◌, ◌↔◌, IsTrue, List, []};
 ghost use Rattle.std.proofs.Common.{arith};
@@ -10,7 +10,7 @@ use asn1_core::prelude::*;
 use std::alloc::Global;
 
 /// `CertificateChoices ::= CHOICE { certificate Certificate, extendedCertificate [0] .., v1AttrCert [1] .., v2AttrCert [2]
-/// .., other [3] .. }`, kept as it stands. An arm whose element has not its tag is not well-formed.
+/// .., other [3] .. }`, kept as it is. An alternative whose element hasn't its tag isn't well-formed.
 #[derive(Debug, Drop, PartialEq, Eq)]
 pub enum CertificateChoices {
     /// A SEQUENCE, by its tag alone.
