@@ -27,7 +27,7 @@ pub enum SafeContentsContentInfo {
     },
 }
 
-/// `content [0] EXPLICIT ANY OPTIONAL`, of an element that is only lent, which only writes.
+/// `content [0] EXPLICIT ANY OPTIONAL`, borrowed, for writing.
 #[derive(Drop)]
 pub(crate) struct AnyContentRef<'a>(pub &'a Option<Asn1RawDer>);
 
