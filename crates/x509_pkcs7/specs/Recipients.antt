@@ -1,5 +1,5 @@
--- RecipientInfo ::= CHOICE { .., kekri [2] KEKRecipientInfo, .. } (RFC 5652, 6.2), of which kekri alone is carried, its tag
---   IMPLICIT
+-- RecipientInfo ::= CHOICE { .., kekri [2] KEKRecipientInfo, .. } (RFC 5652, 6.2), of which kekri alone is supported,
+--   its tag IMPLICIT
 -- KEKRecipientInfo ::= SEQUENCE { version CMSVersion, kekid KEKIdentifier, keyEncryptionAlgorithm
 --   KeyEncryptionAlgorithmIdentifier, encryptedKey EncryptedKey } (RFC 5652, 6.2.3)
 -- KEKIdentifier ::= SEQUENCE { keyIdentifier OCTET STRING, date GeneralizedTime OPTIONAL, other OtherKeyAttribute OPTIONAL }

@@ -59,7 +59,7 @@ impl TryClone for ProtectionDescriptor {
 }
 
 /// `GeneralProtectionDescriptor ::= SEQUENCE { descriptorType OBJECT IDENTIFIER, descriptors SEQUENCE OF SEQUENCE OF
-/// ProtectionDescriptor }`: the outer list has alternatives, of which each asks for all of its own.
+/// ProtectionDescriptor }`: the outer list has alternatives, each of which requires all descriptors of its own.
 #[derive(Debug, Drop, PartialEq)]
 pub struct GeneralProtectionDescriptor {
     pub descriptor_type: ObjectIdentifierAsn1,

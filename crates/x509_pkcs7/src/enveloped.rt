@@ -32,7 +32,7 @@ pub type RecipientInfos = Asn1SetOf<RecipientInfo>;
 pub struct EncryptedContentInfo {
     pub content_type: ContentType,
     pub content_encryption_algorithm: ContentEncryptionAlgorithmIdentifier,
-    /// Absent where the content stands elsewhere.
+    /// Absent where the content is elsewhere.
     pub encrypted_content: Optional<Option<ImplicitContextTag0<EncryptedContent>>>,
 }
 

@@ -223,7 +223,7 @@ impl EqualByText for KekRecipientInfo {
 }
 
 /// `RecipientInfo ::= CHOICE { ktri .., kari [1] .., kekri [2] KEKRecipientInfo, pwri [3] .., ori [4] .. }` (RFC 5652, 6.2),
-/// of which `kekri` alone is carried: the four parts of its SEQUENCE are the whole contents of `[2]`.
+/// of which `kekri` alone is supported: the four parts of its SEQUENCE are the whole contents of `[2]`.
 #[derive(Debug, Drop, PartialEq)]
 pub enum RecipientInfo {
     Kek(KekRecipientInfo),
