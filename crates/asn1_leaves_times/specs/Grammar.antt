@@ -19,7 +19,7 @@ number_at contents k = 10 * (slice_index contents k - 48) + (slice_index content
 abbrev pub utc_year : ℕ → ℕ
 utc_year n = if nat_lt n 50 then 2000 + n else 1900 + n
 
--- what the digits write that begin at k, where those of the month do
+-- the moment of that year whose digits, from those of the month on, begin at k
 abbrev pub moment_from : ℕ → List ℕ → ℕ → Moment
 moment_from year contents k =
     record {
