@@ -3,7 +3,7 @@ use Rattle.std.specs.Prelude.{◌≡◌, ◌≢◌, ℕ, ◌+◌, ◌/◌, ◌%�
 use Rattle.std.specs.List.{flat_map}
 use Rattle.std.specs.Int.Digits.{digits_of}
 
--- a number in the fewest digits of base 128, an octet each, the highest first; all but the last have the top bit set
+-- a number in the fewest digits of base 128, 0 in one, an octet each, highest first; all but the last have bit 8 set
 abbrev pub base128 : ℕ → List ℕ
 base128 n = map (λ d. 0x80 + d) (digits_of 128 (n / 128)) ++ n % 128 ∷ []
 
