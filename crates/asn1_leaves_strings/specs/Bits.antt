@@ -23,11 +23,11 @@ IsAllZero bytes = All (λ byte. byte ≡ 0) bytes
 abbrev pub value_of_bit : Bool → ℕ
 value_of_bit value = if value then 1 else 0
 
--- the byte with bit k, counted from the lowest on, made this
+-- the byte with bit k, counted from the lowest, set to this value
 abbrev pub byte_with : ℕ → ℕ → Bool → ℕ
 byte_with byte k value = byte - bit_at byte k * 2 ^ k + value_of_bit value * 2 ^ k
 
--- the bytes with bit i made this
+-- the bytes with bit i set to this value
 abbrev pub with_bit : List ℕ → ℕ → Bool → List ℕ
 with_bit bytes i value = slice_set bytes (i / 8) (byte_with (slice_index bytes (i / 8)) (7 - i % 8) value)
 
