@@ -1,5 +1,5 @@
--- The contents of UTCTime and GeneralizedTime in DER, as bytes alone: the time that they spell isn't mentioned (X.690,
--- 11.7 and 11.8; RFC 5280, 4.1.2.5).
+-- The contents of UTCTime and GeneralizedTime in DER, as a grammar over bytes alone (X.690, 11.7 and 11.8; RFC 5280,
+-- 4.1.2.5).
 use Rattle.std.specs.Prelude.{◌≡◌, ℕ, ◌+◌, ◌-◌, ◌*◌, ◌<◌, List, length, slice_index, nat_lt, if◌then◌else◌}
 use Rattle.std.specs.Char.{IsAsciiDigit}
 use Rattle.asn1_leaves_times.specs.Calendar.{IsMoment}
