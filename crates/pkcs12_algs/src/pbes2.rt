@@ -19,8 +19,8 @@ use std::alloc::Global;
 use std::fmt;
 use x509_base::RawAlgorithmIdentifier;
 
-/// `AlgorithmIdentifier {{PBES2-KDFs}}` (RFC 8018, appendix A.4). PBKDF2 with other parameters, or with none, is refused
-/// and not `Unknown`.
+/// `AlgorithmIdentifier {{PBES2-KDFs}}` (RFC 8018, appendix A.4). PBKDF2 with other parameters, or with none, is
+/// refused and not `Unknown`.
 #[derive(Debug, Drop, PartialEq, Eq)]
 pub enum Pbes2KeyDerivationFunc {
     /// `id-PBKDF2` with its parameters (RFC 8018, 5.2 and appendix A.2)
@@ -246,8 +246,8 @@ impl TryClone for Pbes2EncryptionScheme {
     }
 }
 
-/// `PBES2-params ::= SEQUENCE { keyDerivationFunc AlgorithmIdentifier {{PBES2-KDFs}}, encryptionScheme AlgorithmIdentifier
-/// {{PBES2-Encs}} }` (RFC 8018, appendix A.4)
+/// `PBES2-params ::= SEQUENCE { keyDerivationFunc AlgorithmIdentifier {{PBES2-KDFs}}, encryptionScheme
+/// AlgorithmIdentifier {{PBES2-Encs}} }` (RFC 8018, appendix A.4)
 #[derive(Debug, Drop, PartialEq, Eq)]
 pub struct Pbes2Params {
     /// `keyDerivationFunc`: how the key is made from the password (RFC 8018, appendix A.4).

@@ -98,10 +98,10 @@ impl TryClone for Pbkdf2SaltSource {
     }
 }
 
-/// `PBKDF2-params ::= SEQUENCE { salt CHOICE { .. }, iterationCount INTEGER (1..MAX), keyLength INTEGER (1..MAX) OPTIONAL,
-/// prf AlgorithmIdentifier {{PBKDF2-PRFs}} DEFAULT algid-hmacWithSHA1 }` (RFC 8018, appendix A.2). A count or length
-/// of 0 is read, and one past 32 bits is refused. A PRF that is left out and one that is the default are told apart,
-/// and written as they were read.
+/// `PBKDF2-params ::= SEQUENCE { salt CHOICE { .. }, iterationCount INTEGER (1..MAX), keyLength INTEGER (1..MAX)
+/// OPTIONAL, prf AlgorithmIdentifier {{PBKDF2-PRFs}} DEFAULT algid-hmacWithSHA1 }` (RFC 8018, appendix A.2). A count or
+/// length of 0 is read, and one past 32 bits is refused. A PRF that is left out and one that is the default are told
+/// apart, and written as they were read.
 #[derive(Debug, Drop, PartialEq, Eq)]
 pub struct Pbkdf2Params {
     /// `salt`, or where it comes from (RFC 8018, 4.1).
