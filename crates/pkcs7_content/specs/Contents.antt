@@ -1,6 +1,6 @@
 -- EncapsulatedContentInfo ::= SEQUENCE { eContentType ContentType, eContent [0] EXPLICIT OCTET STRING OPTIONAL }
--- (RFC 5652, 5.2; ContentType ::= OBJECT IDENTIFIER). In signatures of Authenticode and in signed trust lists the content
--- is no octet string, but an SpcIndirectDataContent or a CertificateTrustList (RFC 2315, 7: ANY DEFINED BY contentType).
+-- (RFC 5652, 5.2; ContentType ::= OBJECT IDENTIFIER). In signatures of Authenticode and in signed trust lists it is no
+-- octet string, but an SpcIndirectDataContent or a CertificateTrustList (RFC 2315, 7: ANY DEFINED BY contentType).
 use Rattle.std.specs.Prelude.{◌⊎◌, ℕ, List, Option, Some, if◌then◌else◌}
 use Rattle.asn1_core.specs.Der.{Format, sequence, part, optional, nothing, octet_string, option_value, Octets, OidOctets, octets_of, explicit, either}
 use Rattle.std.specs.Str.{bytes_eq}
@@ -53,7 +53,7 @@ IsPlain TrustList = ⊥
 IsPlain PlainData = Unit {0}
 IsPlain Foreign = Unit {0}
 
--- octets and data, both as data, and both as octets
+-- octets as data, and data as octets
 abbrev pub as_data : ContentValues → ContentValues
 as_data (inl x) = inl x
 as_data (inr (inl x)) = inr (inr (inl x))
@@ -72,8 +72,8 @@ OctetsRow = Option Octets × Unit {0}
 abbrev pub octets_row : Format OctetsRow
 octets_row = optional (explicit 0 octet_string) nothing
 
--- Data and octets have the same encoding. It is read as data after id-data, and as octets after any other object
--- identifier of which the content isn't known.
+-- Data and octets have the same encoding. It is read as data after id-data, and as octets after an object identifier
+-- that isn't known.
 abbrev pub to_data : Arm Octets ContentValues
 to_data = record { put = λ x. inr (inr (inl x)); brought = as_data }
 

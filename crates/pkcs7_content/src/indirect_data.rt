@@ -127,8 +127,8 @@ impl TryClone for SpcAttributeAndOptionalValueValue {
     }
 }
 
-/// `SpcAttributeTypeAndOptionalValue ::= SEQUENCE { type OBJECT IDENTIFIER, value [0] EXPLICIT ANY DEFINED BY type OPTIONAL }`
-/// in Microsoft's words. Signatures have the value plain, without the tag [0], and it is always there; so it is here.
+/// `SpcAttributeTypeAndOptionalValue ::= SEQUENCE { type OBJECT IDENTIFIER, value [0] EXPLICIT ANY DEFINED BY type
+/// OPTIONAL }` in Microsoft's words. In signatures the value is always present, without the tag [0]; so it is here.
 #[derive(Debug, Drop, PartialEq, Eq)]
 pub struct SpcAttributeAndOptionalValue {
     pub ty: ObjectIdentifierAsn1,
