@@ -11,8 +11,8 @@ use asn1_core::prelude::*;
 use std::alloc::Global;
 use x509_base::Attribute;
 
-/// `SignedAttributes ::= SET OF Attribute`, under its tag `[0] IMPLICIT`. The list is a `SEQUENCE OF` by name alone, as in
-/// the Rust crate.
+/// `SignedAttributes ::= SET OF Attribute`, under its tag `[0] IMPLICIT`. The list is a `SEQUENCE OF` by name alone, as
+/// in the Rust crate.
 #[derive(Debug, Drop, PartialEq)]
 pub struct Attributes(pub Asn1SequenceOf<Attribute>);
 

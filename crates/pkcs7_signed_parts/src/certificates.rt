@@ -9,8 +9,8 @@ ghost use Rattle.pkcs7_signed_parts.specs.Equal.{certificate_equal, certificates
 use asn1_core::prelude::*;
 use std::alloc::Global;
 
-/// `CertificateChoices ::= CHOICE { certificate Certificate, extendedCertificate [0] .., v1AttrCert [1] .., v2AttrCert [2]
-/// .., other [3] .. }`, kept as it is. An alternative whose element hasn't its tag isn't well-formed.
+/// `CertificateChoices ::= CHOICE { certificate Certificate, extendedCertificate [0] .., v1AttrCert [1] .., v2AttrCert
+/// [2] .., other [3] .. }`, kept as it is. An alternative whose element hasn't its tag isn't well-formed.
 #[derive(Debug, Drop, PartialEq, Eq)]
 pub enum CertificateChoices {
     /// A SEQUENCE, by its tag alone.

@@ -1,4 +1,4 @@
-//! What says which certificates are revoked (RFC 5652, 10.2.1).
+//! Information about revoked certificates (RFC 5652, 10.2.1).
 
 ghost use Rattle.std.specs.Prelude.{◌≡◌, List, []};
 ghost use Rattle.std.proofs.Common.{arith};
