@@ -1,4 +1,5 @@
--- AlgorithmIdentifier ::= SEQUENCE { algorithm OBJECT IDENTIFIER, parameters ANY DEFINED BY algorithm OPTIONAL } (RFC 5280, 4.1.1.2)
+-- AlgorithmIdentifier ::= SEQUENCE { algorithm OBJECT IDENTIFIER, parameters ANY DEFINED BY algorithm OPTIONAL }
+--   (RFC 5280, 4.1.1.2)
 use Rattle.std.specs.Prelude.{◌≡◌, ◌≢◌, ℕ, List, [], ◌++◌, Option, Some, None}
 use Rattle.asn1_core.specs.Der.{OidOctets, ElementOctets, element, Format, nothing, part, optional, Loosening, loosened, object_identifier, raw, sequence}
 
