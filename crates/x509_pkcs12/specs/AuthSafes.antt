@@ -1,5 +1,5 @@
--- ContentInfo ::= SEQUENCE { contentType ContentType, content [0] EXPLICIT ANY DEFINED BY contentType OPTIONAL } (RFC 2315, 7)
--- of pkcs7-data, an OCTET STRING around an encoding of F
+-- ContentInfo ::= SEQUENCE { contentType ContentType, content [0] EXPLICIT ANY DEFINED BY contentType OPTIONAL }
+-- (RFC 2315, 7) of pkcs7-data, an OCTET STRING around an encoding of F
 use Rattle.std.specs.Prelude.{◌⊎◌}
 use Rattle.asn1_core.specs.Der.{Format, IsLawful, sequence, lawful_sequence, OidOctets, Choice, known, IsLawfulChoice, lawful_known}
 use Rattle.x509_pkcs12_parts.specs.Oids.{data_oid}

@@ -1,6 +1,6 @@
--- ContentInfo ::= SEQUENCE { contentType ContentType, content [0] EXPLICIT ANY DEFINED BY contentType OPTIONAL } (RFC 2315, 7)
--- of pkcs7-data, an OCTET STRING around SafeContents; of pkcs7-encryptedData, EncryptedData:
--- EncryptedData ::= SEQUENCE { version Version, encryptedContentInfo EncryptedContentInfo } with version 0 (RFC 2315, 13)
+-- ContentInfo ::= SEQUENCE { contentType ContentType, content [0] EXPLICIT ANY DEFINED BY contentType OPTIONAL }
+-- (RFC 2315, 7) of pkcs7-data, an OCTET STRING around SafeContents; of pkcs7-encryptedData, an EncryptedData:
+-- EncryptedData ::= SEQUENCE { version Version (0), encryptedContentInfo EncryptedContentInfo } (RFC 2315, 13)
 use Rattle.std.specs.Prelude.{◌⊎◌, ℕ, List, Option}
 use Rattle.asn1_core.specs.Der.{Format, within, sequence, part, optional, nothing, raw, octets_of, option_value, OidOctets, ElementOctets, IsLawful, IsLawfulRow, version, lawful_within, lawful_raw, perhaps, lawful_nothing, explicit, der_laws, Choice, known, otherwise, IsLawfulChoice, lawful_known, lawful_otherwise, IsOid, lawful_explicit, lawful_sequence, followed_by, lawful_version_0}
 use Rattle.std.proofs.Common.{inl, inr, arith}
