@@ -7,8 +7,8 @@ use asn1_core::prelude::*;
 use asn1_leaves::Utf8StringAsn1;
 use std::alloc::Global;
 
-/// `ProtectionDescriptor ::= SEQUENCE { descriptorType UTF8String, descriptorValue UTF8String }`, as `SID` and a security
-/// identifier.
+/// `ProtectionDescriptor ::= SEQUENCE { descriptorType UTF8String, descriptorValue UTF8String }`, as `SID` and a
+/// security identifier.
 #[derive(Debug, Drop, PartialEq)]
 pub struct ProtectionDescriptor {
     pub descriptor_type: Utf8StringAsn1,

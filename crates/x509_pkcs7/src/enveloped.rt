@@ -149,9 +149,9 @@ impl EqualByText for OriginatorInfo {
     ghost equal_by_text = { originator_equal };
 }
 
-/// `EnvelopedData ::= SEQUENCE { version CMSVersion, originatorInfo [0] IMPLICIT OriginatorInfo OPTIONAL, recipientInfos
-/// RecipientInfos, encryptedContentInfo EncryptedContentInfo, unprotectedAttrs [1] IMPLICIT UnprotectedAttributes OPTIONAL
-/// }`
+/// `EnvelopedData ::= SEQUENCE { version CMSVersion, originatorInfo [0] IMPLICIT OriginatorInfo OPTIONAL,
+/// recipientInfos RecipientInfos, encryptedContentInfo EncryptedContentInfo, unprotectedAttrs [1] IMPLICIT
+/// UnprotectedAttributes OPTIONAL }`
 #[derive(Debug, Drop, PartialEq)]
 pub struct EnvelopedData {
     pub version: CmsVersion,
