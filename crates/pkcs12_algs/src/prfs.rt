@@ -20,8 +20,8 @@ use std::fmt;
 use x509_base::RawAlgorithmIdentifier;
 
 /// `prf AlgorithmIdentifier {{PBKDF2-PRFs}}` (RFC 8018, appendices A.2 and B.1): a function that is known by its object
-/// identifier, whatever its parameters are, or any other, as those over SHA-512/224 and SHA-512/256. A known one is
-/// written with NULL as its parameters.
+/// identifier, whatever its parameters are, or any other, such as those over SHA-512/224 and SHA-512/256. A known one
+/// is written with NULL as its parameters.
 #[derive(Debug, Drop, PartialEq, Eq)]
 pub enum Pbkdf2Prf {
     /// `id-hmacWithSHA1` (RFC 8018, appendix B.1.1)
