@@ -17,7 +17,7 @@ use x509_base::Attribute;
 pub struct Attributes(pub Asn1SequenceOf<Attribute>);
 
 impl Attributes {
-    /// None. Takes no memory.
+    /// The empty set. Takes no memory.
     pub fn empty(alloc: Global) -> Self
         ensures { result.0.0.items ≡ [] }
     {

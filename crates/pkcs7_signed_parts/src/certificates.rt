@@ -90,7 +90,7 @@ impl TryClone for CertificateChoices {
 pub struct CertificateSet(pub Vec<CertificateChoices>);
 
 impl CertificateSet {
-    /// None. Takes no memory.
+    /// The empty set. Takes no memory.
     pub fn empty(alloc: Global) -> Self
         ensures { result.0.items ≡ [] }
     {

@@ -150,7 +150,7 @@ impl TryClone for RevocationInfoChoice {
 pub struct RevocationInfoChoices(pub Vec<RevocationInfoChoice>);
 
 impl RevocationInfoChoices {
-    /// None. Takes no memory.
+    /// The empty set. Takes no memory.
     pub fn empty(alloc: Global) -> Self
         ensures { result.0.items ≡ [] }
     {
