@@ -26,7 +26,7 @@ x509_value (Unknown t v) = inr (octets_of t, v.0.items)
 abbrev pub any_value : Choice (OidOctets × ElementOctets)
 any_value = otherwise IsOid (explicit 0 raw)
 
--- where X.509's is known by the object identifier with that number
+-- a bag whose X.509 alternative has the object identifier with that number
 abbrev pub x509_bag : ℕ → Format OctetsOrAny
 x509_bag number = sequence (known (oid number) (explicit 0 octet_string) any_value).row
 
