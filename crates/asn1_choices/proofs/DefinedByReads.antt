@@ -1,4 +1,4 @@
--- Reading an object identifier and what it picks, and reading an arm.
+-- Reading an object identifier and what it picks, and reading an alternative.
 use Rattle.std.proofs.Common.{◌≡◌, ℕ, List, ◌++◌, length, refl, sym, ap, ◌∙◌, subst, arith, length-append}
 use Rattle.asn1_core.specs.Der.{object_identifier, element, element_cut, Position, Format, Took, GaveUp, TookRow, GaveUpRow}
 use Rattle.asn1_core_element.specs.declared.error.Error.{Error}
@@ -54,7 +54,7 @@ module _ {A V : Type 0} (W : Format V) (m : Arm A V) (F : Format A) where
   pub arm_refused : {k : ℕ} {old new : Position} {e : Error} → GaveUpRow F k old new e → GaveUpRow (arm W m F) k old new e
   arm_refused g = record { kind = g.kind; none = λ n v s. g.none n s.0 s.2; counts = g.counts; at_most = g.at_most }
 
--- what was picked, by the row that was read
+-- equal values pick the same body
 module _ {T V : Type 0} (row : T → Format V) {s t : T} (same : s ≡ t) where
   pub took_at : {k : ℕ} {old new : Position} {v : V} → TookRow (row s) k old new v → TookRow (row t) k old new v
   took_at {k} {old} {new} {v} g = subst (λ u. TookRow (row u) k old new v) same g

@@ -1,4 +1,4 @@
--- Reading a choice of which one arm holds what stands a level down.
+-- Reading a choice of which one alternative holds a value one nesting level down.
 use Rattle.std.proofs.Common.{◌≡◌, ℕ, List, inl, inr}
 use Rattle.asn1_core.specs.Der.{IsTagByte, Position, TookElement, Choice, IsLawfulChoice, known, lawful_known, Format, IsLawful, IsLawfulRow, Took, GaveUp, less, lawful_less, part, within, TookRow, GaveUpRow, lawful_within, followed_by}
 use Rattle.asn1_core_element.specs.declared.error.Error.{Error}

@@ -1,4 +1,4 @@
--- Reading a choice by object identifier: the object identifier, and then what stands behind it in the arm that it picks.
+-- Reading a choice by object identifier: the object identifier, and then the body of the alternative that it picks.
 use Rattle.std.proofs.Common.{◌≡◌, ◌≢◌, ◌⊎◌, ℕ, List, ◌++◌, length, Option, Some, None, refl, sym, ap, ◌∙◌, subst, inl, inr, arith, length-append}
 use Rattle.asn1_core.specs.Der.{element, element_cut, element_long, Position, TookElement, RefusedElement, Choice, IsLawfulChoice, known, otherwise, same_head, Format, TookRow, GaveUpRow, IsOid, IsRefusal}
 use Rattle.asn1_core_element.specs.declared.error.Error.{Error}
@@ -36,14 +36,14 @@ module _ {V : Type 0} (C : Choice V) (c : IsLawfulChoice C) where
     at_most = omega (arith, g.headers);
   }
 
--- what is behind an object identifier is behind no other
+-- the bytes determine the first object identifier and what follows it
 other_key : (o key x y : List ℕ) → element 0x06 key ++ x ≡ element 0x06 o ++ y → (key ≡ o) × (x ≡ y)
 other_key o key x y e = let c = element_cut 0x06 0x06 key o x y e in (c.1, c.2)
 
 key_read : {V : Type 0} (C : Choice V) → IsLawfulChoice C → (k : ℕ) (key x : List ℕ) (v : V) → C.row.Reads k (element 0x06 key ++ x) v → C.oid_of v ≡ key
 key_read C c k key x v s = same_head (C.oid_of v) key (element 0x06 key ++ x) (c.heads k (element 0x06 key ++ x) v s) (x, refl)
 
--- an arm of one object identifier
+-- the alternative of one object identifier
 module _ {V W : Type 0} (o : List ℕ) (R : Format V) (C : Choice W) (c : IsLawfulChoice C) {k : ℕ} {key : List ℕ} where
   pub here : {old new : Position} {v : V} → key ≡ o → TookRow R k old new v → TookRow (after_oid key (known o R C)) k old new (inl v)
   here {old} h g = record {
@@ -84,7 +84,7 @@ module _ {V W : Type 0} (o : List ℕ) (R : Format V) (C : Choice W) (c : IsLawf
 some_none : {A : Type 0} {x : A} → None ≡ Some x → ⊥
 some_none e = cc
 
--- the arms of a table
+-- the alternatives of a table
 module _ {A V W : Type 0} (T : Table A) (R : Format V) (C : Choice W) (t : IsTable T) (c : IsLawfulChoice C) {k : ℕ} {key : List ℕ} where
   pub arm : {old new : Position} {a : A} {v : V} → T.oid_of a ≡ key → TookRow R k old new v → TookRow (after_oid key (among T R C)) k old new (inl (a, v))
   arm {old} h g = record {
@@ -126,7 +126,7 @@ not_long : {P : Type 0} {e : Error} → IsRefusal P e → e ≢ TooLong
 not_long (inl m) n = (let h : Memory ≡ TooLong = sym m ∙ n in cc)
 not_long (inr i) n = (let h : Invalid ≡ TooLong = sym i.0 ∙ n in cc)
 
--- any object identifier, at the end
+-- any object identifier, as the last alternative
 module _ {V : Type 0} (R : Format V) {k : ℕ} (key : List ℕ) where
   pub last : {old new : Position} {v : V} → IsOid key → TookRow R k old new v → TookRow (after_oid key (otherwise IsOid R)) k old new (key, v)
   last {old} {new} {v} i g = record {

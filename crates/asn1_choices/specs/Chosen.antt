@@ -1,8 +1,8 @@
--- Choices by object identifier, as they are read: the object identifier first, and then what stands behind it.
+-- Choices by object identifier, as they are read: first the object identifier, then what follows it.
 use Rattle.std.specs.Prelude.{ℕ, ◌-◌, List, ◌++◌}
 use Rattle.asn1_core.specs.Der.{element, Choice, Format}
 
--- what stands behind an object identifier that was read
+-- what follows the object identifier `key`, which was read already
 abbrev pub after_oid : {V : Type 0} → List ℕ → Choice V → Format V
 after_oid key C = record {
   text = C.row.text;

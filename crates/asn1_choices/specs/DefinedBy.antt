@@ -1,8 +1,8 @@
--- An object identifier, which is kept, and behind it, to the end of the contents, what it picks.
+-- ANY DEFINED BY: an object identifier, which is kept, and after it, to the end of the contents, what it picks.
 use Rattle.std.specs.Prelude.{◌≡◌, ℕ, ◌+◌, List, ◌++◌}
 use Rattle.asn1_core.specs.Der.{element, Format, IsOid}
 
--- how the values V are written, behind whatever object identifier, and the row that each object identifier picks
+-- how the values V are encoded, whatever the object identifier is, and the body that each object identifier picks
 pub record DefinedBy (V : Type 0) : Type 1 where
   pub text : V → List ℕ
   pub row : List ℕ → Format V
@@ -18,13 +18,13 @@ any_defined_by P = record {
   least = λ p. 1 + (P.row p.0).least p.1;
 }
 
--- One arm of a type V: `put` puts a value into it, and `brought` brings the values of other arms into it that are
--- written alike, and leaves all others as they are.
+-- One alternative of a type V: `put` makes a V of its value. Values of other alternatives may have the same encoding:
+-- `brought` converts these into values of this one, and leaves all others as they are.
 pub record Arm (A V : Type 0) : Type 0 where
   pub put : A → V
   pub brought : V → V
 
--- what F reads, as values of one arm of those that W writes
+-- what F reads, as values of one alternative of the type that W encodes
 abbrev pub arm : {A V : Type 0} → Format V → Arm A V → Format A → Format V
 arm {A} {V} W m F = record {
   text = W.text;
@@ -36,11 +36,11 @@ arm {A} {V} W m F = record {
   least = W.least;
 }
 
--- an arm into which no other is brought
+-- an alternative into which no value of another is converted
 abbrev pub by_itself : {A V : Type 0} → (A → V) → Arm A V
 by_itself put = record { put = put; brought = λ v. v }
 
--- no arm: the values that W writes are not read
+-- no alternative: none of the values that W encodes is read, or well-formed
 abbrev pub no_arm : {V : Type 0} → Format V → Format V
 no_arm W = record {
   text = W.text;

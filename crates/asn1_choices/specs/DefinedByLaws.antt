@@ -1,10 +1,10 @@
--- The laws of what an object identifier picks, and of its arms.
+-- The laws of what an object identifier picks, and of its alternatives.
 use Rattle.std.specs.Prelude.{◌≡◌, ◌↔◌, ℕ, List, ◌++◌}
 use Rattle.std.proofs.Common.{refl, sym, ap, ◌∙◌, subst}
 use Rattle.asn1_core.specs.Der.{element, element_cut, heads_begin, Format, IsLawfulRow}
 use Rattle.asn1_choices.specs.DefinedBy.{DefinedBy, any_defined_by, Arm, arm, by_itself, no_arm}
 
--- each row is lawful, and writes as all do
+-- the body that each object identifier picks is lawful, and encodes a value as all others do
 pub record IsDefinedBy {V : Type 0} (P : DefinedBy V) : Type 0 where
   pub lawful : (o : List ℕ) → IsLawfulRow (P.row o)
   pub alike : (o : List ℕ) (v : V) → (P.row o).text v ≡ P.text v
@@ -42,12 +42,12 @@ module _ {V : Type 0} (P : DefinedBy V) (p : IsDefinedBy P) where
     deeper = λ k b x s. (s.0, s.1, s.2, (p.lawful x.0).deeper k s.0 x.1 s.3);
   }
 
--- W says of the values of the arm what F says of what is put into it
+-- W says of the alternative's values what F says of the values that are put into it
 pub record IsArm {A V : Type 0} (W : Format V) (m : Arm A V) (F : Format A) : Type 0 where
   pub text : (a : A) → W.text (m.put a) ≡ F.text a
   pub normal : (a : A) → W.normal (m.put a) ≡ m.put (F.normal a)
   pub least : (a : A) → W.least (m.put a) ≡ F.least a
-  -- what is brought into the arm is written alike, and what is there stays
+  -- converting into the alternative keeps the encoding, and leaves the alternative's own values as they are
   pub alike : (v : V) → W.text (m.brought v) ≡ W.text v
   pub still : (a : A) → m.brought (m.put a) ≡ m.put a
 
@@ -73,7 +73,7 @@ module _ {A V : Type 0} (W : Format V) (m : Arm A V) (F : Format A) (l : IsArm W
     deeper = λ k b v s. (s.0, s.1, f.deeper k b s.0 s.2);
   }
 
--- an arm into which nothing else is brought
+-- an alternative into which no value of another is converted
 module _ {A V : Type 0} {W : Format V} {put : A → V} {F : Format A} where
   pub itself : ((a : A) → W.text (put a) ≡ F.text a) → ((a : A) → W.normal (put a) ≡ put (F.normal a)) → ((a : A) → W.least (put a) ≡ F.least a) → IsArm W (by_itself put) F
   itself text normal least = record { text = text; normal = normal; least = least; alike = λ v. refl; still = λ a. refl }

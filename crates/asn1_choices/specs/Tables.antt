@@ -1,19 +1,19 @@
--- Tables of object identifiers: arms that all have the same behind them.
+-- Tables of object identifiers: alternatives that all have the same body after the object identifier.
 use Rattle.std.specs.Prelude.{◌≡◌, ◌⊎◌, ℕ, ◌+◌, List, ◌++◌, Option, Some, None}
 use Rattle.std.proofs.Common.{refl, sym, ap, ◌∙◌, subst, inl, inr}
 use Rattle.asn1_core.specs.Der.{element, element_cut, Choice, Heads, IsLawfulChoice, same_head, heads_begin, OneOf, from_one, map_one, Format, IsLawfulRow}
 
--- an object identifier for each arm, and the arm of an object identifier
+-- the object identifier of each alternative, and the alternative of an object identifier
 pub record Table (A : Type 0) : Type 0 where
   pub oid_of : A → List ℕ
   pub arm_of : List ℕ → Option A
 
--- each arm has its own object identifier
+-- each alternative has its own object identifier
 pub record IsTable {A : Type 0} (T : Table A) : Type 0 where
   pub there : (a : A) → T.arm_of (T.oid_of a) ≡ Some a
   pub back : (o : List ℕ) (a : A) → T.arm_of o ≡ Some a → T.oid_of a ≡ o
 
--- the arms of a table, which all have R behind their object identifiers, and the arms of the others
+-- the alternatives of a table, which all have the body R after their object identifiers, and then those of C
 abbrev pub among : {A V W : Type 0} → Table A → Format V → Choice W → Choice ((A × V) ⊎ W)
 among {A} {V} {W} T R C = record {
   row = record {
@@ -35,7 +35,7 @@ some_same : {A : Type 0} {x y : A} → Some x ≡ Some y → x ≡ y
 some_same e = cc
 
 module _ {A V W : Type 0} (T : Table A) (R : Format V) (C : Choice W) (t : IsTable T) (r : IsLawfulRow R) (c : IsLawfulChoice C) where
-  -- the arm and what stands behind it are where they are
+  -- the bytes determine the alternative and what follows its object identifier
   among_cut : (b x y : List ℕ) (a d : A) → b ≡ element 0x06 (T.oid_of a) ++ x → b ≡ element 0x06 (T.oid_of d) ++ y → (a ≡ d) × (x ≡ y)
   among_cut b x y a d p q =
       let e = element_cut 0x06 0x06 (T.oid_of a) (T.oid_of d) x y (sym p ∙ q) in
@@ -48,7 +48,7 @@ module _ {A V W : Type 0} (T : Table A) (R : Format V) (C : Choice W) (t : IsTab
   no_arm : (k : ℕ) (b : List ℕ) (w : W) → C.row.Reads k b w → T.arm_of (C.oid_of w) ≡ None → (a : A) → Heads (T.oid_of a) b → ⊥
   no_arm k b w s n a h = some_none (sym (t.there a) ∙ ap T.arm_of (sym (same_head (C.oid_of w) (T.oid_of a) b (c.heads k b w s) h)) ∙ n)
 
-  -- bytes that no arm heads
+  -- bytes that begin with no object identifier of the table
   none_of : (o b : List ℕ) (m : Option A) → T.arm_of o ≡ m → Heads o b → ((a : A) → Heads (T.oid_of a) b → ⊥) → m ≡ None
   none_of o b None e h n = refl
   none_of o b (Some a) e h n = absurd (n a (subst (λ p. Heads p b) (sym (t.back o a e)) h))

@@ -1,4 +1,4 @@
-//! Arms of one object identifier, and of any other.
+//! The alternative of one object identifier, and that of any other.
 
 ghost use Rattle.std.specs.Prelude.{◌≡◌, ◌↔◌, ◌⊎◌, ℕ, List, IsTrue};
 ghost use Rattle.std.proofs.Common.{inl, inr};
@@ -29,7 +29,7 @@ pub(crate) fn is_named<N: Named>(octets: &[u8]) -> bool
     octets == N::octets()
 }
 
-/// What stands behind the object identifier `N`.
+/// The body that follows the object identifier `N`.
 #[derive(Drop)]
 pub struct Arm<N, R> {
     pub row: R,
@@ -53,7 +53,7 @@ impl<N, R> Arm<N, R> {
     }
 }
 
-/// The arm of one object identifier, or an arm behind it.
+/// The alternative of one object identifier, or one of those that come after it.
 impl<N: Named, R: WriteRow, C: WriteChoice> WriteChoice for Either<Arm<N, R>, C> {
     ghost Value = { R.Value ⊎ C.Value };
 
@@ -98,11 +98,11 @@ impl<N: Named + Drop, R: ReadRow, C: ReadChoice> ReadChoice for Either<Arm<N, R>
     ghost lawful = { lawful_known N.OID R.WriteRow.format C.WriteChoice.choice R.lawful C.lawful };
 }
 
-/// Any other object identifier, which is kept, and what stands behind it.
+/// Any other object identifier, which is kept, and what follows it.
 #[derive(Drop)]
 pub struct AnyOid<R>(pub ObjectIdentifier, pub R);
 
-/// The same, lent, as it is written.
+/// The same, borrowed, for writing.
 #[derive(Drop)]
 pub struct AnyOidRef<'a, R>(pub &'a ObjectIdentifier, pub R);
 

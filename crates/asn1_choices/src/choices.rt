@@ -1,4 +1,4 @@
-//! Choices as contents.
+//! Choices by object identifier, and as bodies of contents.
 
 ghost use Rattle.std.specs.Prelude.{◌≡◌, ◌↔◌, ℕ, List, IsTrue, false};
 ghost use Rattle.asn1_core.specs.Der.{Choice, IsLawfulChoice, GivesRow};
@@ -20,19 +20,19 @@ pub trait WriteChoice {
     fn oid(&self) -> &[u8]
         ensures { result.now ≡ choice.oid_of (value self.now) };
 
-    /// Writes the object identifier and what stands behind it.
+    /// Writes the object identifier and what follows it.
     fn put_choice<W: Writer>(&self, w: &mut W) -> Result<(), WriteError>
         requires { W.MayTake w.old }
         ensures { W.Takes (choice.row.text (value self.now)) w.old w.new result };
 
-    /// Whether what stands behind is well-formed, and the object identifier is none of an arm before.
+    /// Whether what follows is well-formed, and the object identifier isn't that of an earlier alternative.
     fn choice_well_formed_at(&self, limit: u8) -> bool
         ensures { IsTrue result ↔ choice.row.IsWellFormed limit (value self.now) };
 }
 
 /// A choice by object identifier that is read.
 pub trait ReadChoice: WriteChoice + Drop {
-    /// Reads what stands behind an object identifier with these contents octets, to the end of the open contents.
+    /// Reads what follows an object identifier with these contents octets, to the end of the open contents.
     fn read_behind(oid: &[u8], alloc: Global, r: &mut Reader<'_>, nest: u8) -> Result<Self, Error>
         requires { r.old.refused ≡ false }
         ensures { GivesRow Self.value (after_oid oid.now Self.choice) nest r.old r.new result };
@@ -40,7 +40,7 @@ pub trait ReadChoice: WriteChoice + Drop {
     ghost lawful: { IsLawfulChoice Self.WriteChoice.choice };
 }
 
-/// A choice as a row.
+/// A choice as a body.
 #[derive(Drop)]
 pub struct Chosen<C>(pub C);
 

@@ -10,7 +10,7 @@ use asn1_core::prelude::*;
 use asn1_core_element::element::open_element;
 use std::alloc::Global;
 
-/// What stands behind an object identifier, to the end of the contents, and is picked by it.
+/// What follows an object identifier, to the end of the contents, and is picked by it.
 pub trait AnyDefinedBy: Drop {
     ghost Value: { Type 0 };
 

@@ -1,6 +1,6 @@
 //! Contents that begin with an object identifier, which says what follows it: `SEQUENCE { type OBJECT IDENTIFIER, value
-//! ANY DEFINED BY type }` and the like. A choice is a chain of arms, each for one object identifier or for those of a
-//! table, with any row behind it; a known object identifier is compared where it lies in the input, and never kept.
+//! ANY DEFINED BY type }` and the like. A choice is a chain of alternatives, each for one object identifier or those of
+//! a table, with any body after it; a known object identifier is compared in place in the input, and never kept.
 #![tactic(auto)]
 
 mod arms;

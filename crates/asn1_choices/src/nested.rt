@@ -1,4 +1,4 @@
-//! Choices of which one arm may hold the type that is read.
+//! Choices of which one alternative may hold the type that is being read.
 
 ghost use Rattle.std.specs.Prelude.{◌≡◌, false};
 ghost use Rattle.std.proofs.Common.{inl, inr};
@@ -12,8 +12,8 @@ use asn1_core_element::element::contents_of;
 use asn1_core_format::read_below_within;
 use std::alloc::Global;
 
-/// Reads a choice. Behind the object identifier `N` stands an element with that tag that holds a `T` a level down, which
-/// `by` reads, and then `R`; behind any other what `C` says.
+/// Reads a choice. After the object identifier `N` comes an element with that tag that holds a `T` one nesting level
+/// down, which `by` reads, and then `R`; after any other comes what `C` says.
 pub fn read_nested_or<
     N: Named,
     T: DerSerialize + Drop,

@@ -1,4 +1,4 @@
-//! Arms that a table lists, which all have the same behind their object identifiers.
+//! Alternatives that a table lists, which all have the same body after their object identifiers.
 
 ghost use Rattle.std.specs.Prelude.{◌≡◌, ◌⊎◌, None, MatchOption};
 ghost use Rattle.std.proofs.Common.{inl, inr};
@@ -24,7 +24,7 @@ pub trait OidTable: Copy {
     ghost is_table: { IsTable table };
 }
 
-/// A kind and the row that all kinds have, or an arm behind them.
+/// A kind and the body that all kinds have, or an alternative that comes after them.
 #[derive(Drop)]
 pub enum Among<K, R, C> {
     Arm(K, R),

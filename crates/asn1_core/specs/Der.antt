@@ -1,5 +1,5 @@
--- The prelude of specifications: the words with which types and their laws are said, passed on from one place, and
--- the laws by which `search` finds that a type is lawful. The words of std come from its own modules,
+-- The prelude of specifications: the definitions with which types and their laws are stated, from one place, and
+-- the laws by which `search` finds that a type is lawful. The definitions of std come from its own modules,
 -- `Rattle.std.specs.Prelude` and `Rattle.std.proofs.Common`.
 use Rattle.std.proofs.Common.{arith}
 pub use Rattle.asn1_core_format.specs.Format.{Format, IsLawfulRow, IsLawful, GaveUp, Gives, Took}
@@ -53,6 +53,6 @@ pub use Rattle.asn1_core_writers.specs.Comparing.{IsBefore}
 pub use Rattle.asn1_core_writers.specs.Sinks.{Emits}
 pub use Rattle.asn1_core_writers.specs.Texts.{Measures, Writes}
 
--- The laws of parts that are always there, and of a last part that may be absent. Any other that may be absent is said
--- by hand, with `perhaps` or `lawful_omitted`, since its tags are told from those of what follows it.
+-- The laws of required parts, and of a last part that is OPTIONAL. The law of any other OPTIONAL part is given by hand,
+-- with `perhaps` or `lawful_omitted`, since its tags must differ from those of what follows it.
 pub ruleset der_laws = (arith, followed_by, perhaps_last, lawful_sequence, lawful_sequence_of, lawful_set, lawful_explicit, lawful_implicit_set, lawful_implicit_octets, lawful_each, lawful_nothing, lawful_number, lawful_object_identifier, lawful_only_oid, lawful_octet_string, lawful_raw, lawful_null_element, lawful_version_0, lawful_version_1, lawful_version_3)

@@ -5,7 +5,7 @@ use Rattle.asn1_core_element.specs.Element.{IsElement, IsTagByte}
 use Rattle.asn1_core_format.specs.Format.{Format, IsLawful}
 use Rattle.asn1_core_format.specs.Laws.{begins_alone}
 
--- one whose tag is one of these
+-- an element whose tag is one of these
 abbrev pub element_of : (ℕ → Type 0) → Format (List ℕ)
 element_of IsOne = record {
   text = λ v. v;
@@ -32,7 +32,7 @@ lawful_element_of IsOne = record {
   element = λ k b v r. r.1;
 }
 
--- any one
+-- any element
 abbrev pub raw : Format (List ℕ)
 raw = element_of IsTagByte
 

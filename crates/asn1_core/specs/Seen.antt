@@ -2,7 +2,7 @@
 use Rattle.std.specs.Prelude.{◌≡◌, ◌↔◌, List, [], ◌∷◌, map}
 use Rattle.std.proofs.Common.{refl, ap, ◌∙◌}
 
--- what is seen tells apart the same values
+-- `view` and `value` tell the same values apart
 abbrev pub SeesSame : {T V W : Type 0} → (T → V) → (T → W) → Type 0
 SeesSame {T} view value = (x y : T) → (view x ≡ view y) ↔ (value x ≡ value y)
 

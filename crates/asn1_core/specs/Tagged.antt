@@ -14,7 +14,7 @@ use Rattle.asn1_core_format.specs.Tagged.{implicit}
 use Rattle.asn1_core_format.specs.TaggedLaws.{lawful_implicit, leaf_tagged}
 use Rattle.asn1_core.specs.Octets.{any_octets, octet_string, lawful_octet_string}
 
--- the last part, where it may be absent
+-- an OPTIONAL last part
 pub perhaps_last : {V : Type 0} {F : Format V} → IsLawful F → IsLawfulRow (optional F nothing)
 perhaps_last f = perhaps f (λ t h e. e) lawful_nothing
 
@@ -29,7 +29,7 @@ lawful_sequence_of {V} {F} f = lawful_sequence (lawful_each F f)
 abbrev pub explicit : {V : Type 0} → ℕ → Format V → Format V
 explicit n F = within (0xA0 + n) F
 
--- by the tag as a whole, for `search`
+-- the same for any tag byte, so that `search` finds it
 pub lawful_explicit : {V : Type 0} {tag : ℕ} {F : Format V} → IsTagByte tag → IsLawful F → IsLawful (within tag F)
 lawful_explicit {V} {tag} {F} h f = lawful_within F f.row tag h
 

@@ -1,4 +1,4 @@
--- INTEGERs that hold one number, as versions do.
+-- INTEGERs that allow one number only, as versions do.
 use Rattle.std.specs.Prelude.{◌≡◌, ℕ, ◌^◌, ◌<◌, [], ◌∷◌}
 use Rattle.std.specs.Int.Digits.{number_from_digits}
 use Rattle.std.proofs.Common.{refl, sym, ap, ◌∙◌, arith}
@@ -43,6 +43,6 @@ lawful_version_1 = lawful_version 1 (omega arith)
 pub lawful_version_3 : IsLawful (version 3)
 lawful_version_3 = lawful_version 3 (omega arith)
 
--- contents of one number are of no other
+-- different numbers have different contents
 pub one_version : (v w : ℕ) → v < 2 ^ 8 → w < 2 ^ 8 → integer_octets v ≡ integer_octets w → v ≡ w
 one_version v w h i e = (lawful_number (2 ^ 8)).row.one_value 0 (element 0x02 (integer_octets v)) v w (refl, h) (ap (element 0x02) e, i)

@@ -1,4 +1,4 @@
--- What octets in values are, in the field's words.
+-- Names for the octets in values, by what they are.
 use Rattle.std.specs.Prelude.{ℕ, List}
 
 -- the contents octets of an OCTET STRING
@@ -21,6 +21,6 @@ BitStringOctets = List ℕ
 abbrev pub StringOctets : Type 0
 StringOctets = List ℕ
 
--- an element as it stands, with its header
+-- a whole element, with its header
 abbrev pub ElementOctets : Type 0
 ElementOctets = List ℕ

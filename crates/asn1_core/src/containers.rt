@@ -1,4 +1,4 @@
-//! A text in an OCTET STRING, and a part that may be absent.
+//! An encoding in an OCTET STRING, and a part that may be absent.
 
 ghost use Rattle.std.proofs.Common.{arith};
 ghost use Rattle.asn1_core_format.specs.Rows.{within};
@@ -11,7 +11,7 @@ use asn1_core_format::{
 use asn1_core_writers::{WriteError, Writer};
 use std::alloc::Global;
 
-/// An OCTET STRING whose octets are one text of `T`.
+/// An OCTET STRING whose octets are one encoding of `T`.
 #[derive(Debug, Drop, PartialEq, Eq)]
 pub struct OctetStringAsn1Container<T>(pub T);
 
@@ -60,8 +60,8 @@ impl<T: TryClone> TryClone for OctetStringAsn1Container<T> {
     }
 }
 
-/// A part of a SEQUENCE that its grammar may leave out. It has no text of its own: the SEQUENCE says what stands
-/// for it.
+/// A part of a SEQUENCE that its grammar may leave out. It has no encoding of its own: the SEQUENCE says how it is
+/// encoded.
 #[derive(Debug, Drop, PartialEq, Eq)]
 pub struct Optional<T>(pub T);
 

@@ -1,4 +1,4 @@
-//! Explicit tags (X.690, 8.14): an element with a context tag round the whole element under it.
+//! Explicit tags (X.690, 8.14): an element with a context tag around the whole element under it.
 
 ghost use Rattle.std.proofs.Common.{arith};
 ghost use Rattle.asn1_core_format.specs.Rows.{within};

@@ -18,7 +18,7 @@ use asn1_core_format::{
 use asn1_core_writers::{WriteError, Writer};
 use std::alloc::Global;
 
-/// `SEQUENCE OF T`, whose items stand in the order in which they were read.
+/// `SEQUENCE OF T`, whose items are in the order in which they were read.
 #[derive(Debug, Drop, PartialEq, Eq)]
 pub struct Asn1SequenceOf<T>(pub Vec<T>);
 
@@ -78,7 +78,7 @@ impl<T: TryClone> TryClone for Asn1SequenceOf<T> {
     }
 }
 
-/// `SET OF T`, whose items stand in the order in which they were read.
+/// `SET OF T`, whose items are in the order in which they were read.
 #[derive(Debug, Drop, PartialEq, Eq)]
 pub struct Asn1SetOf<T>(pub Vec<T>);
 

@@ -82,7 +82,7 @@ impl TryClone for ObjectIdentifierAsn1 {
     }
 }
 
-/// An object identifier that is only lent, as a part that writes.
+/// A borrowed object identifier, as a part for writing.
 #[derive(Drop)]
 pub struct OidRef<'a>(pub &'a ObjectIdentifier);
 
@@ -102,7 +102,7 @@ impl DerSerialize for OidRef<'_> {
     }
 }
 
-/// The contents octets of an object identifier, as a part that writes: a known one is written from constants.
+/// The contents octets of an object identifier, as a part for writing: a known one is written from a constant.
 #[derive(Drop)]
 pub struct KnownOid<'a>(pub &'a [u8]);
 

@@ -10,7 +10,7 @@ use asn1_core_format::{DerDeserialize, DerSerialize, EqualByText, FirstTags, Try
 use asn1_core_writers::{WriteError, Writer};
 use std::alloc::Global;
 
-/// Any one element, kept as it is. Its contents aren't looked into.
+/// Any one element, kept as it is. Its contents aren't examined.
 #[derive(Debug, Drop, PartialEq, Eq)]
 pub struct Asn1RawDer(pub Vec<u8>);
 

@@ -1,5 +1,5 @@
-//! Types whose `==` and clones see just the value that a text is of. Two values may have one text: absent parameters
-//! and NULL are told apart, and both are written as NULL.
+//! Types whose `==` and clones see just the value that is encoded. Two values may have the same encoding: absent
+//! parameters and NULL are told apart, and both are written as NULL.
 
 ghost use Rattle.asn1_core.specs.Seen.{SeesSame, lists_see_same};
 
@@ -9,7 +9,7 @@ use crate::implicit::{ImplicitContextTag0, ImplicitContextTag1};
 use crate::lists::{Asn1SequenceOf, Asn1SetOf};
 use asn1_core_format::{DerSerialize, DerTagged, EqualByText, Viewed};
 
-/// A type with a text, of which `==` and clones tell apart exactly the values that texts are of. A type has it by
+/// A type of which `==` and clones tell apart exactly the values that encodings are of. A type has it by
 /// `EqualByText`, a wrapper where its part has it. No trait that reads or writes asks for it.
 pub trait SeenByText: DerSerialize + Viewed {
     ghost seen: { SeesSame Self.Viewed.view Self.DerSerialize.value };

@@ -1,4 +1,4 @@
-//! Versions of which one alone may stand.
+//! Versions of which only one number is allowed.
 
 ghost use Rattle.std.specs.Prelude.{ℕ};
 ghost use Rattle.asn1_core.specs.Versions.{only, version, lawful_version_0, lawful_version_1, lawful_version_3};
@@ -9,7 +9,7 @@ use asn1_core_writers::{WriteError, Writer, put_unsigned};
 use std::alloc::Global;
 
 /// An INTEGER that holds `N`, the only version that is read. A type that holds its version in a field writes the field
-/// itself, since its texts are those of any number.
+/// itself, which may be any number.
 #[derive(Drop)]
 pub struct FixedVersion<const N: u8>;
 

@@ -49,7 +49,7 @@ module _ {text : List ℕ} where
   pub few_arcs : (arcs : List ℕ) → SpellsArcs text arcs → length arcs < 2 → (octets : List ℕ) → IsTextOf text octets → ⊥
   few_arcs arcs s l octets h = omega (arith, l, ap length (same_spelled arcs s h), two_arcs h.arcs h.allowed)
 
--- what the first two arcs owe
+-- what the first two arcs must be
 abbrev pub IsPair : ℕ → ℕ → Type 0
 IsPair first second = (first ≤ 2) × (first < 2 → second < 40) × (40 * first + second < 2 ^ 64)
 

@@ -1,9 +1,9 @@
--- The contents octets of an object identifier (X.690, 8.19): groups, each of which is a number in base 128.
+-- The contents octets of an object identifier (X.690, 8.19): groups (its subidentifiers), each a number in base 128.
 use Rattle.std.specs.Prelude.{◌≡◌, ◌≢◌, ℕ, ◌+◌, ◌/◌, ◌%◌, List, [], ◌∷◌, ◌++◌, map}
 use Rattle.std.specs.List.{flat_map}
 use Rattle.std.specs.Int.Digits.{digits_of}
 
--- A number in the fewest digits of base 128, the highest first: one octet a digit, with the top bit set in all but the last. 0 is one digit.
+-- a number in the fewest digits of base 128, 0 in one, an octet each, highest first; all but the last have bit 8 set
 abbrev pub base128 : ℕ → List ℕ
 base128 n = map (λ d. 0x80 + d) (digits_of 128 (n / 128)) ++ n % 128 ∷ []
 

@@ -33,7 +33,7 @@ groups_after-base128 n os =
     ∙ groups_after_end (n / 128) (n % 128) os (omega arith)
     ∙ ap (λ m. m ∷ groups_after 0 os) (omega arith)
 
--- the groups can be told from their octets
+-- the octets of groups determine the groups
 pub groups_after-flat_map : (groups : List ℕ) → groups_after 0 (flat_map base128 groups) ≡ groups
 groups_after-flat_map [] = refl
 groups_after-flat_map (n ∷ groups) = groups_after-base128 n (flat_map base128 groups) ∙ ap (λ gs. n ∷ gs) (groups_after-flat_map groups)

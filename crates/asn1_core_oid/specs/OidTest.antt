@@ -1,7 +1,7 @@
 -- A test of contents octets, which computes at octets that are written out.
 use Rattle.std.specs.Prelude.{◌==◌, ℕ, Bool, true, false, not, ◌&&◌, List, [], ◌∷◌, nat_lt, nat_le, if◌then◌else◌}
 
--- These octets end the last group, where one is begun already, and else hold whole groups alone. No group begins with 0x80.
+-- the octets are whole groups, the first of which began earlier where `inside` is true; no group begins with 0x80
 abbrev pub ends_groups : Bool → List ℕ → Bool
 ends_groups inside [] = not inside
 ends_groups inside (o ∷ os) = if o == 0x80 && not inside then false else ends_groups (nat_le 0x80 o) os

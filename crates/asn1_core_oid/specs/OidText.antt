@@ -10,7 +10,7 @@ IsArcs [] = ⊥
 IsArcs (first ∷ []) = ⊥
 IsArcs (first ∷ second ∷ further) = (first ≤ 2) × (first < 2 → second < 40)
 
--- one group an arc, but for the first two, which share one
+-- one group for each arc, but for the first two, which share one
 abbrev pub groups_of_arcs : List ℕ → List ℕ
 groups_of_arcs [] = []
 groups_of_arcs (first ∷ []) = first ∷ []

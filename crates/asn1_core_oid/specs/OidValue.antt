@@ -1,4 +1,4 @@
--- What an `ObjectIdentifier` stands for.
+-- The value of an `ObjectIdentifier`.
 use Rattle.std.specs.Prelude.{ℕ, List}
 use Rattle.asn1_core_oid.specs.declared.oid.ObjectIdentifier.{ObjectIdentifier}
 

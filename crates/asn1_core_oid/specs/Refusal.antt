@@ -3,6 +3,6 @@ use Rattle.std.specs.Prelude.{◌≡◌, ◌⊎◌}
 use Rattle.asn1_core_element.specs.declared.error.Error.{Error}
 use Rattle.asn1_core_element.specs.declared.error.Error.TheVariants.{Invalid, Memory}
 
--- memory was refused, or what was given is invalid, as the fact says
+-- memory was refused, or what was given is invalid, for which P is the reason
 abbrev pub IsRefusal : Type 0 → Error → Type 0
 IsRefusal P e = (e ≡ Memory) ⊎ ((e ≡ Invalid) × P)

@@ -62,7 +62,7 @@ pub(crate) fn first_arcs(group: u64) -> (u64, u64)
     (first, group - 40 * first)
 }
 
-/// Writes arcs behind others.
+/// Appends arcs to others, each after a dot.
 pub(crate) fn write_arcs(arcs: &[u64], text: &mut String) -> Result<(), Error>
     ensures { MatchResult result
         (λ _. string_bytes text.new ≡ string_bytes text.old ++ flat_map dotted arcs.now)

@@ -23,14 +23,14 @@ none_taken zero (_ ∷ _) = 1
 abbrev pub CountsFailedWrites : {E : Type 0} → ℕ → ℕ → Result ℕ E → List ℕ → Type 0
 CountsFailedWrites old new r buf = MatchResult r (λ n. new ≡ old + none_taken n buf) (λ _. new ≡ old + 1)
 
--- known bytes grow by a beginning of these bytes
+-- the bytes so far, where they are known, grow by a beginning of these bytes
 pub record AppendsBeginning (old new : Option (List ℕ)) (bytes : List ℕ) : Type 0 where
   pub written : List ℕ
   pub unwritten : List ℕ
   pub split : bytes ≡ written ++ unwritten
   pub appended : Appends old new written
 
--- known bytes begin with some bytes, and lose them
+-- the bytes to come, where they are known, begin with some bytes, and lose them
 pub record ConsumesSome (old new : Option (List ℕ)) : Type 0 where
   pub bytes : List ℕ
   pub consumed : Consumes old new bytes

@@ -18,7 +18,7 @@ use asn1_core_writers::{WriteError, Writer, put_head};
 use asn1_leaves_strings::BitString;
 use std::alloc::Global;
 
-/// A BIT STRING as one element, with tag 0x03. Unused bits are kept as they stand.
+/// A BIT STRING as one element, with tag 0x03. Unused bits are kept as they are.
 #[derive(Debug, Drop, PartialEq, Eq)]
 pub struct BitStringAsn1(pub BitString);
 
@@ -55,8 +55,8 @@ fn put_octets<W: Writer>(first: &[u8], then: &[u8], w: &mut W) -> Result<(), Wri
     }
 }
 
-/// Writes an element whose contents are the count of unused bits and the bytes. That is also the text of any other with
-/// these contents, under this tag.
+/// Writes an element whose contents are the count of unused bits and the bytes. That is also the encoding of any other
+/// type with these contents, under this tag.
 #[tactic(auto, using(asn1_core_element::specs::ElementLaws::retag_element))]
 fn put_bits<W: Writer>(tag: u8, bits: &BitString, w: &mut W) -> Result<(), WriteError>
     requires { W.MayTake w.old }

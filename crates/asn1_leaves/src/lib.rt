@@ -1,4 +1,4 @@
-//! Leaves of DER: integers, bit strings, restricted strings and times, each as one element.
+//! Leaves of DER, that is primitive types: integers, bit strings, restricted strings and times, each as one element.
 #![tactic(auto)]
 
 pub mod bits;

@@ -45,7 +45,7 @@ sets bytes i at byte value h is here others = record {
       (cases_eq (j / 8) (i / 8));
 }
 
--- bit i is made this
+-- bit i is set to this value
 pub written : (bytes : List ℕ) (i k byte : ℕ) (value : Bool) → i / 8 < length bytes → get_or bytes (i / 8) 0 < 256 → k ≡ 7 - i % 8 → byte ≡ byte_with (get_or bytes (i / 8) 0) k value → SetsBit bytes (set bytes (i / 8) byte) i value
 written bytes i k byte true h small at e =
     let old : ℕ = get_or bytes (i / 8) 0 in

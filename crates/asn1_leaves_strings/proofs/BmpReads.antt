@@ -50,7 +50,7 @@ in_pairs (suc n) (a ∷ b ∷ r) size bytes =
       λ is. let f = IsBmp-first a b r is in All-cons IsCharacter (a ∷ b ∷ []) pairs f.first.1 (after.1 f.others),
     )
 
--- the pairs, and an octet behind them
+-- the pairs, and the octet after them, if there is one
 pub record Split (octets : List ℕ) (pairs : List (List ℕ)) (odd : List ℕ) : Type 0 where
   pub bytes : (i : ℕ) → get_or octets i 0 < 256
   pub front : pairs ≡ first_chunks 2 (length octets / 2) octets

@@ -23,15 +23,15 @@ IsAllZero bytes = All (λ byte. byte ≡ 0) bytes
 abbrev pub value_of_bit : Bool → ℕ
 value_of_bit value = if value then 1 else 0
 
--- the byte with bit k, counted from the lowest on, made this
+-- the byte with bit k, counted from the lowest, set to this value
 abbrev pub byte_with : ℕ → ℕ → Bool → ℕ
 byte_with byte k value = byte - bit_at byte k * 2 ^ k + value_of_bit value * 2 ^ k
 
--- the bytes with bit i made this
+-- the bytes with bit i set to this value
 abbrev pub with_bit : List ℕ → ℕ → Bool → List ℕ
 with_bit bytes i value = slice_set bytes (i / 8) (byte_with (slice_index bytes (i / 8)) (7 - i % 8) value)
 
--- bit index has this value, and every other bit stands as before
+-- bit `index` has this value, and every other bit is as before
 pub record SetsBit (old new : List ℕ) (index : ℕ) (value : Bool) : Type 0 where
   pub count : length new ≡ length old
   pub here : bit new index ≡ value_of_bit value

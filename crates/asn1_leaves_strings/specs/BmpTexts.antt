@@ -1,4 +1,4 @@
--- Text as a BMPString: a unit for each character.
+-- Text as a BMPString: one unit for each character.
 use Rattle.std.specs.Prelude.{◌≡◌, ℕ, ◌<◌, ◌^◌, List}
 use Rattle.std.specs.List.{All, flat_map}
 use Rattle.asn1_leaves_strings.specs.Bmp.{unit_octets}

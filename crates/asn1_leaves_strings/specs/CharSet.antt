@@ -1,4 +1,4 @@
--- What is asked of a constructor that takes the octets of one character set.
+-- What a constructor promises that takes the octets of one character set.
 use Rattle.std.specs.Prelude.{◌≡◌, ℕ, List, Result, MatchResult}
 
 -- It succeeds exactly where the octets are of the set, and the value then holds just these.

@@ -21,7 +21,7 @@ fn byte_with(byte: u8, k: usize, value: bool) -> u8
 
 /// A string of bits, as its bytes and the count of those bits of the last byte that are no part of it.
 ///
-/// Bit 0 is the highest bit of the first byte (X.690, 8.6.2.1). Unused bits are kept as they stand, so two strings
+/// Bit 0 is the highest bit of the first byte (X.690, 8.6.2.1). Unused bits are kept as they are, so two strings
 /// that differ in these alone are not equal.
 #[derive(Debug, Drop, PartialEq, Eq)]
 pub struct BitString {
@@ -84,7 +84,7 @@ impl BitString {
         (self.bytes[index / 8] >> (7 - index % 8)) & 1 == 1
     }
 
-    /// The bytes, without the count of unused bits that stands before them in the contents octets.
+    /// The bytes, without the count of unused bits that precedes them in the contents octets.
     pub fn payload(&self) -> &[u8]
         ensures { result.now ≡ bytes_of self.now }
     {

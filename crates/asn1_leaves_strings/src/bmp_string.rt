@@ -64,7 +64,7 @@ impl BmpString {
         self.octets.as_slice()
     }
 
-    /// The string of a text, a unit for each character. Refused are characters above U+FFFF, and want of memory.
+    /// The string of a text, a unit for each character. Refuses a character above U+FFFF, and by `Memory`.
     pub fn from_text(alloc: Global, text: &str) -> Result<Self, StringError>
         ensures { MatchResult result (λ s. HoldsUnits (chars text.now) (octets_of_bmp s)) (WhyRefused (chars text.now)) }
     {

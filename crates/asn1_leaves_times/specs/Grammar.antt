@@ -1,5 +1,5 @@
--- The contents of UTCTime and GeneralizedTime in DER as bytes alone, with no time that they spell (X.690, 11.7 and 11.8;
--- RFC 5280, 4.1.2.5).
+-- The contents of UTCTime and GeneralizedTime in DER, as a grammar over bytes alone (X.690, 11.7 and 11.8; RFC 5280,
+-- 4.1.2.5).
 use Rattle.std.specs.Prelude.{◌≡◌, ℕ, ◌+◌, ◌-◌, ◌*◌, ◌<◌, List, length, slice_index, nat_lt, if◌then◌else◌}
 use Rattle.std.specs.Char.{IsAsciiDigit}
 use Rattle.asn1_leaves_times.specs.Calendar.{IsMoment}
@@ -19,7 +19,7 @@ number_at contents k = 10 * (slice_index contents k - 48) + (slice_index content
 abbrev pub utc_year : ℕ → ℕ
 utc_year n = if nat_lt n 50 then 2000 + n else 1900 + n
 
--- what the digits write that begin at k, where those of the month do
+-- the moment of that year whose digits, from those of the month on, begin at k
 abbrev pub moment_from : ℕ → List ℕ → ℕ → Moment
 moment_from year contents k =
     record {

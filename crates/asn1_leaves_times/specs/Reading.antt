@@ -8,7 +8,7 @@ use Rattle.asn1_leaves_times.specs.declared.calendar.Moment.{Moment}
 abbrev pub HasNoNumber : List ℕ → Type 0
 HasNoNumber contents = (n : ℕ) (rest : List ℕ) → n < 100 → contents ≡ two_digits n ++ rest → ⊥
 
--- no moment is written so after its year
+-- the bytes are what follows the year of no moment
 abbrev pub SpellsNoMoment : List ℕ → Type 0
 SpellsNoMoment contents = (m : Moment) → IsMoment m → contents ≡ contents_after_year m → ⊥
 

@@ -1,4 +1,4 @@
--- What a time says.
+-- The moment of a time.
 use Rattle.asn1_leaves_times.specs.declared.calendar.Moment.{Moment}
 use Rattle.asn1_leaves_times.specs.declared.generalized_time.GeneralizedTime.{GeneralizedTime}
 use Rattle.asn1_leaves_times.specs.declared.utc_time.UTCTime.{UTCTime}

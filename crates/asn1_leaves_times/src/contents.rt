@@ -21,7 +21,7 @@ pub fn spelled_after_year(moment: &Moment) -> [u8; 11]
     contents
 }
 
-/// The numbers of a time in that year. It isn't looked whether there is such a time.
+/// The numbers of a time in that year. Whether there is such a time isn't checked.
 pub fn read_after_year(year: u16, contents: &[u8]) -> Option<Moment>
     ensures { MatchOption result (SpellsNoMoment contents.now)
         (λ m. (m.year ≡ year) × (contents.now ≡ contents_after_year m)) }

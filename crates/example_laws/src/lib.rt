@@ -35,7 +35,7 @@ pub fn normalising_twice<T: DerDeserialize>()
     rewriting_reaches_an_end::<T>();
 }
 
-/// Of two normal values with the same encoding, as a cache keeps one, each is the other.
+/// Two normal values with the same encoding are equal, so a cache may keep one by its encoding.
 pub fn one_value_an_encoding<T: DerDeserialize>()
     ensures { (k : ℕ) (u v : T.Value) → T.format.IsWellFormed k u → T.format.IsWellFormed k v
         → T.format.normal u ≡ u → T.format.normal v ≡ v → T.format.text u ≡ T.format.text v → u ≡ v }
@@ -43,28 +43,28 @@ pub fn one_value_an_encoding<T: DerDeserialize>()
     texts_tell_normal_values::<T>();
 }
 
-/// What is normal at a limit is so at a limit that is two levels higher.
+/// What is normal, that is canonical DER, at a nesting limit is so at a limit two levels higher.
 pub fn normal_two_levels_higher<T: DerDeserialize>()
     ensures { (k : ℕ) (b : List ℕ) → T.format.IsNormal k b → T.format.IsNormal (k + 1 + 1) b }
 {
     normal_texts_stay_normal::<T>();
 }
 
-/// Whoever reads with 8 levels and whoever reads with 64 get the same value of what both accept.
+/// Whoever reads with 8 nesting levels and whoever reads with 64 get the same value of what both accept.
 pub fn limits_give_one_value<T: DerDeserialize>()
     ensures { (b : List ℕ) (u v : T.Value) → T.format.Reads 8 b u → T.format.Reads 64 b v → v ≡ u }
 {
     limits_agree::<T>();
 }
 
-/// A type that needs a level has one value for an input.
+/// A type that needs a remaining nesting level has one value for an input.
 pub fn gated_types_have_one_value<T: DerDeserialize>()
     ensures { (k : ℕ) (b : List ℕ) (u v : T.Value) → (gated T.format).Reads k b u → (gated T.format).Reads k b v → u ≡ v }
 {
     gated_types_are_lawful::<T>();
 }
 
-/// A set that is left out where it is empty has one value for contents.
+/// A body with a set that is left out where it is empty has one value for contents.
 pub fn sets_left_out_have_one_value<T: DerDeserialize>(tag: u8)
     requires tag { IsTagByte tag }
     ensures { (k : ℕ) (b : List ℕ) (u v : _) → (set_or_none tag T.format).Reads k b u → (set_or_none tag T.format).Reads k b v → u ≡ v }
@@ -88,7 +88,7 @@ pub fn accepted_as_a_raw_one<R: AuthenticatedSafeDataRepr>()
     reads_as_the_raw_one::<R>();
 }
 
-/// The octets that a MAC covers stand in the input, so a verifier hashes its own buffer.
+/// The octets that a MAC covers are in the input, so a verifier hashes its own buffer.
 pub fn mac_octets_are_in_the_input()
     ensures { (k : ℕ) (b octets : List ℕ) (w : PfxValue (List ℕ)) → (pfx raw).Reads k b w → mac_octets w ≡ Some octets
         → (version : List ℕ) × (mac : List ℕ) × (b ≡ element 0x30 (version ++ (auth_safe_of octets ++ mac))) }
@@ -96,7 +96,7 @@ pub fn mac_octets_are_in_the_input()
     mac_octets_stand_in_the_input();
 }
 
-/// They stand in what is written, too.
+/// They are in what is written, too.
 pub fn mac_octets_are_in_the_encoding()
     ensures { (octets : List ℕ) (w : PfxValue (List ℕ)) → mac_octets w ≡ Some octets
         → (version : List ℕ) × (mac : List ℕ) × ((pfx raw).text w ≡ element 0x30 (version ++ (auth_safe_of octets ++ mac))) }

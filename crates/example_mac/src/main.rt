@@ -1,4 +1,4 @@
-//! Reads a PKCS #12 file from standard input, lends the octets that its MAC covers, and writes the file again: what
+//! Reads a PKCS #12 file from standard input, borrows the octets that its MAC covers, and writes the file again: what
 //! README.md quotes.
 #![tactic(auto)]
 

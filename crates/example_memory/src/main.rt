@@ -1,5 +1,5 @@
-//! One round of the calls that take memory, over values of each shape. It ends with status 3 where a request was refused,
-//! and nothing else came of that; otherwise it says what came of it. `scripts/memory` refuses each request in turn.
+//! One round of the calls that take memory, over values of each shape. It ends with status 3 where a request was
+//! refused with no other effect; otherwise it says what went wrong, if anything. `scripts/memory` refuses each in turn.
 #![tactic(auto)]
 
 mod conversions;
@@ -11,7 +11,7 @@ use rounds::Stop;
 use std::alloc::Global;
 use std::process::ExitCode;
 
-/// All of the round.
+/// All calls, once.
 fn round(alloc: Global) -> Result<(), Stop> {
     rounds::store_values(alloc)?;
     rounds::content_values(alloc)?;

@@ -14,7 +14,7 @@ type ParsedPfx = Pfx<ParsedAuthenticatedSafeDataRepr>;
 /// Why a round ended.
 #[derive(Debug, Drop)]
 pub enum Stop {
-    /// A request for memory was refused, and lent values are as they were.
+    /// A request for memory was refused, and borrowed values are as they were.
     Memory,
     /// Something isn't as it should be.
     Other(&'static str),
@@ -52,19 +52,19 @@ pub fn expect(holds: bool, what: &'static str) -> Result<(), Stop> {
     }
 }
 
-/// Asks, without memory, that the text of the value is this one.
+/// Checks, without memory, that the encoding of the value is this one.
 pub fn has_text<T: DerSerialize>(value: &T, text: &[u8]) -> Result<(), Stop> {
     let mut compare = Compare::new(text);
     let is_written = value.put(&mut compare).is_ok();
     expect(is_written && compare.is_same(), "a value has another text")
 }
 
-/// Asks that a value is made that has the text. It is held here alone, so that its `drop` is proved for any type.
+/// Checks that a value is made that has this encoding. It is held here alone, so its `drop` is proved for any type.
 pub fn is_made<T: DerDeserialize>(made: Result<T, Error>, text: &[u8]) -> Result<(), Stop> {
     has_text(&made?, text)
 }
 
-/// Asks that the value is appended to a buffer, and that a refusal leaves both as they were.
+/// Checks that the value is appended to a buffer, and that a refusal leaves both as they were.
 fn is_appended<T: DerSerialize>(alloc: Global, value: &T, text: &[u8]) -> Result<(), Stop> {
     let mut buffer = Vec::from_slice(alloc, b"ab")?;
     let outcome = value.write(alloc, &mut buffer);
@@ -84,7 +84,7 @@ fn is_appended<T: DerSerialize>(alloc: Global, value: &T, text: &[u8]) -> Result
     }
 }
 
-/// The value of the input, of which is asked that it is written as the text, and that a refusal leaves it as it was.
+/// The value of the input, with checks that it has this encoding, and that a refusal leaves it as it was.
 pub fn is_written<T: DerDeserialize>(alloc: Global, input: &[u8], text: &[u8]) -> Result<T, Stop> {
     let value: T = from_bytes(alloc, input)?;
     let outcome = to_vec(alloc, &value);
@@ -94,7 +94,7 @@ pub fn is_written<T: DerDeserialize>(alloc: Global, input: &[u8], text: &[u8]) -
     Ok(value)
 }
 
-/// Asks of the value of the input what `is_written` does, and that it is cloned, where a refusal leaves it as it was.
+/// Checks of the input's value what `is_written` does, and that it is cloned, where a refusal leaves it as it was.
 fn is_cloned<T: DerDeserialize + TryClone>(
     alloc: Global,
     input: &[u8],

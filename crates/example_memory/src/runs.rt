@@ -41,7 +41,7 @@ impl Sink for Held {
     }
 }
 
-/// Asks of a run over the loose file that it writes the bytes with that outcome, and where memory is refused the line.
+/// Checks that a run over the loose file writes these bytes with that outcome, and this line where memory is refused.
 fn is_run(
     alloc: Global,
     mode: Mode,

@@ -1,4 +1,4 @@
-//! The texts of the round.
+//! The encodings that the calls read and write.
 
 /// A MAC by SHA-256 with 2048 iterations.
 pub const MAC_DATA: &[u8] = b"\

@@ -1,4 +1,4 @@
-//! `example_rename OLD NEW` gives each bag named OLD, those in bags too, the name NEW, in a PKCS #12 file without a MAC.
+//! `example_rename OLD NEW` renames each bag named OLD, those in bags too, to NEW, in a PKCS #12 file without a MAC.
 #![tactic(auto)]
 
 use std::alloc::Global;

@@ -1,4 +1,4 @@
-//! A SEQUENCE of a caller's own, whole: what docs/ARCHITECTURE.md says of adding one, as a crate that uses this library.
+//! A caller's own SEQUENCE, complete, as a crate that uses this library: docs/ARCHITECTURE.md explains how to add one.
 #![tactic(auto)]
 
 ghost use Rattle.std.proofs.Common.{rules};

@@ -1,5 +1,6 @@
 -- Ticket ::= SEQUENCE { serial INTEGER (0..4294967295), note [0] EXPLICIT OCTET STRING OPTIONAL, holder Holder }
--- Holder ::= SEQUENCE { type OBJECT IDENTIFIER, value ANY DEFINED BY type }; under 1.3.6.1.4.1.32473.1 a token, an OCTET STRING
+-- Holder ::= SEQUENCE { type OBJECT IDENTIFIER, value ANY DEFINED BY type }; for 1.3.6.1.4.1.32473.1 an OCTET STRING,
+--   a token
 use Rattle.std.specs.Prelude.{◌⊎◌, ℕ, ◌^◌, List, [], ◌∷◌, Option}
 use Rattle.std.proofs.Common.{inl, inr, arith}
 use Rattle.asn1_core.specs.Der.{Format, IsLawful, sequence, part, optional, nothing, explicit, octet_string, raw, number_below, octets_of, Octets, OidOctets, ElementOctets, lawful_sequence, followed_by, perhaps, lawful_nothing, lawful_explicit, lawful_octet_string, lawful_raw, lawful_number, Choice, known, otherwise, lawful_known, lawful_otherwise, arcs, IsOid}

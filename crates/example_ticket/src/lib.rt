@@ -1,4 +1,4 @@
-//! Two more types of a caller's own, whole: a SEQUENCE with an optional part under an explicit tag, and a choice by
+//! Two more types of a caller's own, complete: a SEQUENCE with an optional part under an explicit tag, and a choice by
 //! object identifier.
 #![tactic(auto)]
 

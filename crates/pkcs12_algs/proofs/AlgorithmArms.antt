@@ -1,4 +1,4 @@
--- Reading an algorithm identifier whose object identifier picks an arm.
+-- Reading an algorithm identifier whose object identifier picks an alternative.
 use Rattle.std.proofs.Common.{◌≡◌, ℕ, List, refl, sym, subst}
 use Rattle.asn1_core.specs.Der.{Position, Took, GaveUp}
 use Rattle.asn1_core_element.specs.declared.error.Error.{Error}
@@ -10,7 +10,7 @@ use Rattle.pkcs12_algs.specs.Algorithms.{KnownOrRaw, known_or_raw, from_raw}
 use Rattle.pkcs12_algs.specs.Tables.{listing}
 use Rattle.pkcs12_algs.specs.TableLaws.{listing_is_table}
 
--- absent parameters are read as they stand
+-- absent parameters are read as absent
 as_it_stands : {k : ℕ} {old new : Position} {v : AlgorithmValue} → Took raw_algorithm_identifier k old new v → Took algorithm_identifier k old new v
 as_it_stands {k} t = record {
   taken = t.taken;

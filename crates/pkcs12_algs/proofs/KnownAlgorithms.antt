@@ -9,7 +9,7 @@ use Rattle.pkcs12_algs.specs.Tables.{listing, are_oids}
 use Rattle.pkcs12_algs.specs.TableLaws.{one_listed, listing_is_table, valid_listed}
 
 module _ (oids : List (List ℕ)) where
-  -- a known object identifier picks its arm
+  -- a known object identifier picks its alternative
   pub known_read : (x : KnownOrRaw oids) (o : List ℕ) (v : AlgorithmValue) → IsKnown oids x o → v.0 ≡ o → x ≡ from_raw oids v
   known_read (inl a) o v h e = sym (ap (λ r. arm_read r v) (ap (listing oids).arm_of (e ∙ sym h) ∙ (listing_is_table oids).there a))
   known_read (inr w) o v h e = absurd h

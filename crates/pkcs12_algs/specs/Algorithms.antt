@@ -18,11 +18,11 @@ known_or_raw oids = algorithm_choice (listing oids)
 abbrev pub raw_value : RawAlgorithmIdentifier → AlgorithmValue
 raw_value a = algorithm_value (parts_of a)
 
--- what an algorithm identifier stands for
+-- what an algorithm identifier is read as: a known algorithm, without its parameters, or any other as it is
 abbrev pub from_raw : (oids : List (List ℕ)) → AlgorithmValue → KnownOrRaw oids
 from_raw oids v = arm_read ((listing oids).arm_of v.0) v
 
--- what an object identifier without parameters stands for
+-- what an algorithm identifier without parameters is read as
 abbrev pub from_oid : (oids : List (List ℕ)) → List ℕ → KnownOrRaw oids
 from_oid oids o = from_raw oids (o, (None, tt))
 

@@ -1,7 +1,7 @@
 -- The encryption of what a PKCS #12 file protects by a password.
 --
 -- ContentEncryptionAlgorithmIdentifier ::= AlgorithmIdentifier (RFC 2315, 6.2), whose algorithm is id-PBES2 with
--- PBES2-params (RFC 8018, appendix A.4), one of pkcs-12PbeIds with pkcs-12PbeParams (RFC 7292, appendix C), or any other.
+-- PBES2-params (RFC 8018, appendix A.4), one of pkcs-12PbeIds with pkcs-12PbeParams (RFC 7292, appendix C), or another.
 use Rattle.std.specs.Prelude.{◌⊎◌}
 use Rattle.asn1_core.specs.Der.{Format, IsLawful, sequence, der_laws, Choice, IsLawfulChoice, known, lawful_known}
 use Rattle.std.proofs.Common.{inl, inr}

@@ -2,11 +2,11 @@
 use Rattle.std.specs.Prelude.{ℕ, List, [], ◌∷◌}
 use Rattle.asn1_core.specs.Der.{arcs}
 
--- what stands below rsadsi, 1.2.840.113549
+-- an object identifier below rsadsi, 1.2.840.113549
 abbrev rsadsi : List ℕ → List ℕ
 rsadsi further = arcs (1 ∷ 2 ∷ 840 ∷ 113549 ∷ further)
 
--- what stands below nistAlgorithm, 2.16.840.1.101.3.4
+-- an object identifier below nistAlgorithm, 2.16.840.1.101.3.4
 abbrev nist_algorithm : List ℕ → List ℕ
 nist_algorithm further = arcs (2 ∷ 16 ∷ 840 ∷ 1 ∷ 101 ∷ 3 ∷ 4 ∷ further)
 

@@ -6,7 +6,7 @@
 --     keyLength INTEGER (1..MAX) OPTIONAL,
 --     prf AlgorithmIdentifier {{PBKDF2-PRFs}} DEFAULT algid-hmacWithSHA1 }
 --
--- Counts and lengths of 0 are read, up to 2^32 - 1. A PRF that is left out and one that is HMAC with SHA-1 are told apart.
+-- Counts and lengths from 0 to 2^32 - 1 are read. An absent PRF and an explicit HMAC with SHA-1 are told apart.
 use Rattle.std.specs.Prelude.{◌≡◌, ◌⊎◌, ◌^◌, ℕ, List, [], ◌∷◌, Option, map}
 use Rattle.asn1_core.specs.Der.{Format, IsLawful, sequence, part, optional, nothing, octet_string, number_below, option_value, lawful_sequence, followed_by, perhaps, lawful_nothing, lawful_octet_string, lawful_number, Octets, either, lawful_either}
 use Rattle.std.proofs.Common.{inl, inr, ⊎_elim, arith}

@@ -19,7 +19,7 @@ module _ {A : Type 0} (oid_of : A → List ℕ) where
   has_oid [] o a e = cc
   has_oid (b ∷ arms) o a e = found (bytes_eq o (oid_of b)) b a o (arm_with oid_of arms o) (bytes_eq-Decides o (oid_of b)).0 (has_oid arms o a) e
 
-  -- of arms that are found by their object identifiers
+  -- alternatives of which each is found by its own object identifier are a table
   pub is_table : (arms : List A) → ((a : A) → arm_with oid_of arms (oid_of a) ≡ Some a) → IsTable (table oid_of arms)
   is_table arms there = record { there = there; back = has_oid arms }
 
@@ -34,7 +34,7 @@ module _ {A : Type 0} (oid_of : A → List ℕ) where
       valid_found (bytes_eq o (oid_of b)) b a (arm_with oid_of arms o) (oid_from_test (oid_of b) p.0) (valid_arm arms p.1 o a) e
 
 module _ (oids : List (List ℕ)) where
-  -- that an object identifier stands in the list has one proof
+  -- that an object identifier is in the list has one proof
   pub one_listed : (a b : Listed oids) → a.0 ≡ b.0 → a ≡ b
   one_listed a b e = Σ_prop_path (λ o. Bool-set (is_listed oids o) true) e
 

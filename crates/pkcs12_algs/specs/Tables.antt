@@ -5,7 +5,7 @@ use Rattle.std.specs.Str.{bytes_eq}
 use Rattle.asn1_core.specs.Der.{is_oid}
 use Rattle.asn1_choices.specs.Tables.{Table}
 
--- the first of the arms with that object identifier
+-- the first of the alternatives with that object identifier
 abbrev pub arm_with : {A : Type 0} → (A → List ℕ) → List A → List ℕ → Option A
 arm_with oid_of [] o = None
 arm_with oid_of (a ∷ arms) o = if bytes_eq o (oid_of a) then Some a else arm_with oid_of arms o
@@ -17,7 +17,7 @@ abbrev pub is_listed : List (List ℕ) → List ℕ → Bool
 is_listed [] o = false
 is_listed (p ∷ oids) o = if bytes_eq o p then true else is_listed oids o
 
--- the object identifiers of a list, which are arms themselves
+-- the object identifiers of a list, each of which is an alternative itself
 abbrev pub Listed : List (List ℕ) → Type 0
 Listed oids = (o : List ℕ) × (is_listed oids o ≡ true)
 
@@ -28,7 +28,7 @@ listed_where oids o false e = None
 abbrev pub listing : (oids : List (List ℕ)) → Table (Listed oids)
 listing oids = record { oid_of = λ a. a.0; arm_of = λ o. listed_where oids o (is_listed oids o) refl }
 
--- each of them is spelled as an object identifier is
+-- each of them is the contents octets of an object identifier
 abbrev pub are_oids : List (List ℕ) → Bool
 are_oids [] = true
 are_oids (o ∷ oids) = is_oid o && are_oids oids

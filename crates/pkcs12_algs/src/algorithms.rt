@@ -37,7 +37,7 @@ pub(crate) trait Algorithm: Drop {
     ghost valid: { are_oids OIDS ≡ true };
 }
 
-/// The algorithm that an algorithm identifier stands for. The parameters of a known one are dropped.
+/// The algorithm that an algorithm identifier names. The parameters of a known one are dropped.
 pub(crate) fn algorithm_from_raw<T: Algorithm>(raw: RawAlgorithmIdentifier) -> T
     ensures { T.value result ≡ from_raw T.OIDS (raw_value raw) }
 {
@@ -73,7 +73,7 @@ pub(crate) fn clone_algorithm<T: Algorithm>(alloc: Global, algorithm: &T) -> Res
     }
 }
 
-/// An algorithm that is only lent, as a part that writes.
+/// A borrowed algorithm, as a part for writing.
 #[derive(Drop)]
 pub(crate) struct AlgorithmRef<'a, T>(pub &'a T);
 
@@ -101,7 +101,7 @@ impl<T: Algorithm> DerSerialize for AlgorithmRef<'_, T> {
     }
 }
 
-/// An algorithm as a part that is read.
+/// An algorithm, as a part for reading.
 #[derive(Drop)]
 pub(crate) struct AlgorithmPart<T>(pub T);
 

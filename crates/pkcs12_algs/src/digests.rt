@@ -20,7 +20,7 @@ use x509_base::RawAlgorithmIdentifier;
 
 /// `DigestAlgorithmIdentifier ::= AlgorithmIdentifier` (RFC 2315, 6.3), as the digest algorithm of a MAC (RFC 7292, 4):
 /// an algorithm that is known by its object identifier (RFC 8017, appendix B.1), whatever its parameters are, or any
-/// other. An `Unknown` with the object identifier of a known one isn't well-formed: its text is read as the known one.
+/// other. An `Unknown` with a known object identifier isn't well-formed: its encoding is read as the known algorithm.
 #[derive(Debug, Drop, PartialEq, Eq)]
 pub enum Pkcs12DigestAlgorithm {
     /// `id-sha1` (RFC 8017, appendix B.1)
@@ -37,7 +37,7 @@ pub enum Pkcs12DigestAlgorithm {
     Unknown(RawAlgorithmIdentifier),
 }
 
-/// The known digests, by their object identifiers: one row an arm.
+/// The known digests, by their object identifiers: one row for each.
 macro_rules! known_digests {
     ($by:ident($value:expr)) => {
         $by! {
@@ -72,7 +72,7 @@ impl Algorithm for Pkcs12DigestAlgorithm {
 }
 
 impl Pkcs12DigestAlgorithm {
-    /// The algorithm that an algorithm identifier stands for. The parameters of a known one are dropped.
+    /// The algorithm that an algorithm identifier names. The parameters of a known one are dropped.
     pub fn from_raw(raw: RawAlgorithmIdentifier) -> Self
         ensures { digest_value result ≡ from_raw digest_oids (raw_value raw) }
     {

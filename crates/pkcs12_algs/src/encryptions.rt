@@ -13,8 +13,8 @@ use std::alloc::Global;
 use x509_base::RawAlgorithmIdentifier;
 
 /// `ContentEncryptionAlgorithmIdentifier ::= AlgorithmIdentifier` (RFC 2315, 6.2), as PKCS #12 uses it: PBES2
-/// (RFC 8018, 6.2), one of `pkcs-12PbeIds` (RFC 7292, appendix C), or any other, as the schemes that RFC 8018 itself
-/// calls PBES1. A known object identifier with other parameters, or with none, is refused and not `Unknown`.
+/// (RFC 8018, 6.2), one of `pkcs-12PbeIds` (RFC 7292, appendix C), or any other, such as the schemes that RFC 8018
+/// itself calls PBES1. A known object identifier with other parameters, or with none, is refused and not `Unknown`.
 #[derive(Debug, Drop, PartialEq, Eq)]
 pub enum Pkcs12EncryptionAlgorithm {
     /// One of `pkcs-12PbeIds` (RFC 7292, appendix C)

@@ -1,4 +1,4 @@
-//! Kinds of algorithms that share an arm, each with its object identifier.
+//! Kinds of algorithms that share an alternative, each with its object identifier.
 
 ghost use Rattle.std.specs.Prelude.{◌≡◌, MatchResult};
 ghost use Rattle.asn1_core_element.specs.declared.error.Error.TheVariants.{Memory};

@@ -1,5 +1,5 @@
-//! The algorithms of PKCS #12 (RFC 7292) and of encryption by passwords (RFC 8018), with their parameters: digests, MACs,
-//! key derivation, and encryption, each picked by its object identifier.
+//! The algorithms of PKCS #12 (RFC 7292) and of encryption by passwords (RFC 8018), with their parameters: digests,
+//! MACs, key derivation, and encryption, each picked by its object identifier.
 #![tactic(auto)]
 
 mod algorithms;

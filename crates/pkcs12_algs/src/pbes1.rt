@@ -25,7 +25,7 @@ pub enum Pbes1AlgorithmKind {
     ShaAnd3Key3DesCbc,
 }
 
-/// The kinds, by their object identifiers: one row an arm.
+/// The kinds, by their object identifiers: one row for each.
 macro_rules! pbe_kinds {
     ($by:ident($value:expr)) => {
         $by! {

@@ -19,8 +19,8 @@ use std::alloc::Global;
 use std::fmt;
 use x509_base::RawAlgorithmIdentifier;
 
-/// `AlgorithmIdentifier {{PBES2-KDFs}}` (RFC 8018, appendix A.4). PBKDF2 with other parameters, or with none, is refused
-/// and not `Unknown`.
+/// `AlgorithmIdentifier {{PBES2-KDFs}}` (RFC 8018, appendix A.4). PBKDF2 with other parameters, or with none, is
+/// refused and not `Unknown`.
 #[derive(Debug, Drop, PartialEq, Eq)]
 pub enum Pbes2KeyDerivationFunc {
     /// `id-PBKDF2` with its parameters (RFC 8018, 5.2 and appendix A.2)
@@ -96,7 +96,7 @@ pub enum Pbes2AesCbcEncryption {
     Aes256,
 }
 
-/// The kinds, by their object identifiers: one row an arm.
+/// The kinds, by their object identifiers: one row for each.
 macro_rules! aes_kinds {
     ($by:ident($value:expr)) => {
         $by! {
@@ -176,7 +176,7 @@ pub enum Pbes2EncryptionScheme {
     AesCbc {
         /// Which one, by the length of its key.
         kind: Pbes2AesCbcEncryption,
-        /// The initialization vector, of 16 octets where the standard is kept; its length is not looked at.
+        /// The initialization vector, of 16 octets by the standard; its length is not checked.
         iv: OctetStringAsn1,
     },
     /// Any other, with its parameters. With the object identifier of a kind of AES it isn't well-formed.
@@ -246,8 +246,8 @@ impl TryClone for Pbes2EncryptionScheme {
     }
 }
 
-/// `PBES2-params ::= SEQUENCE { keyDerivationFunc AlgorithmIdentifier {{PBES2-KDFs}}, encryptionScheme AlgorithmIdentifier
-/// {{PBES2-Encs}} }` (RFC 8018, appendix A.4)
+/// `PBES2-params ::= SEQUENCE { keyDerivationFunc AlgorithmIdentifier {{PBES2-KDFs}}, encryptionScheme
+/// AlgorithmIdentifier {{PBES2-Encs}} }` (RFC 8018, appendix A.4)
 #[derive(Debug, Drop, PartialEq, Eq)]
 pub struct Pbes2Params {
     /// `keyDerivationFunc`: how the key is made from the password (RFC 8018, appendix A.4).

@@ -22,7 +22,7 @@ pub enum Pbkdf2SaltSource {
     OtherSource(RawAlgorithmIdentifier),
 }
 
-/// A salt that is only lent, as a part that writes.
+/// A borrowed salt, as a part for writing.
 #[derive(Drop)]
 struct SaltRef<'a>(&'a Pbkdf2SaltSource);
 
@@ -48,7 +48,7 @@ impl DerSerialize for SaltRef<'_> {
     }
 }
 
-/// A salt as a part that is read.
+/// A salt, as a part for reading.
 #[derive(Drop)]
 struct SaltPart(Pbkdf2SaltSource);
 
@@ -98,10 +98,10 @@ impl TryClone for Pbkdf2SaltSource {
     }
 }
 
-/// `PBKDF2-params ::= SEQUENCE { salt CHOICE { .. }, iterationCount INTEGER (1..MAX), keyLength INTEGER (1..MAX) OPTIONAL,
-/// prf AlgorithmIdentifier {{PBKDF2-PRFs}} DEFAULT algid-hmacWithSHA1 }` (RFC 8018, appendix A.2). A count or length
-/// of 0 is read, and one past 32 bits is refused. A PRF that is left out and one that is the default are told apart,
-/// and written as they were read.
+/// `PBKDF2-params ::= SEQUENCE { salt CHOICE { .. }, iterationCount INTEGER (1..MAX), keyLength INTEGER (1..MAX)
+/// OPTIONAL, prf AlgorithmIdentifier {{PBKDF2-PRFs}} DEFAULT algid-hmacWithSHA1 }` (RFC 8018, appendix A.2). A count or
+/// length of 0 is read, and one past 32 bits is refused. A PRF that is left out and one that is the default are told
+/// apart, and written as they were read.
 #[derive(Debug, Drop, PartialEq, Eq)]
 pub struct Pbkdf2Params {
     /// `salt`, or where it comes from (RFC 8018, 4.1).

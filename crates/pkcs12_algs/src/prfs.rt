@@ -20,8 +20,8 @@ use std::fmt;
 use x509_base::RawAlgorithmIdentifier;
 
 /// `prf AlgorithmIdentifier {{PBKDF2-PRFs}}` (RFC 8018, appendices A.2 and B.1): a function that is known by its object
-/// identifier, whatever its parameters are, or any other, as those over SHA-512/224 and SHA-512/256. A known one is
-/// written with NULL as its parameters.
+/// identifier, whatever its parameters are, or any other, such as those over SHA-512/224 and SHA-512/256. A known one
+/// is written with NULL as its parameters.
 #[derive(Debug, Drop, PartialEq, Eq)]
 pub enum Pbkdf2Prf {
     /// `id-hmacWithSHA1` (RFC 8018, appendix B.1.1)
@@ -38,7 +38,7 @@ pub enum Pbkdf2Prf {
     Unknown(RawAlgorithmIdentifier),
 }
 
-/// The known functions, by their object identifiers: one row an arm.
+/// The known functions, by their object identifiers: one row for each.
 macro_rules! known_functions {
     ($by:ident($value:expr)) => {
         $by! {
@@ -53,7 +53,7 @@ macro_rules! known_functions {
 }
 
 impl Default for Pbkdf2Prf {
-    /// `algid-hmacWithSHA1`, which a PRF that is left out stands for.
+    /// `algid-hmacWithSHA1`, the DEFAULT of an absent PRF.
     fn default() -> Self
         ensures { result ≡ HmacWithSha1 }
     {
@@ -82,7 +82,7 @@ impl Algorithm for Pbkdf2Prf {
 }
 
 impl Pbkdf2Prf {
-    /// The function that an algorithm identifier stands for. The parameters of a known one are dropped.
+    /// The function that an algorithm identifier names. The parameters of a known one are dropped.
     pub fn from_raw(raw: RawAlgorithmIdentifier) -> Self
         ensures { prf_value result ≡ from_raw prf_oids (raw_value raw) }
     {

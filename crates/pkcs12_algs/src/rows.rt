@@ -1,4 +1,4 @@
-//! Arms that are known by object identifiers, as rows `Arm = OCTETS`: each in one place, for both directions.
+//! Alternatives that are known by object identifiers, as rows `Name = OCTETS`: each in one place, for both directions.
 
 /// The octets of an algorithm's row, or what it holds where it is unknown.
 macro_rules! parts_by_rows {
@@ -19,7 +19,7 @@ macro_rules! octets_by_rows {
     };
 }
 
-/// The arm whose row has these octets.
+/// The alternative whose row has these octets.
 macro_rules! arm_by_rows {
     ($octets:expr, $($arm:ident = $row:ident,)*) => {
         match $octets {

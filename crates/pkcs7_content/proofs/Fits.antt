@@ -1,4 +1,4 @@
--- Which contents are well-formed behind which content types.
+-- Which contents are well-formed after which content types.
 use Rattle.std.specs.Prelude.{◌≡◌, ◌↔◌, ◌⊎◌, ℕ, List, Option, Some, None}
 use Rattle.std.proofs.Common.{refl, sym, ap, subst, inl, inr}
 use Rattle.pkcs7_content.specs.Contents.{ContentValues, ContentRow, IsPlain, content_row}
@@ -16,7 +16,7 @@ content_same {a} {b} e =
 some_none : {a : ContentValues} {u w : Unit {0}} → ◌≡◌ {A = ContentRow} (Some a, u) (None, w) → ⊥
 some_none {a} e = let o : ◌≡◌ {A = Option ContentValues} (Some a) None = ap (λ x. x.0) e in cc
 
--- the arms are apart
+-- values of different alternatives differ
 apart_first : {a : IndirectDataValue} {b : List ℕ ⊎ (List ℕ ⊎ CtlValue)} → ◌≡◌ {A = ContentValues} (inl a) (inr b) → ⊥
 apart_first e = cc
 
@@ -57,7 +57,7 @@ module _ (k : ℕ) where
   pub list_fits : (v : CtlValue) → ctl.IsWellFormed k v ↔ (content_row TrustList).IsWellFormed k (Some (inr (inr (inr v))), tt)
   list_fits v = (λ w. ((v, tt), refl, (w, tt)), λ h. subst (ctl.IsWellFormed k) (same_list (content_same h.1)) h.2.0)
 
-  -- a test that says so of what the content is, and of what the content type says
+  -- a test of some content for some kind is a test of equal content for an equal kind
   pub fits_as : {A B : Type 0} {s t : Kind} {c d : ContentRow} → s ≡ t → c ≡ d → A ↔ B → B ↔ (content_row s).IsWellFormed k d → A ↔ (content_row t).IsWellFormed k c
   fits_as {A} {B} {s} {t} {c} {d} h e f g =
       let w = subst (λ x. B ↔ (content_row s).IsWellFormed k x) (sym e) g in

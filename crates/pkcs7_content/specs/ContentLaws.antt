@@ -17,7 +17,7 @@ data_oid_is octets e = subst IsOid (sym e) (oid_from_test data_oid refl)
 lawful_octets_row : IsLawfulRow octets_row
 lawful_octets_row = perhaps (lawful_within octet_string lawful_octet_string.row 0xA0 (omega arith)) (λ t h e. e) lawful_nothing
 
--- an arm of the values is one of the content that may be absent
+-- an alternative of the content values is one of content that may be absent
 module _ (m : Arm (List ℕ) ContentValues) (l : IsArm content_values m octet_string) where
   perhaps_text : (a : OctetsRow) → written_content.text ((perhaps_in m).put a) ≡ octets_row.text a
   perhaps_text (None, u) = refl

@@ -1,6 +1,6 @@
 -- EncapsulatedContentInfo ::= SEQUENCE { eContentType ContentType, eContent [0] EXPLICIT OCTET STRING OPTIONAL }
--- (RFC 5652, 5.2; ContentType ::= OBJECT IDENTIFIER). In signatures of Authenticode and in signed trust lists the content
--- is no octet string, but an SpcIndirectDataContent or a CertificateTrustList (RFC 2315, 7: ANY DEFINED BY contentType).
+-- (RFC 5652, 5.2; ContentType ::= OBJECT IDENTIFIER). In signatures of Authenticode and in signed trust lists it is no
+-- octet string, but an SpcIndirectDataContent or a CertificateTrustList (RFC 2315, 7: ANY DEFINED BY contentType).
 use Rattle.std.specs.Prelude.{◌⊎◌, ℕ, List, Option, Some, if◌then◌else◌}
 use Rattle.asn1_core.specs.Der.{Format, sequence, part, optional, nothing, octet_string, option_value, Octets, OidOctets, octets_of, explicit, either}
 use Rattle.std.specs.Str.{bytes_eq}
@@ -17,7 +17,7 @@ use Rattle.pkcs7_content.specs.declared.indirect_data.SpcIndirectDataContent.{Sp
 use Rattle.asn1_core.specs.declared.explicit.ExplicitContextTag0.{ExplicitContextTag0}
 use Rattle.pkcs7_content.specs.declared.contents.EncapsulatedContentInfo.{EncapsulatedContentInfo}
 
--- what is signed indirectly, octets, data, or a trust list
+-- indirect data, octets, data, or a trust list
 abbrev pub ContentValues : Type 0
 ContentValues = IndirectDataValue ⊎ (Octets ⊎ (Octets ⊎ CtlValue))
 
@@ -53,7 +53,7 @@ IsPlain TrustList = ⊥
 IsPlain PlainData = Unit {0}
 IsPlain Foreign = Unit {0}
 
--- octets under the arm of data, and under that of octets
+-- octets as data, and data as octets
 abbrev pub as_data : ContentValues → ContentValues
 as_data (inl x) = inl x
 as_data (inr (inl x)) = inr (inr (inl x))
@@ -72,15 +72,15 @@ OctetsRow = Option Octets × Unit {0}
 abbrev pub octets_row : Format OctetsRow
 octets_row = optional (explicit 0 octet_string) nothing
 
--- Octets are written alike under both arms. They are read under that of data behind its object identifier, and under
--- that of octets behind a foreign one.
+-- Data and octets have the same encoding. It is read as data after id-data, and as octets after an object identifier
+-- that isn't known.
 abbrev pub to_data : Arm Octets ContentValues
 to_data = record { put = λ x. inr (inr (inl x)); brought = as_data }
 
 abbrev pub to_octets : Arm Octets ContentValues
 to_octets = record { put = λ x. inr (inl x); brought = as_octets }
 
--- the same with the content that may be absent
+-- the same for content that may be absent
 abbrev pub perhaps_in : Arm Octets ContentValues → Arm OctetsRow ContentRow
 perhaps_in m = record { put = λ p. (option_value m.put p.0, p.1); brought = λ c. (option_value m.brought c.0, c.1) }
 

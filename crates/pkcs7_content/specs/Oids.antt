@@ -3,7 +3,7 @@ use Rattle.std.specs.Prelude.{ℕ, List, [], ◌∷◌}
 use Rattle.asn1_core.specs.Der.{arcs}
 pub use Rattle.asn1_core_oid.specs.Known.{data_oid}
 
--- what stands below Microsoft's arc, 1.3.6.1.4.1.311
+-- an object identifier below Microsoft's arc, 1.3.6.1.4.1.311
 abbrev microsoft : List ℕ → List ℕ
 microsoft further = arcs (1 ∷ 3 ∷ 6 ∷ 1 ∷ 4 ∷ 1 ∷ 311 ∷ further)
 

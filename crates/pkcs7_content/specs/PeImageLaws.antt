@@ -42,7 +42,7 @@ flags_fewer : (a : Option (List ℕ) × (LinkValue × Unit {0})) → flags_writt
 flags_fewer (None, l) = omega arith
 flags_fewer (Some f, l) = omega (arith, one_unless (bytes_eq f default_flags))
 
--- the default flags by the spelling without them, others by their own
+-- the default flags are what is read where flags are absent, others are read from their own encoding
 flags_reached : (t : Bool) (k : ℕ) (v : PeImageValue) → bytes_eq v.0 default_flags ≡ t → pe_image_spelled.IsWellFormed k (flags_written.written v) → (a : Option (List ℕ) × (LinkValue × Unit {0})) × pe_image_spelled.IsWellFormed k a × (flags_written.read a ≡ v) × (pe_image_spelled.least a ≡ flags_written.least v)
 flags_reached true k v e h = (
   (None, v.1),

@@ -23,7 +23,7 @@ pe_image_value x = (contents_of x.flags.0.0, (link_value x.file.0, tt))
 abbrev pub file_row : Format (LinkValue × Unit {0})
 file_row = part (explicit 0 spc_link) nothing
 
--- with the flags as they are spelled, there or not
+-- with the flags as they are encoded, present or absent
 abbrev pub pe_image_spelled : Format (Option BitStringOctets × (LinkValue × Unit {0}))
 pe_image_spelled = sequence (optional bit_string file_row)
 

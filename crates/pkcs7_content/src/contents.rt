@@ -48,7 +48,7 @@ impl Kind {
     }
 }
 
-/// The content, as the content type in front of it says. This only writes.
+/// The content, as the content type before it says. This only writes.
 #[derive(Debug, Drop, PartialEq, Eq)]
 pub enum ContentValue {
     SpcIndirectDataContent(SpcIndirectDataContent),
@@ -194,7 +194,7 @@ fn read_octets(
     }
 }
 
-/// Whether the content, or its absence, is well-formed behind a content type with these contents octets.
+/// Whether the content, or its absence, is well-formed after a content type with these contents octets.
 fn fits(content: &Option<Tagged>, oid: &[u8], limit: u8) -> bool
     ensures { IsTrue result ↔ (content_defined_by.row oid.now).IsWellFormed limit (content_row_value content.now) }
 {
@@ -206,8 +206,8 @@ fn fits(content: &Option<Tagged>, oid: &[u8], limit: u8) -> bool
 }
 
 /// `EncapsulatedContentInfo ::= SEQUENCE { eContentType ContentType, eContent [0] EXPLICIT OCTET STRING OPTIONAL }`
-/// (RFC 5652, 5.2). Where the content type is that of Authenticode's indirect data or of trust lists, the content is there,
-/// and is no octet string but that type itself.
+/// (RFC 5652, 5.2). Where the content type is that of Authenticode's indirect data or of trust lists, the content is
+/// present, and is no octet string but that type itself.
 #[derive(Debug, Drop, PartialEq, Eq)]
 pub struct EncapsulatedContentInfo {
     pub content_type: ObjectIdentifierAsn1,
@@ -215,8 +215,8 @@ pub struct EncapsulatedContentInfo {
 }
 
 impl EncapsulatedContentInfo {
-    /// Octets of that content type, or none. They stand in the arm `Data`, whatever the content type is, and are read back
-    /// in the arm that the content type picks. Takes no memory.
+    /// Octets of that content type, or none. They are put into `Data`, whatever the content type is, and are read back
+    /// as the alternative that the content type picks. Takes no memory.
     pub fn new(content_type: ObjectIdentifier, content: Option<Vec<u8>>) -> Self
         ensures content_type { result.content_type.0 ≡ content_type }
         ensures content { content_row_value result.content ≡ (option_value (λ octets. inr (inr (inl octets.items))) content, tt) }

@@ -35,7 +35,7 @@ impl Subject {
     }
 }
 
-/// What is signed, as the object identifier in front of it says. This only writes.
+/// What is signed, as the object identifier before it says. This only writes.
 #[derive(Debug, Drop, PartialEq, Eq)]
 pub enum SpcAttributeAndOptionalValueValue {
     SpcPeImageData(SpcPeImageData),
@@ -43,7 +43,7 @@ pub enum SpcAttributeAndOptionalValueValue {
 }
 
 impl SpcAttributeAndOptionalValueValue {
-    /// Whether this is well-formed behind an object identifier with these contents octets.
+    /// Whether this is well-formed after an object identifier with these contents octets.
     fn fits(&self, oid: &[u8], limit: u8) -> bool
         ensures { IsTrue result ↔ (spc_defined_by.row oid.now).IsWellFormed limit (spc_value self.now) }
     {
@@ -127,8 +127,8 @@ impl TryClone for SpcAttributeAndOptionalValueValue {
     }
 }
 
-/// `SpcAttributeTypeAndOptionalValue ::= SEQUENCE { type OBJECT IDENTIFIER, value [0] EXPLICIT ANY DEFINED BY type OPTIONAL }`
-/// in Microsoft's words. Signatures have the value plain, without the tag [0], and it is always there; so it is here.
+/// `SpcAttributeTypeAndOptionalValue ::= SEQUENCE { type OBJECT IDENTIFIER, value [0] EXPLICIT ANY DEFINED BY type
+/// OPTIONAL }` in Microsoft's words. In signatures the value is always present, without the tag [0]; so it is here.
 #[derive(Debug, Drop, PartialEq, Eq)]
 pub struct SpcAttributeAndOptionalValue {
     pub ty: ObjectIdentifierAsn1,

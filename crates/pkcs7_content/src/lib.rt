@@ -1,4 +1,4 @@
-//! What PKCS #7 signatures hold as content: plain octets, the indirect data of Authenticode, or a certificate trust list.
+//! The content of PKCS #7 signatures: plain octets, the indirect data of Authenticode, or a certificate trust list.
 #![tactic(auto)]
 
 pub mod contents;

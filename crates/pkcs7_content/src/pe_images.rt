@@ -73,8 +73,8 @@ impl TryClone for SpcPeImageFlags {
     }
 }
 
-/// `SpcPeImageData ::= SEQUENCE { flags SpcPeImageFlags DEFAULT { includeResources }, file [0] EXPLICIT SpcLink }`. Absent
-/// flags are read as their default. Flags are always written, the default too.
+/// `SpcPeImageData ::= SEQUENCE { flags SpcPeImageFlags DEFAULT { includeResources }, file [0] EXPLICIT SpcLink }`.
+/// Absent flags are read as their default. Flags are always written, the default too.
 #[derive(Debug, Drop, PartialEq, Eq)]
 pub struct SpcPeImageData {
     pub flags: SpcPeImageFlags,

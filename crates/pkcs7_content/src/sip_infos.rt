@@ -8,8 +8,8 @@ use asn1_core::prelude::*;
 use asn1_leaves::IntegerAsn1;
 use std::alloc::Global;
 
-/// `SpcSipInfo ::= SEQUENCE { version INTEGER, uuid OCTET STRING, reserved1 INTEGER, reserved2 INTEGER, reserved3 INTEGER,
-/// reserved4 INTEGER, reserved5 INTEGER }`
+/// `SpcSipInfo ::= SEQUENCE { version INTEGER, uuid OCTET STRING, reserved1 INTEGER, reserved2 INTEGER,
+/// reserved3 INTEGER, reserved4 INTEGER, reserved5 INTEGER }`
 #[derive(Debug, Drop, PartialEq, Eq)]
 pub struct SpcSipInfo {
     pub version: IntegerAsn1,

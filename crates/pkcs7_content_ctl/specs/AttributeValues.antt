@@ -43,7 +43,7 @@ cert_policies_set = set_of (within 0x04 (sequence_of cert_policy))
 abbrev pub raws_set : Format (List ElementOctets)
 raws_set = set_of raw
 
--- octets and usages stand beside the number of their property, as several have them
+-- octets and usages come with the number of their property, since several properties have such values
 abbrev pub AttributeValues : Type 0
 AttributeValues = (ℕ × List Words.Octets) ⊎ ((ℕ × List UsageValue) ⊎ (List ChainPolicyValue ⊎ (List (List CertPolicyValue) ⊎ List ElementOctets)))
 
@@ -62,7 +62,7 @@ cert_policies_in s = map (λ x. map cert_policy_value x.0.0.items) s.0.items
 abbrev pub raws_in : Asn1SetOf Asn1RawDer → List ElementOctets
 raws_in s = map (λ x. x.0.items) s.0.items
 
--- each arm by the number of its property
+-- each alternative by the number of its property
 abbrev pub attribute_values_value : CTLEntryAttributeValues → AttributeValues
 attribute_values_value (CertAuthRootSha256HashPropId s) = inl (98, octets_in s)
 attribute_values_value (CertDisallowedFileTimePropId s) = inl (104, octets_in s)
@@ -100,7 +100,7 @@ values_row ChainPolicies n = arm attribute_values (by_itself (λ v. inr (inr (in
 values_row CertPolicies n = arm attribute_values (by_itself (λ v. inr (inr (inr (inl v))))) cert_policies_set
 values_row Raws n = arm attribute_values (by_itself (λ v. inr (inr (inr (inr v))))) raws_set
 
--- the object identifier says which property it is, and so which values stand behind it
+-- the object identifier says which property it is, and so which values follow it
 abbrev pub values_defined_by : DefinedBy AttributeValues
 values_defined_by = record { text = attribute_values.text; row = λ o. values_row (shape_of (property_of o)) (property_of o) }
 

@@ -28,14 +28,14 @@ qualifier_equal x y = search rules
 pub cert_policy_equal : SeesEqual Policy.ghosts.eq cert_policy_value
 cert_policy_equal x y = search (der_equal, qualifier_equal, rules) depth 20
 
--- a test of what stands beside a number is one of the whole
+-- where the numbers are the same, a test of what comes with them is one of the pairs
 same_number : {B : Type 0} {n : ℕ} {p : Bool} {a c : B} → (p ≡ true) ↔ (a ≡ c) → (p ≡ true) ↔ (◌≡◌ {A = ℕ × B} (n, a) (n, c))
 same_number {B} {n} f = (λ e. ap (λ x. (n, x)) (f.0 e), λ e. f.1 (ap (λ x. x.1) e))
 
 pub oid_equal : SeesEqual Oid.ghosts.eq (λ x. octets_of x.0)
 oid_equal x y = equal_octets x.0 y.0
 
--- the arms by different numbers: those without a property's by some that are no octets
+-- a different number for each alternative: that of the property, or one above all of those
 abbrev number_at : AttributeValues → ℕ
 number_at (inl p) = p.0
 number_at (inr (inl p)) = p.0

@@ -1,4 +1,4 @@
--- Values of attributes that are only lent.
+-- Borrowed values of attributes.
 use Rattle.std.specs.Prelude.{◌≡◌}
 use Rattle.std.proofs.Common.{inl, inr}
 use Rattle.pkcs7_content_ctl.specs.AttributeValues.{AttributeValues, octets_in, usages_in, chain_policies_in, cert_policies_in, raws_in}

@@ -1,5 +1,5 @@
 -- Properties of certificates, which trust lists give as attributes: each has a number, and the object identifier
--- 1.3.6.1.4.1.311.10.11 with the number behind it.
+-- 1.3.6.1.4.1.311.10.11 with the number after it.
 use Rattle.std.specs.Prelude.{◌==◌, ℕ, List, [], ◌∷◌, if◌then◌else◌}
 use Rattle.asn1_core.specs.Der.{arcs}
 use Rattle.pkcs7_content_ctl.specs.declared.properties.Shape.{Shape}
@@ -9,7 +9,7 @@ use Rattle.pkcs7_content_ctl.specs.declared.properties.Shape.TheVariants.{Octets
 abbrev pub property_prefix : List ℕ
 property_prefix = arcs (1 ∷ 3 ∷ 6 ∷ 1 ∷ 4 ∷ 1 ∷ 311 ∷ 10 ∷ 11 ∷ [])
 
--- the octet behind the prefix, where there is one and no more; else 0, which is no property
+-- the octet after the prefix, where there is exactly one, and else 0, which is no property
 abbrev pub octet_behind : List ℕ → List ℕ → ℕ
 octet_behind [] [] = 0
 octet_behind [] (n ∷ []) = n

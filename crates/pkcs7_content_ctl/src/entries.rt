@@ -62,10 +62,10 @@ impl TryClone for CTLEntry {
     }
 }
 
-/// `CertificateTrustList ::= SEQUENCE { version DEFAULT v1, subjectUsage, listIdentifier OPTIONAL, sequenceNumber OPTIONAL,
-/// ctlThisUpdate, ctlNextUpdate OPTIONAL, subjectAlgorithm, trustedSubjects OPTIONAL, ctlExtensions OPTIONAL }`, of which
-/// those are read that have a sequence number, a UTCTime and subjects, and no version, list identifier, next update or
-/// extensions.
+/// `CertificateTrustList ::= SEQUENCE { version DEFAULT v1, subjectUsage, listIdentifier OPTIONAL, sequenceNumber
+/// OPTIONAL, ctlThisUpdate, ctlNextUpdate OPTIONAL, subjectAlgorithm, trustedSubjects OPTIONAL, ctlExtensions OPTIONAL
+/// }`, of which those are read that have a sequence number, a UTCTime and subjects, and no version, list identifier,
+/// next update or extensions.
 #[derive(Debug, Drop, PartialEq, Eq)]
 pub struct Ctl {
     /// `subjectUsage`

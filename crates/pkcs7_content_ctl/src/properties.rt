@@ -1,4 +1,4 @@
-//! Properties of certificates, by the numbers that stand behind 1.3.6.1.4.1.311.10.11.
+//! Properties of certificates, by the numbers that follow 1.3.6.1.4.1.311.10.11.
 
 ghost use Rattle.std.specs.Prelude.{◌≡◌};
 ghost use Rattle.pkcs7_content_ctl.specs.Properties.{property_of, shape_of};
@@ -37,7 +37,7 @@ pub(crate) enum Shape {
     Raws,
 }
 
-/// The number of the property that an object identifier with these contents octets stands for; 0 where it is none's.
+/// The number of the property that an object identifier with these contents octets names; 0 where it names none.
 pub(crate) fn property_number(oid: &[u8]) -> u8
     ensures { result ≡ property_of oid.now }
 {

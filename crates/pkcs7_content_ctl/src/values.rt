@@ -28,8 +28,8 @@ type CertPoliciesSet = Asn1SetOf<OctetStringAsn1Container<Asn1SequenceOf<CertPol
 
 type RawsSet = Asn1SetOf<Asn1RawDer>;
 
-/// The values of a trust list's attribute. Its object identifier picks the arm: a known property of certificates, or
-/// any other. This only writes.
+/// The values of a trust list's attribute. Its object identifier picks the alternative: a known property of
+/// certificates, or any other. This only writes.
 #[derive(Debug, Drop, PartialEq, Eq)]
 pub enum CTLEntryAttributeValues {
     CertAuthRootSha256HashPropId(Asn1SetOf<OctetStringAsn1>),
@@ -55,7 +55,7 @@ pub enum CTLEntryAttributeValues {
     Unknown(Asn1SetOf<Asn1RawDer>),
 }
 
-/// Values that are only lent, by what they are. With octets and usages stands the number of the property.
+/// Borrowed values, by what they are. Octets and usages come with the number of their property.
 #[derive(Clone, Copy)]
 enum Lent<'a> {
     Octets(u8, &'a OctetsSet),

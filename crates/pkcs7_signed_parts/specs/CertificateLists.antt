@@ -1,7 +1,8 @@
 -- TBSCertList ::= SEQUENCE { version Version OPTIONAL, signature AlgorithmIdentifier, issuer Name, thisUpdate Time,
---   nextUpdate Time OPTIONAL, revokedCertificates SEQUENCE OF .. OPTIONAL, crlExtensions [0] EXPLICIT Extensions OPTIONAL },
---   with v2 as its version where it has one (RFC 5280, 5.1)
--- CertificateList ::= SEQUENCE { tbsCertList TBSCertList, signatureAlgorithm AlgorithmIdentifier, signatureValue BIT STRING }
+--   nextUpdate Time OPTIONAL, revokedCertificates SEQUENCE OF .. OPTIONAL, crlExtensions [0] EXPLICIT Extensions
+--   OPTIONAL }, with v2 as its version where it has one (RFC 5280, 5.1)
+-- CertificateList ::= SEQUENCE { tbsCertList TBSCertList, signatureAlgorithm AlgorithmIdentifier, signatureValue BIT
+--   STRING }
 use Rattle.std.specs.Prelude.{◌≡◌, ◌⊎◌, ℕ, List, Option}
 use Rattle.std.proofs.Common.{arith, inl, inr, ⊎_elim}
 use Rattle.asn1_core.specs.Der.{Format, IsLawful, IsLawfulRow, sequence, part, optional, nothing, version, option_value, lawful_sequence, lawful_within, followed_by, perhaps, lawful_nothing, lawful_version_1, BitStringOctets, explicit, der_laws}
@@ -18,14 +19,14 @@ use Rattle.pkcs7_signed_parts.specs.Revoked.{RevokedValue, all_revoked_value, al
 use Rattle.pkcs7_signed_parts.specs.declared.certificate_lists.TbsCertList.{TbsCertList}
 use Rattle.pkcs7_signed_parts.specs.declared.certificate_lists.CertificateList.{CertificateList}
 
--- what stands behind thisUpdate
+-- what follows thisUpdate
 abbrev pub UpdatesValue : Type 0
 UpdatesValue = Option TimeValue × (Option (List RevokedValue) × (Option (List ExtensionValue) × Unit {0}))
 
 abbrev pub updates : Format UpdatesValue
 updates = optional time (optional all_revoked (optional (explicit 0 extensions) nothing))
 
--- what stands behind the version
+-- what follows the version
 abbrev pub ListValue : Type 0
 ListValue = AlgorithmValue × (NameParts × (TimeValue × UpdatesValue))
 
@@ -44,7 +45,7 @@ tbs_list_value x = (option_value number_of x.version, list_value x)
 abbrev pub tbs_list : Format TbsListValue
 tbs_list = sequence (optional (version 1) list_row)
 
--- the tags that stand behind nextUpdate are none of a time
+-- the tags that may follow nextUpdate are none of a time
 no_time : (t : ℕ) → time.IsTag t → (t ≡ 0x30) ⊎ ((t ≡ 0xA0) ⊎ ⊥) → ⊥
 no_time t (inl u) (inl r) = omega (arith, u, r)
 no_time t (inl u) (inr (inl x)) = omega (arith, u, x)

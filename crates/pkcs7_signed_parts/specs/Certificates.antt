@@ -1,5 +1,5 @@
--- CertificateChoices ::= CHOICE { certificate Certificate, extendedCertificate [0] .., v1AttrCert [1] .., v2AttrCert [2] ..,
---   other [3] .. } (RFC 5652, 10.2.2), each as it stands: a certificate is a SEQUENCE, and all others have another tag
+-- CertificateChoices ::= CHOICE { certificate Certificate, extendedCertificate [0] .., v1AttrCert [1] ..,
+--   v2AttrCert [2] .., other [3] .. } (RFC 5652, 10.2.2), each as it is: only a certificate has the tag of a SEQUENCE
 -- CertificateSet ::= SET OF CertificateChoices, under its tag [0] IMPLICIT (RFC 5652, 5.1 and 10.2.3)
 use Rattle.std.specs.Prelude.{◌≡◌, ◌≢◌, ◌≤◌, ◌⊎◌, ℕ, List, [], map}
 use Rattle.std.proofs.Common.{inl, inr, arith}

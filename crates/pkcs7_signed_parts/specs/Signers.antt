@@ -1,7 +1,8 @@
--- What says of which signer a signature is.
+-- What identifies the signer of a signature.
 -- CertificateSerialNumber ::= INTEGER (RFC 5280, 4.1)
 -- IssuerAndSerialNumber ::= SEQUENCE { issuer Name, serialNumber CertificateSerialNumber } (RFC 5652, 10.2.4)
--- SignerIdentifier ::= CHOICE { issuerAndSerialNumber IssuerAndSerialNumber, subjectKeyIdentifier [0] SubjectKeyIdentifier } (RFC 5652, 5.3)
+-- SignerIdentifier ::= CHOICE { issuerAndSerialNumber IssuerAndSerialNumber, subjectKeyIdentifier [0]
+--   SubjectKeyIdentifier } (RFC 5652, 5.3)
 use Rattle.std.specs.Prelude.{◌⊎◌}
 use Rattle.std.proofs.Common.{inl, inr, arith}
 use Rattle.asn1_core.specs.Der.{Format, IsLawful, sequence, part, nothing, octet_string, Octets, IntegerOctets, der_laws, either, lawful_either, implicit}

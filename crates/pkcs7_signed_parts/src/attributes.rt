@@ -11,13 +11,13 @@ use asn1_core::prelude::*;
 use std::alloc::Global;
 use x509_base::Attribute;
 
-/// `SignedAttributes ::= SET OF Attribute`, under its tag `[0] IMPLICIT`. The list is a `SEQUENCE OF` by name alone, as in
-/// the Rust crate.
+/// `SignedAttributes ::= SET OF Attribute`, under its tag `[0] IMPLICIT`. The list is a `SEQUENCE OF` by name alone, as
+/// in the Rust crate.
 #[derive(Debug, Drop, PartialEq)]
 pub struct Attributes(pub Asn1SequenceOf<Attribute>);
 
 impl Attributes {
-    /// None. Takes no memory.
+    /// The empty set. Takes no memory.
     pub fn empty(alloc: Global) -> Self
         ensures { result.0.0.items ≡ [] }
     {

@@ -15,8 +15,8 @@ use std::alloc::Global;
 use x509_base::{AlgorithmIdentifier, Extensions, Name, Time, Version};
 
 /// `TBSCertList ::= SEQUENCE { version Version OPTIONAL, signature AlgorithmIdentifier, issuer Name, thisUpdate Time,
-/// nextUpdate Time OPTIONAL, revokedCertificates SEQUENCE OF .. OPTIONAL, crlExtensions [0] EXPLICIT Extensions OPTIONAL }`.
-/// A version that is there is v2; another is refused, and is not well-formed.
+/// nextUpdate Time OPTIONAL, revokedCertificates SEQUENCE OF .. OPTIONAL, crlExtensions [0] EXPLICIT Extensions
+/// OPTIONAL }`. A version that is present is v2; another is refused, and is not well-formed.
 #[derive(Debug, Drop, PartialEq, Eq)]
 pub struct TbsCertList {
     pub version: Option<Version>,
@@ -77,7 +77,7 @@ fn untagged(extensions: Option<ExplicitContextTag0<Extensions>>) -> Option<Exten
 }
 
 impl TbsCertList {
-    /// What stands behind the version.
+    /// What follows the version.
     fn row(&self) -> ListRef<'_>
         ensures { ⟦<ListRef<'static> as WriteRow>⟧.value result ≡ list_value self.now }
     {

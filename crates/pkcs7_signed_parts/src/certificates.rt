@@ -1,4 +1,4 @@
-//! Certificates, each as it stands (RFC 5652, 10.2.2 and 10.2.3).
+//! Certificates, each kept as it is (RFC 5652, 10.2.2 and 10.2.3).
 
 ghost use Rattle.std.specs.Prelude.{◌≡◌, ◌↔◌, IsTrue, List, []};
 ghost use Rattle.std.proofs.Common.{arith};
@@ -9,8 +9,8 @@ ghost use Rattle.pkcs7_signed_parts.specs.Equal.{certificate_equal, certificates
 use asn1_core::prelude::*;
 use std::alloc::Global;
 
-/// `CertificateChoices ::= CHOICE { certificate Certificate, extendedCertificate [0] .., v1AttrCert [1] .., v2AttrCert [2]
-/// .., other [3] .. }`, kept as it stands. An arm whose element has not its tag is not well-formed.
+/// `CertificateChoices ::= CHOICE { certificate Certificate, extendedCertificate [0] .., v1AttrCert [1] .., v2AttrCert
+/// [2] .., other [3] .. }`, kept as it is. An alternative whose element hasn't its tag isn't well-formed.
 #[derive(Debug, Drop, PartialEq, Eq)]
 pub enum CertificateChoices {
     /// A SEQUENCE, by its tag alone.
@@ -90,7 +90,7 @@ impl TryClone for CertificateChoices {
 pub struct CertificateSet(pub Vec<CertificateChoices>);
 
 impl CertificateSet {
-    /// None. Takes no memory.
+    /// The empty set. Takes no memory.
     pub fn empty(alloc: Global) -> Self
         ensures { result.0.items ≡ [] }
     {

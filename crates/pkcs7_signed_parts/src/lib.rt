@@ -1,4 +1,4 @@
-//! The parts of signed data that hold none of it: revocation lists, certificates as they stand, and the small types of
+//! The parts of signed data that hold none of it: revocation lists, certificates as they are, and the small types of
 //! signers (RFC 5280, 5.1; RFC 5652, 5 and 10).
 #![tactic(auto)]
 

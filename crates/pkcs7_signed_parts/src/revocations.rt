@@ -1,4 +1,4 @@
-//! What says which certificates are revoked (RFC 5652, 10.2.1).
+//! Information about revoked certificates (RFC 5652, 10.2.1).
 
 ghost use Rattle.std.specs.Prelude.{◌≡◌, List, []};
 ghost use Rattle.std.proofs.Common.{arith};
@@ -150,7 +150,7 @@ impl TryClone for RevocationInfoChoice {
 pub struct RevocationInfoChoices(pub Vec<RevocationInfoChoice>);
 
 impl RevocationInfoChoices {
-    /// None. Takes no memory.
+    /// The empty set. Takes no memory.
     pub fn empty(alloc: Global) -> Self
         ensures { result.0.items ≡ [] }
     {

@@ -1,4 +1,4 @@
-//! Which signer a signature is of, and the signature (RFC 5652, 5.3 and 10.2.4).
+//! What identifies the signer of a signature, and the signature (RFC 5652, 5.3 and 10.2.4).
 
 ghost use Rattle.std.proofs.Common.{arith};
 ghost use Rattle.asn1_core.specs.Der.{Octets, IntegerOctets, octet_string, lawful_octet_string, octets_equal};

@@ -1,5 +1,5 @@
-//! What is asked of every type: that its texts are read, written and sent, and its values cloned, where `==` and clones
-//! see all that a text says (`SeenByText`). An answer names what didn't hold, and the text.
+//! What is checked of every type: that its encodings are read, written and sent, and its values cloned, where `==` and
+//! clones see all that an encoding says (`SeenByText`). A failure names what didn't hold, and the encoding.
 
 use crate::fakes::Narrow;
 use asn1_core::SeenByText;
@@ -18,7 +18,7 @@ fn expect(holds: bool, what: &'static str, text: &[u8]) -> Result<(), Fail> {
     }
 }
 
-/// Asks that each way to write the value into memory gives the text.
+/// Checks that each way to write the value into memory gives the encoding.
 pub fn is_written<T: DerSerialize>(alloc: Global, value: &T, text: &[u8]) -> Result<(), Fail> {
     expect(value.encoded_len()? == text.len(), "encoded_len", text)?;
     expect(to_vec(alloc, value)?.as_slice() == text, "to_vec", text)?;
@@ -40,8 +40,8 @@ pub fn is_written<T: DerSerialize>(alloc: Global, value: &T, text: &[u8]) -> Res
     expect(sink.into_inner().as_slice() == text, "write_to", text)
 }
 
-/// Sends the value through a sink that takes so many bytes a call. The sink fails at each call in turn, with a beginning
-/// of the text, and takes all of it at last.
+/// Sends the value through a sink that takes `width` bytes a call. The sink fails at each call in turn, after a
+/// beginning of the encoding, and takes all of it at last.
 pub fn is_sent<T: DerSerialize>(
     alloc: Global,
     value: &T,
@@ -63,7 +63,7 @@ pub fn is_sent<T: DerSerialize>(
     Err(Fail::new("the value was never sent"))
 }
 
-/// The value of the input, of which is asked that it is well-formed and is written as the text.
+/// The value of the input, with checks that it is well-formed and has this encoding.
 pub fn is_written_anew<T: DerDeserialize + SeenByText>(
     alloc: Global,
     input: &[u8],
@@ -75,7 +75,7 @@ pub fn is_written_anew<T: DerDeserialize + SeenByText>(
     Ok(value)
 }
 
-/// The value of the input, of which is asked that it is well-formed, is written as the text and equals its clone.
+/// The value of the input, with checks that it is well-formed, has this encoding, and equals its clone.
 pub fn is_rewritten<T: DerDeserialize + SeenByText + TryClone>(
     alloc: Global,
     input: &[u8],

@@ -1,4 +1,4 @@
-//! What the tests of all layers use: checks of a type, fakes of sources and sinks, and octets of texts.
+//! What the tests of all layers use: checks of a type, fakes of sources and sinks, and octets from hexadecimal.
 #![tactic(auto)]
 
 pub mod checks;

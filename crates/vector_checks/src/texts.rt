@@ -1,10 +1,10 @@
-//! Octets of texts in hexadecimal, and object identifiers of texts.
+//! Octets from text in hexadecimal, and object identifiers from dotted text.
 
 use asn1_core::{Error, ObjectIdentifier, ObjectIdentifierAsn1};
 use std::alloc::Global;
 use std::test::Fail;
 
-/// The octets of texts in hexadecimal, which spaces separate.
+/// The octets of texts in hexadecimal, separated by spaces.
 pub fn hex(alloc: Global, texts: &[&str]) -> Result<Vec<u8>, Fail> {
     let mut octets = Vec::new(alloc);
     for text in texts {

@@ -1,11 +1,11 @@
--- Reading the last arm of a choice of algorithms.
+-- Reading the last alternative of a choice of algorithms.
 use Rattle.std.specs.Prelude.{ℕ, List}
 use Rattle.asn1_core.specs.Der.{Position, otherwise, GaveUpRow, nothing, optional, raw, IsOid}
 use Rattle.asn1_core_element.specs.declared.error.Error.{Error}
 use Rattle.asn1_choices.specs.Chosen.{after_oid}
 use Rattle.x509_base.specs.OtherAlgorithms.{other_algorithm}
 
--- absent parameters are read as they stand
+-- absent parameters are read as absent
 module _ (key : List ℕ) {k : ℕ} {old new : Position} where
   pub other_refused : {e : Error} → GaveUpRow (after_oid key (otherwise IsOid (optional raw nothing))) k old new e → GaveUpRow (after_oid key other_algorithm) k old new e
   other_refused g = record {

@@ -29,7 +29,7 @@ module _ {A : Type 0} (T : Table A) (t : IsTable T) where
   fewer_at (Some a) v = omega arith
   fewer_at None v = omega arith
 
-  -- a known arm by the spelling with no parameters, an unknown one by its own
+  -- a known algorithm is what is read where parameters are absent, any other is read from its own encoding
   reached_at : (k : ℕ) (v : A ⊎ AlgorithmValue) → algorithm_identifier.IsWellFormed k ((arm_written T).written v) → (arm_written T).IsProper v → (a : AlgorithmValue) × algorithm_identifier.IsWellFormed k a × ((arm_written T).read a ≡ v) × (algorithm_identifier.least a ≡ (arm_written T).least v)
   reached_at k (inl a) h i = let o = T.oid_of a in ((o, (None, tt)), (h.0, (tt, tt)), ap (λ r. arm_read r (o, (None, tt))) (t.there a), refl)
   reached_at k (inr v) h i = (v, (h.0, (or_null_formed k v.1.0).1 h.1), ap (λ r. arm_read r v) i, refl)
@@ -38,7 +38,7 @@ module _ {A : Type 0} (T : Table A) (t : IsTable T) where
   absent_not_written (Some a) o u i = some_none (ap (λ x. x.1.0) i)
   absent_not_written None o u i = some_none (ap (λ x. x.1.0) i)
 
-  -- a known object identifier in front of NULL
+  -- what follows a known object identifier is NULL
   known_null : (a : A) (o q : List ℕ) (w : HasArmParameters T (element 0x30 (element 0x06 o ++ q))) → T.arm_of o ≡ Some a → q ≡ null
   known_null a o q w e =
       let c = same_parts o w.0 q w.1 w.2 in
@@ -74,7 +74,7 @@ module _ {A : Type 0} (T : Table A) (t : IsTable T) where
   settled (inr v) h =
       ap (λ r. (arm_written T).written (arm_read r (algorithm_identifier.normal (null_written.written v)))) h ∙ unknown_settled v.0 v.1.0
 
-  -- a known arm reads as itself, and so does an unknown one, with its parameters
+  -- what is written of a known algorithm is read as that algorithm, and so is any other, with its parameters
   reread_at : (v : A ⊎ AlgorithmValue) → (arm_written T).IsProper v → (arm_written T).read (algorithm_identifier.normal ((arm_written T).written v)) ≡ (arm_written T).normal v
   reread_at (inl a) h = ap (λ r. arm_read r (T.oid_of a, (Some null, tt))) (t.there a)
   reread_at (inr v) h =

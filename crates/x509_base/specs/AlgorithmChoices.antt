@@ -1,17 +1,17 @@
--- An algorithm identifier whose object identifier picks an arm. The parameters of a known arm are read, whatever they
--- are, and dropped, and written as NULL; those of an unknown one are as in any other.
+-- An algorithm identifier whose object identifier picks an alternative. The parameters of a known algorithm are read,
+-- whatever they are, and dropped, and written as NULL; any other algorithm keeps its own, and absent ones become NULL.
 use Rattle.std.specs.Prelude.{◌≡◌, ◌≢◌, ◌⊎◌, ℕ, List, [], ◌++◌, Option, Some, None, IsSome}
 use Rattle.std.proofs.Common.{inl, inr}
 use Rattle.asn1_core.specs.Der.{element, Format, OneOf, from_one, map_one, Loosening, loosened}
 use Rattle.asn1_choices.specs.Tables.{Table}
 use Rattle.x509_base.specs.Algorithms.{AlgorithmValue, algorithm_identifier, null, null_written}
 
--- a known arm, or an algorithm identifier whose object identifier no arm has
+-- a known algorithm, or an algorithm identifier whose object identifier no alternative has
 abbrev pub arm_read : {A : Type 0} → Option A → AlgorithmValue → A ⊎ AlgorithmValue
 arm_read (Some a) v = inl a
 arm_read None v = inr v
 
--- parameters are there, and NULL behind a known object identifier
+-- parameters are present, and after a known object identifier they are NULL
 abbrev pub HasArmParameters : {A : Type 0} → Table A → List ℕ → Type 0
 HasArmParameters T b = (o : List ℕ) × (p : List ℕ) × (b ≡ element 0x30 (element 0x06 o ++ p)) × (p ≢ []) × (IsSome (T.arm_of o) → p ≡ null)
 

@@ -15,11 +15,11 @@ null_is_element = record { tag = 0x05; contents = []; is_tag = omega arith; is =
 pub parts_of : (k : ℕ) (b : List ℕ) (a : AlgorithmValue) → algorithm_identifier.Reads k b a → (p : List ℕ) × (b ≡ element 0x30 (element 0x06 a.0 ++ p)) × (optional raw nothing).Reads k p a.1
 parts_of k b a s = (s.2.1, s.1 ∙ ap (element 0x30) (s.2.2 ∙ ap (λ x. x ++ s.2.1) s.2.3.0), s.2.4)
 
--- the object identifier and the parameters are where they are
+-- the bytes determine the object identifier and the parameters
 pub same_parts : (o q p r : List ℕ) → element 0x30 (element 0x06 o ++ p) ≡ element 0x30 (element 0x06 q ++ r) → (o ≡ q) × (p ≡ r)
 same_parts o q p r e = let c = element_cut 0x06 0x06 o q p r (element_same 0x30 0x30 (element 0x06 o ++ p) (element 0x06 q ++ r) e).1 in (c.1, c.2)
 
--- parameters that are there fill what is left
+-- parameters that are present are all that follows the object identifier
 pub some_parameters : (k : ℕ) (p x : List ℕ) → (optional raw nothing).Reads k p (Some x, tt) → (p ≡ x) × IsElement IsTagByte x
 some_parameters k p x s =
     let e : p ≡ x = s.2 ∙ ap (λ c. s.0 ++ c) s.4 ∙ append-nil s.0 ∙ s.3.0 in

@@ -13,7 +13,7 @@ algorithm_of a = a.algorithm
 abbrev pub parameters_of : AlgorithmIdentifier → Option Asn1RawDer
 parameters_of a = a.parameters
 
--- one that is written with parameters, as one that is written as it stands
+-- one whose absent parameters are written as NULL, as one that is written as it is
 abbrev pub parts_of : RawAlgorithmIdentifier → AlgorithmIdentifier
 parts_of a = a.parts
 

@@ -1,4 +1,5 @@
--- AlgorithmIdentifier ::= SEQUENCE { algorithm OBJECT IDENTIFIER, parameters ANY DEFINED BY algorithm OPTIONAL } (RFC 5280, 4.1.1.2)
+-- AlgorithmIdentifier ::= SEQUENCE { algorithm OBJECT IDENTIFIER, parameters ANY DEFINED BY algorithm OPTIONAL }
+--   (RFC 5280, 4.1.1.2)
 use Rattle.std.specs.Prelude.{◌≡◌, ◌≢◌, ℕ, List, [], ◌++◌, Option, Some, None}
 use Rattle.asn1_core.specs.Der.{OidOctets, ElementOctets, element, Format, nothing, part, optional, Loosening, loosened, object_identifier, raw, sequence}
 
@@ -6,7 +7,7 @@ use Rattle.asn1_core.specs.Der.{OidOctets, ElementOctets, element, Format, nothi
 abbrev pub AlgorithmValue : Type 0
 AlgorithmValue = OidOctets × (Option ElementOctets × Unit {0})
 
--- as it stands
+-- written as it is: absent parameters stay absent
 abbrev pub algorithm_identifier : Format AlgorithmValue
 algorithm_identifier = sequence (part object_identifier (optional raw nothing))
 

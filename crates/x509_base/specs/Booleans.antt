@@ -1,4 +1,4 @@
--- BOOLEAN, and an explicit FALSE as what absence stands for.
+-- BOOLEAN, and the explicit FALSE of a BOOLEAN DEFAULT FALSE.
 use Rattle.std.specs.Prelude.{◌≡◌, ◌⊎◌, ◌↔◌, ℕ, Bool, true, false, not, List, [], ◌∷◌}
 use Rattle.std.specs.Str.{bytes_eq}
 use Rattle.std.proofs.Common.{refl, sym, ap, inl, inr, arith, ◌&&◌}

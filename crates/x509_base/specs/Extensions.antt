@@ -1,5 +1,5 @@
--- Extension ::= SEQUENCE { extnID OBJECT IDENTIFIER, critical BOOLEAN DEFAULT FALSE, extnValue OCTET STRING } (RFC 5280, 4.1)
--- Extensions ::= SEQUENCE OF Extension
+-- Extension ::= SEQUENCE { extnID OBJECT IDENTIFIER, critical BOOLEAN DEFAULT FALSE, extnValue OCTET STRING }
+-- Extensions ::= SEQUENCE OF Extension (RFC 5280, 4.1)
 -- An explicit FALSE is read, since old producers write it, and never written.
 use Rattle.std.specs.Prelude.{Bool, List, map}
 use Rattle.std.proofs.Common.{arith}

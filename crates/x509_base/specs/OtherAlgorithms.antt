@@ -1,5 +1,5 @@
--- The last arm of a choice of algorithms: any object identifier that no arm before it has, with any parameters or none, as
--- they stand in an algorithm identifier.
+-- The last alternative of a choice of algorithms: any object identifier that no earlier alternative has, with any
+-- parameters or none, as in an algorithm identifier.
 use Rattle.std.specs.Prelude.{◌≡◌, ◌≢◌, ◌↔◌, ℕ, List, [], ◌++◌}
 use Rattle.std.proofs.Common.{refl, ap, ◌∙◌, subst, arith}
 use Rattle.asn1_core.specs.Der.{element, element_same, Choice, Heads, IsLawfulChoice, Format, IsLawfulRow, Loosening, loosened, IsLoosening, lawful_loosened_row, nothing, part, optional, lawful_nothing, lawful_part, lawful_optional, object_identifier, lawful_object_identifier, raw, lawful_raw}
@@ -10,7 +10,7 @@ use Rattle.x509_base.specs.AlgorithmLaws.{null_loosening}
 abbrev pub algorithm_parts : Format AlgorithmValue
 algorithm_parts = part object_identifier (optional raw nothing)
 
--- parameters are there
+-- parameters are present
 abbrev pub HasParametersBehind : List ℕ → Type 0
 HasParametersBehind b = (o : List ℕ) × (p : List ℕ) × (b ≡ element 0x06 o ++ p) × (p ≢ [])
 
@@ -28,7 +28,7 @@ null_behind = record {
 abbrev pub other_algorithm : Choice AlgorithmValue
 other_algorithm = record { row = loosened algorithm_parts null_behind; oid_of = λ v. v.0 }
 
--- what stands behind an object identifier, as it does in an algorithm identifier
+-- contents have parameters exactly if the algorithm identifier around them has
 in_element : (b : List ℕ) → HasParametersBehind b ↔ HasParameters (element 0x30 b)
 in_element b = (
   λ w. (w.0, w.1, ap (element 0x30) w.2, w.3),

@@ -17,7 +17,7 @@ use std::alloc::Global;
 type AlgorithmRow = Part<ObjectIdentifierAsn1, Maybe<Asn1RawDer, End>>;
 
 /// `AlgorithmIdentifier ::= SEQUENCE { algorithm OBJECT IDENTIFIER, parameters ANY DEFINED BY algorithm OPTIONAL }`,
-/// written as it stands: absent parameters as nothing.
+/// written as it is: absent parameters stay absent.
 #[derive(Debug, Drop, PartialEq, Eq)]
 pub struct AlgorithmIdentifier {
     algorithm: ObjectIdentifier,
@@ -155,7 +155,7 @@ impl DerDeserialize for RawAlgorithmIdentifier {
     ghost lawful = { lawful_raw_algorithm_identifier };
 }
 
-/// The last arm of a choice of algorithms: any object identifier that no arm before it has.
+/// The last alternative of a choice of algorithms: any object identifier that no earlier one has.
 impl WriteChoice for RawAlgorithmIdentifier {
     ghost Value = { AlgorithmValue };
 

@@ -9,7 +9,7 @@ ghost use Rattle.x509_base.specs.Extensions.{ExtensionValue, extension_value, ex
 use asn1_core::prelude::*;
 use std::alloc::Global;
 
-/// BOOLEAN (X.690, 8.2 and 11.1), with FALSE as what absence stands for.
+/// BOOLEAN (X.690, 8.2 and 11.1), with FALSE as its DEFAULT.
 #[derive(Clone, Copy)]
 struct Critical(bool);
 

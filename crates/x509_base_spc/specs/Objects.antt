@@ -17,6 +17,6 @@ pub lawful_serialized_object : IsLawful serialized_object
 lawful_serialized_object =
     lawful_within serialized_object_row (lawful_part octet_string _ lawful_octet_string (lawful_part octet_string nothing lawful_octet_string lawful_nothing)) 0x30 (omega arith)
 
--- the class of page hashes, as its octets stand in a serialized object
+-- the class of page hashes, with its octets in the order that a serialized object has
 abbrev pub page_hash_class : List ℕ
 page_hash_class = 0xA6 ∷ 0xB5 ∷ 0x86 ∷ 0xD5 ∷ 0xB4 ∷ 0xA1 ∷ 0x24 ∷ 0x66 ∷ 0xAE ∷ 0x05 ∷ 0xA2 ∷ 0x17 ∷ 0xDA ∷ 0x8E ∷ 0x60 ∷ 0xD6 ∷ []

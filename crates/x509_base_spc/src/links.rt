@@ -208,7 +208,8 @@ impl TryClone for File {
     }
 }
 
-/// `SpcLink ::= CHOICE { url [0] IMPLICIT IA5String, moniker [1] IMPLICIT SpcSerializedObject, file [2] EXPLICIT SpcString }`
+/// `SpcLink ::= CHOICE { url [0] IMPLICIT IA5String, moniker [1] IMPLICIT SpcSerializedObject, file [2] EXPLICIT
+/// SpcString }`
 #[derive(Debug, Drop, PartialEq, Eq)]
 pub enum SpcLink {
     Url(Url),

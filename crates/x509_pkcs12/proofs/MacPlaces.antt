@@ -1,4 +1,4 @@
--- Where the octets that a MAC covers stand, by the lengths of what stands before them.
+-- Where the octets that a MAC covers are, by the lengths of what precedes them.
 use Rattle.std.proofs.Common.{◌≡◌, ℕ, ◌+◌, ◌-◌, ◌<◌, ◌≤◌, List, [], ◌∷◌, ◌++◌, length, take, drop, get_or, None, Some, slice_range, refl, sym, ap, ◌∙◌, arith, inl, inr, ⊎_elim, append_assoc, length-append}
 use Rattle.std.proofs.lemmas.Bool.{cases_lt}
 use Rattle.std.proofs.lemmas.List.{take_at, drop_at}
@@ -44,7 +44,7 @@ header_length tag n size c short long =
     omega (arith, long (omega (arith, e)), e, ap length (octets_long n h)))
     (cases_lt n 128)
 
--- the octets stand in the input, behind a version of three bytes, and end the text of authSafe
+-- the octets are in the input, after a version of three bytes, and end the encoding of authSafe
 pub record Stands (b o : List ℕ) (w : PfxValue (List ℕ)) : Type 0 where
   pub covers : Covers b o
   pub version : length (element 0x02 covers.version_octets) ≡ 3

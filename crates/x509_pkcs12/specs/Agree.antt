@@ -1,4 +1,4 @@
--- A PFX that is read beside the raw one.
+-- A PFX in any representation, and the raw PFX that the same input is read as.
 use Rattle.std.specs.Prelude.{◌≡◌, ◌↔◌, ℕ, List, None, Some}
 use Rattle.asn1_core.specs.Der.{Format, IsLawful, raw, IsElement, IsTagByte}
 use Rattle.std.proofs.Common.{refl, sym, subst, inl, inr}
@@ -6,7 +6,7 @@ use Rattle.x509_pkcs12.specs.AuthSafes.{AuthSafeValue, auth_safe_choice}
 use Rattle.x509_pkcs12.specs.MacOctets.{mac_octets, data_covers, same_some, Rewritten}
 use Rattle.x509_pkcs12.specs.Pfxs.{PfxValue, pfx}
 
--- the raw data read as the data, and other contents are the same
+-- the raw data reads as the data, and other contents are the same
 abbrev pub DataReadsAs : {V : Type 0} → (List ℕ → V → Type 0) → AuthSafeValue (List ℕ) → AuthSafeValue V → Type 0
 DataReadsAs Q (inl octets) (inl v) = Q octets v
 DataReadsAs Q (inl octets) (inr q) = ⊥
@@ -58,7 +58,7 @@ module _ {V : Type 0} (F : Format V) (f : IsLawful F) (k : ℕ) where
   rewritten (n, (inl d, x)) (m, (inr u, y)) octets q e = absurd q.auth_safe
   rewritten (n, (inr p, x)) v octets q e = absurd (let g : None ≡ Some octets = e in cc)
 
-  -- MAC octets survive a rewriting of what they are read as exactly where they are normal
+  -- MAC octets survive a rewriting of the PFX exactly where they are normal, that is canonical DER
   pub mac_octets_rewritten : (lawful_raw_pfx : (b : List ℕ) (u w : PfxValue (List ℕ)) → (pfx raw).Reads k b u → (pfx raw).Reads k b w → u ≡ w)
       (b octets : List ℕ) (w : PfxValue (List ℕ)) (v : PfxValue V) → (pfx raw).Reads k b w → (pfx F).Reads k b v → mac_octets w ≡ Some octets → Rewritten F k ((pfx F).text v) octets
   mac_octets_rewritten one b octets w v r s e =

@@ -1,11 +1,11 @@
--- ContentInfo ::= SEQUENCE { contentType ContentType, content [0] EXPLICIT ANY DEFINED BY contentType OPTIONAL } (RFC 2315, 7)
--- of pkcs7-data, an OCTET STRING round a text of F
+-- ContentInfo ::= SEQUENCE { contentType ContentType, content [0] EXPLICIT ANY DEFINED BY contentType OPTIONAL }
+-- (RFC 2315, 7) of pkcs7-data, an OCTET STRING around an encoding of F
 use Rattle.std.specs.Prelude.{◌⊎◌}
 use Rattle.asn1_core.specs.Der.{Format, IsLawful, sequence, lawful_sequence, OidOctets, Choice, known, IsLawfulChoice, lawful_known}
 use Rattle.x509_pkcs12_parts.specs.Oids.{data_oid}
 use Rattle.x509_pkcs12.specs.Contents.{data_content, AnyContentValue, unknown_content, lawful_data_content, lawful_unknown_content}
 
--- what the data stands for, or an object identifier and its content
+-- the value of the data, or an object identifier and its content
 abbrev pub AuthSafeValue : Type 0 → Type 0
 AuthSafeValue V = V ⊎ (OidOctets × AnyContentValue)
 

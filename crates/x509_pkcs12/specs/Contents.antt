@@ -1,6 +1,6 @@
--- ContentInfo ::= SEQUENCE { contentType ContentType, content [0] EXPLICIT ANY DEFINED BY contentType OPTIONAL } (RFC 2315, 7)
--- of pkcs7-data, an OCTET STRING round SafeContents; of pkcs7-encryptedData, EncryptedData:
--- EncryptedData ::= SEQUENCE { version Version, encryptedContentInfo EncryptedContentInfo } with version 0 (RFC 2315, 13)
+-- ContentInfo ::= SEQUENCE { contentType ContentType, content [0] EXPLICIT ANY DEFINED BY contentType OPTIONAL }
+-- (RFC 2315, 7) of pkcs7-data, an OCTET STRING around SafeContents; of pkcs7-encryptedData, an EncryptedData:
+-- EncryptedData ::= SEQUENCE { version Version (0), encryptedContentInfo EncryptedContentInfo } (RFC 2315, 13)
 use Rattle.std.specs.Prelude.{◌⊎◌, ℕ, List, Option}
 use Rattle.asn1_core.specs.Der.{Format, within, sequence, part, optional, nothing, raw, octets_of, option_value, OidOctets, ElementOctets, IsLawful, IsLawfulRow, version, lawful_within, lawful_raw, perhaps, lawful_nothing, explicit, der_laws, Choice, known, otherwise, IsLawfulChoice, lawful_known, lawful_otherwise, IsOid, lawful_explicit, lawful_sequence, followed_by, lawful_version_0}
 use Rattle.std.proofs.Common.{inl, inr, arith}
@@ -13,7 +13,7 @@ use Rattle.x509_pkcs12.specs.declared.contents.SafeContentsContentInfo.{SafeCont
 use Rattle.x509_pkcs12.specs.declared.contents.SafeContentsContentInfo.TheVariants.{Data, EncryptedData, Unknown}
 use Rattle.x509_pkcs12_bags.specs.BagsLaws.{lawful_safe_contents}
 
--- a text in the OCTET STRING of data
+-- an encoding of F in the OCTET STRING of pkcs7-data
 abbrev pub data_content : {V : Type 0} → Format V → Format V
 data_content F = explicit 0 (within 0x04 F)
 

@@ -1,4 +1,4 @@
--- `==` of contents sees what they contain.
+-- `==` of contents is equality of what they contain.
 use Rattle.asn1_core.specs.Der.{SeesEqual}
 use Rattle.std.proofs.Common.{rules}
 use Rattle.x509_pkcs12_bags.specs.BagEqual.{contents_equal}

@@ -1,4 +1,4 @@
--- What is seen of values, by way of what is seen of them otherwise.
+-- Where `==` is equality of one view, it is equality of each that tells the same values apart.
 use Rattle.asn1_core.specs.Der.{SeesEqual}
 use Rattle.std.specs.Prelude.{◌≡◌, ◌↔◌, Bool}
 

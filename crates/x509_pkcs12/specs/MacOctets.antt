@@ -15,7 +15,7 @@ mac_octets (n, (inr p, x)) = None
 abbrev pub auth_safe_of : List ℕ → List ℕ
 auth_safe_of octets = element 0x30 (element 0x06 data_oid ++ element 0xA0 (element 0x04 octets))
 
--- a text of a PFX whose authSafe has these contents octets, between the version and the MAC data
+-- an encoding of a PFX whose authSafe has these contents octets, between the version and the MAC data
 pub record Covers (text octets : List ℕ) : Type 0 where
   pub version_octets : List ℕ
   pub mac : List ℕ
@@ -31,12 +31,12 @@ data_covers F n d x = record {
 pub same_some : (o p : List ℕ) → ◌≡◌ {A = Option (List ℕ)} (Some o) (Some p) → o ≡ p
 same_some o p e = cc
 
--- whatever else a raw PFX holds, its MAC octets stand in its text
+-- whatever else a raw PFX holds, its MAC octets are in its encoding
 pub mac_octets_stand : (w : PfxValue (List ℕ)) (octets : List ℕ) → mac_octets w ≡ Some octets → Covers ((pfx raw).text w) octets
 mac_octets_stand (n, (inl d, x)) octets e = subst (Covers ((pfx raw).text (n, (inl d, x)))) (same_some d octets e) (data_covers raw n d x)
 mac_octets_stand (n, (inr p, x)) octets e = absurd (let f : None ≡ Some octets = e in cc)
 
--- an input whose authSafe is data, however its MAC data are spelled
+-- an input whose authSafe is data, however its MAC data are encoded
 pub input_is : (k n : ℕ) (b octets : List ℕ) (x : Option MacValue × Unit {0}) (s : (pfx raw).Reads k b (n, (inl octets, x))) → b ≡ element 0x30 (element 0x02 (integer_octets n) ++ (auth_safe_of octets ++ s.2.4.1))
 input_is k n b octets x s =
     let t = s.2.4 in
@@ -46,7 +46,7 @@ input_is k n b octets x s =
     t.3.1 ∙ ap (element 0x30) (a.1 ∙ ap (λ y. element 0x06 data_oid ++ y) (a.2.1 ∙ ap (element 0xA0) (a.2.2.1 ∙ ap (element 0x04) i))) in
     s.1 ∙ ap (element 0x30) (s.2.2 ∙ ap (λ y. y ++ s.2.1) s.2.3.0 ∙ ap (λ y. element 0x02 (integer_octets n) ++ y) (t.2 ∙ ap (λ y. y ++ t.1) h))
 
--- whatever else an input holds, the MAC octets of the raw PFX that it is read as stand in it
+-- whatever else an input holds, the MAC octets of the raw PFX that it is read as are in it
 pub mac_octets_stand_in : (k : ℕ) (b octets : List ℕ) (w : PfxValue (List ℕ)) → (pfx raw).Reads k b w → mac_octets w ≡ Some octets → Covers b octets
 mac_octets_stand_in k b octets (n, (inl d, x)) s e = record {
   version_octets = integer_octets n;
@@ -55,7 +55,7 @@ mac_octets_stand_in k b octets (n, (inl d, x)) s e = record {
 }
 mac_octets_stand_in k b octets (n, (inr p, x)) s e = absurd (let f : None ≡ Some octets = e in cc)
 
--- what is written of the octets that a MAC covered, and that it is these octets again exactly where they are normal
+-- what is written for the octets that a MAC covered: the same octets exactly where they are normal (canonical DER)
 pub record Rewritten {V : Type 0} (F : Format V) (k : ℕ) (text octets : List ℕ) : Type 0 where
   pub written : List ℕ
   pub covers : Covers text written

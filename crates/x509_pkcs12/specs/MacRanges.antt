@@ -1,17 +1,17 @@
--- Where the octets that a MAC covers stand in an input.
+-- Where the octets that a MAC covers are in an input.
 use Rattle.std.specs.Prelude.{◌≡◌, ℕ, ◌≤◌, List, length, drop, Option, IfSome, slice_range}
 use Rattle.asn1_core.specs.Der.{raw, option_value, Octets, IsValueOf}
 use Rattle.x509_pkcs12.specs.MacOctets.{mac_octets, Covers}
 use Rattle.x509_pkcs12.specs.Pfxs.{PfxValue, pfx}
 
--- the contents octets of authSafe's OCTET STRING stand in the input between these two places, and behind them what stands
--- behind authSafe
+-- the contents octets of authSafe's OCTET STRING are in the input between these two places, and after them comes what
+-- follows authSafe
 pub record StandsAt (b : List ℕ) (start end : ℕ) : Type 0 where
   pub covers : Covers b (slice_range b start end)
   pub behind : drop end b ≡ covers.mac
   pub inside : (start ≤ end) × (end ≤ length b)
 
--- There they stand, and they are what the raw PFX that the input is lends as its MAC octets. Without a range it lends none.
+-- The octets in the range are the MAC octets of the raw PFX that the input is. Where there is no range it has none.
 pub record IsMacRange (b : List ℕ) (range : Option (ℕ × ℕ)) : Type 0 where
   pub value : PfxValue Octets
   pub is_value : IsValueOf (pfx raw) 64 b value

@@ -8,7 +8,7 @@ use Rattle.x509_pkcs12.specs.AuthSafes.{AuthSafeValue}
 use Rattle.x509_pkcs12.specs.Contents.{ContentInfoValue}
 use Rattle.x509_pkcs12.specs.Pfxs.{PfxValue}
 
--- encrypted contents, and content of another type, show none
+-- encrypted contents, and content of another type, give none
 abbrev pub content_walk : ContentInfoValue → List Bag
 content_walk (inl bags) = walk bags
 content_walk (inr other) = []

@@ -19,7 +19,7 @@ use x509_pkcs12_parts::oids::{Known, PKCS7_DATA};
 #[derive(Drop)]
 #[derive_where(PartialEq, Eq, Debug; R::Repr)]
 pub enum AuthenticatedSafeContentInfo<R: AuthenticatedSafeDataRepr> {
-    /// What stands in the OCTET STRING of `pkcs7-data`.
+    /// What the OCTET STRING of `pkcs7-data` contains.
     Data(R::Repr),
     /// Any other content type.
     Unknown {

@@ -27,7 +27,7 @@ pub enum SafeContentsContentInfo {
     },
 }
 
-/// `content [0] EXPLICIT ANY OPTIONAL`, of an element that is only lent, which only writes.
+/// `content [0] EXPLICIT ANY OPTIONAL`, borrowed, for writing.
 #[derive(Drop)]
 pub(crate) struct AnyContentRef<'a>(pub &'a Option<Asn1RawDer>);
 
@@ -87,7 +87,7 @@ impl ReadRow for AnyContent {
     ghost lawful = { lawful_any_content };
 }
 
-/// `EncryptedData ::= SEQUENCE { version Version, encryptedContentInfo EncryptedContentInfo }` (RFC 2315, 13), in a tag.
+/// `EncryptedData ::= SEQUENCE { version Version, encryptedContentInfo EncryptedContentInfo }` (RFC 2315, 13), tagged.
 type EncryptedRow = ExplicitContextTag0<
     Asn1Sequence<Part<FixedVersion<0>, Part<EncryptedSafeContents, End>>>,
 >;

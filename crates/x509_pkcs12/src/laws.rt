@@ -15,21 +15,21 @@ pub fn reads_as_the_raw_one<R: AuthenticatedSafeDataRepr>()
         ↔ ((w : PfxValue (List ℕ)) × (pfx raw).Reads k b w × ReadsAs (R.format.Reads k) w v) }
 {}
 
-/// Whatever else an input holds, the octets that its MAC covers are the contents octets of the OCTET STRING in `authSafe`
-/// of that input: a raw PFX is read loosely in its MAC data alone.
+/// Whatever else an input holds, the octets that its MAC covers are the contents octets of the OCTET STRING in its
+/// `authSafe`: an accepted raw PFX can differ from its normal (canonical) encoding in its MAC data alone.
 pub fn mac_octets_stand_in_the_input()
     ensures { (k : ℕ) (b octets : List ℕ) (w : PfxValue (List ℕ)) → (pfx raw).Reads k b w
         → mac_octets w ≡ Some octets → Covers b octets }
 {}
 
 /// Whatever else a raw PFX holds, the octets that its MAC covers are the contents octets of the OCTET STRING in
-/// `authSafe` of its text.
+/// `authSafe` of its encoding.
 pub fn mac_octets_stand_in_the_text()
     ensures { (w : PfxValue (List ℕ)) (octets : List ℕ) → mac_octets w ≡ Some octets → Covers ((pfx raw).text w) octets }
 {}
 
 /// Where a PFX that was read is written again, the octets that its MAC covers come back exactly where they are normal,
-/// however the rest of it is spelled.
+/// however the rest of it is encoded.
 pub fn mac_octets_survive_where_normal<R: AuthenticatedSafeDataRepr>()
     ensures { (k : ℕ) (b octets : List ℕ) (w : PfxValue (List ℕ)) (v : PfxValue R.Value) → (pfx raw).Reads k b w
         → (pfx R.format).Reads k b v → mac_octets w ≡ Some octets → Rewritten R.format k ((pfx R.format).text v) octets }

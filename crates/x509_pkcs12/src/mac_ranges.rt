@@ -1,4 +1,4 @@
-//! Where the octets that a MAC covers stand in an input.
+//! Where the octets that a MAC covers are in an input.
 
 ghost use Rattle.std.specs.Prelude.{◌≡◌, ◌+◌, ◌<◌, ◌≤◌, MatchResult};
 ghost use Rattle.asn1_core.specs.Der.{raw, option_value, HasNoValue};
@@ -25,9 +25,9 @@ fn header_size(first: u8) -> usize
     }
 }
 
-/// Where the octets stand in an input that a MAC covers: those that `mac_octets` lends of the `RawPfx` that the input is,
-/// so that a verifier hashes its own buffer. `None` where `authSafe` isn't data. The input is read once, by `from_bytes`:
-/// what that refuses as a `RawPfx` is refused alike, and never by `TooLong`. Reading takes memory, and none of it is kept.
+/// Where the octets that a MAC covers are in an input: those that `mac_octets` gives of the `RawPfx` that the input is,
+/// so that a verifier hashes its own buffer. `None` where `authSafe` isn't data. The input is read once, by
+/// `from_bytes`: what that refuses as a `RawPfx` is refused alike, never by `TooLong`. Memory is taken, and none kept.
 pub fn mac_range(alloc: Global, bytes: &[u8]) -> Result<Option<Range<usize>>, Error>
     ensures { MatchResult result
         (λ range. IsMacRange bytes.now (option_value (λ r. (r.start, r.end)) range))

@@ -15,8 +15,8 @@ use asn1_core::prelude::*;
 use pkcs12_algs::MacData;
 use std::alloc::Global;
 
-/// `PFX ::= SEQUENCE { version INTEGER {v3(3)}(v3,...), authSafe ContentInfo, macData MacData OPTIONAL }` (RFC 7292, 4),
-/// with the data of `authSafe` in the representation `R`. Only version 3 is read, and well-formed.
+/// `PFX ::= SEQUENCE { version INTEGER {v3(3)}(v3,...), authSafe ContentInfo, macData MacData OPTIONAL }` (RFC 7292,
+/// 4), with the data of `authSafe` in the representation `R`. Only version 3 is read, and well-formed.
 #[derive(Drop)]
 #[derive_where(PartialEq, Eq, Debug; R::Repr)]
 pub struct Pfx<R: AuthenticatedSafeDataRepr> {

@@ -11,16 +11,16 @@ use crate::representations::AuthenticatedSafeDataRepr;
 use asn1_core::prelude::*;
 use std::alloc::Global;
 
-/// One element, which is not looked into, so that the octets that a MAC covers stay as they are.
+/// One element, which is not parsed, so that the octets that a MAC covers stay as they are.
 #[derive(Debug, Drop, PartialEq, Eq)]
 pub struct RawAuthenticatedSafeDataRepr {
     raw: Asn1RawDer,
 }
 
-/// A PFX of which the data is not looked into.
+/// A PFX of which the data is not parsed.
 pub type RawPfx = Pfx<RawAuthenticatedSafeDataRepr>;
 
-/// What a PFX authenticates, of which the data is not looked into.
+/// What a PFX authenticates, of which the data is not parsed.
 pub type RawAuthenticatedSafeContentInfo = AuthenticatedSafeContentInfo<
     RawAuthenticatedSafeDataRepr,
 >;

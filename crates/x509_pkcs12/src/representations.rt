@@ -23,23 +23,23 @@ pub trait AuthenticatedSafeDataRepr: DerDeserialize + Sized {
     fn from_repr(repr: Self::Repr) -> Self
         ensures { result ≡ from repr };
 
-    /// Writes the text of `from_repr(repr)`, of an ill-formed one too. All other writing is by this.
+    /// Writes the encoding of `from_repr(repr)`, of an ill-formed one too. All other writing is by this.
     fn put_repr<W: Writer>(repr: &Self::Repr, w: &mut W) -> Result<(), WriteError>
         requires { W.MayTake w.old }
         ensures { W.Takes (Self.format.text (Self.value (from repr.now))) w.old w.new result };
 
-    /// Whether `from_repr(repr)` is well-formed with nesting of at most `limit` levels.
+    /// Whether `from_repr(repr)` is well-formed with at most `limit` nesting levels.
     fn repr_well_formed_at(repr: &Self::Repr, limit: u8) -> bool
         ensures { IsTrue result ↔ Self.format.IsWellFormed limit (Self.value (from repr.now)) };
 
-    /// The length of the text of `from_repr(repr)`. Refuses by `TooLong` alone, and takes no memory.
+    /// The length of the encoding of `from_repr(repr)`. Refuses by `TooLong` alone, and takes no memory.
     final fn repr_len(repr: &Self::Repr) -> Result<usize, Error>
         ensures { Measures (Self.format.text (Self.value (from repr.now))) result }
     {
         ReprRef::<Self>(repr).encoded_len()
     }
 
-    /// Appends the text of `from_repr(repr)`, without a refusal where there is room for it. A refusal leaves the
+    /// Appends the encoding of `from_repr(repr)`, without a refusal where there is room for it. A refusal leaves the
     /// buffer's contents as they were. It is made to ask for memory once at most; no clause says so.
     final fn write_repr(alloc: Global, repr: &Self::Repr, out: &mut Vec<u8>) -> Result<(), Error>
         ensures text { Writes (Self.format.text (Self.value (from repr.now))) out.old.items (vec_capacity out.old) out.new.items result }
@@ -48,7 +48,7 @@ pub trait AuthenticatedSafeDataRepr: DerDeserialize + Sized {
         ReprRef::<Self>(repr).write(alloc, out)
     }
 
-    /// Sends the text of `from_repr(repr)`. Takes no memory. A text that is too long is not begun.
+    /// Sends the encoding of `from_repr(repr)`. Takes no memory. An encoding that is too long is not begun.
     final fn emit_repr<S: Sink>(repr: &Self::Repr, sink: &mut S) -> Result<(), WriteError>
         requires { S.failed sink.old < u64.MAX }
         ensures { Emits (Self.format.text (Self.value (from repr.now))) sink.old sink.new (S.held sink.old) (S.held sink.new) (S.failed sink.old) (S.failed sink.new) result }
@@ -64,7 +64,7 @@ pub trait AuthenticatedSafeDataRepr: DerDeserialize + Sized {
         ↔ (Self.DerSerialize.value (from x) ≡ Self.DerSerialize.value (from y)) };
 }
 
-/// The data of a representation, which is only lent and only writes.
+/// The borrowed data of a representation, for writing.
 #[derive(Drop)]
 pub(crate) struct ReprRef<'a, R: AuthenticatedSafeDataRepr>(pub &'a R::Repr);
 

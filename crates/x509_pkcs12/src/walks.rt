@@ -16,8 +16,8 @@ use std::alloc::Global;
 use x509_pkcs12_bags::SafeBag;
 
 impl Pfx<ParsedAuthenticatedSafeDataRepr> {
-    /// All bags of its contents in order, those in bags too, a bag before the bags in it. Encrypted contents, and content of
-    /// another type, show none. Refuses by `Memory` alone.
+    /// All bags of its contents in order, those in bags too, a bag before the bags in it. Encrypted contents, and
+    /// content of another type, give none. Refuses by `Memory` alone.
     pub fn all_bags(&self, alloc: Global) -> Result<Vec<&SafeBag>, Error>
         ensures { MatchResult result (λ bags. map (λ bag. bag_value bag.now) bags.items ≡ pfx_walk (⟦<Pfx<ParsedAuthenticatedSafeDataRepr> as DerSerialize>⟧.value self.now)) (λ e. e ≡ Memory) }
     {

@@ -1,4 +1,4 @@
--- `==` of attributes sees what they contain.
+-- `==` of attributes is equality of what they contain.
 use Rattle.asn1_core.specs.Der.{SeesEqual, list_equal, raw_equal}
 use Rattle.std.proofs.Common.{rules}
 use Rattle.x509_pkcs12_parts.specs.Attributes.{attribute_value}

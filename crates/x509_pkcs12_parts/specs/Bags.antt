@@ -1,7 +1,9 @@
 -- CertBag ::= SEQUENCE { certId OBJECT IDENTIFIER, certValue [0] EXPLICIT ANY DEFINED BY certId } (RFC 7292, 4.2.3)
 -- CRLBag ::= SEQUENCE { crlId OBJECT IDENTIFIER, crlValue [0] EXPLICIT ANY DEFINED BY crlId } (RFC 7292, 4.2.4)
--- SecretBag ::= SEQUENCE { secretTypeId OBJECT IDENTIFIER, secretValue [0] EXPLICIT ANY DEFINED BY secretTypeId } (RFC 7292, 4.2.5)
--- EncryptedPrivateKeyInfo ::= SEQUENCE { encryptionAlgorithm AlgorithmIdentifier, encryptedData OCTET STRING } (RFC 5958, 3)
+-- SecretBag ::= SEQUENCE { secretTypeId OBJECT IDENTIFIER, secretValue [0] EXPLICIT ANY DEFINED BY secretTypeId }
+--   (RFC 7292, 4.2.5)
+-- EncryptedPrivateKeyInfo ::= SEQUENCE { encryptionAlgorithm AlgorithmIdentifier, encryptedData OCTET STRING }
+--   (RFC 5958, 3)
 use Rattle.std.specs.Prelude.{◌⊎◌, ℕ}
 use Rattle.asn1_core.specs.Der.{Format, sequence, part, nothing, object_identifier, octet_string, raw, octets_of, Octets, OidOctets, ElementOctets, IsLawful, lawful_sequence, explicit, der_laws, Choice, known, otherwise, IsLawfulChoice, lawful_known, lawful_otherwise, IsOid}
 use Rattle.std.proofs.Common.{inl, inr}
@@ -24,7 +26,7 @@ x509_value (Unknown t v) = inr (octets_of t, v.0.items)
 abbrev pub any_value : Choice (OidOctets × ElementOctets)
 any_value = otherwise IsOid (explicit 0 raw)
 
--- where X.509's is known by the object identifier with that number
+-- a bag whose X.509 alternative has the object identifier with that number
 abbrev pub x509_bag : ℕ → Format OctetsOrAny
 x509_bag number = sequence (known (oid number) (explicit 0 octet_string) any_value).row
 

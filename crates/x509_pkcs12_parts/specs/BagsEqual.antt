@@ -1,4 +1,4 @@
--- `==` of certificates, revocation lists, secrets and encrypted keys sees what they contain.
+-- `==` of certificates, revocation lists, secrets and encrypted keys is equality of what they contain.
 use Rattle.asn1_core.specs.Der.{SeesEqual, der_equal}
 use denote.Param.{value_of}
 use denote.RattleType.{RattleType}

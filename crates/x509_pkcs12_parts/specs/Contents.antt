@@ -1,5 +1,5 @@
--- EncryptedContentInfo ::= SEQUENCE { contentType ContentType, contentEncryptionAlgorithm AlgorithmIdentifier, encryptedContent [0] IMPLICIT OCTET STRING OPTIONAL }
--- (RFC 2315, 10.1), with contentType pkcs7-data (RFC 7292, 4.1)
+-- EncryptedContentInfo ::= SEQUENCE { contentType ContentType, contentEncryptionAlgorithm AlgorithmIdentifier,
+--   encryptedContent [0] IMPLICIT OCTET STRING OPTIONAL } (RFC 2315, 10.1), with contentType pkcs7-data (RFC 7292, 4.1)
 use Rattle.std.specs.Prelude.{◌≡◌, ℕ, List, Option}
 use Rattle.asn1_core.specs.Der.{Format, sequence, part, optional, nothing, octet_string, option_value, Octets, IsLawful, lawful_octet_string, der_laws, Spelling, leaf, IsLawfulSpelling, implicit, context_tag, any_octets, lawful_leaf, lawful_implicit, context_tag_is, leaf_tagged}
 use Rattle.pkcs12_algs.specs.Encryption.{EncryptionAlgorithmValue, encryption_algorithm_value, encryption_algorithm, lawful_encryption_algorithm}

@@ -1,4 +1,4 @@
--- `==` of encrypted contents sees what they contain.
+-- `==` of encrypted contents is equality of what they contain.
 use Rattle.std.proofs.Common.{ap}
 use Rattle.asn1_core.specs.Der.{SeesEqual, two_equal, option_equal, octets_equal, with_end}
 use Rattle.asn1_core.specs.contracts.octets.OctetStringAsn1PartialEq.TheImpl as Octets

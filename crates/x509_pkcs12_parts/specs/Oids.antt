@@ -25,7 +25,7 @@ known_arcs =
     ∷ pkcs (12 ∷ 10 ∷ 1 ∷ 6 ∷ [])  -- safeContentsBag
     ∷ []
 
--- the arcs of a number; past the last those of 2.999, which is kept for examples and names nothing
+-- the arcs of a number; past the last those of 2.999, which is registered for examples and names nothing
 abbrev row_at : List (List ℕ) → ℕ → List ℕ
 row_at [] n = 2 ∷ 999 ∷ []
 row_at (row ∷ rows) zero = row

@@ -28,7 +28,7 @@ pub enum Pkcs12Attribute {
     },
 }
 
-/// A string that is only lent, as a part that writes.
+/// A borrowed string, as a part for writing.
 #[derive(Drop)]
 struct BmpRef<'a>(&'a BmpString);
 
@@ -165,7 +165,7 @@ impl ReadRow for BagAttributes {
     ghost lawful = { lawful_attributes };
 }
 
-/// The attributes of a bag that are only lent, which only write.
+/// The borrowed attributes of a bag, for writing.
 #[derive(Drop)]
 pub struct BagAttributesRef<'a>(pub &'a Option<Vec<Pkcs12Attribute>>);
 

@@ -12,7 +12,7 @@ use asn1_core::prelude::*;
 use pkcs12_algs::Pkcs12EncryptionAlgorithm;
 use std::alloc::Global;
 
-/// `KeyBag ::= PrivateKeyInfo`, which is not looked into (RFC 7292, 4.2.1).
+/// `KeyBag ::= PrivateKeyInfo`, which is not parsed (RFC 7292, 4.2.1).
 pub type KeyBag = Asn1RawDer;
 
 /// The octets of the type that `N` names, or an element of any other.
@@ -33,10 +33,10 @@ pub type CertificateBag = X509Bag<X509_CERTIFICATE>;
 pub type CrlBag = X509Bag<X509_CRL>;
 
 /// A certificate or a revocation list as a bag holds it: `CertificateBag` or `CrlBag`, by the number of the object
-/// identifier under which X.509's stands.
+/// identifier that an X.509 one has.
 #[derive(Debug, Drop, PartialEq, Eq)]
 pub enum X509Bag<const KNOWN: usize> {
-    /// The DER of an X.509 certificate or revocation list, which is not looked into.
+    /// The DER of an X.509 certificate or revocation list, which is not parsed.
     X509(OctetStringAsn1),
     /// Any other.
     Unknown {

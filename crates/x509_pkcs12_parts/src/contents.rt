@@ -56,7 +56,7 @@ impl DerDeserialize for DataType {
     ghost lawful = { lawful_fixed_oid data_oid };
 }
 
-/// `[0] IMPLICIT OCTET STRING`, of octets that are only lent, which only writes.
+/// `[0] IMPLICIT OCTET STRING`, of borrowed octets, for writing.
 #[derive(Drop)]
 struct EncryptedRef<'a>(&'a OctetStringAsn1);
 

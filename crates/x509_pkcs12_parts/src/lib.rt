@@ -1,4 +1,4 @@
-//! What stands in the bags of PKCS #12: attributes, certificates, revocation lists, secrets and encrypted keys; and
+//! What the bags of PKCS #12 hold: attributes, certificates, revocation lists, secrets and encrypted keys; and
 //! encrypted contents (RFC 7292, 4).
 #![tactic(auto)]
 

@@ -39,8 +39,8 @@ macro_rules! pkcs {
     };
 }
 
-/// The contents octets of the object identifier with that number. Each number past the last stands for 2.999, which is
-/// registered for examples and names nothing, so that a wrong number stands for no known object identifier.
+/// The contents octets of the object identifier with that number. Each number past the last gives 2.999, which is
+/// registered for examples and names nothing, so that a wrong number gives no known object identifier.
 pub fn octets_of_known(number: usize) -> &'static [u8]
     ensures { result.now ≡ oid number }
 {

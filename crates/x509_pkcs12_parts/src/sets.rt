@@ -1,4 +1,4 @@
-//! Sets: of exactly one item, and of items that are only lent.
+//! Sets: of exactly one item, and of borrowed items.
 
 ghost use Rattle.std.specs.Prelude.{List, map};
 ghost use Rattle.std.proofs.Common.{arith};
@@ -36,7 +36,7 @@ impl<T: DerDeserialize> DerDeserialize for SetOfOne<T> {
     ghost lawful = { lawful_within T.DerSerialize.format T.lawful.row 0x31 (Prim.omega arith) };
 }
 
-/// One text that fills the contents. None and two are invalid.
+/// One encoding that fills the contents. None and two are invalid.
 #[derive(Drop)]
 struct Only<T>(T);
 
@@ -71,7 +71,7 @@ impl<T: DerDeserialize> ReadRow for Only<T> {
     ghost lawful = { T.lawful.row };
 }
 
-/// `SET OF T`, of items that are only lent, which only writes.
+/// `SET OF T`, of borrowed items, for writing.
 #[derive(Drop)]
 pub struct SetRef<'a, T>(pub &'a Vec<T>);
 

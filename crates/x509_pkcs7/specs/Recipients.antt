@@ -1,9 +1,11 @@
--- RecipientInfo ::= CHOICE { .., kekri [2] KEKRecipientInfo, .. } (RFC 5652, 6.2), of which kekri alone is carried, its tag
---   IMPLICIT
+-- RecipientInfo ::= CHOICE { .., kekri [2] KEKRecipientInfo, .. } (RFC 5652, 6.2), of which kekri alone is supported,
+--   its tag IMPLICIT
 -- KEKRecipientInfo ::= SEQUENCE { version CMSVersion, kekid KEKIdentifier, keyEncryptionAlgorithm
 --   KeyEncryptionAlgorithmIdentifier, encryptedKey EncryptedKey } (RFC 5652, 6.2.3)
--- KEKIdentifier ::= SEQUENCE { keyIdentifier OCTET STRING, date GeneralizedTime OPTIONAL, other OtherKeyAttribute OPTIONAL }
--- OtherKeyAttribute ::= SEQUENCE { keyAttrId OBJECT IDENTIFIER, keyAttr ANY DEFINED BY keyAttrId OPTIONAL } (RFC 5652, 10.2.7)
+-- KEKIdentifier ::= SEQUENCE { keyIdentifier OCTET STRING, date GeneralizedTime OPTIONAL, other OtherKeyAttribute
+--   OPTIONAL }
+-- OtherKeyAttribute ::= SEQUENCE { keyAttrId OBJECT IDENTIFIER, keyAttr ANY DEFINED BY keyAttrId OPTIONAL }
+--   (RFC 5652, 10.2.7)
 use Rattle.std.specs.Prelude.{◌≡◌, ℕ, Option}
 use Rattle.std.proofs.Common.{arith, ⊎_elim}
 use Rattle.asn1_core.specs.Der.{Format, IsLawful, sequence, part, optional, nothing, number_below, object_identifier, octet_string, raw, octets_of, option_value, lawful_sequence, followed_by, perhaps, lawful_nothing, lawful_octet_string, Octets, OidOctets, ElementOctets, der_laws, implicit, lawful_implicit, within_tagged}

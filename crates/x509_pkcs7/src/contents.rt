@@ -23,15 +23,15 @@ pub struct ContentInfo {
 type ContentInfoRow = Part<ContentType, Part<ExplicitContextTag0<Asn1RawDer>, End>>;
 
 impl ContentInfo {
-    /// The bytes of the content's element, its header with it, without the tag `[0]` round it.
+    /// The bytes of the content's element with its header, without the tag `[0]` around it.
     pub fn content(&self) -> &[u8]
         ensures { result.now ≡ self.now.content.0.0.items }
     {
         self.content.0.0.as_slice()
     }
 
-    /// The content as a `T`, with the errors of `from_bytes` on the bytes that `content` lends. What the content type
-    /// says isn't asked.
+    /// The content as a `T`, with the errors of `from_bytes` on the bytes that `content` gives. The content type is not
+    /// examined.
     pub fn content_typed<T: DerDeserialize>(&self, alloc: Global) -> Result<T, Error>
         ensures { AnswersInput T.value T.format 64 self.now.content.0.0.items result }
     {

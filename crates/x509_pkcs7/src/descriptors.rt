@@ -7,8 +7,8 @@ use asn1_core::prelude::*;
 use asn1_leaves::Utf8StringAsn1;
 use std::alloc::Global;
 
-/// `ProtectionDescriptor ::= SEQUENCE { descriptorType UTF8String, descriptorValue UTF8String }`, as `SID` and a security
-/// identifier.
+/// `ProtectionDescriptor ::= SEQUENCE { descriptorType UTF8String, descriptorValue UTF8String }`, as `SID` and a
+/// security identifier.
 #[derive(Debug, Drop, PartialEq)]
 pub struct ProtectionDescriptor {
     pub descriptor_type: Utf8StringAsn1,
@@ -59,7 +59,7 @@ impl TryClone for ProtectionDescriptor {
 }
 
 /// `GeneralProtectionDescriptor ::= SEQUENCE { descriptorType OBJECT IDENTIFIER, descriptors SEQUENCE OF SEQUENCE OF
-/// ProtectionDescriptor }`: the outer list has alternatives, of which each asks for all of its own.
+/// ProtectionDescriptor }`: the outer list has alternatives, each of which requires all descriptors of its own.
 #[derive(Debug, Drop, PartialEq)]
 pub struct GeneralProtectionDescriptor {
     pub descriptor_type: ObjectIdentifierAsn1,

@@ -32,7 +32,7 @@ pub type RecipientInfos = Asn1SetOf<RecipientInfo>;
 pub struct EncryptedContentInfo {
     pub content_type: ContentType,
     pub content_encryption_algorithm: ContentEncryptionAlgorithmIdentifier,
-    /// Absent where the content stands elsewhere.
+    /// Absent where the content is elsewhere.
     pub encrypted_content: Optional<Option<ImplicitContextTag0<EncryptedContent>>>,
 }
 
@@ -149,9 +149,9 @@ impl EqualByText for OriginatorInfo {
     ghost equal_by_text = { originator_equal };
 }
 
-/// `EnvelopedData ::= SEQUENCE { version CMSVersion, originatorInfo [0] IMPLICIT OriginatorInfo OPTIONAL, recipientInfos
-/// RecipientInfos, encryptedContentInfo EncryptedContentInfo, unprotectedAttrs [1] IMPLICIT UnprotectedAttributes OPTIONAL
-/// }`
+/// `EnvelopedData ::= SEQUENCE { version CMSVersion, originatorInfo [0] IMPLICIT OriginatorInfo OPTIONAL,
+/// recipientInfos RecipientInfos, encryptedContentInfo EncryptedContentInfo, unprotectedAttrs [1] IMPLICIT
+/// UnprotectedAttributes OPTIONAL }`
 #[derive(Debug, Drop, PartialEq)]
 pub struct EnvelopedData {
     pub version: CmsVersion,

@@ -18,8 +18,8 @@ pub type KeyEncryptionAlgorithmIdentifier = AlgorithmIdentifier;
 /// `EncryptedKey ::= OCTET STRING`
 pub type EncryptedKey = OctetStringAsn1;
 
-/// `OtherKeyAttribute ::= SEQUENCE { keyAttrId OBJECT IDENTIFIER, keyAttr ANY DEFINED BY keyAttrId OPTIONAL }` (RFC 5652,
-/// 10.2.7)
+/// `OtherKeyAttribute ::= SEQUENCE { keyAttrId OBJECT IDENTIFIER, keyAttr ANY DEFINED BY keyAttrId OPTIONAL }`
+/// (RFC 5652, 10.2.7)
 #[derive(Debug, Drop, PartialEq)]
 pub struct OtherKeyAttribute {
     pub key_attr_id: ObjectIdentifierAsn1,
@@ -222,8 +222,8 @@ impl EqualByText for KekRecipientInfo {
     ghost equal_by_text = { kek_recipient_equal };
 }
 
-/// `RecipientInfo ::= CHOICE { ktri .., kari [1] .., kekri [2] KEKRecipientInfo, pwri [3] .., ori [4] .. }` (RFC 5652, 6.2),
-/// of which `kekri` alone is carried: the four parts of its SEQUENCE are the whole contents of `[2]`.
+/// `RecipientInfo ::= CHOICE { ktri .., kari [1] .., kekri [2] KEKRecipientInfo, pwri [3] .., ori [4] .. }` (RFC 5652,
+/// 6.2), of which `kekri` alone is supported: the four parts of its SEQUENCE are the whole contents of `[2]`.
 #[derive(Debug, Drop, PartialEq)]
 pub enum RecipientInfo {
     Kek(KekRecipientInfo),
