@@ -22,7 +22,8 @@ pub use asn1_core_format::laws::{
 };
 pub use asn1_core_format::{
     DerDeserialize, DerSerialize, DerTagged, EqualByText, MAX_NESTING, TryClone, Viewed,
-    from_bytes, from_bytes_counted, from_bytes_limited, to_vec, write_to,
+    from_bytes, from_bytes_counted, from_bytes_limited, from_bytes_located,
+    from_bytes_located_limited, to_vec, write_to,
 };
 pub use asn1_core_oid::ObjectIdentifier;
 pub use asn1_core_streams::{

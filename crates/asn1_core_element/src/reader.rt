@@ -18,6 +18,8 @@ pub struct Reader<'a> {
     end: usize,
     headers: usize,
     refused: bool,
+    /// How many bytes of the input there are from the last header on; before the first header, all.
+    from_header: usize,
 }
 
 impl<'a> Model for Reader<'a> {
@@ -28,7 +30,7 @@ impl<'a> Model for Reader<'a> {
 
     ghost view = { λ r. record { left = take r.room r.rest.now; beyond = drop r.room r.rest.now; end = r.end; headers = r.headers; refused = r.refused } };
 
-    ghost invariant = { λ r. (r.room ≤ length r.rest.now) × (2 * r.headers + r.room ≤ r.end + (if r.refused then 2 else 0)) };
+    ghost invariant = { λ r. (r.room ≤ length r.rest.now) × (length r.rest.now ≤ r.from_header) × (2 * r.headers + r.room ≤ r.end + (if r.refused then 2 else 0)) };
 }
 
 impl<'a> Reader<'a> {
@@ -41,6 +43,7 @@ impl<'a> Reader<'a> {
             end: input.len(),
             headers: 0,
             refused: false,
+            from_header: input.len(),
         }
     }
 
@@ -63,6 +66,7 @@ impl<'a> Reader<'a> {
     {
         let rest = self.rest;
         let room = self.room;
+        self.from_header = rest.len();
         self.headers += 1;
         match front(&rest[..room]) {
             Some((tag, n, size)) => {
@@ -141,6 +145,20 @@ impl<'a> Reader<'a> {
         ensures { result ≡ length self.now.left }
     {
         self.room
+    }
+
+    /// How many bytes of the input are not read yet, in the open contents and after them.
+    pub fn unread(&self) -> usize
+        ensures { result ≡ length self.now.left + length self.now.beyond }
+    {
+        self.rest.len()
+    }
+
+    /// How many bytes of the input there are from the header on that was read last, or refused; all before the first.
+    pub fn from_header(&self) -> usize
+        ensures { length self.now.left + length self.now.beyond ≤ result }
+    {
+        self.from_header
     }
 
     pub fn headers_read(&self) -> usize

@@ -22,6 +22,10 @@ pub record HasNoValue {V : Type 0} (F : Format V) (k : ℕ) (b : List ℕ) (e : 
 abbrev pub AnswersInput : {T V : Type 0} → (T → V) → Format V → ℕ → List ℕ → Result T Error → Type 0
 AnswersInput value F k b r = MatchResult r (λ x. IsValueOf F k b (value x)) (λ e. HasNoValue F k b e)
 
+-- the same, with a place in an input that gives no value
+abbrev pub LocatesInput : {T V : Type 0} → (T → V) → Format V → ℕ → List ℕ → Result T (Error × ℕ) → Type 0
+LocatesInput value F k b r = MatchResult r (λ x. IsValueOf F k b (value x)) (λ e. HasNoValue F k b e.0 × (e.1 ≤ length b))
+
 -- how many headers were read of an input that gives no value: at most one more than half the bytes; and where a text
 -- begins it, as many at least as that text has
 pub record HeadersOfRefused {V : Type 0} (F : Format V) (k : ℕ) (b : List ℕ) (e : Error) (n : ℕ) : Type 0 where

@@ -31,5 +31,8 @@ pub use tagged::{DerTagged, read_retagged};
 pub use tails::{ReadRowWith, Tail, read_row_within_with};
 pub use traits::{DerDeserialize, DerSerialize, MAX_NESTING};
 pub use views::{EqualByText, TryClone, Viewed};
-pub use whole::{from_bytes, from_bytes_counted, from_bytes_limited, to_vec, write_to};
+pub use whole::{
+    from_bytes, from_bytes_counted, from_bytes_limited, from_bytes_located,
+    from_bytes_located_limited, to_vec, write_to,
+};
 pub use within::{put_within, read_row_contents, read_within};

@@ -1,8 +1,8 @@
 //! Whole inputs and whole texts.
 
-ghost use Rattle.std.specs.Prelude.{◌≡◌, ◌<◌, ◌≤◌, ℕ, false, IfOk};
+ghost use Rattle.std.specs.Prelude.{◌≡◌, ◌<◌, ◌≤◌, ℕ, false, length, IfOk};
 ghost use Rattle.asn1_core_format.specs.Format.{IsLawful};
-ghost use Rattle.asn1_core_format.specs.Whole.{AnswersInput, HeadersOfInput, Written, IsRewriting};
+ghost use Rattle.asn1_core_format.specs.Whole.{AnswersInput, LocatesInput, HeadersOfInput, Written, IsRewriting};
 ghost use Rattle.asn1_core_writers.specs.Sinks.{Emits};
 
 use crate::traits::{DerDeserialize, DerSerialize, MAX_NESTING};
@@ -42,6 +42,53 @@ pub fn from_bytes_counted<T: DerDeserialize>(
     let mut r = Reader::new(bytes);
     let outcome = whole(alloc, MAX_NESTING, &mut r);
     (outcome, r.headers_read())
+}
+
+/// The value of the whole input, with at most `MAX_NESTING` levels of nesting, or why it has none and the place where it
+/// was refused: an offset in the input, counted from 0.
+///
+/// - `Malformed`: where an element should begin and none does, or where the bytes begin that are left over.
+/// - `Missing`: the end of the contents, or of the input, in which an element is missing.
+/// - `Invalid`: where the header begins that was read last: that of the element whose tag or contents are refused; of an
+///   element that holds too few or too many others, that of the last in it.
+/// - `TooDeep`: where the element begins that is nested too deep.
+/// - `Memory`: how far the input was read.
+///
+/// Proved is that the place is at most the input's length.
+pub fn from_bytes_located<T: DerDeserialize>(
+    alloc: Global,
+    bytes: &[u8],
+) -> Result<T, (Error, usize)>
+    ensures { LocatesInput T.value T.format 64 bytes.now result }
+{
+    from_bytes_located_limited(alloc, MAX_NESTING, bytes)
+}
+
+/// As `from_bytes_located`, with at most `limit` levels of nesting.
+pub fn from_bytes_located_limited<T: DerDeserialize>(
+    alloc: Global,
+    limit: u8,
+    bytes: &[u8],
+) -> Result<T, (Error, usize)>
+    requires { limit ≤ 64 }
+    ensures { LocatesInput T.value T.format limit bytes.now result }
+{
+    let mut r = Reader::new(bytes);
+    match whole(alloc, limit, &mut r) {
+        Ok(value) => Ok(value),
+        Err(error) => Err((error, place_of(bytes, &r, error))),
+    }
+}
+
+/// Where in an input its reader was when it refused. No clause says that of readers, so the difference ends at 0.
+fn place_of(input: &[u8], r: &Reader<'_>, error: Error) -> usize
+    ensures { result ≤ length input.now }
+{
+    let from_there = match error {
+        Error::Invalid => r.from_header(),
+        _ => r.unread(),
+    };
+    input.len().saturating_sub(from_there)
 }
 
 fn whole<T: DerDeserialize>(alloc: Global, limit: u8, r: &mut Reader<'_>) -> Result<T, Error>

@@ -6,7 +6,7 @@ pub invariant_of-self : goal.invariant_of-self
 invariant_of-self c =
     let i = c.self.inside in
     let s = sizes i.rest.now i.room c.in-Some.tag c.in-Some.n c.in-Some.size c.self.invariant.0 c.in-Some.ensures.found in
-    (rw (length-take, length-drop) (omega (arith, c.self.invariant.0)), omega (arith, s.0, s.1, c.self.invariant.1))
+    (rw (length-take, length-drop) (omega (arith, c.self.invariant.0)), rw (length-take, length-drop) (omega arith), omega (arith, s.0, s.1, c.self.invariant.2))
 
 pub returns-in-Some : goal.returns-in-Some
 returns-in-Some c =
