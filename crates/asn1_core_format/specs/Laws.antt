@@ -79,7 +79,7 @@ module _ {V : Type 0} (F : Format V) (f : IsLawfulRow F) where
     λ e. sym (normal_value k u g).0 ∙ ap F.text e ∙ (normal_value k v h).0,
   )
 
-  -- what is normal at k levels is so at one more
+  -- what is canonical (normal) at k levels is so at one more
   pub normal_deeper : (k : ℕ) (b : List ℕ) → F.IsNormal k b → F.IsNormal (k + 1) b
   normal_deeper k b n =
       let v = f.normal_reads k b n in

@@ -9,7 +9,7 @@ abbrev pub ReadsAll : {V : Type 0} → (List ℕ → V → Type 0) → List ℕ 
 ReadsAll R c [] = c ≡ []
 ReadsAll R c (v ∷ vs) = (a : List ℕ) × (b : List ℕ) × (c ≡ a ++ b) × R a v × ReadsAll R b vs
 
--- the bytes are normal encodings, one after another
+-- the bytes are canonical (normal) encodings, one after another
 abbrev pub IsNormalAll : (List ℕ → Type 0) → List ℕ → Type 0
 IsNormalAll N c = (texts : List (List ℕ)) × (c ≡ flat_map (λ t. t) texts) × AllByRecursion N texts
 

@@ -38,7 +38,7 @@ Written items text r = MatchResult r (λ a. items a ≡ text) (λ e. IsWriteErro
 
 -- what the encoding t of v is to inputs, at k levels
 pub record IsRewriting {V : Type 0} (F : Format V) (k : ℕ) (v : V) (t : List ℕ) : Type 0 where
-  -- an input of v comes back exactly where it is normal
+  -- an input of v comes back exactly where it is canonical (normal)
   pub back : (b : List ℕ) → F.Reads k b v → (t ≡ b) ↔ F.IsNormal k b
   -- the encoding of a well-formed value is normal, and reads as its normal value
   pub normal : F.IsWellFormed k v → F.IsNormal k t

@@ -27,7 +27,7 @@ pub fn texts_tell_normal_values<T: DerDeserialize>()
         → (T.format.text u ≡ T.format.text v) ↔ (T.format.normal u ≡ T.format.normal v) }
 {}
 
-/// What is normal with nesting of at most so many levels is so with one more.
+/// What is canonical (normal) with nesting of at most so many levels is so with one more.
 pub fn normal_texts_stay_normal<T: DerDeserialize>()
     ensures { (k : ℕ) (b : List ℕ) → T.format.IsNormal k b → T.format.IsNormal (k + 1) b }
 {}

@@ -150,7 +150,7 @@ fn fill<T: DerSerialize>(value: &T, alloc: Global, out: &mut Vec<u8>)
     *out = w.into_inner();
 }
 
-/// A type that is read from DER, and written as what it was read from where that is normal.
+/// A type that is read from DER, and written as what it was read from where that is canonical (normal).
 pub trait DerDeserialize: DerSerialize + Drop {
     /// Reads a value from the front of what is left in the open contents, with at most `nest` levels. After a
     /// refusal nothing is promised of the reader's position.
