@@ -8,7 +8,7 @@ use Rattle.asn1_core_element.specs.Element.{length_octets, head, element, IsTagB
 use Rattle.asn1_core_element.specs.ElementLaws.{octets_short, octets_long}
 use Rattle.asn1_core_element.specs.Digits.{all_bytes, all_bytes_take, digits_of_number}
 
--- the bytes behind the tag
+-- the bytes after the tag
 module _ (bytes : List ℕ) (t : ℕ) (c rest : List ℕ) (e : bytes ≡ element t c ++ rest) where
   shown : bytes ≡ t ∷ (length_octets (length c) ++ (c ++ rest))
   unfolding head

@@ -6,7 +6,7 @@ use Rattle.std.specs.Int.Digits.{digits_of}
 unfoldable pub length_octets : ℕ → List ℕ
 length_octets n = if nat_lt n 128 then n ∷ [] else (128 + length (digits_of 256 n)) ∷ digits_of 256 n
 
--- what stands before n bytes of contents
+-- the header of n bytes of contents
 unfoldable pub head : ℕ → ℕ → List ℕ
 head tag n = tag ∷ length_octets n
 

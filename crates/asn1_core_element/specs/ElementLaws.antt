@@ -60,7 +60,7 @@ head_cut t u m n x y e =
     let r = octets_cut m n x y k in
     (h, r.0, r.1)
 
--- the cut law
+-- bytes begin with at most one element: the tags, the contents and what follows are the same
 pub element_cut : (t u : ℕ) (c d x y : List ℕ) → element t c ++ x ≡ element u d ++ y → (t ≡ u) × (c ≡ d) × (x ≡ y)
 element_cut t u c d x y e =
     let f = rw (append_assoc, append_assoc) at e in

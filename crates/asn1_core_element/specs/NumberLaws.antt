@@ -12,7 +12,7 @@ with_sign_low d ds h = rw (lt-ltb d 128 h) refl
 pub with_sign_high : (d : ℕ) (ds : List ℕ) → 128 ≤ d → with_sign (d ∷ ds) ≡ 0 ∷ d ∷ ds
 with_sign_high d ds h = rw (le-ltb d 128 h) refl
 
--- a sign changes no number
+-- a leading 0 octet changes no number
 number_with_sign : (ds : List ℕ) → number_from_digits 256 (with_sign ds) ≡ number_from_digits 256 ds
 number_with_sign [] = refl
 number_with_sign (d ∷ ds) =

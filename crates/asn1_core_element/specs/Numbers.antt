@@ -2,7 +2,7 @@
 use Rattle.std.specs.Prelude.{◌≡◌, ℕ, ◌<◌, ◌≤◌, List, [], ◌∷◌, length, get_or, nat_lt, if◌then◌else◌}
 use Rattle.std.specs.Int.Digits.{digits_of, number_from_digits, AllBelowBase}
 
--- the digits behind a 0 octet where the top bit of the first is set, or where there is none
+-- the digits, after a 0 octet where the top bit of the first is set, or where there are no digits
 abbrev pub with_sign : List ℕ → List ℕ
 with_sign [] = 0 ∷ []
 with_sign (d ∷ ds) = if nat_lt d 128 then d ∷ ds else 0 ∷ d ∷ ds

@@ -1,4 +1,4 @@
--- Where a reader stands.
+-- The position of a reader in its input.
 use Rattle.std.specs.Prelude.{ℕ, Bool, List}
 
 pub record Position : Type 0 where
@@ -10,5 +10,5 @@ pub record Position : Type 0 where
   pub end : ℕ
   -- how many headers were read
   pub headers : ℕ
-  -- a header was refused, or the end of some contents
+  -- a header, or the end of some contents, was refused
   pub refused : Bool

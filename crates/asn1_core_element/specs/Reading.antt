@@ -5,7 +5,7 @@ use Rattle.asn1_core_element.specs.Position.{Position}
 use Rattle.asn1_core_element.specs.declared.error.Error.{Error}
 use Rattle.asn1_core_element.specs.declared.error.Error.TheVariants.{TooLong, Memory}
 
--- a header was taken off the front, and the contents that it speaks of are there
+-- a header was taken off the front, and the contents whose length it gives are there
 pub record TookHeader (old new : Position) (tag n : ℕ) : Type 0 where
   pub is_tag : IsTagByte tag
   pub split : old.left ≡ head tag n ++ new.left

@@ -7,7 +7,7 @@ ghost use Rattle.asn1_core_element.specs.Reading.{TookHeader, RefusedElement, El
 use crate::error::Error;
 use crate::reader::Reader;
 
-/// Reads the tag and the length of an element with that tag, whose contents are then left.
+/// Reads the header of an element with that tag, whose contents are then left to read.
 fn header_of(r: &mut Reader<'_>, tag: u8) -> Result<usize, Error>
     requires sound { r.old.refused ≡ false }
     requires tag { IsTagByte tag }
@@ -30,7 +30,7 @@ pub fn contents_of<'a>(r: &mut Reader<'a>, tag: u8) -> Result<&'a [u8], Error>
     Ok(r.contents(len))
 }
 
-/// Goes into an element with that tag, and answers where the contents end that were open before.
+/// Enters an element with that tag, and answers where the contents end that were open before.
 pub fn open_element(r: &mut Reader<'_>, tag: u8) -> Result<usize, Error>
     requires sound { r.old.refused ≡ false }
     requires tag { IsTagByte tag }

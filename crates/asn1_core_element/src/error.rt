@@ -6,8 +6,8 @@ ghost use Rattle.asn1_core_element.specs.declared.error.Error.TheVariants.{Memor
 use std::alloc::{AllocError, AllocFailed};
 use thiserror::Error as ThisError;
 
-/// Why a reading or a writing was refused. Whether an input is refused is fixed by its grammar; which kind is
-/// answered, want of memory aside, is only meant to help whoever looks at the input.
+/// Why a reading or a writing was refused. The grammar fixes whether an input is refused; which kind is answered,
+/// `Memory` aside, is only meant to help whoever looks at the input.
 #[derive(Clone, Copy, Debug, PartialEq, Eq, ThisError)]
 pub enum Error {
     /// Bytes that are no element, or that are left over in contents or after the value.
@@ -16,7 +16,7 @@ pub enum Error {
     /// No byte is left where a required element begins.
     #[error("missing")]
     Missing,
-    /// A tag that can't stand there, or a version, object identifier, count, character, time or range outside its
+    /// A tag that isn't allowed there, or a version, object identifier, count, character, time or range outside its
     /// rule.
     #[error("invalid")]
     Invalid,

@@ -1,4 +1,4 @@
-//! What stands at the front of some bytes: the tag and the length of an element.
+//! The header at the front of some bytes: the tag and the length of an element.
 
 ghost use Rattle.std.specs.Prelude.{◌≡◌, ◌<◌, ◌≤◌, ◌^◌, length, IfSome, IfNone};
 ghost use Rattle.std.specs.Int.Digits.{number_from_digits};

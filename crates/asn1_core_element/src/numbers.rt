@@ -16,7 +16,7 @@ fn number(octets: &[u8]) -> u64
     n
 }
 
-/// The number that the contents of an INTEGER hold (X.690, 8.3). `None` where they are no contents of an INTEGER,
+/// The number that the contents of an INTEGER hold (X.690, 8.3). `None` where they aren't those of an INTEGER,
 /// or where the number is negative or above the limit.
 pub fn unsigned(contents: &[u8], limit: u32) -> Option<u32>
     ensures { MatchOption result

@@ -1,5 +1,5 @@
--- Reading a choice by object identifier: the object identifier, and then the arm that it picks. An answer names the arm
--- from the first of the chain on: `there` for each arm that is passed, and `here`, or `other` at the chain's end.
+-- Reading a choice by object identifier: the object identifier, and then the alternative that it picks. An answer names
+-- it from the first of the chain on: `there` for each one that is passed, and `here`, or `other` at the chain's end.
 use Rattle.std.proofs.Common.{◌≡◌, ◌≢◌, ◌⊎◌, ℕ, ◌+◌, ◌*◌, ◌≤◌, List, ◌++◌, length, refl, sym, ap, ◌∙◌, subst, inl, inr, arith, length-append}
 use Rattle.asn1_core_element.specs.Element.{element}
 use Rattle.asn1_core_element.specs.ElementLaws.{element_cut}
@@ -16,7 +16,7 @@ pub record TookArm {V : Type 0} (C : Choice V) (k : ℕ) (key : List ℕ) (old n
   pub row : TookRow C.row k old new v
   pub oid : C.oid_of v ≡ key
 
--- reading gave up, for want of memory or since what was left is no text under the object identifier `key`
+-- reading gave up, since memory was refused or since what was left is no encoding under the object identifier `key`
 pub record GaveUpArm {V : Type 0} (C : Choice V) (k : ℕ) (key : List ℕ) (old new : Position) (e : Error) : Type 0 where
   pub kind : e ≢ TooLong
   pub none : e ≢ Memory → (v : V) → C.row.Reads k old.left v → C.oid_of v ≡ key → ⊥
@@ -31,7 +31,7 @@ module _ (IsOid : List ℕ → Type 0) where
   behind : {k : ℕ} {old mid : Position} {key : List ℕ} (o c : List ℕ) → Took (leaf 0x06 (kept IsOid)) k old mid key → old.left ≡ element 0x06 o ++ c → mid.left ≡ c
   behind {k} {old} {mid} {key} o c t e = (element_cut 0x06 0x06 key o mid.left c (sym (key_left t) ∙ e)).2
 
-  -- the arm whose object identifier was read
+  -- the alternative whose object identifier was read
   module _ {V W : Type 0} (o : List ℕ) (R : Format V) (C : Choice W) where
     pub here : {k : ℕ} {old mid new : Position} {key : List ℕ} {v : V} → Took (leaf 0x06 (kept IsOid)) k old mid key → key ≡ o → TookRow R k mid new v → TookArm (known o R C) k key old new (inl v)
     here {k} {old} {mid} {new} {key} {v} t h g = record {
@@ -83,7 +83,7 @@ module _ (IsOid : List ℕ → Type 0) where
       at_most = omega (arith, g.at_most, t.at_most, ap length t.split, length-append t.taken mid.left);
     }
 
--- an arm that is passed, since its object identifier is another
+-- an alternative that is passed, since its object identifier is another
 module _ {V W : Type 0} (o : List ℕ) (R : Format V) (C : Choice W) where
   pub there : {k : ℕ} {old new : Position} {key : List ℕ} {w : W} → (key ≡ o → ⊥) → TookArm C k key old new w → TookArm (known o R C) k key old new (inr w)
   there n a = record {
@@ -110,7 +110,7 @@ module _ {V W : Type 0} (o : List ℕ) (R : Format V) (C : Choice W) where
 pub record HasOids {V : Type 0} (IsOid : List ℕ → Type 0) (C : Choice V) : Type 0 where
   pub valid : (k : ℕ) (b : List ℕ) (v : V) → C.row.Reads k b v → IsOid (C.oid_of v)
 
--- the whole choice, of which no object identifier was read, or an arm was refused
+-- the whole choice, of which no object identifier was read, or an alternative was refused
 module _ {V : Type 0} (IsOid : List ℕ → Type 0) (C : Choice V) (c : IsLawfulChoice C) where
   pub oid_refused : {k : ℕ} {old new : Position} {e : Error} → HasOids IsOid C → GaveUp (leaf 0x06 (kept IsOid)) k old new e → GaveUpRow C.row k old new e
   oid_refused {k} {old} i g = record {

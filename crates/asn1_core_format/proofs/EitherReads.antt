@@ -8,12 +8,12 @@ use Rattle.asn1_core_format.specs.Laws.{NextIs, begins_next, next_apart}
 use Rattle.asn1_core_format.specs.Eithers.{either}
 
 module _ {V W : Type 0} (F : Format V) (G : Format W) (f : IsLawful F) (g : IsLawful G) (apart : (t : ℕ) → F.IsTag t → G.IsTag t → ⊥) (k : ℕ) where
-  -- where the next tag is one of F's, no text of G begins there
+  -- where the next tag is one of F's, no encoding of G begins there
   no_second : {l : List ℕ} {e : Error} → NextIs F.IsTag l → (e ≢ Memory → (taken rest : List ℕ) (v : V) → l ≡ taken ++ rest → F.Reads k taken v → ⊥) → e ≢ Memory → (taken rest : List ℕ) (x : V ⊎ W) → l ≡ taken ++ rest → (either F G).Reads k taken x → ⊥
   no_second n none m taken rest (inl v) s r = none m taken rest v s r
   no_second {l} n none m taken rest (inr w) s r = next_apart F.IsTag G.IsTag l apart n (inr (taken, rest, s, g.element k taken w r))
 
-  -- and where it is none of them, no text of F does
+  -- and where it is none of them, no encoding of F does
   no_first : {l : List ℕ} {e : Error} → (NextIs F.IsTag l → ⊥) → (e ≢ Memory → (taken rest : List ℕ) (w : W) → l ≡ taken ++ rest → G.Reads k taken w → ⊥) → e ≢ Memory → (taken rest : List ℕ) (x : V ⊎ W) → l ≡ taken ++ rest → (either F G).Reads k taken x → ⊥
   no_first {l} n none m taken rest (inl v) s r = n (begins_next F.IsTag taken rest l (f.element k taken v r) s)
   no_first n none m taken rest (inr w) s r = none m taken rest w s r

@@ -1,4 +1,4 @@
--- Reading what stands nowhere where no level is left.
+-- Reading a type that needs a nesting level to be left.
 use Rattle.std.proofs.Common.{◌≡◌, ℕ, suc, sym, subst}
 use Rattle.asn1_core_element.specs.Position.{Position}
 use Rattle.asn1_core_element.specs.declared.error.Error.{Error}

@@ -4,7 +4,7 @@ use Rattle.std.specs.List.{flat_map}
 use Rattle.asn1_core_writers.specs.Writers.{Outcome, IsForward, IsBackward}
 use Rattle.asn1_core_writers.specs.declared.writer.WriteError.{WriteError}
 
--- the text of some items
+-- the encoding of some items
 abbrev pub texts : {T V : Type 0} → (V → List ℕ) → (T → V) → List T → List ℕ
 texts text value xs = flat_map text (map value xs)
 

@@ -1,5 +1,5 @@
--- A choice by object identifier, which says what follows it. The arms stand in a chain, each for one object identifier
--- that no arm before it has.
+-- A choice by object identifier, which says what follows it. The alternatives form a chain, each for one object
+-- identifier that no alternative before it has.
 use Rattle.std.specs.Prelude.{◌≡◌, ◌≢◌, ◌⊎◌, ℕ, ◌+◌, List, ◌++◌}
 use Rattle.std.proofs.Common.{refl, sym, ap, ◌∙◌, subst, inl, inr, arith}
 use Rattle.asn1_core_element.specs.Element.{element}
@@ -20,11 +20,11 @@ pub record Choice (V : Type 0) : Type 1 where
 abbrev pub Heads : List ℕ → List ℕ → Type 0
 Heads o b = (c : List ℕ) × (b ≡ element 0x06 o ++ c)
 
--- the last arm: every object identifier that stands in no arm before
+-- the last alternative: every object identifier that has no alternative before
 abbrev pub otherwise : {V : Type 0} → (List ℕ → Type 0) → Format V → Choice (List ℕ × V)
 otherwise IsOid R = record { row = part (leaf 0x06 (kept IsOid)) R; oid_of = λ v. v.0 }
 
--- the arm of one object identifier, and the arms of the others
+-- the alternative of one object identifier, and the alternatives of the others
 abbrev pub known : {V W : Type 0} → List ℕ → Format V → Choice W → Choice (V ⊎ W)
 known {V} {W} o R C = record {
   row = record {

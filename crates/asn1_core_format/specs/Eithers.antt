@@ -17,7 +17,7 @@ abbrev pub map_one : {V W : Type 0} → (V → V) → (W → W) → V ⊎ W → 
 map_one f g (inl v) = inl (f v)
 map_one f g (inr w) = inr (g w)
 
--- a text of F or one of G
+-- an encoding of F or one of G
 abbrev pub either : {V W : Type 0} → Format V → Format W → Format (V ⊎ W)
 either {V} {W} F G = record {
   text = from_one F.text G.text;

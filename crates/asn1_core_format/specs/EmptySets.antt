@@ -1,4 +1,4 @@
--- A set at the end of contents that an empty set stands for: absent, or under its tag.
+-- A set at the end of contents, absent or under its tag; absence is the empty set.
 use Rattle.std.specs.Prelude.{◌≡◌, ◌↔◌, ℕ, ◌≤◌, Bool, true, false, ◌&&◌, IsTrue, List, [], ◌∷◌, ◌++◌, length}
 use Rattle.std.specs.List.{flat_map}
 use Rattle.std.specs.Str.{bytes_eq}

@@ -5,33 +5,33 @@ use Rattle.asn1_core_element.specs.Position.{Position}
 use Rattle.asn1_core_element.specs.declared.error.Error.{Error}
 use Rattle.asn1_core_element.specs.declared.error.Error.TheVariants.{TooLong, Memory}
 
--- What the values V of a type are written as and read from. A level is one more of the nestings that a type counts.
+-- What the values V of a type are written as and read from. A level is a nesting level, where the type counts it.
 pub record Format (V : Type 0) : Type 1 where
-  -- the text that is written
+  -- the encoding that is written
   pub text : V → List ℕ
   -- with nesting of at most that many levels
   pub IsWellFormed : ℕ → V → Type 0
-  -- the grammar: the bytes are a text of the value, with at most that many levels
+  -- the grammar: the bytes are an encoding of the value, with at most that many levels
   pub Reads : ℕ → List ℕ → V → Type 0
-  -- the normal grammar, over bytes alone
+  -- the canonical (normal) encodings, over bytes alone
   pub IsNormal : ℕ → List ℕ → Type 0
-  -- what the text of a well-formed value is read as
+  -- what the encoding of a well-formed value is read as
   pub normal : V → V
-  -- the first tags: the bytes that texts begin with
+  -- the first tags: the bytes that encodings begin with
   pub IsTag : ℕ → Type 0
-  -- the fewest elements that the grammar gives a text of the value
+  -- the fewest elements that the grammar gives an encoding of the value
   pub least : V → ℕ
 
--- the bytes are none, or begin with an element of one of these tags
+-- there are no bytes, or they begin with an element of one of these tags
 abbrev pub BeginsBy : (ℕ → Type 0) → List ℕ → Type 0
 BeginsBy IsTag b = (b ≡ []) ⊎ ((a : List ℕ) × (x : List ℕ) × (b ≡ a ++ x) × IsElement IsTag a)
 
--- the laws of a format whose texts are all that is left of some contents
+-- the laws of a body: a format whose encodings are all that is left of some contents
 pub record IsLawfulRow {V : Type 0} (R : Format V) : Type 0 where
   pub begins : (k : ℕ) (b : List ℕ) (v : V) → R.Reads k b v → BeginsBy R.IsTag b
-  -- one text has one value
+  -- an encoding has one value
   pub one_value : (k : ℕ) (b : List ℕ) (v w : V) → R.Reads k b v → R.Reads k b w → v ≡ w
-  -- the text of a well-formed value reads as its normal value, and is normal
+  -- the encoding of a well-formed value reads as its normal value, and is normal
   pub text_reads : (k : ℕ) (v : V) → R.IsWellFormed k v → R.Reads k (R.text v) (R.normal v)
   pub text_normal : (k : ℕ) (v : V) → R.IsWellFormed k v → R.IsNormal k (R.text v)
   -- what is normal has a value
@@ -43,12 +43,12 @@ pub record IsLawfulRow {V : Type 0} (R : Format V) : Type 0 where
   -- what is read at k levels is read at one more
   pub deeper : (k : ℕ) (b : List ℕ) (v : V) → R.Reads k b v → R.Reads (k + 1) b v
 
--- the laws of a type: the same, and each text is one element with one of the type's tags
+-- the laws of a type: the same, and each encoding is one element with one of the type's tags
 pub record IsLawful {V : Type 0} (F : Format V) : Type 0 where
   pub row : IsLawfulRow F
   pub element : (k : ℕ) (b : List ℕ) (v : V) → F.Reads k b v → IsElement F.IsTag b
 
--- reading took a text of v off the front, and counted its headers
+-- reading took an encoding of v off the front, and counted its headers
 pub record Took {V : Type 0} (F : Format V) (k : ℕ) (old new : Position) (v : V) : Type 0 where
   pub taken : List ℕ
   pub split : old.left ≡ taken ++ new.left
@@ -59,7 +59,7 @@ pub record Took {V : Type 0} (F : Format V) (k : ℕ) (old new : Position) (v : 
   pub at_least : old.headers + F.least v ≤ new.headers
   pub at_most : 2 * new.headers ≤ 2 * old.headers + length taken
 
--- reading gave up, for want of memory or since no text begins the bytes that were left
+-- reading gave up, since memory was refused or since no encoding begins the bytes that were left
 pub record GaveUp {V : Type 0} (F : Format V) (k : ℕ) (old new : Position) (e : Error) : Type 0 where
   pub kind : e ≢ TooLong
   pub none : e ≢ Memory → (taken rest : List ℕ) (v : V) → old.left ≡ taken ++ rest → F.Reads k taken v → ⊥

@@ -1,4 +1,4 @@
--- What stands nowhere where no level is left. Unlike `less` it hands on the levels that it has.
+-- A type that needs a nesting level to be left. Unlike `less` it doesn't consume that level.
 use Rattle.std.specs.Prelude.{◌≡◌, ◌↔◌, ℕ, zero, suc, ◌+◌, List}
 use Rattle.std.proofs.Common.{subst, arith}
 use Rattle.asn1_core_element.specs.Element.{IsElement}

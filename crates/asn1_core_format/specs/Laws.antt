@@ -35,7 +35,7 @@ begins_next S a x b p e =
     let q = element_tag S a p in
     subst (NextIs S) (sym (e ∙ ap (λ y. y ++ x) q.2)) q.3
 
--- bytes whose first is one of some tags begin by no others
+-- bytes whose first is one of some tags begin with no other tag
 pub next_apart : (S T : ℕ → Type 0) (b : List ℕ) → ((t : ℕ) → S t → T t → ⊥) → NextIs S b → BeginsBy T b → ⊥
 next_apart S T [] apart h z = h
 next_apart S T (t ∷ b) apart h z =
@@ -45,15 +45,15 @@ next_apart S T (t ∷ b) apart h z =
     z
 
 module _ {V : Type 0} (F : Format V) (f : IsLawful F) where
-  -- a text is not empty
+  -- an encoding is not empty
   pub text_some : (k : ℕ) (b : List ℕ) (v : V) → F.Reads k b v → 2 ≤ length b
   text_some k b v r = element_some F.IsTag b (f.element k b v r)
 
-  -- no text begins another
+  -- no encoding begins another
   pub texts_cut : (k : ℕ) (a b x y : List ℕ) (u v : V) → F.Reads k a u → F.Reads k b v → a ++ x ≡ b ++ y → (a ≡ b) × (x ≡ y)
   texts_cut k a b x y u v p q e = elements_cut F.IsTag F.IsTag a b x y (f.element k a u p) (f.element k b v q) e
 
-  -- the text of what was read is an element too
+  -- the encoding of what was read is an element too
   pub written_element : (k : ℕ) (b : List ℕ) (v : V) → F.Reads k b v → IsElement F.IsTag (F.text v)
   written_element k b v r = f.element k (F.text v) (F.normal v) (f.row.text_reads k v (f.row.well_formed k b v r))
 
@@ -64,7 +64,7 @@ module _ {V : Type 0} (F : Format V) (f : IsLawful F) where
       (s.0, s.1, f.row.one_value k a u v p (subst (λ c. F.Reads k c v) (sym s.0) q))
 
 module _ {V : Type 0} (F : Format V) (f : IsLawfulRow F) where
-  -- the normal value has the same text, and is its own normal value
+  -- the normal value has the same encoding, and is its own normal value
   pub normal_value : (k : ℕ) (v : V) → F.IsWellFormed k v → (F.text (F.normal v) ≡ F.text v) × (F.normal (F.normal v) ≡ F.normal v)
   normal_value k v h =
       let r = f.text_reads k v h in
@@ -72,14 +72,14 @@ module _ {V : Type 0} (F : Format V) (f : IsLawfulRow F) where
       let s = f.text_reads k (F.normal v) (f.well_formed k (F.text v) (F.normal v) r) in
       (t, f.one_value k (F.text v) (F.normal (F.normal v)) (F.normal v) (subst (λ b. F.Reads k b (F.normal (F.normal v))) t s) r)
 
-  -- texts are the same exactly where normal values are
+  -- encodings are the same exactly where normal values are
   pub same_texts : (k : ℕ) (u v : V) → F.IsWellFormed k u → F.IsWellFormed k v → (F.text u ≡ F.text v) ↔ (F.normal u ≡ F.normal v)
   same_texts k u v g h = (
     λ e. f.one_value k (F.text v) (F.normal u) (F.normal v) (subst (λ b. F.Reads k b (F.normal u)) e (f.text_reads k u g)) (f.text_reads k v h),
     λ e. sym (normal_value k u g).0 ∙ ap F.text e ∙ (normal_value k v h).0,
   )
 
-  -- what is normal at k levels is so at one more
+  -- what is canonical (normal) at k levels is so at one more
   pub normal_deeper : (k : ℕ) (b : List ℕ) → F.IsNormal k b → F.IsNormal (k + 1) b
   normal_deeper k b n =
       let v = f.normal_reads k b n in

@@ -1,4 +1,4 @@
--- Types whose text is one element with no element inside.
+-- Types whose encoding is one element with no element inside.
 use Rattle.std.specs.Prelude.{◌≡◌, ◌≢◌, ℕ, List, Result, MatchResult}
 use Rattle.asn1_core_element.specs.Element.{element}
 use Rattle.asn1_core_element.specs.declared.error.Error.{Error}

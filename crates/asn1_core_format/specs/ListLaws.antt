@@ -1,4 +1,4 @@
--- A list of the items of a lawful type is a lawful row.
+-- A list of the items of a lawful type is a lawful body.
 use Rattle.std.specs.Prelude.{◌≡◌, ℕ, ◌+◌, List, [], ◌∷◌, ◌++◌, length, map}
 use Rattle.std.proofs.Common.{refl, sym, ap, ◌∙◌, subst, inl, inr, arith, length-append}
 use Rattle.std.specs.List.{flat_map, AllByRecursion}

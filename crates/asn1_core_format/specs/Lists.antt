@@ -4,12 +4,12 @@ use Rattle.std.specs.List.{flat_map, AllByRecursion}
 use Rattle.asn1_core_element.specs.Position.{Position}
 use Rattle.asn1_core_format.specs.Format.{Format}
 
--- the bytes are a text of each value, one after another
+-- the bytes are an encoding of each value, one after another
 abbrev pub ReadsAll : {V : Type 0} → (List ℕ → V → Type 0) → List ℕ → List V → Type 0
 ReadsAll R c [] = c ≡ []
 ReadsAll R c (v ∷ vs) = (a : List ℕ) × (b : List ℕ) × (c ≡ a ++ b) × R a v × ReadsAll R b vs
 
--- the bytes are normal texts, one after another
+-- the bytes are canonical (normal) encodings, one after another
 abbrev pub IsNormalAll : (List ℕ → Type 0) → List ℕ → Type 0
 IsNormalAll N c = (texts : List (List ℕ)) × (c ≡ flat_map (λ t. t) texts) × AllByRecursion N texts
 
@@ -17,7 +17,7 @@ abbrev pub least_all : {V : Type 0} → (V → ℕ) → List V → ℕ
 least_all least [] = 0
 least_all least (v ∷ vs) = least v + least_all least vs
 
--- texts of F, one after another, in the order of the values
+-- encodings of F, one after another, in the order of the values
 abbrev pub each : {V : Type 0} → Format V → Format (List V)
 each F = record {
   text = λ vs. flat_map F.text vs;

@@ -1,10 +1,10 @@
--- A type with more than one spelling for a value: a reading that forgets, and a writing that decides.
+-- A type with more than one spelling of a value: reading forgets which it was, and writing chooses one.
 use Rattle.std.specs.Prelude.{◌≡◌, ◌↔◌, ℕ, ◌≤◌, List}
 use Rattle.std.proofs.Common.{refl, sym, ap, ◌∙◌, subst}
 use Rattle.asn1_core_format.specs.Format.{Format, IsLawfulRow, IsLawful}
 
--- The values V of what P spells as A: `read` says what a spelling stands for, `written` how a value is spelled,
--- `normal` what it is read again as, IsProper which values are so read, and IsWritten, over bytes alone, which texts
+-- The values V of what P spells as A: `read` is the value of a spelling, `written` how a value is spelled, `normal`
+-- what it is read again as, IsProper which values are so read, and IsWritten, over bytes alone, which encodings
 -- are spelled as `written` spells.
 pub record Loosening (A V : Type 0) : Type 1 where
   pub read : A → V

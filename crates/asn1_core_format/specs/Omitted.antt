@@ -1,4 +1,4 @@
--- A part that may be left out, and then stands for one of its texts: DEFAULT parts, and sets that an empty set stands for.
+-- A part that may be left out, where absence means one of its encodings: DEFAULT parts, and sets that may be empty.
 use Rattle.std.specs.Prelude.{◌≡◌, ◌≢◌, ◌⊎◌, ◌↔◌, ℕ, ◌+◌, leb, ◌&&◌, Bool, true, false, List, [], ◌++◌, Result, MatchResult}
 use Rattle.std.proofs.Common.{refl, sym, ap, ◌∙◌, subst, inl, inr}
 use Rattle.std.specs.Str.{bytes_eq}
@@ -18,8 +18,8 @@ abbrev pub least_unless : Bool → ℕ → ℕ
 least_unless true n = 0
 least_unless false n = n
 
--- Nothing, which stands for the text d, or a text of F; and then what stands in R. The values that o holds of are
--- written as nothing. Normal is nothing, or a text other than d.
+-- An encoding of F, or nothing in place of the encoding d; and then one of R. Values of which o is true are written
+-- as nothing. Canonical (normal) is nothing, or an encoding other than d.
 abbrev pub omitted : {V W : Type 0} → (V → Bool) → List ℕ → Format V → Format W → Format (V × W)
 omitted {V} {W} o d F R = record {
   text = λ p. text_unless (o p.0) (F.text p.0) ++ R.text p.1;
@@ -31,7 +31,7 @@ omitted {V} {W} o d F R = record {
   least = λ p. least_unless (o p.0) (F.least p.0) + R.least p.1;
 }
 
--- o holds of the values that are written as d, and d is normal
+-- o is true of the values that are written as d, and d is normal
 pub record IsDefault {V : Type 0} (o : V → Bool) (d : List ℕ) (F : Format V) : Type 0 where
   pub normal : (k : ℕ) → F.IsNormal k d
   pub exact : (k : ℕ) (v : V) → F.IsWellFormed k v → (o v ≡ true) ↔ (F.text v ≡ d)
@@ -128,12 +128,12 @@ module _ {V W : Type 0} (o : V → Bool) (d : List ℕ) (F : Format V) (R : Form
     deeper = omitted_deeper;
   }
 
-  -- the value that absence stands for
+  -- the value that absence means
   pub omitted_is : (k : ℕ) (v : V) → F.Reads k d v → o v ≡ true
   omitted_is = omitted_value
 
--- The values that are left out: those that are written as d, which is one element. A set whose items have no text is
--- written as the empty set is, but has more elements; such a set is ill-formed.
+-- The values that are left out: those that are written as d, which is one element. A set whose items have an empty
+-- encoding is written as the empty set is, but has more elements; such a set is ill-formed.
 abbrev pub is_default : {V : Type 0} → Format V → List ℕ → V → Bool
 is_default F d v = bytes_eq (F.text v) d && leb (F.least v) 1
 

@@ -1,4 +1,4 @@
--- The laws of rows, of their parts, and of an element with a row in it.
+-- The laws of bodies (rows), of their parts, and of an element with a body in it.
 use Rattle.std.specs.Prelude.{◌≡◌, ◌↔◌, ℕ, ◌+◌, List, ◌++◌, Option, None, Some}
 use Rattle.std.proofs.Common.{refl, sym, ap, ◌∙◌, subst, inl, inr}
 use Rattle.asn1_core_element.specs.Element.{element, IsElement, IsTagByte}
@@ -59,7 +59,7 @@ module _ {V W : Type 0} (F : Format V) (R : Format W) (f : IsLawful F) (r : IsLa
   }
 
 module _ {V W : Type 0} (F : Format V) (R : Format W) (f : IsLawful F) (r : IsLawfulRow R) where
-  -- a text of F and more is no text of R, where their tags are apart
+  -- an encoding of F and more is no encoding of R, where they have no tag in common
   pub not_both : ((t : ℕ) → F.IsTag t → R.IsTag t → ⊥) → (k : ℕ) (b : List ℕ) (p : V × W) (w : W) → (part F R).Reads k b p → R.Reads k b w → ⊥
   not_both apart k b p w s t = next_apart F.IsTag R.IsTag b apart (begins_next F.IsTag s.0 s.1 b (f.element k s.0 p.0 s.3) s.2) (r.begins k b w t)
 
@@ -71,7 +71,7 @@ module _ {V W : Type 0} (F : Format V) (R : Format W) (f : IsLawful F) (r : IsLa
   optional_begins k b (None, w) s = begins_right F.IsTag R.IsTag b (r.begins k b w s)
   optional_begins k b (Some v, w) s = inr (s.0, s.1, s.2, tag_left F.IsTag R.IsTag s.0 (f.element k s.0 v s.3))
 
-  -- the argument by tags: no bytes lack the part and have it
+  -- by the tags, no bytes both lack the part and have it
   optional_one : (k : ℕ) (b : List ℕ) (p q : Option V × W) → (optional F R).Reads k b p → (optional F R).Reads k b q → p ≡ q
   optional_one k b (None, w) (None, u) s t = ap (λ x. (None, x)) (r.one_value k b w u s t)
   optional_one k b (None, w) (Some v, u) s t = absurd (not_both F R f r apart k b (v, u) w t s)

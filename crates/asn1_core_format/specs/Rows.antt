@@ -1,4 +1,4 @@
--- What stands in contents, from one place to their end: parts in order, some of which may be absent.
+-- Bodies (rows): what contents hold from one place to their end, as parts in order, some of which may be absent.
 use Rattle.std.specs.Prelude.{◌≡◌, ◌≢◌, ◌⊎◌, ℕ, ◌+◌, ◌*◌, ◌≤◌, false, List, [], ◌++◌, length, Option, None, Some, Result, MatchResult}
 use Rattle.asn1_core_element.specs.Element.{element}
 use Rattle.asn1_core_element.specs.Position.{Position}
@@ -18,7 +18,7 @@ nothing = record {
   least = λ _. 0;
 }
 
--- a text of F, and then what stands in R
+-- an encoding of F, and then one of R
 abbrev pub part : {V W : Type 0} → Format V → Format W → Format (V × W)
 part {V} {W} F R = record {
   text = λ p. F.text p.0 ++ R.text p.1;
@@ -51,7 +51,7 @@ abbrev pub AbsentOr : {V W : Type 0} → (W → Type 0) → (V × W → Type 0) 
 AbsentOr P Q (None, w) = P w
 AbsentOr P Q (Some v, w) = Q (v, w)
 
--- What stands in R, or a text of F and then what stands in R. Nothing says who decides between the two.
+-- An encoding of R, or one of F and then one of R. Nothing here decides between the two; the laws do, by first tags.
 abbrev pub optional : {V W : Type 0} → Format V → Format W → Format (Option V × W)
 optional {V} {W} F R = record {
   text = λ p. text_if F.text p.0 ++ R.text p.1;
@@ -63,7 +63,7 @@ optional {V} {W} F R = record {
   least = λ p. least_if F.least p.0 + R.least p.1;
 }
 
--- what stands in R, in an element with that tag: a SEQUENCE, a SET, an EXPLICIT tag, an octet string round a text
+-- an encoding of R in an element with that tag: a SEQUENCE, a SET, an EXPLICIT tag, an OCTET STRING around an encoding
 abbrev pub within : {V : Type 0} → ℕ → Format V → Format V
 within {V} tag R = record {
   text = λ v. element tag (R.text v);
@@ -85,7 +85,7 @@ pub record TookRow {V : Type 0} (R : Format V) (k : ℕ) (old new : Position) (v
   pub at_least : old.headers + R.least v ≤ new.headers
   pub at_most : 2 * new.headers ≤ 2 * old.headers + length old.left
 
--- reading gave up, for want of memory or since what was left is no text
+-- reading gave up, since memory was refused or since what was left is no encoding
 pub record GaveUpRow {V : Type 0} (R : Format V) (k : ℕ) (old new : Position) (e : Error) : Type 0 where
   pub kind : e ≢ TooLong
   pub none : e ≢ Memory → (v : V) → R.Reads k old.left v → ⊥

@@ -1,9 +1,9 @@
--- Types with one tag, and their texts under another tag (X.690, 8.14: IMPLICIT).
+-- Types with one tag, and their encodings under another tag (X.690, 8.14: IMPLICIT).
 use Rattle.std.specs.Prelude.{◌≡◌, ◌↔◌, ℕ, ◌+◌, ◌-◌, ◌*◌, ◌/◌, ◌%◌, List}
 use Rattle.asn1_core_element.specs.Element.{element, retag, IsTagByte}
 use Rattle.asn1_core_format.specs.Format.{Format}
 
--- every text, also of an ill-formed value, is an element with that tag
+-- every encoding, also of an ill-formed value, is an element with that tag
 pub record IsTagged {V : Type 0} (tag : ℕ) (F : Format V) : Type 0 where
   pub is_tag : IsTagByte tag
   pub tags : (t : ℕ) → F.IsTag t ↔ (t ≡ tag)

@@ -7,7 +7,7 @@ use Rattle.asn1_core_element.specs.declared.error.Error.{Error}
 use Rattle.asn1_core_element.specs.declared.error.Error.TheVariants.{Memory}
 use Rattle.asn1_core_format.specs.Rows.{option_value}
 
--- the test holds of the values of which the same is seen
+-- the test is true exactly of the values of which the same is seen
 abbrev pub SeesEqual : {T V : Type 0} → (T → T → Bool) → (T → V) → Type 0
 SeesEqual {T} eq view = (x y : T) → (eq x y ≡ true) ↔ (view x ≡ view y)
 

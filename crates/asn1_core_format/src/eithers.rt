@@ -11,7 +11,7 @@ use asn1_core_element::{Error, Reader};
 use asn1_core_writers::{WriteError, Writer};
 use std::alloc::Global;
 
-/// `CHOICE { A, B }`, whose arms are told apart by their first tags (X.680, 29).
+/// `CHOICE { A, B }`, whose alternatives are told apart by their first tags (X.680, 29).
 #[derive(Drop)]
 pub enum Either<A, B> {
     First(A),

@@ -21,13 +21,13 @@ pub fn rewriting_reaches_an_end<T: DerDeserialize>()
         → (T.format.text (T.format.normal v) ≡ T.format.text v) × (T.format.normal (T.format.normal v) ≡ T.format.normal v) }
 {}
 
-/// Two well-formed values have the same text exactly where their normal values are the same.
+/// Two well-formed values have the same encoding exactly where their normal values are the same.
 pub fn texts_tell_normal_values<T: DerDeserialize>()
     ensures { (k : ℕ) (u v : T.Value) → T.format.IsWellFormed k u → T.format.IsWellFormed k v
         → (T.format.text u ≡ T.format.text v) ↔ (T.format.normal u ≡ T.format.normal v) }
 {}
 
-/// What is normal with nesting of at most so many levels is so with one more.
+/// What is canonical (normal) with nesting of at most so many levels is so with one more.
 pub fn normal_texts_stay_normal<T: DerDeserialize>()
     ensures { (k : ℕ) (b : List ℕ) → T.format.IsNormal k b → T.format.IsNormal (k + 1) b }
 {}
@@ -38,12 +38,12 @@ pub fn limits_agree<T: DerDeserialize>()
     ensures { (k j : ℕ) (b : List ℕ) (v : T.Value) → k ≤ j → T.format.Reads k b v → IsSameAt T.format k j b v }
 {}
 
-/// What stands nowhere where no level is left is lawful, as what it is made of.
+/// A type that needs a nesting level to be left is lawful, as the type that it is made of is.
 pub fn gated_types_are_lawful<T: DerDeserialize>()
     ensures { IsLawful (gated T.format) }
 {}
 
-/// A set at the end of contents that an empty set stands for is lawful, under each tag.
+/// A set at the end of contents, left out where it is empty, is lawful, under each tag.
 pub fn sets_left_out_are_lawful<T: DerDeserialize>(_tag: u8)
     requires tag { IsTagByte _tag }
     ensures { IsLawfulRow (set_or_none _tag T.format) }

@@ -1,4 +1,4 @@
-//! Types whose text is one element with no element inside.
+//! Types whose encoding is one element with no element inside.
 
 ghost use Rattle.std.specs.Prelude.{◌≡◌, false, IfErr};
 ghost use Rattle.asn1_core_element.specs.declared.error.Error.TheVariants.{Memory};

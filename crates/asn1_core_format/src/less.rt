@@ -1,4 +1,4 @@
-//! What stands inside a type that takes a level of nesting.
+//! What is inside a type that takes a nesting level.
 
 ghost use Rattle.asn1_core_format.specs.Levels.{less};
 ghost use Rattle.asn1_core_format.specs.LevelLaws.{lawful_less};
@@ -8,7 +8,7 @@ use asn1_core_element::{Error, Reader};
 use asn1_core_writers::{WriteError, Writer};
 use std::alloc::Global;
 
-/// A value that takes a level of nesting, so that there is none where no level is left.
+/// A value that takes a nesting level, so that there is none where no level is left.
 #[derive(Debug, Drop)]
 pub struct Less<T>(pub T);
 

@@ -1,5 +1,5 @@
 //! Formats: what the values of a type are written as and read from, the laws of a type that does both, and the
-//! parts of which such types are made. A format's definitions stand in `specs/`, its laws beside them.
+//! parts of which such types are made. The definitions of formats are in `specs/`, the laws beside them.
 #![tactic(auto)]
 
 pub mod eithers;

@@ -39,7 +39,7 @@ fn put_items_back<T: DerSerialize, W: Writer>(items: &[T], w: &mut W) -> Result<
 }
 
 /// Puts an item after the others, where the items with this one took so many bytes and so many are left. A full vector
-/// grows by what these bytes come to in items, so that a long list seldom moves, and has little room to spare at its end.
+/// grows by what these bytes come to in items, so that a long list seldom moves, with little room to spare at its end.
 /// Refuses by `Memory` alone.
 pub(crate) fn push_item<T: Drop>(
     items: &mut Vec<T>,
@@ -56,9 +56,9 @@ pub(crate) fn push_item<T: Drop>(
     Ok(())
 }
 
-/// How many items a full list of that length makes room for: one, and those that come if all take as many bytes as those
-/// so far. At most four times as many as are there, since the bytes that are left may be anything; at least a quarter
-/// more, since a list whose items become smaller would grow by one item each time.
+/// How many items a full list of that length makes room for: one, and those that come if all take as many bytes as
+/// those so far. At most four times as many as are there, since the bytes that are left may be anything; at least a
+/// quarter more, since a list whose items become smaller would grow by one item each time.
 fn room_for(len: usize, taken: usize, left: usize) -> usize {
     if left == 0 {
         return 1;

@@ -1,5 +1,5 @@
-//! Reading types that hold themselves. What stands inside is read by a closure, so that these functions stand outside
-//! of the recursion: in a type's own cycle of calls are only those that come back to it.
+//! Reading types that hold themselves. What is inside is read by a closure, so that these functions are outside of
+//! the recursion: in a type's own cycle of calls are only those that come back to it.
 
 ghost use Rattle.std.specs.Prelude.{◌≡◌, false, map};
 ghost use Rattle.asn1_core_element.specs.Element.{IsTagByte};
@@ -16,7 +16,7 @@ use asn1_core_element::element::open_element;
 use asn1_core_element::{Error, Reader};
 use std::alloc::Global;
 
-/// Reads a row by `by`.
+/// Reads a body by `by`.
 pub(crate) fn read_row_by<R: WriteRow, F: Fn(&mut Reader<'_>) -> Result<R, Error>>(
     r: &mut Reader<'_>,
     _nest: u8,
@@ -44,7 +44,7 @@ fn read_by<T: DerSerialize, F: Fn(&mut Reader<'_>) -> Result<T, Error>>(
     by(r)
 }
 
-/// Reads items to the end of the open contents, each by `by`. The law of the items is a premise and no bound, since
+/// Reads items to the end of the open contents, each by `by`. The law of the items is a premise, not a bound, since
 /// `DerDeserialize` would bring their `read` into the caller's cycle.
 pub(crate) fn read_all_with<T: DerSerialize + Drop, F: Fn(&mut Reader<'_>) -> Result<T, Error>>(
     alloc: Global,

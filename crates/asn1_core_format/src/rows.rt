@@ -1,4 +1,4 @@
-//! What stands in contents: parts in order, of which some may be absent.
+//! Bodies (rows), which are what contents hold: parts in order, of which some may be absent.
 
 ghost use Rattle.std.specs.Prelude.{◌≡◌, ◌↔◌, ◌++◌, ℕ, List, Option, Bool, IsTrue, true, false};
 ghost use Rattle.std.proofs.Common.{⊎_elim};
@@ -41,7 +41,7 @@ pub trait ReadRow: WriteRow + Drop {
     ghost lawful: { IsLawfulRow Self.WriteRow.format };
 }
 
-/// A type that may stand as an optional part, since its first tags are known.
+/// A type that may be an optional part, since its first tags are known.
 pub trait FirstTags: DerDeserialize {
     fn begins(tag: u8) -> bool
         ensures { IsTrue result ↔ Self.format.IsTag tag };
@@ -99,7 +99,7 @@ impl ReadRow for End {
     ghost lawful = { lawful_nothing };
 }
 
-/// A part, and what stands behind it.
+/// A part, and what follows it.
 #[derive(Drop)]
 pub struct Part<A, R>(pub A, pub R);
 
@@ -133,7 +133,7 @@ impl<T: ApartFrom<A>, A: DerSerialize, R: WriteRow> TagsApart<Part<A, R>> for T 
     ghost apart = { T.no_common_tag };
 }
 
-/// A part that may be absent, and what stands behind it.
+/// A part that may be absent, and what follows it.
 #[derive(Drop)]
 pub struct Maybe<A, R>(pub Option<A>, pub R);
 
@@ -181,20 +181,20 @@ impl<T: ApartFrom<A> + TagsApart<R>, A: DerSerialize, R: WriteRow> TagsApart<May
 
 /// A type of which one value may be left out: a DEFAULT (X.680, 25.5), or the empty set.
 pub trait HasDefault: DerDeserialize {
-    /// The text that absence stands for, and that is never written.
+    /// The encoding that absence means, and that is never written.
     ghost DEFAULT: { List ℕ };
 
     fn is_default(&self) -> bool
         ensures { result ≡ is_default Self.format DEFAULT (Self.value self.now) };
 
-    /// The value that absence stands for.
+    /// The value that absence means.
     fn absent(alloc: Global) -> Result<Self, Error>
         ensures { StandsFor Self.value Self.format DEFAULT result };
 
     ghost left_out: { IsDefault (is_default Self.DerSerialize.format DEFAULT) DEFAULT Self.DerSerialize.format };
 }
 
-/// A part that may be left out, and what stands behind it.
+/// A part that may be left out, and what follows it.
 #[derive(Drop)]
 pub struct Omitted<A, R>(pub A, pub R);
 
@@ -233,7 +233,7 @@ impl<A: HasDefault + FirstTags + TagsApart<R>, R: ReadRow> ReadRow for Omitted<A
     ghost lawful = { lawful_omitted (is_default A.DerSerialize.format A.DEFAULT) A.DEFAULT A.DerSerialize.format R.WriteRow.format A.lawful R.lawful A.left_out A.apart };
 }
 
-/// A part that may be left out, lent as it is written, and what stands behind it.
+/// Borrowed form of `Omitted`, for writing.
 #[derive(Drop)]
 pub struct OmittedRef<A, R>(pub A, pub R);
 
@@ -257,7 +257,7 @@ impl<A: HasDefault, R: WriteRow> WriteRow for OmittedRef<&A, R> {
     }
 }
 
-/// One text, which fills the contents.
+/// One encoding, which fills the contents.
 #[derive(Drop)]
 pub struct Alone<T>(pub T);
 
@@ -305,7 +305,7 @@ impl<R: WriteRow> WriteRow for &R {
     }
 }
 
-/// Writes one row and then another.
+/// Writes one body and then another.
 pub fn put_both<A: WriteRow, B: WriteRow, W: Writer>(
     a: &A,
     b: &B,

@@ -22,7 +22,7 @@ use asn1_core_element::{Error, Reader};
 use asn1_core_writers::{WriteError, Writer};
 use std::alloc::Global;
 
-/// Reads items to the end of the open contents, each a level down by `by`, which is told the levels that are left there.
+/// Reads items to the end of the open contents, each a level down by `by`, which is told the levels that are left.
 fn read_all_below_with<T: DerSerialize + Drop, F: Fn(&mut Reader<'_>, u8) -> Result<T, Error>>(
     alloc: Global,
     r: &mut Reader<'_>,

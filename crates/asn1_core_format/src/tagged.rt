@@ -1,4 +1,4 @@
-//! Types with one tag, and their texts under another.
+//! Types with one tag, and their encodings under another.
 
 ghost use Rattle.std.specs.Prelude.{◌≡◌, ◌<◌, ℕ, false};
 ghost use Rattle.asn1_core_element.specs.Element.{IsTagByte, retag};
@@ -14,18 +14,18 @@ use asn1_core_streams::Sink;
 use asn1_core_writers::{Buffered, WriteError, Writer};
 use std::alloc::Global;
 
-/// A type whose texts are elements with one tag, so that an IMPLICIT tag may stand in its place.
+/// A type whose encodings are elements with one tag, so that an IMPLICIT tag may replace it.
 pub trait DerTagged: DerDeserialize {
     ghost TAG: { ℕ };
 
     const TAG: u8;
 
-    /// Writes the text, whose first byte becomes that tag.
+    /// Writes the encoding, whose first byte becomes that tag.
     fn put_as<W: Writer>(&self, tag: u8, w: &mut W) -> Result<(), WriteError>
         requires { W.MayTake w.old }
         ensures { W.Takes (retag tag (Self.format.text (Self.value self.now))) w.old w.new result };
 
-    /// Sends the text, whose first byte becomes that tag, as `emit` does.
+    /// Sends the encoding, whose first byte becomes that tag, as `emit` does.
     #[tactic(auto, using(asn1_core_element::specs::ElementLaws::length_retag))]
     final fn emit_as<S: Sink>(&self, tag: u8, sink: &mut S) -> Result<(), WriteError>
         requires { S.failed sink.old < u64.MAX }
@@ -39,7 +39,7 @@ pub trait DerTagged: DerDeserialize {
         w.flush()
     }
 
-    /// Reads what stands in an element with that tag, to the end of the open contents.
+    /// Reads the open contents to their end, as those of an element with that tag.
     fn read_contents(alloc: Global, r: &mut Reader<'_>, nest: u8) -> Result<Self, Error>
         requires { r.old.refused ≡ false }
         ensures { GivesRow Self.value (inside TAG Self.format) nest r.old r.new result };

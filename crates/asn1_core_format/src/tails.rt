@@ -1,4 +1,4 @@
-//! Rows whose last part is read by a closure.
+//! Bodies (rows) whose last part is read by a closure.
 
 ghost use Rattle.std.specs.Prelude.{◌≡◌, false};
 ghost use Rattle.asn1_core_element.specs.Element.{IsTagByte};

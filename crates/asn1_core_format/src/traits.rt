@@ -15,17 +15,17 @@ use std::mem;
 /// The levels of nesting that `from_bytes` and `well_formed` allow.
 pub const MAX_NESTING: u8 = 64;
 
-/// A type with a text in DER.
+/// A type with an encoding in DER.
 pub trait DerSerialize {
-    /// The values as clauses see them: what they contain, and not where it lies in memory.
+    /// The values as contracts see them: what they contain, and not where it lies in memory.
     ghost Value: { Type 0 };
 
     ghost value: { Self → Value };
 
-    /// What the values are written as; of a type that only writes, with no grammar.
+    /// What the values are written as and read from; of a type that only writes, without a grammar.
     ghost format: { Format Value };
 
-    /// Writes the text, of ill-formed values too. All other writing is by this.
+    /// Writes the encoding, of ill-formed values too. All other writing is by this.
     fn put<W: Writer>(&self, w: &mut W) -> Result<(), WriteError>
         requires { W.MayTake w.old }
         ensures { W.Takes (format.text (value self.now)) w.old w.new result };
@@ -34,14 +34,14 @@ pub trait DerSerialize {
     fn well_formed_at(&self, limit: u8) -> bool
         ensures { IsTrue result ↔ format.IsWellFormed limit (value self.now) };
 
-    /// Whether the value is well-formed, so that its text is read again.
+    /// Whether the value is well-formed, so that its encoding is read again.
     final fn well_formed(&self) -> bool
         ensures { IsTrue result ↔ format.IsWellFormed 64 (value self.now) }
     {
         self.well_formed_at(MAX_NESTING)
     }
 
-    /// The length of the text. Refuses by `TooLong` alone, and takes no memory.
+    /// The length of the encoding. Refuses by `TooLong` alone, and takes no memory.
     final fn encoded_len(&self) -> Result<usize, Error>
         ensures { Measures (format.text (value self.now)) result }
     {
@@ -49,8 +49,8 @@ pub trait DerSerialize {
         Ok(w.total())
     }
 
-    /// Appends the text, without a refusal where there is room for it. A refusal leaves the buffer's contents as they
-    /// were. It is made to ask for memory once at most; no clause says so.
+    /// Appends the encoding, without a refusal where there is room for it. A refusal leaves the buffer's contents as
+    /// they were. It is made to ask for memory once at most; no contract says so.
     final fn write(&self, alloc: Global, out: &mut Vec<u8>) -> Result<(), Error>
         ensures text { Writes (format.text (value self.now)) out.old.items (vec_capacity out.old) out.new.items result }
         ensures capacity { vec_capacity out.old ≤ vec_capacity out.new }
@@ -68,9 +68,9 @@ pub trait DerSerialize {
         Ok(())
     }
 
-    /// Sends the text. Takes no memory. A text that is too long is not begun.
+    /// Sends the encoding. Takes no memory. An encoding that is too long is not begun.
     ///
-    /// A text of at most 16 KB is written into an array on the stack, and sent in one write. Of a longer one, pieces
+    /// An encoding of at most 16 KB is written into an array on the stack and sent in one write. Pieces of a longer one
     /// wait in an array of 4 KB, so that the sink gets them in few writes. Then a header is sent before what it holds,
     /// which is measured for it: what n headers enclose is measured n times, and once at first. So to send a long, deep
     /// value takes many times as long as `to_vec`, which measures all once.
@@ -90,7 +90,7 @@ pub trait DerSerialize {
     }
 }
 
-/// Sends a short text, which is written into an array at first.
+/// Sends a short encoding, which is written into an array at first.
 fn send_short<T: DerSerialize, S: Sink>(value: &T, sink: &mut S) -> Result<(), WriteError>
     requires may { S.failed sink.old < u64.MAX }
     requires short { length (T.format.text (T.value value.now)) ≤ 16384 }
@@ -104,13 +104,13 @@ fn send_short<T: DerSerialize, S: Sink>(value: &T, sink: &mut S) -> Result<(), W
     sink.bytes(w.as_slice())
 }
 
-/// From so many bytes on, a text of few pieces is appended from its front, so that no zeros are written first.
+/// From so many bytes on, an encoding of few pieces is appended from its front, so that no zeros are written first.
 const LONG: usize = 16_384;
 
 /// At most so many pieces are few. They are measured again at each header above them.
 const FEW: usize = 16;
 
-/// Measures the text.
+/// Measures the encoding.
 fn measured<T: DerSerialize>(value: &T) -> Result<Measure, Error>
     ensures { MatchResult result (λ w. w.total ≡ length (T.format.text (T.value value.now))) (λ e. (e ≡ TooLong) × (2 ^ 64 ≤ length (T.format.text (T.value value.now)))) }
 {
@@ -121,7 +121,7 @@ fn measured<T: DerSerialize>(value: &T) -> Result<Measure, Error>
     }
 }
 
-/// Writes the text behind what the buffer holds, into its room.
+/// Writes the encoding after what the buffer holds, into its room.
 fn append<T: DerSerialize>(value: &T, alloc: Global, out: &mut Vec<u8>)
     requires room { length out.old.items + length (T.format.text (T.value value.now)) ≤ vec_capacity out.old }
     requires fits { length (T.format.text (T.value value.now)) < 2 ^ 64 }
@@ -136,7 +136,7 @@ fn append<T: DerSerialize>(value: &T, alloc: Global, out: &mut Vec<u8>)
     *out = w.into_inner();
 }
 
-/// Writes the text over the end of the buffer.
+/// Writes the encoding over the end of the buffer.
 fn fill<T: DerSerialize>(value: &T, alloc: Global, out: &mut Vec<u8>)
     requires { length (T.format.text (T.value value.now)) ≤ length out.old.items }
     ensures text { out.new.items ≡ take (length out.old.items - length (T.format.text (T.value value.now))) out.old.items ++ T.format.text (T.value value.now) }
@@ -150,10 +150,10 @@ fn fill<T: DerSerialize>(value: &T, alloc: Global, out: &mut Vec<u8>)
     *out = w.into_inner();
 }
 
-/// A type that is read from DER, and written as what it was read from where that is normal.
+/// A type that is read from DER, and written as what it was read from where that is canonical (normal).
 pub trait DerDeserialize: DerSerialize + Drop {
     /// Reads a value from the front of what is left in the open contents, with at most `nest` levels. After a
-    /// refusal nothing is promised of where the reader stands.
+    /// refusal nothing is promised of the reader's position.
     fn read(alloc: Global, r: &mut Reader<'_>, nest: u8) -> Result<Self, Error>
         requires { r.old.refused ≡ false }
         ensures { Gives Self.value Self.format nest r.old r.new result };

@@ -9,7 +9,7 @@ use crate::traits::DerSerialize;
 use asn1_core_element::Error;
 use std::alloc::Global;
 
-/// A type whose `==` is equality of what it contains. A type with a text has it by `EqualByText`.
+/// A type whose `==` is equality of what it contains. A type with an encoding has it by `EqualByText`.
 pub trait Viewed: PartialEq {
     /// What a value contains, and not where it lies in memory.
     ghost View: { Type 0 };
@@ -19,8 +19,8 @@ pub trait Viewed: PartialEq {
     ghost equal: { SeesEqual Self.PartialEq.eq view };
 }
 
-/// A type with a text whose `==` is equality of the values that texts are of. So `==` and clones can't keep less than
-/// the text says. No trait that reads or writes asks for it.
+/// A type with an encoding whose `==` is equality of the values that encodings are of. So `==` and clones can't keep
+/// less than the encoding says. No trait that reads or writes asks for it.
 pub trait EqualByText: DerSerialize + PartialEq {
     ghost equal_by_text: { SeesEqual Self.PartialEq.eq Self.DerSerialize.value };
 }

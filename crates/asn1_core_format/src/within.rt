@@ -1,4 +1,4 @@
-//! Parts in an element: a SEQUENCE, a SET, an EXPLICIT tag, an octet string round a text.
+//! Parts in an element: a SEQUENCE, a SET, an EXPLICIT tag, an OCTET STRING around an encoding.
 
 ghost use Rattle.std.specs.Prelude.{◌≡◌, ℕ, false};
 ghost use Rattle.asn1_core_element.specs.Element.{IsTagByte, retag};
@@ -43,7 +43,7 @@ pub fn read_row_contents<R: ReadRow>(
     R::read_row(alloc, r, nest)
 }
 
-/// The length of the text of a row.
+/// The length of the encoding of a body.
 fn row_len<R: WriteRow>(row: &R) -> Result<usize, WriteError>
     ensures { CountsText (R.format.text (R.value row.now)) result }
 {
@@ -52,8 +52,8 @@ fn row_len<R: WriteRow>(row: &R) -> Result<usize, WriteError>
     Ok(w.total())
 }
 
-/// Writes an element with that tag, whose contents are the parts. That is also the text of any other with these
-/// contents, under this tag.
+/// Writes an element with that tag, whose contents are the parts. It is also what any other element with these
+/// contents becomes under this tag.
 #[tactic(auto, using(asn1_core_element::specs::ElementLaws::retag_element))]
 pub fn put_within<R: WriteRow, W: Writer>(tag: u8, row: &R, w: &mut W) -> Result<(), WriteError>
     requires { W.MayTake w.old }

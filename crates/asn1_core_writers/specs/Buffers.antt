@@ -1,4 +1,4 @@
--- What sinks take of a text behind bytes that wait.
+-- What sinks take of an encoding after bytes that wait.
 use Rattle.std.specs.Prelude.{◌≡◌, ℕ, ◌≤◌, ◌^◌, List, [], ◌++◌, length, Option, Result, Ok, Err, MatchResult}
 use Rattle.std.specs.Io.KnownBytes.{Appends}
 use Rattle.std.proofs.Common.{refl, sym, ap, subst, ◌∙◌, arith, append_assoc, append-nil, length-append}
@@ -6,18 +6,18 @@ use Rattle.asn1_core_writers.specs.Writers.{IsForward}
 use Rattle.asn1_core_writers.specs.Sinks.{Stopped, Sends, Emits, appends_none, appends_more, stopped_first, stopped_long, sends_more}
 use Rattle.asn1_core_writers.specs.declared.writer.WriteError.{WriteError}
 
--- of what waited and the text behind it a beginning was sent, and the rest waits
+-- a beginning of what waited and of the encoding after it was sent, and the rest waits
 pub record Passed (text before after : List ℕ) (old new : Option (List ℕ)) (f g : ℕ) : Type 0 where
   pub sent : List ℕ
   pub split : before ++ text ≡ sent ++ after
   pub appended : Appends old new sent
   pub failed : g ≡ f
 
--- the text was taken behind what waits; or a beginning of both was sent
+-- the encoding was taken after what waits; or a beginning of both was sent
 abbrev pub Buffers : List ℕ → List ℕ → List ℕ → Option (List ℕ) → Option (List ℕ) → ℕ → ℕ → Result (Unit {0}) WriteError → Type 0
 Buffers text before after old new f g r = MatchResult r (λ _. Passed text before after old new f g) (λ e. Stopped (before ++ text) old new f g e)
 
--- what waited was sent, and then the text, or a beginning of it
+-- what waited was sent, and then the encoding, or a beginning of it
 pub buffers_through : (text before none : List ℕ) (o p q : Option (List ℕ)) (f g h : ℕ) (r : Result (Unit {0}) WriteError) → Appends o p before → g ≡ f → none ≡ [] → Sends text p q g h r → Buffers text before none o q f h r
 buffers_through text before none o p q f g h (Ok u) k e n s = record {
   sent = before ++ text;
@@ -27,11 +27,11 @@ buffers_through text before none o p q f g h (Ok u) k e n s = record {
 }
 buffers_through text before none o p q f g h (Err x) k e n s = sends_more before text o p q f g h (Err x) k e s
 
--- what waits is sent behind a text, so that all of it was
+-- what waits of an encoding is sent, so that all of it was
 buffers_ended : (text rest : List ℕ) (o p q : Option (List ℕ)) (f g h : ℕ) (r : Result (Unit {0}) WriteError) → Passed text [] rest o p f g → Sends rest p q g h r → Sends text o q f h r
 buffers_ended text rest o p q f g h r k s = subst (λ t. Sends t o q f h r) (sym k.split) (sends_more k.sent rest o p q f g h r k.appended k.failed s)
 
--- a text whose length fits, sent, is emitted
+-- an encoding whose length fits is emitted when it is sent
 emits_sent : {S : Type 0} (text : List ℕ) (a e : S) (o p : Option (List ℕ)) (f g : ℕ) (r : Result (Unit {0}) WriteError) → (2 ^ 64 ≤ length text → ⊥) → Sends text o p f g r → Emits text a e o p f g r
 emits_sent text a e o p f g (Ok u) fits s = s
 emits_sent text a e o p f g (Err x) fits s = record {
@@ -39,7 +39,7 @@ emits_sent text a e o p f g (Err x) fits s = record {
   failed = λ t. (s.failed t, s.part);
 }
 
--- a sink a is lent under a name, as b behind no bytes; it is c behind the text, d once what waits was sent, and e at last
+-- a sink a is borrowed, as b with no bytes waiting; it is c after the encoding, d once what waits was sent, e at last
 pub emits_buffered : {S N : Type 0} (held : S → Option (List ℕ)) (failed : S → ℕ) (text before rest : List ℕ) (a b c d e : S) (lent first second third : N) (r : Result (Unit {0}) WriteError)
     → (2 ^ 64 ≤ length text → ⊥) → first ≡ lent → b ≡ a → before ≡ []
     → (second ≡ first) × Passed text before rest (held b) (held c) (failed b) (failed c)

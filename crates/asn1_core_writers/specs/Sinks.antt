@@ -1,4 +1,4 @@
--- What sinks take of a text.
+-- What sinks take of an encoding.
 use Rattle.std.specs.Prelude.{◌≡◌, ℕ, ◌+◌, ◌≤◌, ◌^◌, List, [], ◌++◌, length, Option, None, Some, Result, Ok, Err, MatchResult}
 use Rattle.std.specs.Io.KnownBytes.{Appends}
 use Rattle.std.proofs.Common.{refl, sym, ap, ◌∙◌, arith, append_assoc, append-nil, length-append, rules}
@@ -13,11 +13,11 @@ pub record Stopped (text : List ℕ) (old new : Option (List ℕ)) (f g : ℕ) (
   pub failed : e ≡ Failed → g ≡ f + 1
   pub too_long : e ≡ TooLong → (g ≡ f) × (2 ^ 64 ≤ length text)
 
--- the text was sent
+-- the encoding was sent
 abbrev pub Sends : List ℕ → Option (List ℕ) → Option (List ℕ) → ℕ → ℕ → Result (Unit {0}) WriteError → Type 0
 Sends text old new f g r = MatchResult r (λ _. Appends old new text × (g ≡ f)) (λ e. Stopped text old new f g e)
 
--- the text was sent; or it was too long, and nothing was; or a write failed behind a beginning
+-- the encoding was sent; or it was too long, and nothing was; or a write failed after a beginning
 pub record NotEmitted {S : Type 0} (text : List ℕ) (sink_old sink_new : S) (old new : Option (List ℕ)) (f g : ℕ) (e : WriteError) : Type 0 where
   pub too_long : e ≡ TooLong → (sink_new ≡ sink_old) × (2 ^ 64 ≤ length text)
   pub failed : e ≡ Failed → (g ≡ f + 1) × AppendsBeginning old new text

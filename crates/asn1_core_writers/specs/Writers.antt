@@ -1,10 +1,10 @@
--- What writers take, and what composes.
+-- What writers take, and how writing in parts composes.
 use Rattle.std.specs.Prelude.{◌≡◌, ℕ, ◌+◌, ◌<◌, ◌≤◌, ◌^◌, List, [], ◌++◌, length, Result, Ok, Err, MatchResult}
 use Rattle.std.proofs.Common.{refl, sym, ap, ◌∙◌, arith, append_assoc, append-nil, length-append}
 use Rattle.asn1_core_writers.specs.declared.writer.WriteError.{WriteError}
 use Rattle.asn1_core_writers.specs.declared.writer.WriteError.TheVariants.{TooLong}
 
--- the outcome of writing: a text, the writer before and after
+-- the outcome of writing: an encoding, the writer before and after
 abbrev pub Outcome : Type 0 → Type 1
 Outcome W = List ℕ → W → W → Result (Unit {0}) WriteError → Type 0
 
@@ -20,7 +20,7 @@ pub record IsBackward {W : Type 0} (Takes : Outcome W) (count : W → ℕ) : Typ
   pub goes_on : (a b : List ℕ) (w x y : W) (u : Unit {0}) (r : Result (Unit {0}) WriteError) → Takes b w x (Ok u) → Takes a x y r → Takes (a ++ b) w y r
   pub counts : (a : List ℕ) (w x : W) (u : Unit {0}) → Takes a w x (Ok u) → count x ≡ count w + length a
 
--- a count grows by the length of the text, or would not fit
+-- a count grows by the length of the encoding, or would not fit
 abbrev pub MeasureTakes : List ℕ → ℕ → ℕ → Result (Unit {0}) WriteError → Type 0
 MeasureTakes text old new r = MatchResult r (λ _. new ≡ old + length text) (λ e. (e ≡ TooLong) × (2 ^ 64 ≤ old + length text))
 
@@ -41,7 +41,7 @@ pub record Filling : Type 0 where
   pub text : List ℕ
   pub capacity : ℕ
 
--- the text was put before what is filled
+-- the encoding was put before what is filled
 pub record Filled (t : List ℕ) (w x : Filling) : Type 0 where
   pub gap : List ℕ
   pub front : w.front ≡ x.front ++ gap

@@ -1,4 +1,4 @@
-//! Texts that are written into a buffer from its end.
+//! Encodings that are written into a buffer from its end.
 
 ghost use Rattle.std.specs.Prelude.{◌≡◌, ℕ, ◌≤◌, true, List, [], ◌++◌, length, take, drop, vec_capacity};
 ghost use Rattle.std.proofs.Common.{rules};
@@ -7,7 +7,7 @@ ghost use Rattle.asn1_core_writers.specs.Writers.{Filling, FillingTakes, filling
 use crate::writer::{WriteError, Writer};
 use std::marker::Model;
 
-/// A buffer that is filled from its end. After a refusal nothing is promised of what it holds, nor where it stands.
+/// A buffer that is filled from its end. After a refusal nothing is promised of what it holds, nor of its position.
 #[derive(Drop)]
 pub struct Backward {
     out: Vec<u8>,

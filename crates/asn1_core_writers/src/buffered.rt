@@ -1,4 +1,4 @@
-//! Texts that a sink gets in few writes, without memory.
+//! Encodings that a sink gets in few writes, without memory.
 
 ghost use Rattle.std.specs.Prelude.{◌≡◌, ℕ, ◌+◌, ◌-◌, ◌^◌, ◌<◌, ◌≤◌, ◌++◌, [], length, false, OnOk, OnErr};
 ghost use Rattle.std.proofs.Common.{refl, rules};
@@ -68,7 +68,7 @@ impl Waiting {
     }
 }
 
-/// Takes texts for a sink, from their front. Small pieces wait in an array, so that the sink gets them in few writes;
+/// Takes encodings for a sink, from their front. Small pieces wait in an array, so that the sink gets few writes;
 /// `flush` sends what waits. What waits when this is dropped is lost.
 pub struct Buffered<'a, S> {
     sink: &'a mut S,
@@ -112,7 +112,7 @@ impl<'a, S: Sink> Buffered<'a, S> {
         Ok(())
     }
 
-    /// Takes bytes that don't fit behind those that wait.
+    /// Takes bytes that don't fit after those that wait.
     fn pass(&mut self, bytes: &[u8]) -> Result<(), WriteError>
         requires { S.failed self.old.sink.now < 2 ^ 64 - 1 }
         ensures same_sink { self.new.sink.ghost_name ≡ self.old.sink.ghost_name }

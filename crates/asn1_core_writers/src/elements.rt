@@ -38,7 +38,7 @@ pub fn put_head<W: Writer>(tag: u8, len: usize, w: &mut W) -> Result<(), WriteEr
     w.bytes(&bytes[at - 2..])
 }
 
-/// Writes an element. That is also the text of any other with these contents, under this tag.
+/// Writes an element. It is also what any other element with these contents becomes under this tag.
 #[tactic(auto, using(asn1_core_element::specs::ElementLaws::retag_element))]
 pub fn put_element<W: Writer>(tag: u8, contents: &[u8], w: &mut W) -> Result<(), WriteError>
     requires { W.MayTake w.old }

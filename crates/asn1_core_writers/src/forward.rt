@@ -1,4 +1,4 @@
-//! Texts that are appended to a buffer with room.
+//! Encodings that are appended to a buffer with room.
 
 ghost use Rattle.std.specs.Prelude.{◌≡◌, ℕ, ◌≤◌, ◌++◌, [], vec_capacity, false};
 ghost use Rattle.std.proofs.Common.{rules};
@@ -6,7 +6,7 @@ ghost use Rattle.asn1_core_writers.specs.Appending.{AppendingTakes, appended_not
 
 use crate::writer::{WriteError, Writer};
 
-/// A buffer that takes texts behind what it holds. After a refusal nothing is promised of what it holds.
+/// A buffer that takes encodings after what it holds. After a refusal nothing is promised of what it holds.
 #[derive(Drop)]
 pub struct Forward {
     out: Vec<u8>,

@@ -1,6 +1,6 @@
-//! Writers: what takes the bytes of a text. One measures it, one fills a buffer from its end, one an array, one appends
-//! it to a buffer, one compares it with an input, and every sink takes it from its front, directly or by an array where
-//! small pieces wait. A type is written by one method over any of them.
+//! Writers, which take the bytes of an encoding. One measures it, one fills a buffer from its end, one an array, one
+//! appends it to a buffer, one compares it with an input, and every sink takes it from its front, directly or by an
+//! array where small pieces wait. A type is written by one method over any of them.
 #![tactic(auto)]
 
 pub mod backward;

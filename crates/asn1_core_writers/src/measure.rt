@@ -1,4 +1,4 @@
-//! Lengths of texts, without memory.
+//! Lengths of encodings, without memory.
 
 ghost use Rattle.std.specs.Prelude.{◌≡◌, ℕ, true};
 ghost use Rattle.std.proofs.Common.{rules};
@@ -32,7 +32,7 @@ impl Measure {
         self.total
     }
 
-    /// In how many pieces they were taken. The contract of writing says nothing of it, since a text may be cut anywhere:
+    /// In how many pieces they were taken. The contract of writing doesn't say, since an encoding may be cut anywhere:
     /// it decides how a buffer is filled, and never with what.
     pub fn pieces(&self) -> usize
         ensures { result ≡ self.now.pieces }

@@ -24,8 +24,8 @@ fn octets(n: u32, bytes: &mut [u8; 5]) -> usize
     at
 }
 
-/// Writes an element with the contents of an INTEGER (X.690, 8.3). That is also the text of any other with these
-/// contents, under this tag.
+/// Writes an element with the contents of an INTEGER (X.690, 8.3). It is also what any other element with these
+/// contents becomes under this tag.
 pub fn put_unsigned<W: Writer>(tag: u8, n: u32, w: &mut W) -> Result<(), WriteError>
     requires { W.MayTake w.old }
     ensures text { W.Takes (element tag (integer_octets n)) w.old w.new result }

@@ -1,4 +1,4 @@
-//! Every sink takes texts, from their front.
+//! Every sink takes encodings, from their front.
 
 ghost use Rattle.std.specs.Prelude.{◌≡◌, ℕ, ◌-◌, ◌^◌, ◌<◌, false};
 ghost use Rattle.std.proofs.Common.{rules, arith};

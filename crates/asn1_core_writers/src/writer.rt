@@ -1,4 +1,4 @@
-//! What texts are written to.
+//! What encodings are written to.
 
 ghost use Rattle.std.specs.Prelude.{◌≡◌, ℕ, Bool, true, false, List, [], Result, Ok};
 ghost use Rattle.asn1_core_writers.specs.Writers.{IsForward, IsBackward};
@@ -6,33 +6,33 @@ ghost use Rattle.asn1_core_writers.specs.declared.writer.WriteError.{WriteError}
 
 use thiserror::Error as ThisError;
 
-/// Why a text was not written.
+/// Why an encoding was not written.
 #[derive(Clone, Copy, Debug, PartialEq, Eq, ThisError)]
 pub enum WriteError {
     /// Its length doesn't fit `usize`.
     #[error("too long")]
     TooLong,
-    /// The sink failed. (A buffer answers it where the text is longer than its room.)
+    /// The sink failed. (A buffer answers it where the encoding is longer than its room.)
     #[error("failed")]
     Failed,
 }
 
-/// What takes a text piece by piece: each piece behind those that it took, or, where it takes texts from their end,
-/// before them. A sink that refuses has taken a beginning; of where the others stand then, nothing is promised.
+/// Takes an encoding piece by piece: each piece after those that it took, or before them, where it takes encodings
+/// from their end. A sink that refuses has taken a beginning; what other writers have taken then is not promised.
 pub trait Writer {
-    /// The text, the writer before and after, and the answer: what taking a text comes to.
+    /// What taking an encoding comes to: the encoding, the writer before and after, and the answer.
     ghost Takes: { List ℕ → Self → Self → Result (Unit {0}) WriteError → Type 0 };
 
     /// Whether it may be given more.
     ghost MayTake: { Self → Type 0 };
 
-    /// How many bytes it took, where it takes texts from their end.
+    /// How many bytes it took, where it takes encodings from their end.
     ghost count: { Self → ℕ };
 
-    /// Whether it takes texts from their end.
+    /// Whether it takes encodings from their end.
     ghost BACKWARD: { Bool };
 
-    /// Whether it takes texts from their end.
+    /// Whether it takes encodings from their end.
     fn is_backward() -> bool
         ensures { result ≡ BACKWARD };
 
@@ -41,7 +41,7 @@ pub trait Writer {
         requires { MayTake self.old }
         ensures { Takes bytes.now self.old self.new result };
 
-    /// How many bytes it took, where it takes texts from their end.
+    /// How many bytes it took, where it takes encodings from their end.
     fn count(&self) -> usize
         ensures { result ≡ count self.now };
 

@@ -1,4 +1,4 @@
-//! The room that a text takes, and the writes that send it.
+//! The room that an encoding takes, and the writes that send it.
 
 use asn1_core::{Asn1SequenceOf, OctetStringAsn1};
 use asn1_core_format::{DerSerialize, to_vec, write_to};
@@ -6,7 +6,7 @@ use std::test::Fail;
 use vector_checks::checks::is_sent;
 use vector_checks::fakes::Narrow;
 
-/// Lengths of octet strings, and in how many writes a sink gets the list of them: an encoding of at most 16,384 bytes is
+/// Lengths of octet strings, and in how many writes a sink gets the list of them: an encoding of up to 16,384 bytes is
 /// sent at once, and of a longer one at most 4,096 bytes wait.
 const WRITES: [(&[usize], usize); 8] = [
     (&[], 1),
@@ -19,8 +19,8 @@ const WRITES: [(&[usize], usize); 8] = [
     (&[10, 4096, 4097, 10, 10_000], 6),
 ];
 
-/// Where there is room, the buffer isn't grown; a new one has exactly the room of the text. How often memory is asked for
-/// is shown by `rt try --fail-alloc` (docs/PROVING.md).
+/// Where there is room, the buffer isn't grown; a new one has exactly the room of the encoding. How often memory is
+/// asked for is shown by `rt try --fail-alloc` (docs/PROVING.md).
 #[test]
 fn room_is_used(rt: HostRuntime) -> Result<(), Fail> {
     let list = Asn1SequenceOf(vec![in rt.alloc(); 7u8; 100]?);

@@ -6,7 +6,7 @@ use std::alloc::Global;
 use std::test::Fail;
 use vector_checks::checks::is_written;
 
-/// Asks that a built value isn't well-formed, and is written as the text all the same.
+/// Asks that a built value isn't well-formed, and is written as these bytes all the same.
 fn is_ill_formed<T: DerSerialize>(alloc: Global, value: &T, text: &[u8]) -> Result<(), Fail> {
     if value.well_formed() {
         return Err(Fail::new(format_args!("well-formed: {text:?}")));
@@ -14,7 +14,7 @@ fn is_ill_formed<T: DerSerialize>(alloc: Global, value: &T, text: &[u8]) -> Resu
     is_written(alloc, value, text)
 }
 
-/// Raw elements that are none, and object identifiers of no group, of a group that begins with a zero digit and of one
+/// Invalid raw elements, and object identifiers of no group, of a group that begins with a zero digit and of one
 /// that doesn't end.
 #[test]
 fn ill_formed_values(rt: HostRuntime) -> Result<(), Fail> {

@@ -1,4 +1,4 @@
-//! Bags in bags that are built: their texts and levels.
+//! Bags in bags that are built: their encodings and levels.
 
 use asn1_core::{DerSerialize, Error, TryClone, from_bytes, to_vec};
 use std::alloc::Global;

@@ -1,6 +1,6 @@
 //! Tests of the containers and of the program by their public calls, of what neither a row nor a contract says: calls
-//! that take memory beside reading, writing and cloning, kinds of refusal, built values of many levels, streams that fail,
-//! and a representation of a caller's own. Expected values are those of the standards, or of other tools.
+//! that take memory beside reading, writing and cloning, kinds of refusal, built values of many levels, failing
+//! streams, and a representation of a caller's own. Expected values are those of the standards, or of other tools.
 #![tactic(auto)]
 
 #[cfg(test)]

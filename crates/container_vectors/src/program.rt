@@ -35,7 +35,7 @@ fn read_words(alloc: Global, words: &[&[u8]]) -> Result<Vec<String>, WordsError>
     words_of(env::args(&(CommandLine(words), alloc)), alloc)
 }
 
-/// The words, each with a bar behind it.
+/// The words, each with a bar after it.
 fn barred(alloc: Global, words: &[String]) -> Result<String, AllocError> {
     let mut all = String::new(alloc);
     for word in words {

@@ -1,4 +1,4 @@
-//! Files of which no range is told.
+//! Files for which `mac_range` gives no range.
 
 use asn1_core::{Error, from_bytes};
 use std::test::Fail;

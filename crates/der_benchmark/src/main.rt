@@ -1,5 +1,5 @@
-//! Times of writing, measuring, sending, reading and cloning, each as a ratio to a copy of the same bytes. Prints nothing
-//! without a word on its command line.
+//! Times of writing, measuring, sending, reading and cloning, each as a ratio to a copy of the same bytes. Prints
+//! nothing without a word on its command line.
 #![tactic(auto)]
 
 ghost use Rattle.std.specs.Prelude.{None};
@@ -140,7 +140,7 @@ fn write_time<T: DerSerialize>(rt: &HostRuntime, value: &T) -> Result<Shortest, 
     Ok(best)
 }
 
-/// The time of sending a value whose text has that many bytes, and in how many writes it was sent.
+/// The time of sending a value whose encoding has that many bytes, and in how many writes it was sent.
 fn send_time<T: DerSerialize>(
     rt: &HostRuntime,
     value: &T,
@@ -187,7 +187,7 @@ fn clone_time<T: TryClone>(rt: &HostRuntime, value: &T) -> Result<Shortest, Fail
     Ok(best)
 }
 
-/// Prints one line: the ratios of the calls for the value of a text to a copy of the text, in hundredths.
+/// Prints one line: the ratios of the calls for the value of an encoding to a copy of the encoding, in hundredths.
 fn measure<T: DerDeserialize + TryClone>(
     rt: &HostRuntime,
     name: &str,
@@ -314,8 +314,8 @@ fn numbers(alloc: Global, count: usize, tags: usize) -> Result<Vec<u8>, Error> {
     Ok(text)
 }
 
-/// Prints one line: the times of writing and of sending so many numbers under so many tags, each in hundredths of another
-/// such time.
+/// Prints one line: the times of writing and of sending so many numbers under so many tags, each in hundredths of
+/// another such time.
 fn measure_writing<T: DerDeserialize>(
     rt: &HostRuntime,
     count: usize,

@@ -1,4 +1,4 @@
--- From what was delivered to what was told.
+-- From what was delivered to the sink to what the contract of a run says.
 use Rattle.std.proofs.Common.{◌≡◌, ℕ, List, [], refl, sym, subst, ⊎_elim, rules, arith}
 use Rattle.std.specs.Prelude.{Option, Some, None, IfSome, unwrap_or}
 use Rattle.asn1_core_element.specs.declared.error.Error.{Error}
@@ -30,7 +30,7 @@ module _ {S : Type 0} (K : Rewriting) (b : List ℕ) (e : Error) (mode : Mode) (
   pub refused : IsRefusal K b e → Delivers (Refused e) (refusal_line mode e) (held old) (held new) failed failed_now result → Tells K b mode held old new failed failed_now result
   refused r d = ⊎_elim (whole r) (part r) d
 
--- want of memory says nothing of b
+-- a refusal for memory says nothing of b
 pub no_memory : (K : Rewriting) (b : List ℕ) → IsRefusal K b Memory
 no_memory K b = record { long = λ h. search rules; none = λ n m. absurd (m refl) }
 

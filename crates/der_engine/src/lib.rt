@@ -1,4 +1,4 @@
-//! What the program `derbox` makes of an input: the text of the value that it holds, or one line about it. Generic
+//! What the program `derbox` makes of an input: the encoding of the value that it holds, or one line about it. Generic
 //! over where the bytes come from, where they go, and the type that is read.
 #![tactic(auto)]
 

@@ -1,4 +1,4 @@
-//! The lines that are written in place of a text. Each ends in a line feed.
+//! The lines that are written in place of an encoding. Each ends in a line feed.
 
 ghost use Rattle.std.specs.Prelude.{◌≡◌, MatchResult};
 ghost use Rattle.asn1_core_element.specs.declared.error.Error.TheVariants.{Memory};
@@ -8,7 +8,7 @@ use crate::outcome::Mode;
 use asn1_core_element::Error;
 use std::alloc::Global;
 
-/// The line of an input of so many bytes whose text is the same.
+/// The line of an input of so many bytes that is the encoding of its value.
 pub(crate) fn normal_line(alloc: Global, input_len: usize) -> Result<Vec<u8>, Error>
     ensures { MatchResult result (λ v. v.items ≡ normal_line input_len) (λ e. e ≡ Memory) }
 {
@@ -16,7 +16,7 @@ pub(crate) fn normal_line(alloc: Global, input_len: usize) -> Result<Vec<u8>, Er
     Ok(line.into_bytes())
 }
 
-/// The line of an input of so many bytes with another text.
+/// The line of an input of so many bytes whose value has another encoding.
 pub(crate) fn loose_line(alloc: Global, input_len: usize, text_len: usize) -> Result<Vec<u8>, Error>
     ensures { MatchResult result (λ v. v.items ≡ loose_line input_len text_len) (λ e. e ≡ Memory) }
 {

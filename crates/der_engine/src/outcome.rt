@@ -7,9 +7,9 @@ use asn1_core_element::Error;
 /// What is asked of an input.
 #[derive(Clone, Copy, Debug, PartialEq, Eq)]
 pub enum Mode {
-    /// One line on whether it is normal.
+    /// One line on whether it is canonical (normal).
     Check,
-    /// The text of its value.
+    /// The encoding of its value.
     Rewrite,
 }
 
@@ -31,13 +31,13 @@ impl Mode {
 /// What came of an input.
 #[derive(Clone, Copy, Debug, PartialEq, Eq)]
 pub enum Outcome {
-    /// In checking: the text of its value is the input.
+    /// In checking: the encoding of its value is the input.
     Normal,
-    /// In checking: the text of its value is another.
+    /// In checking: the encoding of its value is another, so the input is accepted but not canonical.
     Loose,
-    /// In rewriting: the text of its value was written.
+    /// In rewriting: the encoding of its value was written.
     Written,
-    /// In both: no text was made of it, for this reason.
+    /// In both: no encoding was made of it, for this reason.
     Refused(Error),
     /// A read failed, and nothing was written.
     ReadFailed,

@@ -1,4 +1,4 @@
-//! `derbox check KIND` says of DER on standard input whether it is normal; `derbox rewrite KIND` writes it anew.
+//! `derbox check KIND` tells whether standard input is canonical (normal) DER; `derbox rewrite KIND` writes it anew.
 #![tactic(auto)]
 
 use std::env;

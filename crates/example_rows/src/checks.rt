@@ -19,7 +19,7 @@ fn expect(holds: bool, what: &'static str) -> Result<(), Fail> {
     if holds { Ok(()) } else { Err(Fail::new(what)) }
 }
 
-/// Asks that a check said the line and that a rewriting wrote the text, or nothing of what is refused.
+/// Asks that a check said the line and that a rewriting wrote the encoding, or nothing of what is refused.
 fn is_said(
     row: &Row,
     checked: (Outcome, Vec<u8>),
@@ -67,10 +67,10 @@ fn line_of(
     }
 }
 
-/// An octet that stands before what is rewritten.
+/// An octet that a buffer holds before a rewriting.
 const BEFORE: u8 = 0x5A;
 
-/// Asks that a check and a rewriting over the input in memory say what the row does, and that the rewriting stands behind
+/// Asks that a check and a rewriting over the input in memory say what the row does, and that the rewriting comes after
 /// the octet that was there.
 fn is_told(
     alloc: Global,
@@ -118,7 +118,7 @@ fn is_whole<T: DerDeserialize>(alloc: Global, input: &[u8]) -> Result<(), Fail> 
     Ok(())
 }
 
-/// Asks of an input whose text is read again that the text is normal, and of what is refused that few headers are read.
+/// Asks of an accepted input that the encoding of its value is normal, and of a refused one that few headers are read.
 fn reaches_an_end<T: DerDeserialize>(alloc: Global, input: &[u8]) -> Result<(), Fail> {
     let (outcome, headers) = from_bytes_counted::<T>(alloc, input);
     expect(headers <= input.len() / 2 + 1, "the headers of a change")?;
@@ -154,8 +154,8 @@ fn is_changed<T: DerDeserialize>(alloc: Global, input: &[u8]) -> Result<(), Fail
     expect(changed.as_slice() == input, "the input itself")
 }
 
-/// Asks that with two more elements behind the input as many headers are read, and that these elements are left; and that
-/// the whole is refused as malformed, with no more headers.
+/// Asks that with two more elements after the input as many headers are read, and that these elements are left; and
+/// that the whole is refused as malformed, with no more headers.
 fn ends<T: DerDeserialize>(alloc: Global, input: &[u8], headers: usize) -> Result<(), Fail> {
     let mut longer = Vec::from_slice(alloc, input)?;
     longer.extend_from_slice(b"\x05\x00\x05\x00")?;
@@ -184,8 +184,8 @@ fn is_shown<T: Debug>(alloc: Global, value: &T, row: &Row) -> Result<(), Fail> {
     Err(Fail::new(format_args!("its value is {shown}")))
 }
 
-/// Asks of an accepted input that its value is shown as the row says and written, and of a short one that it is sent into
-/// sinks that fail, that no beginning is accepted, and what changes of one byte come to.
+/// Asks of an accepted input that its value is shown as the row says and written, and of a short one that it is sent
+/// into sinks that fail, that no beginning is accepted, and what changes of one byte come to.
 fn is_kept<T: DerDeserialize + SeenByText + Debug>(alloc: Global, row: &Row) -> Result<(), Fail> {
     let value: T = is_written_anew(alloc, &row.input, &row.text)?;
     is_shown(alloc, &value, row)?;
@@ -253,7 +253,7 @@ pub fn is_so_under_tags<T: DerTagged + SeenByText + TryClone + Debug>(
     stands_under_tags::<T>(alloc, row)
 }
 
-/// Asks that under another tag an accepted input's text is the same but for its first byte, and is read as the same value.
+/// Asks that under another tag an accepted input's encoding differs in its first byte alone, and has the same value.
 pub fn stands_under_tags<T: DerTagged + SeenByText>(alloc: Global, row: &Row) -> Result<(), Fail> {
     let Ok(value) = from_bytes::<T>(alloc, &row.input) else {
         return Ok(());

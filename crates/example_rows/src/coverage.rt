@@ -24,7 +24,7 @@ impl Said {
     }
 }
 
-/// The words of the kinds whose types have no spelling but the normal one.
+/// The words of the kinds whose types have no spelling but the canonical (normal) one.
 const STRICT: &str = "\
     attributes certificatebag certificatechoices certificateserialnumber certificateset certpolicy cmsversion \
     contentinfo crlbag ctl ctlentry ctlentryattribute digestalgorithmidentifier digestalgorithmidentifiers \

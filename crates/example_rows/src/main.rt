@@ -1,6 +1,6 @@
-//! The worked examples that are inputs: each row of standard input is a type, an input in hexadecimal, what a check says
-//! of it, the text where that is another, and the value where it is said. Prints each row that doesn't hold and each kind
-//! that lacks a row, and counts the others.
+//! The worked examples that are inputs: each row of standard input is a type, an input in hexadecimal, what a check
+//! says of it, its encoding where that is another, and the value where it is said. Prints each row that doesn't hold
+//! and each kind that lacks a row, and counts the others.
 #![tactic(auto)]
 
 mod checks;

@@ -96,7 +96,7 @@ fn is_so(alloc: Global, word: &str, row: &Row) -> Result<(), Fail> {
     kinds::is_so(alloc, kind, row)
 }
 
-/// Asks what a row says. Its first column is the word of a type, with ` of N headers` or ` within N levels` behind it.
+/// Asks what a row says. Its first column is the word of a type, with ` of N headers` or ` within N levels` after it.
 pub fn holds(alloc: Global, line: &str) -> Result<(), Fail> {
     let columns: Vec<&str> = line.split(" | ").collect(alloc)?;
     let subject = columns.first().ok_or("no column")?;

@@ -18,7 +18,7 @@ never n = search (rules, n)
 pub through : {P Q R : Type 0} → P ↔ Q → Q ↔ R → P ↔ R
 through p q = (λ h. q.0 (p.0 h), λ h. p.1 (q.1 h))
 
--- the parts are well-formed, and so is what stands behind them
+-- the parts are well-formed, and so is what follows them
 module _ {R : Type 0} (F : Format R) (k : ℕ) where
   signer_split : (p : SignerParts R) → ((signer_parts nothing).IsWellFormed k (signer_end p tt) × F.IsWellFormed k (behind_signer p)) ↔ (signer_parts F).IsWellFormed k p
   signer_split p = (
@@ -49,7 +49,7 @@ module _ (k : ℕ) (x : SignerInfo) {h : SignerParts (Unit {0})} (e : h ≡ part
   pub signer_formed : {P : Type 0} → (signer_parts nothing).IsWellFormed k h → P ↔ unsigned_attributes.IsWellFormed k (attributes_in x) → P ↔ signer.IsWellFormed k (signer_value x)
   signer_formed w p = (λ q. signer_is.0 (w, p.0 q), λ q. p.1 (signer_is.1 q).1)
 
--- signed data, of whose parts h are the first, and whose signers stand a level down
+-- signed data, of whose parts h are the first, and whose signers are a level down
 module _ (x : SignedData) {h : SignedParts (Unit {0})} (e : h ≡ parts_of_signed x tt) where
   signed_is : (k : ℕ) → ((signed_parts nothing).IsWellFormed (suc k) h × signer_infos.IsWellFormed k (signers_value (out-SignedData x).signers_infos)) ↔ signed_data.IsWellFormed (suc k) (signed_value x)
   signed_is k =

@@ -1,5 +1,5 @@
 -- Lists of nodes, each of which holds a list of nodes: the values of types that hold one another. A sort of nodes has
--- arms; an arm says what stands in it, and of which sort the nodes are that it holds.
+-- alternatives; each says what data it has, and of which sort the nodes are that it holds.
 use Rattle.std.specs.Prelude.{◌≡◌, ℕ, ◌+◌, List, [], ◌∷◌, ◌++◌, map}
 use Rattle.std.specs.List.{flat_map}
 use Rattle.std.proofs.Common.{refl, ap, ap₂}
@@ -29,7 +29,7 @@ module _ {I : Type 0} (A : I → Type 0) (P : (i : I) → A i → Type 0) (c : (
   forest_nodes none = refl
   forest_nodes (more a p f g) = ap (more a p f) (forest_nodes g)
 
-  -- what is made of a node, of what was made of those that it holds
+  -- what is made of a node, from what was made of those that it holds
   module _ {T : Type 0} (t : (i : I) (a : A i) → P i a → List T → T) where
     abbrev pub fold_all : {i : I} → Forest A P c i → List T
     fold_all none = []
@@ -42,7 +42,7 @@ module _ {I : Type 0} (A : I → Type 0) (P : (i : I) → A i → Type 0) (c : (
     nil_same none = refl
     nil_same (more a p f g) = refl
 
-  -- the same nodes, with something else in each arm
+  -- the same nodes, with something else in each alternative
   module _ (n : (i : I) (a : A i) → P i a → P i a) where
     abbrev pub same_all : {i : I} → Forest A P c i → Forest A P c i
     same_all none = none

@@ -26,7 +26,7 @@ use Rattle.pkcs7_signed.specs.Parts.{SignerParts, signer_end, signer_parts, Sign
 use Rattle.pkcs7_signed.specs.declared.heads.SignedHead.{SignedHead}
 use Rattle.pkcs7_signed.specs.declared.heads.SignerHead.{SignerHead}
 
--- the parts, and what stands behind them
+-- the parts, and what follows them
 abbrev pub elements : Vec Asn1RawDer Global → List ElementOctets
 elements v = map (λ x. x.0.items) v.items
 
@@ -42,7 +42,7 @@ signer_head_value x = signer_parts_value x.version x.sid.now x.digest_algorithm.
 abbrev pub signed_head_value : SignedHead → SignedParts (Unit {0})
 signed_head_value x = signed_parts_value x.version x.digest_algorithms.now x.content_info.now x.certificates.now x.crls.now tt
 
--- the parts, and then what stands behind them
+-- the parts, and then what follows them
 appended : (a x t y : List ℕ) → x ++ t ≡ y → (a ++ x) ++ t ≡ a ++ y
 appended a x t y e = append_assoc a x t ∙ ap (λ z. a ++ z) e
 

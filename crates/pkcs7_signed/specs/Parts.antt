@@ -1,4 +1,4 @@
--- What stands in a signer before its unsigned attributes, and in signed data before its signers.
+-- The parts of a signer before its unsigned attributes, and of signed data before its signers.
 use Rattle.std.specs.Prelude.{◌≡◌, ℕ, List, Option}
 use Rattle.std.proofs.Common.{arith, ⊎_elim}
 use Rattle.asn1_core.specs.Der.{Format, IsLawfulRow, number_below, lawful_number, version, lawful_version_1, part, optional, followed_by, perhaps, octet_string, lawful_octet_string, Octets, no_grammar, always, omitted, is_default, lawful_omitted}
@@ -13,7 +13,7 @@ use Rattle.x509_base.specs.Algorithms.{AlgorithmValue, algorithm_identifier}
 use Rattle.x509_base.specs.AlgorithmLaws.{lawful_algorithm_identifier}
 use Rattle.x509_base.specs.Names.{AttributeValue}
 
--- a signer before its unsigned attributes, and what stands behind
+-- a signer before its unsigned attributes, and what follows
 abbrev pub SignerParts : Type 0 → Type 0
 SignerParts R = ℕ × (SignerIdValue × (AlgorithmValue × (List AttributeValue × (AlgorithmValue × (Octets × R)))))
 
@@ -36,7 +36,7 @@ lawful_signer_parts {V} {R} r =
     (followed_by lawful_algorithm_identifier (followed_by lawful_octet_string r))
     no_attributes_left_out (λ t h e. omega arith))))
 
--- signed data before its signers, and what stands behind
+-- signed data before its signers, and what follows
 abbrev pub SignedParts : Type 0 → Type 0
 SignedParts R = ℕ × (List AlgorithmValue × (EncapsulatedValue × (List CertificateValue × (Option (List RevocationValue) × R))))
 

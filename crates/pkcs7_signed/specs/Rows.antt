@@ -1,9 +1,10 @@
--- Rows of the types that hold one another, over what stands for the types inside:
+-- Bodies (rows) of the types that hold one another, over the formats of the types inside:
 -- SignerInfo ::= SEQUENCE { .., unsignedAttrs [1] IMPLICIT SET OF UnsignedAttribute OPTIONAL } (RFC 5652, 5.3)
 -- SignedData ::= SEQUENCE { .., signerInfos SET OF SignerInfo } (RFC 5652, 5.1)
--- Pkcs7Certificate ::= SEQUENCE { contentType OBJECT IDENTIFIER (id-signedData), content [0] EXPLICIT SignedData } (RFC 5652, 3)
+-- Pkcs7Certificate ::= SEQUENCE { contentType OBJECT IDENTIFIER (id-signedData), content [0] EXPLICIT SignedData }
+-- (RFC 5652, 3)
 -- UnsignedAttribute ::= SEQUENCE { type OBJECT IDENTIFIER, values SET OF ANY DEFINED BY type } (RFC 5652, 5.3)
--- Absent unsigned attributes are none; signed data stand nowhere where no level is left.
+-- Absent unsigned attributes are an empty set; signed data need a nesting level to be left.
 use Rattle.std.specs.Prelude.{◌⊎◌, ℕ, List, if◌then◌else◌}
 use Rattle.std.specs.Str.{bytes_eq}
 use Rattle.std.proofs.Common.{refl, inl, inr, arith}

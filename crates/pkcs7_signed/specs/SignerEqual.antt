@@ -35,7 +35,7 @@ use Rattle.pkcs7_signed.specs.contracts.signers.UnsignedAttributeValuePartialEq.
 told : {V : Type 0} {p q : Bool} {v w r s : V} → p ≡ q → v ≡ r → w ≡ s → (q ≡ true) ↔ (r ≡ s) → (p ≡ true) ↔ (v ≡ w)
 told t e f d = (λ h. e ∙ d.0 (sym t ∙ h) ∙ sym f, λ h. t ∙ d.1 (sym e ∙ h ∙ f))
 
--- the test of rows, of the values made of them
+-- the test of bodies (rows), and so that of the values made of them
 of_rows : {R V : Type 0} (out : V → R) (into : R → V) → ((r : R) → out (into r) ≡ r) → {q : Bool} {r s : R} → (q ≡ true) ↔ (r ≡ s) → (q ≡ true) ↔ (into r ≡ into s)
 of_rows out into there {q} {r} {s} d = (λ h. ap into (d.0 h), λ h. d.1 (sym (there r) ∙ ap out h ∙ there s))
 
@@ -63,7 +63,7 @@ row_told eq value (x ∷ xs) a (y ∷ ys) =
 list_told : {T V : Type 0} (eq : T → T → Bool) (value : T → V) {xs zs : List T} → zs ≡ xs → AllByRecursion (Tells eq value) xs → (ys : List T) → (pointwise eq zs ys ≡ true) ↔ (map value zs ≡ map value ys)
 list_told eq value e a ys = subst (λ zs. (pointwise eq zs ys ≡ true) ↔ (map value zs ≡ map value ys)) (sym e) (row_told eq value _ a ys)
 
--- what stands in an attribute
+-- what an attribute holds
 abbrev arm_of : UnsignedAttributeValue-F UnsignedAttributeValue Pkcs7Certificate SignedData SignerInfo SignersInfos UnsignedAttribute UnsignedAttributes → UnsignedValues (Value certificates) (Value signers)
 arm_of (UnsignedAttributeValue-F.MsCounterSign s) = inl (map certificate_value s.0.items)
 arm_of (UnsignedAttributeValue-F.CounterSign s) = inr (inl (map signer_value s.0.items))
@@ -79,7 +79,7 @@ attribute_told x h y =
     told (Attribute.Laws.is x y) (search (rules, the_lemmas)) (search (rules, the_lemmas))
     (of_rows attribute_out attribute_into attribute_there (two_equal (equal_octets (out-UnsignedAttribute x).ty.0 (out-UnsignedAttribute y).ty.0) (h (out-UnsignedAttribute y).value)))
 
--- the types by their data, and the lists that they hold as rows of these
+-- the types by their data, and the lists that they hold by the items of these
 mutual
   unfolding out-UnsignedAttributeValue out-Pkcs7Certificate out-SignedData out-SignerInfo out-SignersInfos out-UnsignedAttributes denote.Hole.Carrier.out
 

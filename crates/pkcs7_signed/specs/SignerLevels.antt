@@ -40,7 +40,7 @@ value_certificate x = search (rules, the_lemmas)
 value_attribute : (x : UnsignedAttribute) → attribute_value x ≡ attribute_into (octets_of (out-UnsignedAttribute x).ty.0, values_value (out-UnsignedAttribute x).value)
 value_attribute x = search (rules, the_lemmas)
 
--- the parts of a signer, and what stands behind them
+-- the parts of a signer, and what follows them
 abbrev pub parts_of_signer : {R : Type 0} → SignerInfo → R → SignerParts R
 parts_of_signer x r =
     signer_parts_value (out-SignerInfo x).version (out-SignerInfo x).sid (out-SignerInfo x).digest_algorithm (out-SignerInfo x).signed_attrs.0
@@ -60,7 +60,7 @@ parts_of_signed x r =
 pub value_signed : (x : SignedData) → signed_value x ≡ parts_of_signed x (signers_value (out-SignedData x).signers_infos)
 value_signed x = search (rules, the_lemmas)
 
--- as rows
+-- as bodies (rows)
 pub out_certificate : (x : Pkcs7Certificate) → certificate_out (certificate_value x) ≡ (octets_of (out-Pkcs7Certificate x).oid.0, signed_value (out-Pkcs7Certificate x).signed_data.0)
 out_certificate x = ap certificate_out (value_certificate x) ∙ certificate_there _
 
@@ -70,7 +70,7 @@ out_attribute x = ap attribute_out (value_attribute x) ∙ attribute_there _
 pub out_signer : (x : SignerInfo) → signer_out (signer_value x) ≡ parts_of_signer x (attributes_in x, tt)
 out_signer x = ap signer_out (value_signer x) ∙ signer_there _
 
--- the text of a signer: without attributes, and with some
+-- the encoding of a signer: without attributes, and with some
 text_signer : (x : SignerInfo) → (signer_row attribute).text (parts_of_signer x (attributes_in x, tt)) ≡ signer.text (signer_value x)
 text_signer x = ap (signer_row attribute).text (sym (out_signer x)) ∙ unroll_text {I = Unit {0}} {V = λ _. Value signers} still step signer_step tt (signer_value x)
 
@@ -86,7 +86,7 @@ module _ (x : SignerInfo) {h : SignerParts (Unit {0})} (e : h ≡ parts_of_signe
       ∙ ap (element 0x30) (signer_head_text (ending (text_unless (is_nil (attributes_in x)) t ++ []) 0) tt (parts_of_signer x tt))
       ∙ text_signer x
 
--- the text of signed data
+-- the encoding of signed data
 pub text_signed : (x : SignedData) {h : SignedParts (Unit {0})} → h ≡ parts_of_signed x tt → element 0x30 ((signed_parts nothing).text h ++ signer_infos.text (signers_value (out-SignedData x).signers_infos)) ≡ signed_data.text (signed_value x)
 text_signed x e =
     let v : List (Value signers) = signers_value (out-SignedData x).signers_infos in

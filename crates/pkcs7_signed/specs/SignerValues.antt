@@ -1,4 +1,4 @@
--- The values that signers, what they hold and signed data stand for.
+-- The values of signers, of what they hold and of signed data.
 use Rattle.std.specs.Prelude.{List}
 use Rattle.std.proofs.Common.{inl, inr}
 use Rattle.asn1_core.specs.Der.{octets_of}

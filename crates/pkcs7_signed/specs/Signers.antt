@@ -1,4 +1,4 @@
--- Signers, what they hold, and signed data. A signer inside an attribute stands a level down, and so do the signers of
+-- Signers, what they hold, and signed data. A signer inside an attribute is a level down, and so are the signers of
 -- signed data, which take a level themselves.
 use Rattle.std.specs.Prelude.{◌≡◌, ℕ, List, [], map}
 use Rattle.std.proofs.Common.{inl, inr}
@@ -9,7 +9,7 @@ use Rattle.pkcs7_signed.specs.Rows.{SignerRow, signer_row, SignedRow, signed_row
 use Rattle.pkcs7_signed.specs.declared.signers.Kind.{Kind}
 use Rattle.pkcs7_signed.specs.declared.signers.Kind.TheVariants.{MsCounterSign, CounterSign, Foreign}
 
--- the values: a signer holds attributes, an attribute certificates or signers or none of these, and a certificate signers
+-- the values: a signer holds attributes, an attribute certificates, signers or neither, and a certificate signers
 pub data Sort : Type 0 where
   signers : Sort
   attributes : Sort
@@ -78,7 +78,7 @@ attribute_into (o, inl vs) = (MsCounterSign, o, trees vs)
 attribute_into (o, inr (inl vs)) = (CounterSign, o, trees vs)
 attribute_into (o, inr (inr xs)) = (Foreign, (o, xs), none)
 
--- the formats, over what stands for a signer a level down
+-- the formats, over that of a signer a level down
 abbrev pub certificate_with : Format (Value signers) → Format (Value certificates)
 certificate_with F = rolled certificate_out certificate_into (certificate_row F)
 
@@ -88,7 +88,7 @@ attribute_with F = rolled attribute_out attribute_into (attribute_row (certifica
 abbrev pub signer_with : Format (Value signers) → Format (Value signers)
 signer_with F = rolled signer_out signer_into (signer_row (attribute_with F))
 
--- what is made of a node, of what was made of those inside: a text, a count
+-- what is made of a node, from what was made of those inside: an encoding, a count
 abbrev pub as_text : Format (List ℕ)
 as_text = always (record { text = λ t. t; normal = λ t. t; IsTag = λ _. ⊥; least = λ _. 0 }) no_grammar
 

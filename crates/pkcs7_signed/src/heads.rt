@@ -1,4 +1,4 @@
-//! Signers and signed data without what holds further signers, lent, as they are written and tested.
+//! Signers and signed data without what holds further signers, borrowed, as they are written and tested.
 
 ghost use Rattle.std.specs.Prelude.{◌≡◌, List};
 ghost use Rattle.asn1_core.specs.Der.{nothing};

@@ -22,7 +22,7 @@ use std::alloc::Global;
 
 /// `SignerInfo ::= SEQUENCE { version CMSVersion, sid SignerIdentifier, digestAlgorithm DigestAlgorithmIdentifier,
 /// signedAttrs [0] IMPLICIT SignedAttributes OPTIONAL, signatureAlgorithm SignatureAlgorithmIdentifier, signature
-/// SignatureValue, unsignedAttrs [1] IMPLICIT UnsignedAttributes OPTIONAL }` (RFC 5652, 5.3). Absent attributes are none.
+/// SignatureValue, unsignedAttrs [1] IMPLICIT UnsignedAttributes OPTIONAL }` (RFC 5652, 5.3). Absence is an empty set.
 #[cycle(signed)]
 #[derive(Debug, Drop, PartialEq)]
 pub struct SignerInfo {
@@ -54,7 +54,7 @@ pub struct UnsignedAttribute {
     pub value: UnsignedAttributeValue,
 }
 
-/// The values of an unsigned attribute, as the object identifier in front of them says. This only writes.
+/// The values of an unsigned attribute, as the object identifier before them says. This only writes.
 #[cycle(signed)]
 #[derive(Debug, Drop, PartialEq)]
 pub enum UnsignedAttributeValue {
@@ -77,7 +77,7 @@ pub struct Pkcs7Certificate {
 
 /// `SignedData ::= SEQUENCE { version CMSVersion, digestAlgorithms DigestAlgorithmIdentifiers, encapContentInfo
 /// EncapsulatedContentInfo, certificates [0] IMPLICIT CertificateSet OPTIONAL, crls [1] IMPLICIT RevocationInfoChoices
-/// OPTIONAL, signerInfos SignerInfos }` (RFC 5652, 5.1). It takes a level. Absent certificates are none.
+/// OPTIONAL, signerInfos SignerInfos }` (RFC 5652, 5.1). It takes a nesting level. Absent certificates are none.
 #[cycle(signed)]
 #[derive(Debug, Drop, PartialEq)]
 pub struct SignedData {
@@ -113,7 +113,7 @@ impl Kind {
 }
 
 impl UnsignedAttributes {
-    /// None. Takes no memory.
+    /// The empty set. Takes no memory.
     pub fn empty(alloc: Global) -> Self
         ensures { (out-UnsignedAttributes result).0.items ≡ [] }
     {

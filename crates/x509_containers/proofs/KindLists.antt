@@ -25,7 +25,7 @@ use Rattle.x509_containers.specs.declared.kinds.signed_parts.SignedPartKind.{Sig
 use Rattle.x509_containers.specs.declared.kinds.stores.StoreKind.{StoreKind}
 use Rattle.x509_containers.specs.declared.kinds.trust_lists.TrustListKind.{TrustListKind}
 
--- among a list with another behind it, and among one with another before it
+-- among a list with another after it, and among one with another before it
 here : {B : Type 0} (xs ys : List B) (y : B) → IsAmong xs y → IsAmong (xs ++ ys) y
 here [] ys y i = absurd i
 here (a ∷ rest) ys y (inl e) = inl e

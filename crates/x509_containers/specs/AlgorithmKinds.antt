@@ -1,4 +1,4 @@
--- Algorithms of PKCS #12 and of encryption by passwords, as kinds of input: their words, and what inputs are written as.
+-- Algorithms of PKCS #12 and of encryption by password, as kinds of input: their words, and what inputs are written as.
 use Rattle.std.specs.Prelude.{List, [], ◌∷◌, codes}
 use Rattle.pkcs12_algs.specs.Digests.{digest_info, mac_data}
 use Rattle.pkcs12_algs.specs.Encryption.{encryption_algorithm}

@@ -1,5 +1,5 @@
--- Content under its type, enveloped data and protection descriptors, as kinds of input: their words, and what inputs are
--- written as.
+-- Content under its type, enveloped data and protection descriptors, as kinds of input: their words, and what inputs
+-- are written as.
 use Rattle.std.specs.Prelude.{List, [], ◌∷◌, codes}
 use Rattle.x509_pkcs7.specs.ContentInfos.{content_info}
 use Rattle.x509_pkcs7.specs.Descriptors.{descriptor, general_descriptor}

@@ -27,7 +27,7 @@ entry_of (TrustList kind) = TrustListKinds.entry_of kind
 abbrev pub word_of : Kind → List ℕ
 word_of kind = (entry_of kind).word
 
--- what the texts of inputs of that kind are
+-- what inputs of that kind are rewritten to
 abbrev pub rewriting_as : Kind → Rewriting
 rewriting_as kind = (entry_of kind).rewriting
 

@@ -13,13 +13,13 @@ use Rattle.x509_containers_program.specs.declared.answers.Answer.TheVariants.{Ra
 use Rattle.x509_containers_program.specs.declared.words.WordsError.{WordsError}
 use Rattle.x509_containers_program.specs.declared.words.WordsError.TheVariants.{NotUtf8, Memory}
 
--- an input is run just as the words ask, and words are wrong that ask for nothing
+-- an input is run exactly as the words ask, and words that ask for nothing are wrong
 abbrev pub IsAsked : Answer → List (List ℕ) → Type 0
 IsAsked (Ran mode kind outcome) words = Asks words mode kind
 IsAsked WrongWords words = (mode : Mode) (kind : Kind) → Asks words mode kind → ⊥
 IsAsked NoMemory words = ⊥
 
--- words that aren't UTF-8 are wrong; want of memory makes no words wrong
+-- words that aren't UTF-8 are wrong; a lack of memory makes no words wrong
 abbrev pub answer_without : WordsError → Answer
 answer_without NotUtf8 = WrongWords
 answer_without Memory = NoMemory
@@ -39,12 +39,12 @@ Did _ coming unread held unwritten source source_new output output_new = (source
 abbrev pub Says : List ℕ → Option (List ℕ) → Option (List ℕ) → ℕ → ℕ → Type 0
 Says line old new unsaid unsaid_new = (Appends old new line × (unsaid_new ≡ unsaid)) ⊎ (AppendsBeginning old new line × (unsaid_new ≡ unsaid + 1))
 
--- what is said where there is a line, and that nothing is where there is none
+-- what is said where there is a line, and that nothing is said where there is none
 pub record Complains {C : Type 0} (line : List ℕ) (held : C → Option (List ℕ)) (unsaid : C → ℕ) (old new : C) : Type 0 where
   pub nothing : line ≡ [] → new ≡ old
   pub all : line ≢ [] → Says line (held old) (held new) (unsaid old) (unsaid new)
 
--- the whole program: there is an answer to the words, which it does, says and ends with
+-- the whole program: the answer to the words decides what it does, what it says and its exit status
 pub record Answers {A R W C : Type 0} (words : A → List (List ℕ)) (given : Result A WordsError)
     (coming : R → Option (List ℕ)) (unread : R → ℕ) (held : W → Option (List ℕ)) (unwritten : W → ℕ) (said : C → Option (List ℕ)) (unsaid : C → ℕ)
     (source source_new : R) (output output_new : W) (complaints complaints_new : C) (exit : ℕ) : Type 0 where

@@ -10,7 +10,7 @@ use Rattle.der_engine.specs.declared.outcome.Mode.{Mode}
 use Rattle.x509_containers_program.specs.declared.words.WordsError.{WordsError}
 use Rattle.x509_containers_program.specs.declared.words.WordsError.TheVariants.{Memory}
 
--- behind the program's name stand a word for the mode and one for the kind, and no more
+-- after the program's name there are a word for the mode and one for the kind, and no more
 abbrev pub Asks : List (List ℕ) → Mode → Kind → Type 0
 Asks words mode kind = (name : List ℕ) × (words ≡ name ∷ word_of_mode mode ∷ word_of kind ∷ [])
 

@@ -53,7 +53,7 @@ fn run_known<R: Source, W: Sink>(
     }
 }
 
-/// Says a line, or nothing. A sink that fails is left at that.
+/// Says a line, or nothing. A failure of the sink is ignored.
 fn complain<C: Sink>(complaints: &mut C, line: &str)
     requires { C.failed complaints.old < u64.MAX }
     ensures { Complains line.now C.held C.failed complaints.old complaints.new }
@@ -63,9 +63,9 @@ fn complain<C: Sink>(complaints: &mut C, line: &str)
     }
 }
 
-/// Does what the words of a command line ask for, and answers the exit status: 0 where the input is normal or its text
-/// was written, 3 where it is loose, 1 where it was refused, memory was, or a read or a write failed, 2 where the words
-/// are wrong. The words begin with the program's name. Wrong words are answered before a byte is read.
+/// Does what the words of a command line ask for, and answers the exit status: 0 where the input is canonical (normal)
+/// or its encoding was written, 3 where it is loose, 1 where it was refused, memory was, or a read or a write failed, 2
+/// where the words are wrong. The words begin with the program's name. Wrong words are answered before a byte is read.
 pub fn answer_words<R: Source, W: Sink, C: Sink>(
     alloc: Global,
     words: Result<Vec<String>, WordsError>,

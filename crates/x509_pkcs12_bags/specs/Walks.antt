@@ -1,4 +1,4 @@
--- All bags of a list, those in bags too: a bag before the bags in it, and these before the bag behind it.
+-- All bags of a list, those in bags too: a bag comes before the bags in it, and these before the next bag.
 use Rattle.std.specs.Prelude.{List, [], ◌∷◌, ◌++◌}
 use Rattle.std.specs.List.{flat_map}
 use Rattle.x509_pkcs12_bags.specs.Bags.{Bag, holder, plain, Bags, no_bags, more_bags}

@@ -1,4 +1,4 @@
-//! All bags in a row, those in bags too.
+//! All bags of a list, those in bags too.
 
 ghost use Rattle.std.specs.Prelude.{◌≡◌, ◌++◌, MatchResult, map};
 ghost use Rattle.asn1_core_element.specs.declared.error.Error.TheVariants.{Memory};

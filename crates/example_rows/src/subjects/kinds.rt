@@ -33,8 +33,8 @@ fn is_so_at_its_type(alloc: Global, kind: Kind, row: &Row) -> Result<(), Fail> {
     }
 }
 
-/// Asks what a row says under other tags, of the types that have a tag of their own, and of clones, in the layer that has
-/// types without them.
+/// Asks what a row says under other tags, of the types that have a tag of their own, and of clones, in the layer that
+/// has types without them.
 fn is_so_besides(alloc: Global, kind: Kind, row: &Row) -> Result<(), Fail> {
     match kind {
         Kind::Authenticode(AuthenticodeKind::SpcSerializedObject) => {

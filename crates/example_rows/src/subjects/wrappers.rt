@@ -1,5 +1,5 @@
-//! Lists, tags and containers, whose words name what is in them too, and a type of a caller's own. These are no kinds of
-//! `derbox`.
+//! Lists, tags and containers, whose words name what is in them too, and a type of a caller's own. These are no kinds
+//! of `derbox`.
 
 use crate::checks::{is_so as at, is_so_under_tags as under_tags};
 use crate::rows::Row;

@@ -1,7 +1,7 @@
 //! What code is made of the tables of kinds.
 
-/// Calls a macro with the table of a layer. An entry is a kind with its word, as `RawPfx = "rawpfx"`, and its type has the
-/// name of the kind, as in `Pfx<ParsedAuthenticatedSafeDataRepr> = "pfx"` with its argument.
+/// Calls a macro with the table of a layer. An entry is a kind with its word, as `RawPfx = "rawpfx"`, and its type has
+/// the name of the kind, as in `Pfx<ParsedAuthenticatedSafeDataRepr> = "pfx"` with its argument.
 #[macro_export]
 macro_rules! table_of_kinds {
     ($by:ident $arguments:tt $kinds:ident $($kind:ident $(<$argument:ident>)? = $word:literal,)*) => {
