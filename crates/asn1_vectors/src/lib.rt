@@ -1,5 +1,5 @@
-//! Tests of the lower layers by their public calls, of what rows and contracts don't say: room and writes, kinds of
-//! refusal, words of errors, clones of copied values, ill-formed values. Expected values are those of the standards.
+//! Tests of the lower layers by their public calls, of what neither a row nor a contract says: room and writes, places of
+//! refusals, words of errors, clones of what is copied, and ill-formed values. Expected values are those of the standards.
 #![tactic(auto)]
 
 #[cfg(test)]
@@ -8,6 +8,8 @@ mod errors;
 mod large;
 #[cfg(test)]
 mod objects;
+#[cfg(test)]
+mod places;
 #[cfg(test)]
 mod times;
 #[cfg(test)]
