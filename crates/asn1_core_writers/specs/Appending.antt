@@ -1,6 +1,6 @@
 -- What a buffer takes behind what it holds.
 use Rattle.std.specs.Prelude.{◌≡◌, ℕ, ◌+◌, ◌≤◌, ◌^◌, List, [], ◌++◌, length, Result, Ok, Err, MatchResult}
-use Rattle.std.proofs.Common.{refl, sym, ap, ◌∙◌, arith, append_assoc, append-nil, length-append}
+use Rattle.std.proofs.Common.{sym, ap, ◌∙◌, arith, append_assoc, append-nil, length-append}
 use Rattle.asn1_core_writers.specs.Writers.{IsForward}
 use Rattle.asn1_core_writers.specs.declared.writer.WriteError.{WriteError}
 

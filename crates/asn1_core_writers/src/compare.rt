@@ -1,17 +1,18 @@
 //! Texts that are compared with an input, without memory.
 
-ghost use Rattle.std.specs.Prelude.{◌≡◌, ◌↔◌, ℕ, [], Some, IsTrue, true};
+ghost use Rattle.std.specs.Prelude.{◌≡◌, ◌↔◌, ℕ, [], Some, Ok, IsTrue, true};
 ghost use Rattle.std.proofs.Common.{rules};
-ghost use Rattle.asn1_core_writers.specs.Comparing.{Comparison, ComparesTo, IsBefore, lent, compared_backward, compared_nothing};
+ghost use Rattle.asn1_core_writers.specs.Comparing.{Comparison, ComparesTo, IsBefore, IsLongestEnd, IsPlace, lent, before_of, place_of, compared_backward, compared_nothing};
 
 use crate::writer::{WriteError, Writer};
 use std::marker::Model;
 
-/// Holds an input against what it takes, from the end of both. After a refusal nothing is promised of where it stands.
+/// Holds an input against what it takes, from the end of both. After a refusal nothing is promised of where it is.
 #[derive(Drop)]
 pub struct Compare<'a> {
-    /// What stands in the input before the bytes that were taken; `None` once these are no end of the input.
-    before: Option<&'a [u8]>,
+    /// What the input has before the bytes that were taken; once these are no end of it, how many bytes it has before the
+    /// longest end of both.
+    before: Result<&'a [u8], usize>,
     total: usize,
 }
 
@@ -26,10 +27,10 @@ impl<'a> Model for Compare<'a> {
 impl<'a> Compare<'a> {
     /// Nothing was taken.
     pub fn new(input: &'a [u8]) -> Compare<'a>
-        ensures { result ≡ record { before = Some input.now; total = 0 } }
+        ensures { result ≡ record { before = Ok input.now; total = 0 } }
     {
         Compare {
-            before: Some(input),
+            before: Ok(input),
             total: 0,
         }
     }
@@ -41,24 +42,56 @@ impl<'a> Compare<'a> {
         self.total
     }
 
-    /// Whether what was taken is the input.
-    pub fn is_same(&self) -> bool
-        ensures { IsTrue result ↔ (self.now.before ≡ Some []) }
+    /// Where in the input the longest end begins that what was taken ends in too. It is the input's length where the last
+    /// bytes differ, and 0 where the whole input is an end of what was taken.
+    pub fn place(&self) -> usize
+        ensures { result ≡ place_of self.now.before }
     {
         match self.before {
-            Some(before) => before.is_empty(),
-            None => false,
+            Ok(before) => before.len(),
+            Err(place) => place,
+        }
+    }
+
+    /// Whether what was taken is the input.
+    pub fn is_same(&self) -> bool
+        ensures { IsTrue result ↔ (before_of self.now.before ≡ Some []) }
+    {
+        match self.before {
+            Ok(before) => before.is_empty(),
+            Err(_) => false,
         }
     }
 }
 
-/// What stands before that end, if it is one.
-fn without_end<'a>(before: Option<&'a [u8]>, end: &[u8]) -> Option<&'a [u8]>
-    ensures { IsBefore end.now (lent before.entry) (lent result) }
+/// How many bytes an input has before the longest end of it and of other bytes.
+fn before_longest_end(input: &[u8], bytes: &[u8]) -> usize
+    ensures { IsLongestEnd bytes.now input.now result }
 {
-    match before {
-        Some(whole) => whole.strip_suffix(end),
-        None => None,
+    let mut before = input;
+    let mut rest = bytes;
+    while let [front @ .., last] = before {
+        let [others @ .., other] = rest else {
+            return before.len();
+        };
+        if last != other {
+            return before.len();
+        }
+        before = front;
+        rest = others;
+    }
+    0
+}
+
+/// What is before that end, if it is one. Only where it first differs are bytes compared one by one.
+fn without_end<'a>(before: Result<&'a [u8], usize>, end: &[u8]) -> Result<&'a [u8], usize>
+    ensures before { IsBefore end.now (before_of (lent before.entry)) (before_of (lent result)) }
+    ensures place { IsPlace end.now (lent before.entry) (lent result) }
+{
+    let whole = before?;
+    match whole.strip_suffix(end) {
+        Some(front) => Ok(front),
+        None => Err(before_longest_end(whole, end)),
     }
 }
 
