@@ -22,6 +22,7 @@
  *  - Memory comes from malloc, realloc and free, which are those of one allocator. A block of malloc and of realloc is
  *    aligned to each power of two up to 16 that divides its size.
  *  - No call is made from a signal handler, nor from the child that a process with threads forked.
+ *  - The stack has room for the nesting of the input, see DER_MAX_NESTING.
  * Calls share nothing, so threads may make them side by side, each with an out and numbers of its own. */
 #ifndef DER_H
 #define DER_H
@@ -34,6 +35,12 @@
 extern "C" {
 #endif
 
+/* The most levels of nesting that an input may have: bags in bags, signed data in time stamps, counter signatures of
+ * counter signatures. A caller on a small stack passes a lower limit to der_check_limited and der_rewrite_limited. A
+ * level takes at most 3.5 KB of stack, so 64 levels pass in 256 KB, program and thread included. That is measured, not
+ * proved. */
+#define DER_MAX_NESTING 64
+
 typedef enum der_status {
   DER_NORMAL = 0,       /* the input is normal; of der_rewrite, der_kind and der_mac_range: it is done */
   DER_LOOSE = 1,        /* the input has another text, which is normal */
@@ -41,18 +48,19 @@ typedef enum der_status {
   DER_MALFORMED = 3,    /* 3 to 6: the input is no text of the kind: bytes that are no element, or too many */
   DER_MISSING = 4,      /* an element isn't there */
   DER_INVALID = 5,      /* a tag, version, object identifier, character or number that can't stand there */
-  DER_TOO_DEEP = 6,     /* more than 64 levels of nesting */
+  DER_TOO_DEEP = 6,     /* more levels of nesting than the limit */
   DER_TOO_LONG = 7,     /* its normal text has 2^64 bytes or more */
   DER_NO_MEMORY = 8,    /* a request for memory was refused: nothing is said of the input */
   DER_NO_ROOM = 9,      /* out is too short: the number of bytes that are needed is written */
   DER_NO_RANGE = 10     /* authSafe isn't data, so that no octets of the file are covered by a MAC */
 } der_status;
 
-/* The calls themselves, which answer a der_status. The functions behind them take strings. */
-uint32_t der_check_word(const uint8_t *word, size_t word_len, const uint8_t *input, size_t input_len,
-                        size_t *normal_len);
-uint32_t der_rewrite_word(const uint8_t *word, size_t word_len, const uint8_t *input, size_t input_len, uint8_t *out,
-                          size_t out_len, size_t *written);
+/* The calls themselves, which answer a der_status. The functions that follow them take strings. A limit above 64 counts
+ * as 64. */
+uint32_t der_check_word_limited(const uint8_t *word, size_t word_len, uint8_t limit, const uint8_t *input,
+                                size_t input_len, size_t *normal_len, size_t *place);
+uint32_t der_rewrite_word_limited(const uint8_t *word, size_t word_len, uint8_t limit, const uint8_t *input,
+                                  size_t input_len, uint8_t *out, size_t out_len, size_t *written);
 uint32_t der_kind_word(size_t index, uint8_t *out, size_t out_len, size_t *written);
 
 /* Which octets of a PKCS #12 file a MAC covers: the contents octets of the OCTET STRING that is the content of
@@ -67,26 +75,73 @@ uint32_t der_kind_word(size_t index, uint8_t *out, size_t out_len, size_t *writt
  * Unless at DER_NORMAL both numbers are 0. */
 uint32_t der_mac_range(const uint8_t *input, size_t input_len, size_t *start, size_t *len);
 
-/* Checks an input as the kind, the name of a type in lower case, as "pfx".
+/* A limit as the calls take it: one that a byte is too small for counts as DER_MAX_NESTING too. */
+static inline uint8_t der_levels(unsigned limit) {
+  return (uint8_t)(limit < DER_MAX_NESTING ? limit : DER_MAX_NESTING);
+}
+
+/* Checks an input as the kind, the name of a type in lower case, as "pfx", with at most limit levels of nesting. A
+ * limit above DER_MAX_NESTING counts as DER_MAX_NESTING.
  *  - DER_NORMAL: the whole input is a text of the kind, and normal. *normal_len is its length.
  *  - DER_LOOSE: it is a text of the kind, but its normal text is another. *normal_len is the length of that one.
  *  - DER_UNKNOWN_KIND.
- *  - DER_MALFORMED to DER_TOO_DEEP: it is no text of the kind.
+ *  - DER_MALFORMED to DER_TOO_DEEP: it is no text of the kind, within the limit.
  *  - DER_TOO_LONG: it is one, but its normal text is too long.
  *  - DER_NO_MEMORY.
  * Unless at DER_NORMAL and DER_LOOSE *normal_len is 0. */
-static inline der_status der_check(const char *kind, const uint8_t *input, size_t input_len, size_t *normal_len) {
-  return (der_status)der_check_word((const uint8_t *)kind, strlen(kind), input, input_len, normal_len);
+static inline der_status der_check_limited(const char *kind, unsigned limit, const uint8_t *input, size_t input_len,
+                                           size_t *normal_len) {
+  size_t place;
+  return (der_status)der_check_word_limited((const uint8_t *)kind, strlen(kind), der_levels(limit), input, input_len,
+                                            normal_len, &place);
 }
 
-/* Writes the normal text of an input to the front of out.
+/* The same with at most DER_MAX_NESTING levels. */
+static inline der_status der_check(const char *kind, const uint8_t *input, size_t input_len, size_t *normal_len) {
+  return der_check_limited(kind, DER_MAX_NESTING, input, input_len, normal_len);
+}
+
+/* Checks as der_check does, and says where an input is refused, as an offset from its first byte.
+ *  - DER_MALFORMED: *place is where an element should begin and none does, or where bytes begin that are left over.
+ *  - DER_MISSING: the end of the contents in which an element is missing.
+ *  - DER_INVALID: where the element begins whose tag or contents are refused.
+ *  - DER_TOO_DEEP: where the element begins that is nested too deep.
+ * At any other status *place is 0. That it is at most input_len is proved; which place it is, is tested. */
+static inline der_status der_locate(const char *kind, const uint8_t *input, size_t input_len, size_t *place) {
+  size_t normal_len;
+  uint32_t status = der_check_word_limited((const uint8_t *)kind, strlen(kind), DER_MAX_NESTING, input, input_len,
+                                           &normal_len, place);
+  if (status < DER_MALFORMED || status > DER_TOO_DEEP) *place = 0;
+  return (der_status)status;
+}
+
+/* Checks as der_check does, and says where an input is loose.
+ *  - DER_LOOSE: from *place on the input is what its normal text ends in too, and no longer end is: the last difference
+ *    is right before *place, in the input or in its normal text.
+ * At any other status *place is 0. */
+static inline der_status der_loose_end(const char *kind, const uint8_t *input, size_t input_len, size_t *place) {
+  size_t normal_len;
+  uint32_t status = der_check_word_limited((const uint8_t *)kind, strlen(kind), DER_MAX_NESTING, input, input_len,
+                                           &normal_len, place);
+  if (status != DER_LOOSE) *place = 0;
+  return (der_status)status;
+}
+
+/* Writes the normal text of an input to the front of out. The limit is as of der_check_limited.
  *  - DER_NORMAL: *written bytes were written, and the rest of out is as it was.
  *  - DER_NO_ROOM: *written bytes are needed, and out_len is less.
- *  - Any other status but DER_LOOSE is as of der_check, and *written is 0.
+ *  - Any other status but DER_LOOSE is as of der_check_limited, and *written is 0.
  * Unless at DER_NORMAL out is as it was. */
+static inline der_status der_rewrite_limited(const char *kind, unsigned limit, const uint8_t *input, size_t input_len,
+                                             uint8_t *out, size_t out_len, size_t *written) {
+  return (der_status)der_rewrite_word_limited((const uint8_t *)kind, strlen(kind), der_levels(limit), input, input_len,
+                                              out, out_len, written);
+}
+
+/* The same with at most DER_MAX_NESTING levels. */
 static inline der_status der_rewrite(const char *kind, const uint8_t *input, size_t input_len, uint8_t *out,
                                      size_t out_len, size_t *written) {
-  return (der_status)der_rewrite_word((const uint8_t *)kind, strlen(kind), input, input_len, out, out_len, written);
+  return der_rewrite_limited(kind, DER_MAX_NESTING, input, input_len, out, out_len, written);
 }
 
 /* Writes the word of the kind with that index, from 0 on, to the front of out.

@@ -1,6 +1,7 @@
 /* limits KIND < FILE makes each call over a file, with marks round all that the call may write, and says its status and
  * its numbers. Then it makes the call again, while one request for memory after another is refused: each comes to
- * DER_NO_MEMORY, or changes nothing. limits alone asks for the words of all kinds, with room enough and a byte less.
+ * DER_NO_MEMORY, or changes nothing. limits KIND LIMIT allows so many levels of nesting. limits alone asks for the words of
+ * all kinds, with room enough and a byte less.
  * Ends with 4, and says why, where a call writes what der.h doesn't say, or keeps memory.
  * To be linked with -Wl,--wrap=malloc,--wrap=realloc,--wrap=free. */
 #include "der.h"
@@ -11,14 +12,16 @@
 enum { MARK = 0xEE, MARGIN = 64, SPARE = 16 };
 
 /* The calls, by the word that begins their lines. */
-typedef enum { CHECK, REWRITE, MAC, KIND } call;
-static const char *const calls[] = {"check", "rewrite", "mac", "kind"};
+typedef enum { CHECK, LOCATE, LOOSE_END, REWRITE, MAC, KIND } call;
+static const char *const calls[] = {"check", "locate", "loose_end", "rewrite", "mac", "kind"};
 
-/* What a call is given: where it takes a kind's index, that. */
+/* What a call is given: where it takes a kind's index, that, and where a limit of levels is asked for, it. */
 typedef struct {
   const char *kind;
   const uint8_t *input;
   size_t len, index;
+  int is_limited;
+  unsigned limit;
 } given;
 
 /* What a call answers: its status, and its numbers, 0 where it has but one. */
@@ -74,10 +77,19 @@ static answer made(call it, const given *its, uint8_t *room, size_t out_len) {
   memset(room, MARK, MARGIN + out_len + MARGIN);
   switch (it) {
   case CHECK:
-    said.status = der_check(its->kind, its->input, its->len, &first.it);
+    said.status = its->is_limited ? der_check_limited(its->kind, its->limit, its->input, its->len, &first.it)
+                                  : der_check(its->kind, its->input, its->len, &first.it);
+    break;
+  case LOCATE:
+    said.status = der_locate(its->kind, its->input, its->len, &first.it);
+    break;
+  case LOOSE_END:
+    said.status = der_loose_end(its->kind, its->input, its->len, &first.it);
     break;
   case REWRITE:
-    said.status = der_rewrite(its->kind, its->input, its->len, out, out_len, &first.it);
+    said.status = its->is_limited
+                      ? der_rewrite_limited(its->kind, its->limit, its->input, its->len, out, out_len, &first.it)
+                      : der_rewrite(its->kind, its->input, its->len, out, out_len, &first.it);
     break;
   case MAC:
     said.status = (der_status)der_mac_range(its->input, its->len, &first.it, &second.it);
@@ -124,7 +136,7 @@ static answer tried(call it, const given *its, uint8_t *room, size_t out_len) {
 
 static int kinds(void) {
   static uint8_t room[MARGIN + 64 + MARGIN];
-  given its = {NULL, NULL, 0, 0};
+  given its = {NULL, NULL, 0, 0, 0, 0};
   answer said;
   while ((said = tried(KIND, &its, room, 64)).status == DER_NORMAL) {
     tried(KIND, &its, room, said.first);
@@ -138,13 +150,19 @@ static int kinds(void) {
 
 int main(int count, char **words) {
   static uint8_t input[1 << 20], room[MARGIN + 2 * sizeof input + MARGIN];
-  given its = {count == 2 ? words[1] : NULL, input, 0, 0};
+  given its = {count > 1 ? words[1] : NULL, input, 0, 0, count == 3, 0};
   answer said;
   if (count == 1)
     return kinds();
+  if (its.is_limited)
+    its.limit = (unsigned)strtoul(words[2], NULL, 10);
   its.len = fread(input, 1, sizeof input, stdin);
-  if (count != 2 || its.len == sizeof input)
+  if (count > 3 || its.len == sizeof input)
     return 2;
+  if (!its.is_limited) {
+    tried(LOCATE, &its, room, 0);
+    tried(LOOSE_END, &its, room, 0);
+  }
   said = tried(CHECK, &its, room, 0);
   if (said.first > 2 * sizeof input - SPARE)
     return 2;

@@ -1,10 +1,11 @@
 -- What the calls from C say of an input, by their status.
-use Rattle.std.specs.Prelude.{◌≡◌, ◌≢◌, ◌≤◌, ◌<◌, ◌⊎◌, ◌+◌, ◌^◌, ℕ, List, ◌++◌, length, drop, get_or, Some, None}
+use Rattle.std.specs.Prelude.{◌≡◌, ◌≢◌, ◌≤◌, ◌<◌, ◌⊎◌, ◌+◌, ◌^◌, ℕ, min, List, ◌++◌, length, drop, get_or, Some, None}
 use Rattle.asn1_core.specs.Der.{raw, IsValueOf}
 use Rattle.asn1_core_element.specs.declared.error.Error.{Error}
 use Rattle.asn1_core_element.specs.declared.error.Error.TheVariants.{Malformed, Missing, Invalid, TooDeep, TooLong, Memory}
+use Rattle.asn1_core_writers.specs.Comparing.{IsLongestEnd}
 use Rattle.der_engine.specs.Engine.{Rewriting}
-use Rattle.x509_containers.specs.Kinds.{kinds, rewriting_as, word_of}
+use Rattle.x509_containers.specs.Kinds.{kinds, rewriting_at, word_of}
 use Rattle.x509_containers.specs.declared.kinds.Kind.{Kind}
 use Rattle.x509_pkcs12.specs.MacRanges.{IsMacRange}
 use Rattle.x509_pkcs12.specs.Pfxs.{PfxValue, pfx}
@@ -22,9 +23,13 @@ status_of Memory = 8
 abbrev pub IsKindAt : ℕ → Kind → Type 0
 IsKindAt index k = (index < length kinds) × (k ≡ get_or kinds index k)
 
--- a kind with that word, of whose inputs P holds
-abbrev pub OfKind : List ℕ → (Rewriting → Type 0) → Type 0
-OfKind word P = (k : Kind) × (word ≡ word_of k) × P (rewriting_as k)
+-- how many levels of nesting a limit allows: 64 at most
+abbrev pub levels : ℕ → ℕ
+levels limit = min limit 64
+
+-- a kind with that word, of whose inputs P holds at the limit
+abbrev pub OfKind : List ℕ → ℕ → (Rewriting → Type 0) → Type 0
+OfKind word limit P = (k : Kind) × (word ≡ word_of k) × P (rewriting_at k (levels limit))
 
 -- t is the text of the value of b, the only one
 pub record IsTextOf (K : Rewriting) (b t : List ℕ) : Type 0 where
@@ -32,31 +37,33 @@ pub record IsTextOf (K : Rewriting) (b t : List ℕ) : Type 0 where
   pub only : (u : List ℕ) → K.To b u → u ≡ t
 
 -- what a status says of why there is no text; of want of memory, 8, it says nothing
-pub record SaysWhy (word b : List ℕ) (status : ℕ) : Type 0 where
+pub record SaysWhy (word : List ℕ) (limit : ℕ) (b : List ℕ) (status : ℕ) : Type 0 where
   -- DER_UNKNOWN_KIND
   pub unknown : status ≡ 2 → (k : Kind) → word ≢ word_of k
   -- DER_MALFORMED, DER_MISSING, DER_INVALID, DER_TOO_DEEP
-  pub none : 3 ≤ status → status ≤ 6 → OfKind word (λ K. (t : List ℕ) → K.To b t → ⊥)
+  pub none : 3 ≤ status → status ≤ 6 → OfKind word limit (λ K. (t : List ℕ) → K.To b t → ⊥)
   -- DER_TOO_LONG
-  pub long : status ≡ 7 → OfKind word (λ K. (t : List ℕ) × K.To b t × (2 ^ 64 ≤ length t))
+  pub long : status ≡ 7 → OfKind word limit (λ K. (t : List ℕ) × K.To b t × (2 ^ 64 ≤ length t))
 
--- what der_check_word answers of the input b
-pub record ChecksWord (word b : List ℕ) (len status : ℕ) : Type 0 where
+-- what der_check_word_limited answers of the input b
+pub record ChecksWord (word : List ℕ) (limit : ℕ) (b : List ℕ) (len place status : ℕ) : Type 0 where
   -- DER_NORMAL: b is the text of its value
-  pub normal : status ≡ 0 → OfKind word (λ K. IsTextOf K b b × K.IsNormal b × (len ≡ length b))
-  -- DER_LOOSE: another is
-  pub loose : status ≡ 1 → OfKind word (λ K. (¬ K.IsNormal b) × ((t : List ℕ) × IsTextOf K b t × (len ≡ length t)))
-  pub why : SaysWhy word b status
+  pub normal : status ≡ 0 → OfKind word limit (λ K. IsTextOf K b b × K.IsNormal b × (len ≡ length b))
+  -- DER_LOOSE: another is, and from the place on both have the longest end that they have in common
+  pub loose : status ≡ 1 → OfKind word limit (λ K. (¬ K.IsNormal b) × ((t : List ℕ) × IsTextOf K b t × (len ≡ length t) × IsLongestEnd t b place))
+  pub why : SaysWhy word limit b status
   pub no_len : 2 ≤ status → len ≡ 0
+  pub inside : place ≤ length b
+  pub no_place : (status ≡ 0) ⊎ (status ≡ 2) → place ≡ 0
   pub range : status ≤ 8
 
--- what der_rewrite_word answers of the input b and a buffer
-pub record RewritesWord (word b old new : List ℕ) (len status : ℕ) : Type 0 where
+-- what der_rewrite_word_limited answers of the input b and a buffer
+pub record RewritesWord (word : List ℕ) (limit : ℕ) (b old new : List ℕ) (len status : ℕ) : Type 0 where
   -- DER_NORMAL: the text stands at the front of the buffer, and the rest of it is as it was
-  pub written : status ≡ 0 → OfKind word (λ K. (t : List ℕ) × IsTextOf K b t × (len ≡ length t) × (new ≡ t ++ drop len old))
+  pub written : status ≡ 0 → OfKind word limit (λ K. (t : List ℕ) × IsTextOf K b t × (len ≡ length t) × (new ≡ t ++ drop len old))
   -- DER_NO_ROOM: the text needs that many bytes
-  pub no_room : status ≡ 9 → OfKind word (λ K. (t : List ℕ) × IsTextOf K b t × (len ≡ length t) × (length old < len))
-  pub why : SaysWhy word b status
+  pub no_room : status ≡ 9 → OfKind word limit (λ K. (t : List ℕ) × IsTextOf K b t × (len ≡ length t) × (length old < len))
+  pub why : SaysWhy word limit b status
   pub no_len : 2 ≤ status → status ≤ 8 → len ≡ 0
   pub kept : status ≢ 0 → new ≡ old
   pub range : (status ≢ 1) × (status ≤ 9)

@@ -7,7 +7,9 @@ ghost use Rattle.x509_containers.specs.Kinds.{kinds};
 ghost use Rattle.der_c.specs.Calls.{status_of, ChecksWord, FindsRange, IsKindAt, NamesKind, RewritesWord};
 
 use std::alloc::Global;
-use x509_containers::{Error, Kind, KindOfInput, check, mac_range, rewrite};
+use x509_containers::{
+    Error, Kind, KindOfInput, MAX_NESTING, check_located, mac_range, rewrite_limited,
+};
 
 /// The number that C sees of a refusal.
 fn status_of(error: Error) -> u32
@@ -32,49 +34,63 @@ fn kind_at(index: usize) -> Option<Kind>
     }
 }
 
-/// Checks the input as the kind that the word names: 0 where it is normal, 1 where it is loose, 2 where the word is no
-/// kind's, 3 to 6 where it isn't in the grammar, 7 where its text is too long, 8 for want of memory. At 0 and 1
-/// `normal_len` is the length of its normal text, and otherwise 0.
+/// Checks the input as the kind that the word names, with at most `limit` levels of nesting; a limit above 64 counts as
+/// 64. 0 where it is normal, 1 where it is loose, 2 where the word is no kind's, 3 to 6 where it isn't in the grammar
+/// or has more levels, 7 where its encoding is too long, 8 for want of memory. At 0 and 1 `normal_len` is the length of
+/// its encoding, and otherwise 0. `place` is at 1 where the end begins that the input and its encoding have in common, at
+/// 3 to 6 where the input is refused, at 7 and 8 an offset without use, and otherwise 0.
 #[unsafe(no_mangle)]
-pub extern "C" fn der_check_word(
+pub extern "C" fn der_check_word_limited(
     alloc: Global,
     word: &[u8],
+    limit: u8,
     input: &[u8],
     normal_len: &mut usize,
+    place: &mut usize,
 ) -> u32
-    ensures { ChecksWord word.now input.now normal_len.new result }
+    ensures { ChecksWord word.now limit input.now normal_len.new place.new result }
 {
     *normal_len = 0;
+    *place = 0;
     let Some(kind) = Kind::from_octets(word) else {
         return 2;
     };
-    match check(alloc, kind, input) {
-        Ok((is_normal, len)) => {
-            *normal_len = len;
-            if is_normal { 0 } else { 1 }
+    match check_located(alloc, kind, limit.min(MAX_NESTING), input) {
+        Ok(verdict) => {
+            *normal_len = verdict.encoding_len;
+            let Some(end) = verdict.loose_end else {
+                return 0;
+            };
+            *place = end;
+            1
         }
-        Err(error) => status_of(error),
+        Err((error, at)) => {
+            *place = at;
+            status_of(error)
+        }
     }
 }
 
 /// Writes the normal text of the input to the front of `out`. At 0 `written` is its length, at 9, where `out` is too
-/// short, the length that it needs, and otherwise 0. Any other status is as of `der_check_word`, and `out` is as it was.
+/// short, the length that it needs, and otherwise 0. Any other status is as of `der_check_word_limited`, and `out` is as
+/// it was.
 #[unsafe(no_mangle)]
-pub extern "C" fn der_rewrite_word(
+pub extern "C" fn der_rewrite_word_limited(
     alloc: Global,
     word: &[u8],
+    limit: u8,
     input: &[u8],
     out: &mut [u8],
     written: &mut usize,
 ) -> u32
-    ensures { RewritesWord word.now input.now out.old out.new written.new result }
+    ensures { RewritesWord word.now limit input.now out.old out.new written.new result }
 {
     *written = 0;
     let Some(kind) = Kind::from_octets(word) else {
         return 2;
     };
     let mut text = Vec::new(alloc);
-    match rewrite(alloc, kind, input, &mut text) {
+    match rewrite_limited(alloc, kind, limit.min(MAX_NESTING), input, &mut text) {
         Ok(()) => {
             let len = text.len();
             *written = len;
@@ -89,8 +105,8 @@ pub extern "C" fn der_rewrite_word(
 }
 
 /// Which octets of a PKCS #12 file its MAC covers: at 0 `len` octets from `start` on. At 10 it has none, since its
-/// authSafe isn't data. Any other status is as of `der_check_word` for the word `rawpfx`, 7 never. Unless at 0 both numbers
-/// are 0.
+/// authSafe isn't data. Any other status is as of `der_check_word_limited` for the word `rawpfx` and 64 levels, 7
+/// never. Unless at 0 both numbers are 0.
 #[unsafe(no_mangle)]
 pub extern "C" fn der_mac_range(
     alloc: Global,
@@ -136,7 +152,7 @@ pub extern "C" fn der_kind_word(index: usize, out: &mut [u8], written: &mut usiz
 /// refusals an input has.
 #[cfg(test)]
 mod tests {
-    use super::{der_check_word, der_kind_word, der_mac_range, der_rewrite_word};
+    use super::{der_check_word_limited, der_kind_word, der_mac_range, der_rewrite_word_limited};
 
     /// A PFX whose authSafe is data, round an empty SEQUENCE.
     const STORE: &[u8] =
@@ -164,29 +180,43 @@ mod tests {
     /// A header of no definite length.
     const BER: &[u8] = b"\x30\x80\x00\x00";
 
+    /// Empty contents in two bags, which are two levels.
+    const BAGS: &[u8] = b"\
+        \x30\x26\x30\x24\x06\x0B\x2A\x86\x48\x86\xF7\x0D\x01\x0C\x0A\x01\x06\xA0\x15\
+        \x30\x13\x30\x11\x06\x0B\x2A\x86\x48\x86\xF7\x0D\x01\x0C\x0A\x01\x06\xA0\x02\x30\x00";
+
     #[test]
     fn checks_and_rewritings(rt: HostRuntime) {
-        for (word, input, checked, rewritten, text) in [
-            (b"rawpfx".as_slice(), STORE, 0, 0, STORE),
-            (b"rawpfx".as_slice(), SIGNED, 0, 0, SIGNED),
-            (
-                b"pkcs12digestinfo".as_slice(),
-                WITHOUT_NULL,
-                1,
-                0,
-                WITH_NULL,
-            ),
-            (b"p12".as_slice(), STORE, 2, 2, b"".as_slice()),
-            (b"rawpfx".as_slice(), BER, 3, 3, b"".as_slice()),
-            (b"rawpfx".as_slice(), VERSION_ALONE, 4, 4, b"".as_slice()),
-            (b"rawpfx".as_slice(), VERSION_2, 5, 5, b"".as_slice()),
+        for (word, limit, input, checked, place, rewritten, text) in [
+            (b"rawpfx".as_slice(), 64, STORE, 0, 0, 0, STORE),
+            (b"rawpfx".as_slice(), 0, STORE, 0, 0, 0, STORE),
+            (b"rawpfx".as_slice(), 64, SIGNED, 0, 0, 0, SIGNED),
+            (b"pkcs12digestinfo".as_slice(), 64, WITHOUT_NULL, 1, 11, 0, WITH_NULL),
+            (b"p12".as_slice(), 64, STORE, 2, 0, 2, b"".as_slice()),
+            (b"rawpfx".as_slice(), 64, BER, 3, 0, 3, b"".as_slice()),
+            (b"rawpfx".as_slice(), 64, VERSION_ALONE, 4, 5, 4, b"".as_slice()),
+            (b"rawpfx".as_slice(), 64, VERSION_2, 5, 2, 5, b"".as_slice()),
+            (b"safecontents".as_slice(), 1, BAGS, 6, 38, 6, b"".as_slice()),
+            (b"safecontents".as_slice(), 2, BAGS, 0, 0, 0, BAGS),
+            (b"safecontents".as_slice(), 255, BAGS, 0, 0, 0, BAGS),
         ] {
             let mut len = 1;
-            assert_eq!(rt; der_check_word(rt.alloc(), word, input, &mut len), checked);
-            assert_eq!(rt; len, text.len());
-            let mut out = [0xEE; 35];
+            let mut at = 1;
             assert_eq!(rt;
-                der_rewrite_word(rt.alloc(), word, input, out.as_mut_slice(), &mut len),
+                der_check_word_limited(rt.alloc(), word, limit, input, &mut len, &mut at),
+                checked
+            );
+            assert_eq!(rt; (len, at), (text.len(), place));
+            let mut out = [0xEE; 40];
+            assert_eq!(rt;
+                der_rewrite_word_limited(
+                    rt.alloc(),
+                    word,
+                    limit,
+                    input,
+                    out.as_mut_slice(),
+                    &mut len
+                ),
                 rewritten
             );
             assert_eq!(rt; len, text.len());
@@ -194,9 +224,10 @@ mod tests {
         }
         let mut len = 1;
         assert_eq!(rt;
-            der_rewrite_word(
+            der_rewrite_word_limited(
                 rt.alloc(),
                 b"rawpfx",
+                64,
                 STORE,
                 [0xEE; 23].as_mut_slice(),
                 &mut len

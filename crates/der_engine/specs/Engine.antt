@@ -17,14 +17,18 @@ pub record Rewriting : Type 1 where
   -- the normal grammar
   pub IsNormal : List ℕ → Type 0
 
--- t is the text of a value of b, whose nesting has at most 64 levels
-pub record Rewrites {V : Type 0} (F : Format V) (b t : List ℕ) : Type 0 where
+-- t is the text of a value of b, whose nesting has at most so many levels
+pub record Rewrites {V : Type 0} (F : Format V) (limit : ℕ) (b t : List ℕ) : Type 0 where
   pub value : V
-  pub reads : F.Reads 64 b value
+  pub reads : F.Reads limit b value
   pub text : t ≡ F.text value
 
+abbrev pub rewriting_at : {V : Type 0} → Format V → ℕ → Rewriting
+rewriting_at F limit = record { To = Rewrites F limit; IsNormal = F.IsNormal limit }
+
+-- with at most 64 levels, as `from_bytes` reads
 abbrev pub rewriting_of : {V : Type 0} → Format V → Rewriting
-rewriting_of F = record { To = Rewrites F; IsNormal = F.IsNormal 64 }
+rewriting_of F = rewriting_at F 64
 
 -- why no text is made of b: its text doesn't fit, memory was refused, or b isn't in the grammar
 pub record IsRefusal (K : Rewriting) (b : List ℕ) (e : Error) : Type 0 where

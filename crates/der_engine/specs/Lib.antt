@@ -2,3 +2,4 @@ pub mod Modes
 pub mod Lines
 pub mod Engine
 pub mod Steps
+pub mod Verdicts

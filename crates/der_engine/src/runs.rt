@@ -6,10 +6,11 @@ ghost use Rattle.der_engine.specs.Lines.{refusal_line};
 ghost use Rattle.der_engine.specs.Steps.{Answers, Delivers, Tells};
 ghost use Rattle.der_engine.specs.declared.outcome.Outcome.TheVariants.{Refused};
 
-use crate::kind::KindOfInput;
+use crate::kind::{KindOfInput, check_by_kind};
 use crate::lines::{loose_line, normal_line, refusal};
 use crate::outcome::{Mode, Outcome};
 use asn1_core_element::Error;
+use asn1_core_format::MAX_NESTING;
 use asn1_core_streams::{ReadError, Sink, Source, read_all, send};
 use std::alloc::Global;
 
@@ -20,16 +21,16 @@ fn answer<K: KindOfInput>(
     mode: Mode,
     kind: K,
 ) -> Result<(Outcome, Vec<u8>), Error>
-    ensures { Answers (λ v. v.items) (K.rewriting_as kind) bytes.now mode result }
+    ensures { Answers (λ v. v.items) (K.rewriting_at kind 64) bytes.now mode result }
 {
     match mode {
-        Mode::Check => match kind.check(alloc, bytes)? {
+        Mode::Check => match check_by_kind(alloc, kind, MAX_NESTING, bytes)? {
             (true, size) => Ok((Outcome::Normal, normal_line(alloc, size)?)),
             (false, size) => Ok((Outcome::Loose, loose_line(alloc, bytes.len(), size)?)),
         },
         Mode::Rewrite => {
             let mut text = Vec::new(alloc);
-            kind.rewrite(alloc, bytes, &mut text)?;
+            kind.rewrite(alloc, MAX_NESTING, bytes, &mut text)?;
             Ok((Outcome::Written, text))
         }
     }
@@ -69,7 +70,7 @@ fn tell<K: KindOfInput, W: Sink>(
     kind: K,
 ) -> Outcome
     requires { W.failed sink.old < u64.MAX }
-    ensures { Tells (K.rewriting_as kind) bytes.now mode
+    ensures { Tells (K.rewriting_at kind 64) bytes.now mode
         W.held sink.old sink.new (W.failed sink.old) (W.failed sink.new) result }
 {
     match answer(alloc, bytes, mode, kind) {
@@ -90,7 +91,7 @@ pub fn run<R: Source, W: Sink, K: KindOfInput>(
 ) -> Outcome
     requires reads { R.failed source.old < u64.MAX }
     requires writes { W.failed sink.old < u64.MAX }
-    ensures answer { Runs (K.rewriting_as kind) mode (R.coming source.old)
+    ensures answer { Runs (K.rewriting_at kind 64) mode (R.coming source.old)
         W.held sink.old sink.new result }
     ensures reads { R.failed source.new ≡ R.failed source.old + read_failures result }
     ensures writes { W.failed sink.new ≡ W.failed sink.old + write_failures result }

@@ -10,7 +10,10 @@ use std::alloc::Global;
 use std::fmt::Debug;
 use std::test::Fail;
 use vector_checks::checks::{is_rewritten, is_sent, is_written_anew};
-use x509_containers::{Kind, Mode, Outcome, check, check_as, rewrite, rewrite_as, run};
+use x509_containers::{
+    Kind, Mode, Outcome, check, check_as, check_as_limited, rewrite, rewrite_as,
+    rewrite_as_limited, run,
+};
 
 /// Up to so many bytes, sinks that fail, beginnings and changes are tried of an input.
 const SHORT: usize = 100;
@@ -277,6 +280,10 @@ pub fn is_said_within<T: DerDeserialize>(alloc: Global, levels: u8, row: &Row) -
     if levels > MAX_NESTING {
         return Err(Fail::new("at most 64 levels"));
     }
+    let mut out = Vec::from_slice(alloc, &[BEFORE])?;
+    let rewritten = rewrite_as_limited::<T>(alloc, levels, &row.input, &mut out);
+    let checked = check_as_limited::<T>(alloc, levels, &row.input);
+    is_told(alloc, row, checked, rewritten, out.as_slice())?;
     let outcome: Result<T, Error> = from_bytes_limited(alloc, levels, &row.input);
     match outcome {
         Ok(value) => {

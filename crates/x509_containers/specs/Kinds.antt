@@ -27,9 +27,13 @@ entry_of (TrustList kind) = TrustListKinds.entry_of kind
 abbrev pub word_of : Kind → List ℕ
 word_of kind = (entry_of kind).word
 
--- what inputs of that kind are rewritten to
+-- what inputs of that kind are rewritten to, with at most so many nesting levels
+abbrev pub rewriting_at : Kind → ℕ → Rewriting
+rewriting_at kind limit = (entry_of kind).rewriting limit
+
+-- with at most 64 levels
 abbrev pub rewriting_as : Kind → Rewriting
-rewriting_as kind = (entry_of kind).rewriting
+rewriting_as kind = rewriting_at kind 64
 
 -- those of each layer
 abbrev pub layers : List (List Kind)

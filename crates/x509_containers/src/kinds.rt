@@ -1,9 +1,10 @@
 //! What the program says of an input of each kind: the kinds of all layers together.
 
-ghost use Rattle.std.specs.Prelude.{◌≡◌, ◌≢◌, ◌↔◌, ◌+◌, ◌<◌, IsTrue, MatchOption};
+ghost use Rattle.std.specs.Prelude.{◌≡◌, ◌≢◌, ◌↔◌, ◌+◌, ◌<◌, ◌≤◌, IsTrue, MatchOption};
 ghost use Rattle.der_engine.specs.Engine.{Runs, read_failures, write_failures};
 ghost use Rattle.der_engine.specs.Steps.{Checks, RewritesBehind};
-ghost use Rattle.x509_containers.specs.Kinds.{rewriting_as, word_of};
+ghost use Rattle.der_engine.specs.Verdicts.{FindsEnd, Locates};
+ghost use Rattle.x509_containers.specs.Kinds.{rewriting_as, rewriting_at, word_of};
 
 mod algorithms;
 mod authenticode;
@@ -21,11 +22,11 @@ use crate::{
     signed_part_kinds, store_kinds, trust_list_kinds,
 };
 pub use algorithms::AlgorithmKind;
-use asn1_core::Error;
+use asn1_core::{Error, MAX_NESTING};
 use asn1_core_streams::{Sink, Source};
 pub use authenticode::AuthenticodeKind;
 pub use contents::ContentKind;
-use der_engine::{KindOfInput, Mode, Outcome};
+use der_engine::{KindOfInput, Mode, Outcome, Verdict, check_by_kind, loose_end_by_kind};
 pub use enveloped::EnvelopedKind;
 pub use signed_data::SignedDataKind;
 pub use signed_parts::SignedPartKind;
@@ -114,18 +115,29 @@ macro_rules! by_layer {
 impl KindOfInput for Kind {
     ghost word_of = { word_of };
 
-    ghost rewriting_as = { rewriting_as };
+    ghost rewriting_at = { rewriting_at };
 
     fn word(self) -> &'static str {
         by_layer!(self, word())
     }
 
-    fn check(self, alloc: Global, input: &[u8]) -> Result<(bool, usize), Error> {
-        by_layer!(self, check(alloc, input))
+    fn check_located(
+        self,
+        alloc: Global,
+        limit: u8,
+        input: &[u8],
+    ) -> Result<Verdict, (Error, usize)> {
+        by_layer!(self, check_located(alloc, limit, input))
     }
 
-    fn rewrite(self, alloc: Global, input: &[u8], out: &mut Vec<u8>) -> Result<(), Error> {
-        by_layer!(self, rewrite(alloc, input, out))
+    fn rewrite(
+        self,
+        alloc: Global,
+        limit: u8,
+        input: &[u8],
+        out: &mut Vec<u8>,
+    ) -> Result<(), Error> {
+        by_layer!(self, rewrite(alloc, limit, input, out))
     }
 }
 
@@ -134,14 +146,64 @@ impl KindOfInput for Kind {
 pub fn check(alloc: Global, kind: Kind, input: &[u8]) -> Result<(bool, usize), Error>
     ensures { Checks (rewriting_as kind) input.now result }
 {
-    kind.check(alloc, input)
+    check_limited(alloc, kind, MAX_NESTING, input)
+}
+
+/// What `check` says, with at most `limit` levels of nesting: an input with more is refused by `TooDeep`. What is
+/// accepted at one limit gets the same answer at every larger one.
+pub fn check_limited(
+    alloc: Global,
+    kind: Kind,
+    limit: u8,
+    input: &[u8],
+) -> Result<(bool, usize), Error>
+    requires { limit ≤ 64 }
+    ensures { Checks (rewriting_at kind limit) input.now result }
+{
+    check_by_kind(alloc, kind, limit, input)
+}
+
+/// What `check_limited` says, and where: in a loose input where the end begins that it and its encoding have in common,
+/// and where an input is refused, as `from_bytes_located` says it. The place of `TooLong` is 0.
+pub fn check_located(
+    alloc: Global,
+    kind: Kind,
+    limit: u8,
+    input: &[u8],
+) -> Result<Verdict, (Error, usize)>
+    requires { limit ≤ 64 }
+    ensures { Locates (rewriting_at kind limit) input.now result }
+{
+    kind.check_located(alloc, limit, input)
+}
+
+/// Where an input of the kind is loose; `None` where it is normal. The input from the place on is what its encoding ends
+/// in too, and no longer end is. Refuses as `check` does.
+pub fn loose_end(alloc: Global, kind: Kind, input: &[u8]) -> Result<Option<usize>, Error>
+    ensures { FindsEnd (rewriting_as kind) input.now result }
+{
+    loose_end_by_kind(alloc, kind, MAX_NESTING, input)
 }
 
 /// Appends the text of the value of an input of the kind. A refusal leaves what the vector holds as it was.
 pub fn rewrite(alloc: Global, kind: Kind, input: &[u8], out: &mut Vec<u8>) -> Result<(), Error>
     ensures { RewritesBehind (rewriting_as kind) input.now out.old.items out.new.items result }
 {
-    kind.rewrite(alloc, input, out)
+    rewrite_limited(alloc, kind, MAX_NESTING, input, out)
+}
+
+/// What `rewrite` does, with at most `limit` levels of nesting: an input with more is refused by `TooDeep`.
+pub fn rewrite_limited(
+    alloc: Global,
+    kind: Kind,
+    limit: u8,
+    input: &[u8],
+    out: &mut Vec<u8>,
+) -> Result<(), Error>
+    requires { limit ≤ 64 }
+    ensures { RewritesBehind (rewriting_at kind limit) input.now out.old.items out.new.items result }
+{
+    kind.rewrite(alloc, limit, input, out)
 }
 
 /// Reads a source to its end as a value of the kind, and writes what is asked of it: in check a line, in rewrite the

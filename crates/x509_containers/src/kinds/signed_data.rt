@@ -5,7 +5,7 @@ ghost use Rattle.x509_containers.specs.SignedDataKinds.{entry_of};
 use crate::at_type;
 use crate::kinds::table::word_of_kind;
 use asn1_core::Error;
-use der_engine::{KindOfInput, check_as, rewrite_as};
+use der_engine::{KindOfInput, Verdict, check_located_as, rewrite_as_limited};
 use std::alloc::Global;
 
 /// Signed data, signers, and what they hold.
@@ -37,17 +37,28 @@ macro_rules! signed_data_kinds {
 impl KindOfInput for SignedDataKind {
     ghost word_of = { λ kind. (entry_of kind).word };
 
-    ghost rewriting_as = { λ kind. (entry_of kind).rewriting };
+    ghost rewriting_at = { λ kind limit. (entry_of kind).rewriting limit };
 
     fn word(self) -> &'static str {
         signed_data_kinds!(word_of_kind(self))
     }
 
-    fn check(self, alloc: Global, input: &[u8]) -> Result<(bool, usize), Error> {
-        signed_data_kinds!(at_type(self, check_as, (alloc, input)))
+    fn check_located(
+        self,
+        alloc: Global,
+        limit: u8,
+        input: &[u8],
+    ) -> Result<Verdict, (Error, usize)> {
+        signed_data_kinds!(at_type(self, check_located_as, (alloc, limit, input)))
     }
 
-    fn rewrite(self, alloc: Global, input: &[u8], out: &mut Vec<u8>) -> Result<(), Error> {
-        signed_data_kinds!(at_type(self, rewrite_as, (alloc, input, out)))
+    fn rewrite(
+        self,
+        alloc: Global,
+        limit: u8,
+        input: &[u8],
+        out: &mut Vec<u8>,
+    ) -> Result<(), Error> {
+        signed_data_kinds!(at_type(self, rewrite_as_limited, (alloc, limit, input, out)))
     }
 }

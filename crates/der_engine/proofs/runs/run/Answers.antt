@@ -7,5 +7,5 @@ returns-in-Err-Failed-clause-answer g c = record { input = _; is_all = some_inpu
 
 pub returns-in-Err-Memory-clause-answer : goal.returns-in-Err-Memory-clause-answer
 returns-in-Err-Memory-clause-answer g c =
-    let told = refused (g.K.KindOfInput.rewriting_as c.args.kind) _ _ _ _ _ _ _ _ _ (no_memory _ _) c.refuse.ensures in
+    let told = refused (g.K.KindOfInput.rewriting_at c.args.kind 64) _ _ _ _ _ _ _ _ _ (no_memory _ _) c.refuse.ensures in
     record { input = _; is_all = some_input _; leaves = told.leaves }
