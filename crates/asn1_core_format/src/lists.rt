@@ -56,19 +56,24 @@ pub(crate) fn push_item<T: Drop>(
     Ok(())
 }
 
-/// How many items a full list of that length makes room for: one, and those that come if all take as many bytes as
-/// those so far. At most four times as many as are there, since the bytes that are left may be anything; at least a
-/// quarter more, since a list whose items become smaller would grow by one item each time.
+/// How many items a full list of that length makes room for: one, and those that come if all take as many bytes as those
+/// so far. At most four times as many as are there, since the bytes that are left may be anything; then a quarter, a
+/// sixteenth and so on of all, so that the last move is of a quarter. At least a quarter more, since a list whose items
+/// become smaller would grow by one item each time.
 fn room_for(len: usize, taken: usize, left: usize) -> usize {
     if left == 0 {
         return 1;
     }
     let there = len.saturating_add(1);
     let coming = left.saturating_mul(there) / taken.max(1);
-    coming
-        .max(len / 4)
-        .min(there.saturating_mul(3))
-        .saturating_add(1)
+    let mut all = there.saturating_add(coming);
+    for _ in 0..32u8 {
+        if all / 4 <= there {
+            break;
+        }
+        all /= 4;
+    }
+    all.saturating_sub(len).max(len / 4).saturating_add(1)
 }
 
 /// Items, one after another.
