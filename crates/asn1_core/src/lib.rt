@@ -1,4 +1,4 @@
-//! The core of DER: elements and their reader, the traits of types that read and write with the laws that they owe,
+//! The core of DER: elements and their reader, the traits of types that read and write with the laws that they meet,
 //! octet strings, numbers, object identifiers, raw elements, and wrappers for every lawful type.
 #![tactic(auto)]
 

@@ -1,4 +1,4 @@
-//! Whole inputs and whole texts.
+//! Whole inputs and whole encodings.
 
 ghost use Rattle.std.specs.Prelude.{◌≡◌, ◌<◌, ◌≤◌, ℕ, false, length, IfOk};
 ghost use Rattle.asn1_core_format.specs.Format.{IsLawful};
@@ -104,7 +104,7 @@ fn whole<T: DerDeserialize>(alloc: Global, limit: u8, r: &mut Reader<'_>) -> Res
     Ok(value)
 }
 
-/// The text of a value, of an ill-formed one too. Refuses by `TooLong` or `Memory` alone.
+/// The encoding of a value, of an ill-formed one too. Refuses by `TooLong` or `Memory` alone.
 pub fn to_vec<T: DerSerialize>(alloc: Global, value: &T) -> Result<Vec<u8>, Error>
     ensures text { Written (λ v. v.items) (T.format.text (T.value value.now)) result }
     ensures rewriting { IsLawful T.format → (k : ℕ) → IfOk result (λ v. IsRewriting T.format k (T.value value.now) v.items) }
@@ -114,7 +114,7 @@ pub fn to_vec<T: DerSerialize>(alloc: Global, value: &T) -> Result<Vec<u8>, Erro
     Ok(out)
 }
 
-/// Sends the text of a value to a sink, of an ill-formed one too. Takes no memory. A text that is too long is not begun.
+/// Sends the encoding of a value to a sink, of an ill-formed one too. Takes no memory. One that is too long is not begun.
 pub fn write_to<T: DerSerialize, W: Sink>(value: &T, w: &mut W) -> Result<(), WriteError>
     requires { W.failed w.old < u64.MAX }
     ensures { Emits (T.format.text (T.value value.now)) w.old w.new (W.held w.old) (W.held w.new) (W.failed w.old) (W.failed w.new) result }

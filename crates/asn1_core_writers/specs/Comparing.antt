@@ -1,4 +1,4 @@
--- What a comparison with an input has of a text.
+-- What a comparison with an input knows of an encoding.
 use Rattle.std.specs.Prelude.{◌≡◌, ◌≢◌, ◌↔◌, ℕ, ◌+◌, ◌-◌, ◌≤◌, ◌^◌, List, [], ◌++◌, length, take, drop, Option, None, Some, Result, Ok, Err, MatchResult}
 use Rattle.std.proofs.Common.{Bor, refl, sym, ap, subst, ◌∙◌, inl, inr, arith, append_assoc, append-nil, length-append}
 use Rattle.std.proofs.lemmas.Bool.{cases_lt}
@@ -9,8 +9,8 @@ use Rattle.asn1_core_writers.specs.Writers.{Outcome, IsBackward}
 use Rattle.asn1_core_writers.specs.declared.writer.WriteError.{WriteError}
 use Rattle.asn1_core_writers.specs.declared.writer.WriteError.TheVariants.{TooLong}
 
--- what an input has before some text at its end, or, where the text is no end of it, how many bytes before the longest end
--- of both; and the text's length
+-- what an input has before an encoding at its end, or, where that is no end of it, how many bytes before the longest end
+-- of both; and the encoding's length
 pub record Comparison : Type 0 where
   pub before : Result (List ℕ) ℕ
   pub total : ℕ
@@ -39,7 +39,7 @@ pub record IsLongestEnd (t b : List ℕ) (n : ℕ) : Type 0 where
   pub inside : n ≤ length b
   pub longest : (m : ℕ) (other : List ℕ) → t ≡ other ++ drop m b → n ≤ m
 
--- where the longest end begins; once a text was none, more of it changes nothing
+-- where the longest end begins; once an encoding was no end, more of it changes nothing
 abbrev pub IsPlace : List ℕ → Result (List ℕ) ℕ → Result (List ℕ) ℕ → Type 0
 IsPlace t (Ok b) after = IsLongestEnd t b (place_of after)
 IsPlace t (Err n) after = place_of after ≡ n
@@ -90,7 +90,7 @@ shorter_end s t o u e le =
     let rest : u ≡ drop n t = sym (end_rest (s ++ t) u o e) ∙ ap (λ k. drop k (s ++ t)) long ∙ drop-append-add s t n in
     (take n t, sym (take-append-drop n t) ∙ ap (λ l. take n t ++ l) (sym rest))
 
--- what comes before a text that is no end changes nothing
+-- what comes before an encoding that is no end changes nothing
 longest_stays : (s t b : List ℕ) (n : ℕ) → ((f : List ℕ) → b ≢ f ++ t) → IsLongestEnd t b n → IsLongestEnd (s ++ t) b n
 longest_stays s t b n none h = record {
   front = s ++ h.front;

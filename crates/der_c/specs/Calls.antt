@@ -31,12 +31,12 @@ levels limit = min limit 64
 abbrev pub OfKind : List ℕ → ℕ → (Rewriting → Type 0) → Type 0
 OfKind word limit P = (k : Kind) × (word ≡ word_of k) × P (rewriting_at k (levels limit))
 
--- t is the text of the value of b, the only one
+-- t is the encoding of the value of b, the only one
 pub record IsTextOf (K : Rewriting) (b t : List ℕ) : Type 0 where
   pub to : K.To b t
   pub only : (u : List ℕ) → K.To b u → u ≡ t
 
--- what a status says of why there is no text; of want of memory, 8, it says nothing
+-- what a status says of why there is no encoding; of want of memory, 8, it says nothing
 pub record SaysWhy (word : List ℕ) (limit : ℕ) (b : List ℕ) (status : ℕ) : Type 0 where
   -- DER_UNKNOWN_KIND
   pub unknown : status ≡ 2 → (k : Kind) → word ≢ word_of k
@@ -47,7 +47,7 @@ pub record SaysWhy (word : List ℕ) (limit : ℕ) (b : List ℕ) (status : ℕ)
 
 -- what der_check_word_limited answers of the input b
 pub record ChecksWord (word : List ℕ) (limit : ℕ) (b : List ℕ) (len place status : ℕ) : Type 0 where
-  -- DER_NORMAL: b is the text of its value
+  -- DER_NORMAL: b is the encoding of its value
   pub normal : status ≡ 0 → OfKind word limit (λ K. IsTextOf K b b × K.IsNormal b × (len ≡ length b))
   -- DER_LOOSE: another is, and from the place on both have the longest end that they have in common
   pub loose : status ≡ 1 → OfKind word limit (λ K. (¬ K.IsNormal b) × ((t : List ℕ) × IsTextOf K b t × (len ≡ length t) × IsLongestEnd t b place))
@@ -59,9 +59,9 @@ pub record ChecksWord (word : List ℕ) (limit : ℕ) (b : List ℕ) (len place 
 
 -- what der_rewrite_word_limited answers of the input b and a buffer
 pub record RewritesWord (word : List ℕ) (limit : ℕ) (b old new : List ℕ) (len status : ℕ) : Type 0 where
-  -- DER_NORMAL: the text stands at the front of the buffer, and the rest of it is as it was
+  -- DER_NORMAL: the encoding is at the front of the buffer, and the rest of it is as it was
   pub written : status ≡ 0 → OfKind word limit (λ K. (t : List ℕ) × IsTextOf K b t × (len ≡ length t) × (new ≡ t ++ drop len old))
-  -- DER_NO_ROOM: the text needs that many bytes
+  -- DER_NO_ROOM: the encoding needs that many bytes
   pub no_room : status ≡ 9 → OfKind word limit (λ K. (t : List ℕ) × IsTextOf K b t × (len ≡ length t) × (length old < len))
   pub why : SaysWhy word limit b status
   pub no_len : 2 ≤ status → status ≤ 8 → len ≡ 0
@@ -83,7 +83,7 @@ pub record FindsRange (b : List ℕ) (start len status : ℕ) : Type 0 where
 
 -- what der_kind_word answers of the index of a kind and a buffer
 pub record NamesKind (index : ℕ) (old new : List ℕ) (len status : ℕ) : Type 0 where
-  -- DER_NORMAL: its word stands at the front of the buffer
+  -- DER_NORMAL: its word is at the front of the buffer
   pub named : status ≡ 0 → (k : Kind) × IsKindAt index k × (len ≡ length (word_of k)) × (new ≡ word_of k ++ drop len old)
   -- DER_UNKNOWN_KIND: there are fewer kinds
   pub unknown : status ≡ 2 → (length kinds ≤ index) × (len ≡ 0)

@@ -1,5 +1,5 @@
 //! Checks and rewritings of inputs of all kinds, and the octets that a MAC covers, for callers in C. `der.h` has the
-//! declarations, and what a caller owes.
+//! declarations, and what a caller has to keep to.
 #![tactic(auto)]
 
 ghost use Rattle.std.specs.Prelude.{◌≡◌, ◌≤◌, length, MatchOption};
@@ -71,7 +71,7 @@ pub extern "C" fn der_check_word_limited(
     }
 }
 
-/// Writes the normal text of the input to the front of `out`. At 0 `written` is its length, at 9, where `out` is too
+/// Writes the normal encoding of the input to the front of `out`. At 0 `written` is its length, at 9, where `out` is too
 /// short, the length that it needs, and otherwise 0. Any other status is as of `der_check_word_limited`, and `out` is as
 /// it was.
 #[unsafe(no_mangle)]
@@ -154,7 +154,7 @@ pub extern "C" fn der_kind_word(index: usize, out: &mut [u8], written: &mut usiz
 mod tests {
     use super::{der_check_word_limited, der_kind_word, der_mac_range, der_rewrite_word_limited};
 
-    /// A PFX whose authSafe is data, round an empty SEQUENCE.
+    /// A PFX whose authSafe is data, around an empty SEQUENCE.
     const STORE: &[u8] =
         b"\x30\x16\x02\x01\x03\x30\x11\x06\x09\x2A\x86\x48\x86\xF7\x0D\x01\x07\x01\xA0\x04\x04\x02\x30\x00";
 

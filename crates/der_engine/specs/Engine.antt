@@ -12,12 +12,12 @@ use Rattle.der_engine.specs.declared.outcome.Outcome.TheVariants.{Normal, Loose,
 
 -- What a type makes of inputs, in words of bytes alone, so that one statement serves types of different values.
 pub record Rewriting : Type 1 where
-  -- t is the text of a value of b; an input that has no t isn't in the grammar
+  -- t is the encoding of a value of b; an input that has no t isn't in the grammar
   pub To : List ℕ → List ℕ → Type 0
   -- the normal grammar
   pub IsNormal : List ℕ → Type 0
 
--- t is the text of a value of b, whose nesting has at most so many levels
+-- t is the encoding of a value of b, whose nesting has at most so many levels
 pub record Rewrites {V : Type 0} (F : Format V) (limit : ℕ) (b t : List ℕ) : Type 0 where
   pub value : V
   pub reads : F.Reads limit b value
@@ -30,18 +30,18 @@ rewriting_at F limit = record { To = Rewrites F limit; IsNormal = F.IsNormal lim
 abbrev pub rewriting_of : {V : Type 0} → Format V → Rewriting
 rewriting_of F = rewriting_at F 64
 
--- why no text is made of b: its text doesn't fit, memory was refused, or b isn't in the grammar
+-- why nothing is made of b: its encoding doesn't fit, memory was refused, or b isn't in the grammar
 pub record IsRefusal (K : Rewriting) (b : List ℕ) (e : Error) : Type 0 where
   pub long : e ≡ TooLong → (t : List ℕ) × K.To b t × (2 ^ 64 ≤ length t)
   pub none : e ≢ TooLong → e ≢ Memory → (t : List ℕ) → K.To b t → ⊥
 
--- b is the text of its value
+-- b is the encoding of its value
 pub record SaysNormal (K : Rewriting) (b w : List ℕ) : Type 0 where
   pub same : K.To b b
   pub normal : K.IsNormal b
   pub line : w ≡ normal_line (length b)
 
--- the text of a value of b is another
+-- the encoding of a value of b is another
 pub record SaysLoose (K : Rewriting) (b w : List ℕ) : Type 0 where
   pub text : List ℕ
   pub to : K.To b text

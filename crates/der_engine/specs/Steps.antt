@@ -8,7 +8,7 @@ use Rattle.der_engine.specs.declared.outcome.Mode.{Mode}
 use Rattle.der_engine.specs.declared.outcome.Outcome.{Outcome}
 use Rattle.der_engine.specs.declared.outcome.Outcome.TheVariants.{WriteFailed}
 
--- the text of the value of b, the only one, has so many bytes, and is b exactly where b is normal
+-- the encoding of the value of b, the only one, has so many bytes, and is b exactly where b is normal
 pub record IsChecked (K : Rewriting) (b : List ℕ) (is_normal : Bool) (size : ℕ) : Type 0 where
   pub text : List ℕ
   pub to : K.To b text
@@ -20,7 +20,7 @@ pub record IsChecked (K : Rewriting) (b : List ℕ) (is_normal : Bool) (size : �
 abbrev pub Checks : Rewriting → List ℕ → Result (Bool × ℕ) Error → Type 0
 Checks K b r = MatchResult r (λ p. IsChecked K b p.0 p.1) (λ e. IsRefusal K b e)
 
--- the text of the value of b, the only one, stands behind what there was
+-- the encoding of the value of b, the only one, follows what there was
 pub record IsRewritten (K : Rewriting) (b old new : List ℕ) : Type 0 where
   pub text : List ℕ
   pub to : K.To b text

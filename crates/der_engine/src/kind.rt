@@ -14,7 +14,7 @@ pub trait KindOfInput: Copy {
     /// The word that names the kind.
     ghost word_of: { Self → List ℕ };
 
-    /// What the texts of inputs of the kind are, with at most so many levels of nesting.
+    /// What inputs of the kind are rewritten to, with at most so many levels of nesting.
     ghost rewriting_at: { Self → ℕ → Rewriting };
 
     /// The word that names the kind: its type in lower case.

@@ -36,7 +36,7 @@ fn answer<K: KindOfInput>(
     }
 }
 
-/// Writes the text that goes with an outcome.
+/// Writes what goes with an outcome.
 fn deliver<W: Sink>(sink: &mut W, outcome: Outcome, text: &[u8]) -> Outcome
     requires { W.failed sink.old < u64.MAX }
     ensures { Delivers outcome text.now
@@ -80,7 +80,7 @@ fn tell<K: KindOfInput, W: Sink>(
 }
 
 /// Reads a source to its end as a value of the kind, and writes what is asked of it: in check a line, in rewrite the
-/// text. The first read or write that fails ends the run. A source that never ends gets `Refused(Memory)`, once the
+/// encoding. The first read or write that fails ends the run. A source that never ends gets `Refused(Memory)`, once the
 /// buffer holds what it may.
 pub fn run<R: Source, W: Sink, K: KindOfInput>(
     alloc: Global,

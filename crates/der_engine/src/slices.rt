@@ -1,4 +1,4 @@
-//! What the text of an input's value is, over bytes in memory.
+//! What the encoding of an input's value is, over bytes in memory.
 
 ghost use Rattle.std.specs.Prelude.{◌≤◌};
 ghost use Rattle.der_engine.specs.Engine.{rewriting_at, rewriting_of};
@@ -48,7 +48,7 @@ pub fn loose_end_as<T: DerDeserialize>(alloc: Global, input: &[u8]) -> Result<Op
     end_of(check_located_as::<T>(alloc, MAX_NESTING, input))
 }
 
-/// Whether an input of a type is normal, and how many bytes its text has. The text is made for that alone, and compared
+/// Whether an input of a type is normal, and how many bytes its encoding has. That is made for this alone, and compared
 /// with the input piece by piece. Refuses as `from_bytes` does, and by `TooLong`.
 pub fn check_as<T: DerDeserialize>(alloc: Global, input: &[u8]) -> Result<(bool, usize), Error>
     ensures { Checks (rewriting_of T.format) input.now result }
@@ -69,7 +69,7 @@ pub fn check_as_limited<T: DerDeserialize>(
     check_of(check_located_as::<T>(alloc, limit, input))
 }
 
-/// Appends the text of the value of an input of a type. A refusal leaves what the vector holds as it was.
+/// Appends the encoding of the value of an input of a type. A refusal leaves what the vector holds as it was.
 pub fn rewrite_as<T: DerDeserialize>(
     alloc: Global,
     input: &[u8],

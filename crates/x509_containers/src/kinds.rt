@@ -141,7 +141,7 @@ impl KindOfInput for Kind {
     }
 }
 
-/// Whether an input of the kind is normal, and how many bytes the text of its value has. Refuses as `from_bytes` does,
+/// Whether an input of the kind is normal, and how many bytes its encoding has. Refuses as `from_bytes` does,
 /// and by `TooLong`.
 pub fn check(alloc: Global, kind: Kind, input: &[u8]) -> Result<(bool, usize), Error>
     ensures { Checks (rewriting_as kind) input.now result }
@@ -185,7 +185,7 @@ pub fn loose_end(alloc: Global, kind: Kind, input: &[u8]) -> Result<Option<usize
     loose_end_by_kind(alloc, kind, MAX_NESTING, input)
 }
 
-/// Appends the text of the value of an input of the kind. A refusal leaves what the vector holds as it was.
+/// Appends the encoding of the value of an input of the kind. A refusal leaves what the vector holds as it was.
 pub fn rewrite(alloc: Global, kind: Kind, input: &[u8], out: &mut Vec<u8>) -> Result<(), Error>
     ensures { RewritesBehind (rewriting_as kind) input.now out.old.items out.new.items result }
 {
@@ -207,7 +207,7 @@ pub fn rewrite_limited(
 }
 
 /// Reads a source to its end as a value of the kind, and writes what is asked of it: in check a line, in rewrite the
-/// text. The first read or write that fails ends the run. A source that never ends gets `Refused(Memory)`, once the
+/// encoding. The first read or write that fails ends the run. A source that never ends gets `Refused(Memory)`, once the
 /// buffer holds what it may.
 pub fn run<R: Source, W: Sink>(
     alloc: Global,

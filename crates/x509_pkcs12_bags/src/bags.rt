@@ -63,7 +63,7 @@ pub enum SafeBagKind {
 #[derive(Debug, Drop, PartialEq, Eq)]
 pub struct SafeContents(pub Vec<SafeBag>);
 
-/// What stands behind the object identifier of a bag.
+/// What follows the object identifier of a bag.
 type Held<T> = Part<ExplicitContextTag0<T>, BagAttributes>;
 
 type Nested = Known<SAFE_CONTENTS_BAG>;
@@ -136,7 +136,7 @@ fn is_bag_oid(type_id: &ObjectIdentifier) -> bool
         || is_oid_of(type_id, octets_of_known(SAFE_CONTENTS_BAG))
 }
 
-/// Writes what stands in a bag: the object identifier with that number, its value and its attributes.
+/// Writes the contents of a bag: the object identifier with that number, its value and its attributes.
 fn put_bag<T: DerSerialize, W: Writer>(
     number: usize,
     value: &T,
