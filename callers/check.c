@@ -1,4 +1,4 @@
-/* check KIND < FILE says of a file what `derbox check KIND` does, and writes its normal text into a buffer that is first
+/* check KIND < FILE says of a file what `derbox check KIND` does, and writes its normal encoding into a buffer that is first
  * too short and then long enough. check KIND LIMIT allows so many levels of nesting. check alone lists all kinds. */
 #include "der.h"
 
@@ -29,7 +29,7 @@ static uint8_t *read_all(size_t *len) {
   return NULL;
 }
 
-/* Whether the normal text has that length, is the input where that is normal, and spares what stands behind it. */
+/* Whether the normal encoding has that length, is the input where that is normal, and spares what follows it. */
 static int rewrites(const char *kind, unsigned limit, const uint8_t *input, size_t len, size_t normal_len,
                     int is_normal) {
   uint8_t *out = malloc(normal_len + 1);

@@ -28,13 +28,13 @@ unsafe extern "C" {
 /// The most levels of nesting that an input may have.
 const MAX_NESTING: u8 = 64;
 
-/// Why an input has no text, by the status of the library.
+/// Why an input has no encoding, by the status of the library.
 const WORDS: [&str; 11] = [
     "normal", "loose", "unknown kind", "malformed", "missing", "invalid", "too deep", "too long", "no memory", "no room",
     "no range",
 ];
 
-/// Whether the input is normal, and its normal text.
+/// Whether the input is normal, and its normal encoding.
 fn rewritten(kind: &str, limit: u8, input: &[u8]) -> Result<(bool, Vec<u8>), &'static str> {
     let (mut len, mut place) = (0, 0);
     // SAFETY: a slice's pointer isn't null and has its length; `len` and `place` are borrowed for the call alone

@@ -1,16 +1,16 @@
 /* Checks and rewritings of DER, and the octets that the MAC of a PKCS #12 file covers: the static library der_c.
  *
  * What is proved of its four calls, for all inputs, and what isn't:
- *  - A call answers no status but those that stand at it. What it writes into numbers and into out is as said below.
+ *  - A call answers no status but those that are listed at it. What it writes into numbers and into out is as said below.
  *  - DER_NORMAL, DER_LOOSE, DER_UNKNOWN_KIND, DER_TOO_LONG, DER_NO_ROOM and DER_NO_RANGE are true where they are
  *    answered.
- *  - At DER_MALFORMED, DER_MISSING, DER_INVALID and DER_TOO_DEEP the input is no text of the kind. Which of the four it
+ *  - At DER_MALFORMED, DER_MISSING, DER_INVALID and DER_TOO_DEEP the input is no encoding of the kind. Which of the four it
  *    is isn't proved: tests tell them apart.
  *  - That memory was refused where a call answers DER_NO_MEMORY isn't proved. Tests show that calls with memory enough
  *    don't answer it, and that calls keep no memory.
- *  - The functions that stand in this file, in C, are tested and not proved.
+ *  - The functions in this file, in C, are tested and not proved.
  *
- * What a caller owes:
+ * What a caller has to keep to:
  *  - word, input, out and the pointers to numbers aren't null, also where a length is 0. word and input point to so
  *    many bytes that can be read, out to so many that can be read and written.
  *  - A pointer to a number is aligned as a size_t is, and what it points to can be written.
@@ -22,7 +22,7 @@
  *  - Memory comes from malloc, realloc and free, which are those of one allocator. A block of malloc and of realloc is
  *    aligned to each power of two up to 16 that divides its size.
  *  - No call is made from a signal handler, nor from the child that a process with threads forked.
- *  - The stack has room for the nesting of the input, see DER_MAX_NESTING.
+ *  - The stack has room for the nesting of the input: see DER_MAX_NESTING.
  * Calls share nothing, so threads may make them side by side, each with an out and numbers of its own. */
 #ifndef DER_H
 #define DER_H
@@ -43,13 +43,13 @@ extern "C" {
 
 typedef enum der_status {
   DER_NORMAL = 0,       /* the input is normal; of der_rewrite, der_kind and der_mac_range: it is done */
-  DER_LOOSE = 1,        /* the input has another text, which is normal */
+  DER_LOOSE = 1,        /* the input has another encoding, which is normal */
   DER_UNKNOWN_KIND = 2, /* no kind has that word, or that index */
-  DER_MALFORMED = 3,    /* 3 to 6: the input is no text of the kind: bytes that are no element, or too many */
+  DER_MALFORMED = 3,    /* 3 to 6: the input is no encoding of the kind: bytes that are no element, or too many */
   DER_MISSING = 4,      /* an element isn't there */
-  DER_INVALID = 5,      /* a tag, version, object identifier, character or number that can't stand there */
+  DER_INVALID = 5,      /* a tag, version, object identifier, character or number that can't be there */
   DER_TOO_DEEP = 6,     /* more levels of nesting than the limit */
-  DER_TOO_LONG = 7,     /* its normal text has 2^64 bytes or more */
+  DER_TOO_LONG = 7,     /* its normal encoding has 2^64 bytes or more */
   DER_NO_MEMORY = 8,    /* a request for memory was refused: nothing is said of the input */
   DER_NO_ROOM = 9,      /* out is too short: the number of bytes that are needed is written */
   DER_NO_RANGE = 10     /* authSafe isn't data, so that no octets of the file are covered by a MAC */
@@ -82,11 +82,11 @@ static inline uint8_t der_levels(unsigned limit) {
 
 /* Checks an input as the kind, the name of a type in lower case, as "pfx", with at most limit levels of nesting. A
  * limit above DER_MAX_NESTING counts as DER_MAX_NESTING.
- *  - DER_NORMAL: the whole input is a text of the kind, and normal. *normal_len is its length.
- *  - DER_LOOSE: it is a text of the kind, but its normal text is another. *normal_len is the length of that one.
+ *  - DER_NORMAL: the whole input is an encoding of the kind, and normal. *normal_len is its length.
+ *  - DER_LOOSE: it is an encoding of the kind, but its normal encoding is another. *normal_len is the length of that one.
  *  - DER_UNKNOWN_KIND.
- *  - DER_MALFORMED to DER_TOO_DEEP: it is no text of the kind, within the limit.
- *  - DER_TOO_LONG: it is one, but its normal text is too long.
+ *  - DER_MALFORMED to DER_TOO_DEEP: it is no encoding of the kind, within the limit.
+ *  - DER_TOO_LONG: it is one, but its normal encoding is too long.
  *  - DER_NO_MEMORY.
  * Unless at DER_NORMAL and DER_LOOSE *normal_len is 0. */
 static inline der_status der_check_limited(const char *kind, unsigned limit, const uint8_t *input, size_t input_len,
@@ -116,8 +116,8 @@ static inline der_status der_locate(const char *kind, const uint8_t *input, size
 }
 
 /* Checks as der_check does, and says where an input is loose.
- *  - DER_LOOSE: from *place on the input is what its normal text ends in too, and no longer end is: the last difference
- *    is right before *place, in the input or in its normal text.
+ *  - DER_LOOSE: from *place on the input is what its normal encoding ends in too, and no longer end is: the last
+ *    difference is right before *place, in the input or in its normal encoding.
  * At any other status *place is 0. */
 static inline der_status der_loose_end(const char *kind, const uint8_t *input, size_t input_len, size_t *place) {
   size_t normal_len;
@@ -127,7 +127,7 @@ static inline der_status der_loose_end(const char *kind, const uint8_t *input, s
   return (der_status)status;
 }
 
-/* Writes the normal text of an input to the front of out. The limit is as of der_check_limited.
+/* Writes the normal encoding of an input to the front of out. The limit is as of der_check_limited.
  *  - DER_NORMAL: *written bytes were written, and the rest of out is as it was.
  *  - DER_NO_ROOM: *written bytes are needed, and out_len is less.
  *  - Any other status but DER_LOOSE is as of der_check_limited, and *written is 0.
@@ -145,7 +145,7 @@ static inline der_status der_rewrite(const char *kind, const uint8_t *input, siz
 }
 
 /* Writes the word of the kind with that index, from 0 on, to the front of out.
- *  - DER_NORMAL: *written bytes were written, without a zero byte behind them, and the rest of out is as it was.
+ *  - DER_NORMAL: *written bytes were written, without a zero byte after them, and the rest of out is as it was.
  *  - DER_NO_ROOM: *written bytes are needed, and out_len is less.
  *  - DER_UNKNOWN_KIND: there are no more kinds, and *written is 0.
  * Unless at DER_NORMAL out is as it was. It takes no memory. */

@@ -1,4 +1,4 @@
-/* limits KIND < FILE makes each call over a file, with marks round all that the call may write, and says its status and
+/* limits KIND < FILE makes each call over a file, with marks around all that the call may write, and says its status and
  * its numbers. Then it makes the call again, while one request for memory after another is refused: each comes to
  * DER_NO_MEMORY, or changes nothing. limits KIND LIMIT allows so many levels of nesting. limits alone asks for the words of
  * all kinds, with room enough and a byte less.
@@ -108,7 +108,7 @@ static answer made(call it, const given *its, uint8_t *room, size_t out_len) {
     fault(it, "it says that it wrote more than there is room for");
   for (at = 0; at < MARGIN + out_len + MARGIN; at++)
     if ((at < MARGIN || at >= MARGIN + written) && room[at] != MARK)
-      fault(it, "it writes beside its text");
+      fault(it, "it writes beside its encoding");
   return said;
 }
 

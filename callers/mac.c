@@ -1,4 +1,4 @@
-/* mac < FILE writes the octets of a PKCS #12 file that its MAC covers, as they stand in the file. */
+/* mac < FILE writes the octets of a PKCS #12 file that its MAC covers, as they are in the file. */
 #include "der.h"
 
 #include <stdio.h>
