@@ -9,6 +9,8 @@ mod algorithms;
 mod contents;
 #[cfg(test)]
 mod levels;
+#[cfg(test)]
+mod loose_ends;
 pub mod octets_repr;
 #[cfg(test)]
 mod program;
