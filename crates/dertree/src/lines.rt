@@ -3,6 +3,7 @@
 ghost use Rattle.std.specs.Prelude.{◌≡◌, ◌<◌, ◌≤◌, ◌+◌, length, IsSome, IsTrue};
 ghost use Rattle.dertree.specs.Lines.{IsItem};
 
+use crate::tags::Tag;
 use asn1_core_element::front::front;
 
 const OCTET_STRING: u8 = 0x04;
@@ -59,7 +60,7 @@ impl Opening {
                 }
                 None => false,
             },
-            Some(tag) => tag / 32 % 2 == 1 && !contents.is_empty(),
+            Some(tag) => Tag(tag).is_constructed() && !contents.is_empty(),
         }
     }
 

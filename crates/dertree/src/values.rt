@@ -3,15 +3,15 @@
 ghost use Rattle.std.specs.Prelude.{IfOk, IfSome, string_bytes};
 ghost use Rattle.asn1_core_oid.specs.OidText.{IsTextOf};
 
-use asn1_core::{Error, ObjectIdentifier};
-use asn1_leaves::{BmpString, GeneralizedTime, UTCTime};
 use std::alloc::Global;
 use std::fmt::Write;
 use std::io::{self, ErrorKind};
+use x509_containers::{BmpString, Error, GeneralizedTime, ObjectIdentifier, UTCTime};
 
-/// How many octets are shown of many, and of text.
+/// How many octets are shown of more.
 const FIRST_OCTETS: usize = 16;
 
+/// How many octets of a longer string are shown as characters, and up to which length the arcs of an object identifier.
 const FIRST_OF_TEXT: usize = 64;
 
 const UTC_TIME: u8 = 0x17;
@@ -122,6 +122,7 @@ pub fn value_text(alloc: Global, tag: u8, contents: &[u8]) -> io::Result<String>
         (0x02 | 0x0A, _) => integer_text(alloc, contents)?,
         (0x03, _) => bits_text(alloc, contents)?,
         (0x06, _) => oid_text(alloc, contents)?,
+        // UTF8String, and those of which mostly ASCII is in use: numeric, printable, Teletex, IA5, visible
         (0x0C | 0x12 | 0x13 | 0x14 | 0x16 | 0x1A, _) => string_text(alloc, contents)?,
         (UTC_TIME | 0x18, _) => time_text(alloc, tag, contents)?,
         (0x1E, _) => bmp_text(alloc, contents)?,

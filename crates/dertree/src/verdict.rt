@@ -1,7 +1,11 @@
 //! What is said of an input of a kind.
 
-use asn1_core::Error;
+ghost use Rattle.x509_containers.specs.Kinds.{rewriting_as};
+ghost use Rattle.dertree.specs.Verdicts.{Says};
+
+use std::alloc::Global;
 use std::fmt;
+use x509_containers::{Error, Kind, MAX_NESTING, check_located};
 
 /// What `derbox check` says.
 #[derive(Clone, Copy)]
@@ -37,5 +41,29 @@ impl fmt::Display for Verdict {
             Verdict::Loose { len, canonical_len } => write!(f, "loose {len} -> {canonical_len}"),
             Verdict::Refused(error) => write!(f, "refused: {error}"),
         }
+    }
+}
+
+/// What is said of an input of a kind, and the place that it is about: its loose end, or where it is refused.
+pub fn judge(alloc: Global, kind: Kind, input: &[u8]) -> (Verdict, Option<usize>)
+    ensures { Says (rewriting_as kind) input.now result.0 result.1 }
+{
+    match check_located(alloc, kind, MAX_NESTING, input) {
+        Ok(found) => match found.loose_end {
+            None => (
+                Verdict::Normal {
+                    len: found.encoding_len,
+                },
+                None,
+            ),
+            Some(end) => (
+                Verdict::Loose {
+                    len: input.len(),
+                    canonical_len: found.encoding_len,
+                },
+                Some(end),
+            ),
+        },
+        Err((error, place)) => (Verdict::Refused(error), Some(place)),
     }
 }
