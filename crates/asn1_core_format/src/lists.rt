@@ -1,6 +1,6 @@
 //! Items, one after another to the end of the contents.
 
-ghost use Rattle.std.specs.Prelude.{◌≡◌, List, [], ◌∷◌, ◌++◌, map, true, false, MatchResult};
+ghost use Rattle.std.specs.Prelude.{◌≡◌, ◌<◌, List, [], ◌∷◌, ◌++◌, map, true, false, MatchResult};
 ghost use Rattle.std.specs.List.{flat_map};
 ghost use Rattle.asn1_core_element.specs.declared.error.Error.TheVariants.{Memory};
 ghost use Rattle.asn1_core_format.specs.Lists.{each};
@@ -38,6 +38,13 @@ fn put_items_back<T: DerSerialize, W: Writer>(items: &[T], w: &mut W) -> Result<
     Ok(())
 }
 
+/// How many times the items that are there a list makes room for, at most.
+pub(crate) const STEP: usize = 5;
+
+/// The same of a list whose items may hold such lists. The bytes that are left may be those of a list in the next item,
+/// which makes room for them again, and so on at each level.
+pub(crate) const NESTED_STEP: usize = 2;
+
 /// Puts an item after the others, where the items with this one took so many bytes and so many are left. A full vector
 /// grows by what these bytes come to in items, so that a long list seldom moves, with little room to spare at its end.
 /// Refuses by `Memory` alone.
@@ -46,34 +53,41 @@ pub(crate) fn push_item<T: Drop>(
     item: T,
     taken: usize,
     left: usize,
+    most: usize,
 ) -> Result<(), Error>
+    requires { 0 < most }
     ensures { MatchResult result (λ _. items.new.items ≡ items.old.items ++ item ∷ []) (λ e. e ≡ Memory) }
 {
     if items.len() == items.capacity() {
-        items.reserve_exact(room_for(items.len(), taken, left))?;
+        items.reserve_exact(room_for(items.len(), taken, left, most))?;
     }
     items.push(item)?;
     Ok(())
 }
 
 /// How many items a full list of that length makes room for: one, and those that come if all take as many bytes as those
-/// so far. At most four times as many as are there, since the bytes that are left may be anything; then a quarter, a
-/// sixteenth and so on of all, so that the last move is of a quarter. At least a quarter more, since a list whose items
-/// become smaller would grow by one item each time.
-fn room_for(len: usize, taken: usize, left: usize) -> usize {
+/// so far, with a thirty-second to spare. With the items that are there, these are at most `most` times as many, since the
+/// bytes that are left may be anything. A list that moves is there twice meanwhile, so the last move is the longest: of
+/// two moves that are left, the first is to a `most`th of all. At least an eighth more, since a list whose items become
+/// smaller would grow by one item each time.
+fn room_for(len: usize, taken: usize, left: usize, most: usize) -> usize
+    requires { 0 < most }
+{
     if left == 0 {
         return 1;
     }
     let there = len.saturating_add(1);
     let coming = left.saturating_mul(there) / taken.max(1);
-    let mut all = there.saturating_add(coming);
-    for _ in 0..32u8 {
-        if all / 4 <= there {
-            break;
-        }
-        all /= 4;
-    }
-    all.saturating_sub(len).max(len / 4).saturating_add(1)
+    let all = there.saturating_add(coming).saturating_add(coming / 32);
+    let times = all / there;
+    let room = if times < most {
+        all
+    } else if times / most < most {
+        all / most
+    } else {
+        there.saturating_mul(most)
+    };
+    room.saturating_sub(len).max((len / 8).saturating_add(1))
 }
 
 /// Items, one after another.
@@ -108,7 +122,8 @@ impl<T: DerDeserialize> ReadRow for Vec<T> {
         let whole = r.left();
         'items: while r.left() > 0 {
             let item = T::read(alloc, r, nest)?;
-            push_item(&mut items, item, whole.saturating_sub(r.left()), r.left())?;
+            let taken = whole.saturating_sub(r.left());
+            push_item(&mut items, item, taken, r.left(), STEP)?;
         }
         Ok(items)
     }

@@ -9,7 +9,7 @@ ghost use Rattle.asn1_core_format.specs.Levels.{less};
 ghost use Rattle.asn1_core_format.specs.Lists.{each};
 ghost use Rattle.asn1_core_format.specs.Rows.{GivesRow, within};
 
-use crate::lists::push_item;
+use crate::lists::{NESTED_STEP, push_item};
 use crate::rows::WriteRow;
 use crate::traits::DerSerialize;
 use asn1_core_element::element::open_element;
@@ -62,7 +62,8 @@ pub(crate) fn read_all_with<T: DerSerialize + Drop, F: Fn(&mut Reader<'_>) -> Re
     let whole = r.left();
     'items: while r.left() > 0 {
         let item = read_by(r, nest, by)?;
-        push_item(&mut items, item, whole.saturating_sub(r.left()), r.left())?;
+        let taken = whole.saturating_sub(r.left());
+        push_item(&mut items, item, taken, r.left(), NESTED_STEP)?;
     }
     Ok(items)
 }

@@ -12,7 +12,7 @@ ghost use Rattle.asn1_core_format.specs.Omitted.{is_default};
 ghost use Rattle.asn1_core_format.specs.Rows.{GivesRow, within};
 ghost use Rattle.asn1_core_format.specs.Sequences.{set_of};
 
-use crate::lists::push_item;
+use crate::lists::{NESTED_STEP, push_item};
 use crate::recursive::{read_below, read_list_with};
 use crate::rows::WriteRow;
 use crate::traits::DerSerialize;
@@ -39,7 +39,8 @@ fn read_all_below_with<T: DerSerialize + Drop, F: Fn(&mut Reader<'_>, u8) -> Res
     let whole = r.left();
     'items: while r.left() > 0 {
         let item = read_below(r, nest, by)?;
-        push_item(&mut items, item, whole.saturating_sub(r.left()), r.left())?;
+        let taken = whole.saturating_sub(r.left());
+        push_item(&mut items, item, taken, r.left(), NESTED_STEP)?;
     }
     Ok(items)
 }
