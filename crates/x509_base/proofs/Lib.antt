@@ -1,1 +1,2 @@
 pub mod AlgorithmReads
+pub mod AttributesByOid

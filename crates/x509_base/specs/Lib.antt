@@ -11,3 +11,4 @@ pub mod Names
 pub mod Versions
 pub mod Equal
 pub mod Times
+pub mod AttributesByOid

@@ -3,6 +3,7 @@
 #![tactic(auto)]
 
 pub mod algorithms;
+pub mod attributes_by_oid;
 pub mod digests;
 pub mod extensions;
 pub mod names;
@@ -10,6 +11,7 @@ pub mod times;
 pub mod versions;
 
 pub use algorithms::{AlgorithmIdentifier, RawAlgorithmIdentifier};
+pub use attributes_by_oid::{FirstAttribute, first_attribute, only_value, only_value_as};
 pub use digests::{DigestInfo, SubjectKeyIdentifier};
 pub use extensions::{Extension, Extensions};
 pub use names::{Attribute, Name, NameValue};
