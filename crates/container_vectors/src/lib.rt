@@ -6,6 +6,8 @@
 #[cfg(test)]
 mod algorithms;
 #[cfg(test)]
+mod attributes;
+#[cfg(test)]
 mod contents;
 #[cfg(test)]
 mod levels;
