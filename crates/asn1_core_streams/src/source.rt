@@ -98,11 +98,13 @@ impl From<AllocError> for ReadError {
     }
 }
 
-/// How many bytes are asked for at a time. They are read into an array on the stack.
+/// How many bytes are asked for at a time. They are read into an array on the stack, which `read_all` isn't inlined for:
+/// so it is gone while the input is parsed.
 const PIECE: usize = 65_536;
 
 /// Reads all that a source gives, 64 KB at a time. The first read that fails ends it. What was read before an error is
 /// lost; a source that never ends gets `Memory`, once the vector holds what it may.
+#[inline(never)]
 pub fn read_all<S: Source>(alloc: Global, source: &mut S) -> Result<Vec<u8>, ReadError>
     requires { S.failed source.old < u64.MAX }
     ensures all { IfOk result (λ v. Consumes (S.coming source.old) (S.coming source.new) v.items) }
