@@ -1,11 +1,12 @@
 /* Checks and rewritings of DER, and the octets that the MAC of a PKCS #12 file covers: the static library der_c.
  *
  * What is proved of its four calls, for all inputs, and what isn't:
- *  - A call answers no status but those that are listed at it. What it writes into numbers and into out is as said below.
+ *  - A call answers no status but those that are listed at it. What it writes into numbers and into out is as said
+ *    below.
  *  - DER_NORMAL, DER_LOOSE, DER_UNKNOWN_KIND, DER_TOO_LONG, DER_NO_ROOM and DER_NO_RANGE are true where they are
  *    answered.
- *  - At DER_MALFORMED, DER_MISSING, DER_INVALID and DER_TOO_DEEP the input is no encoding of the kind. Which of the four it
- *    is isn't proved: tests tell them apart.
+ *  - At DER_MALFORMED, DER_MISSING, DER_INVALID and DER_TOO_DEEP the input is no encoding of the kind. Which of the
+ *    four it is isn't proved: tests tell them apart.
  *  - That memory was refused where a call answers DER_NO_MEMORY isn't proved. Tests show that calls with memory enough
  *    don't answer it, and that calls keep no memory.
  *  - The functions in this file, in C, are tested and not proved.
@@ -36,9 +37,9 @@ extern "C" {
 #endif
 
 /* The most levels of nesting that an input may have: bags in bags, signed data in time stamps, counter signatures of
- * counter signatures. A level takes up to 3.5 KB of stack, and one of signed data in time stamps 13.4 KB, so 64 of these
- * need 914 KB. A caller on a smaller stack passes a lower limit to der_check_limited and der_rewrite_limited. That is
- * measured (scripts/cost), not proved. */
+ * counter signatures. A level takes up to 3.5 KB of stack, and one of signed data in time stamps 13.4 KB, so 64 of
+ * these need 914 KB. A caller on a smaller stack passes a lower limit to der_check_limited and der_rewrite_limited.
+ * That is measured (scripts/cost), not proved. */
 #define DER_MAX_NESTING 64
 
 typedef enum der_status {
@@ -83,7 +84,8 @@ static inline uint8_t der_levels(unsigned limit) {
 /* Checks an input as the kind, the name of a type in lower case, as "pfx", with at most limit levels of nesting. A
  * limit above DER_MAX_NESTING counts as DER_MAX_NESTING.
  *  - DER_NORMAL: the whole input is an encoding of the kind, and normal. *normal_len is its length.
- *  - DER_LOOSE: it is an encoding of the kind, but its normal encoding is another. *normal_len is the length of that one.
+ *  - DER_LOOSE: it is an encoding of the kind, but its normal encoding is another. *normal_len is the length of that
+ *    one.
  *  - DER_UNKNOWN_KIND.
  *  - DER_MALFORMED to DER_TOO_DEEP: it is no encoding of the kind, within the limit.
  *  - DER_TOO_LONG: it is one, but its normal encoding is too long.
