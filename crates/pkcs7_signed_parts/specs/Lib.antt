@@ -6,3 +6,5 @@ pub mod Revoked
 pub mod CertificateLists
 pub mod Revocations
 pub mod Equal
+pub mod SignedSets
+pub mod NamedAttributes

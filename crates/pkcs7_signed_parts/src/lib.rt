@@ -6,8 +6,10 @@ pub mod algorithms;
 pub mod attributes;
 pub mod certificate_lists;
 pub mod certificates;
+pub mod named_attributes;
 pub mod revocations;
 pub mod revoked;
+pub mod signed_sets;
 pub mod signers;
 
 pub use algorithms::{
@@ -18,6 +20,7 @@ pub use certificate_lists::{CertificateList, TbsCertList};
 pub use certificates::{CertificateChoices, CertificateSet};
 pub use revocations::{OtherRevocationInfoFormat, RevocationInfoChoice, RevocationInfoChoices};
 pub use revoked::{RevokedCertificate, RevokedCertificates};
+pub use signed_sets::{AttributesAsSet, set_has_the_same_contents};
 pub use signers::{
     CertificateSerialNumber, IssuerAndSerialNumber, SignatureValue, SignerIdentifier,
 };
