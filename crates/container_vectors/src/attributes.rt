@@ -3,7 +3,7 @@
 use std::test::Fail;
 use x509_containers::{
     Attributes, Error, IntegerAsn1, OctetStringAsn1, first_attribute, from_bytes, only_value,
-    only_value_as,
+    only_value_as, to_vec,
 };
 
 /// An INTEGER under 1.2.3.4; nothing, and then two INTEGERs under 1.2.3.5; an OCTET STRING under 1.2.3.6.
@@ -58,5 +58,40 @@ fn read_as_a_type(rt: HostRuntime) -> Result<(), Fail> {
     }
     assert!(rt; only_value_as::<IntegerAsn1>(alloc, all, b"\x2A\x03\x06").is_err());
     assert!(rt; only_value_as::<IntegerAsn1>(alloc, all, b"\x2A\x03\x07")?.is_none());
+    Ok(())
+}
+
+/// Signed attributes of a signer: `id-data` as the content type, a digest of two octets, a signing time.
+const SIGNED: &[u8] = b"\
+    \xA0\x4B\x30\x18\x06\x09\x2A\x86\x48\x86\xF7\x0D\x01\x09\x03\x31\x0B\x06\x09\x2A\x86\x48\x86\xF7\x0D\x01\x07\x01\
+    \x30\x11\x06\x09\x2A\x86\x48\x86\xF7\x0D\x01\x09\x04\x31\x04\x04\x02AB\
+    \x30\x1C\x06\x09\x2A\x86\x48\x86\xF7\x0D\x01\x09\x05\x31\x0F\x17\x0D210420065224Z";
+
+/// Each by its name, and all as the signature covers them.
+#[test]
+fn of_a_signer(rt: HostRuntime) -> Result<(), Fail> {
+    let alloc = rt.alloc();
+    let attributes: Attributes = from_bytes(alloc, SIGNED)?;
+    match (
+        attributes.content_type(alloc)?,
+        attributes.message_digest(alloc)?,
+        attributes.signing_time(alloc)?,
+        attributes.attribute(b"\x2A\x86\x48\x86\xF7\x0D\x01\x09\x04"),
+        attributes.as_set(),
+    ) {
+        (Some(content_type), Some(digest), Some(time), Some(first), Some(set)) => {
+            assert_eq!(rt; to_vec(alloc, &content_type)?.as_slice(), &SIGNED[17..28]);
+            assert_eq!(rt; digest.0.as_slice(), b"AB".as_slice());
+            assert_eq!(rt; to_vec(alloc, &time)?.as_slice(), &SIGNED[62..]);
+            assert!(rt; first.is_only);
+            let covered = to_vec(alloc, &set)?;
+            assert_eq!(rt; covered[0], 0x31);
+            assert_eq!(rt; &covered[1..], &SIGNED[1..]);
+        }
+        _ => return Err(Fail::new(format_args!("something isn't found"))),
+    }
+    let none: Attributes = from_bytes(alloc, b"\xA0\x00")?;
+    assert!(rt; none.as_set().is_none());
+    assert!(rt; none.content_type(alloc)?.is_none());
     Ok(())
 }
