@@ -20,17 +20,21 @@ fn by_object_identifier(rt: HostRuntime) -> Result<(), Fail> {
     let all = attributes.0.0.as_slice();
     for (oid, first, value) in [
         (
-            b"\x2A\x03\x04",
+            b"\x2A\x03\x04".as_slice(),
             Some((1, true)),
             Ok(Some(b"\x02\x01\x05".as_slice())),
         ),
-        (b"\x2A\x03\x05", Some((0, false)), Err(Error::Invalid)),
         (
-            b"\x2A\x03\x06",
+            b"\x2A\x03\x05".as_slice(),
+            Some((0, false)),
+            Err(Error::Invalid),
+        ),
+        (
+            b"\x2A\x03\x06".as_slice(),
             Some((1, true)),
             Ok(Some(b"\x04\x02AB".as_slice())),
         ),
-        (b"\x2A\x03\x07", None, Ok(None)),
+        (b"\x2A\x03\x07".as_slice(), None, Ok(None)),
     ] {
         let found = match first_attribute(all, oid) {
             Some(found) => Some((found.attribute.value.0.len(), found.is_only)),
@@ -67,6 +71,18 @@ const SIGNED: &[u8] = b"\
     \x30\x11\x06\x09\x2A\x86\x48\x86\xF7\x0D\x01\x09\x04\x31\x04\x04\x02AB\
     \x30\x1C\x06\x09\x2A\x86\x48\x86\xF7\x0D\x01\x09\x05\x31\x0F\x17\x0D210420065224Z";
 
+/// What the signature covers.
+const COVERED: &[u8] = b"\
+    \x31\x4B\x30\x18\x06\x09\x2A\x86\x48\x86\xF7\x0D\x01\x09\x03\x31\x0B\x06\x09\x2A\x86\x48\x86\xF7\x0D\x01\x07\x01\
+    \x30\x11\x06\x09\x2A\x86\x48\x86\xF7\x0D\x01\x09\x04\x31\x04\x04\x02AB\
+    \x30\x1C\x06\x09\x2A\x86\x48\x86\xF7\x0D\x01\x09\x05\x31\x0F\x17\x0D210420065224Z";
+
+const ID_DATA: &[u8] = b"\x06\x09\x2A\x86\x48\x86\xF7\x0D\x01\x07\x01";
+
+const MESSAGE_DIGEST: &[u8] = b"\x2A\x86\x48\x86\xF7\x0D\x01\x09\x04";
+
+const TIME: &[u8] = b"\x17\x0D210420065224Z";
+
 /// Each by its name, and all as the signature covers them.
 #[test]
 fn of_a_signer(rt: HostRuntime) -> Result<(), Fail> {
@@ -76,17 +92,15 @@ fn of_a_signer(rt: HostRuntime) -> Result<(), Fail> {
         attributes.content_type(alloc)?,
         attributes.message_digest(alloc)?,
         attributes.signing_time(alloc)?,
-        attributes.attribute(b"\x2A\x86\x48\x86\xF7\x0D\x01\x09\x04"),
+        attributes.attribute(MESSAGE_DIGEST),
         attributes.as_set(),
     ) {
         (Some(content_type), Some(digest), Some(time), Some(first), Some(set)) => {
-            assert_eq!(rt; to_vec(alloc, &content_type)?.as_slice(), &SIGNED[17..28]);
+            assert_eq!(rt; to_vec(alloc, &content_type)?.as_slice(), ID_DATA);
             assert_eq!(rt; digest.0.as_slice(), b"AB".as_slice());
-            assert_eq!(rt; to_vec(alloc, &time)?.as_slice(), &SIGNED[62..]);
+            assert_eq!(rt; to_vec(alloc, &time)?.as_slice(), TIME);
             assert!(rt; first.is_only);
-            let covered = to_vec(alloc, &set)?;
-            assert_eq!(rt; covered[0], 0x31);
-            assert_eq!(rt; &covered[1..], &SIGNED[1..]);
+            assert_eq!(rt; to_vec(alloc, &set)?.as_slice(), COVERED);
         }
         _ => return Err(Fail::new(format_args!("something isn't found"))),
     }
