@@ -19,6 +19,8 @@ mod program;
 #[cfg(test)]
 mod ranges;
 #[cfg(test)]
+mod refused_places;
+#[cfg(test)]
 mod representations;
 #[cfg(test)]
 mod runs;
