@@ -5,7 +5,7 @@ use asn1_core::DerDeserialize;
 use std::alloc::Global;
 use std::test::Fail;
 use x509_containers::{
-    EncapsulatedContentInfo, Error, Kind, MAX_NESTING, Pkcs12Attribute, RecipientInfos,
+    EncapsulatedContentInfo, Error, Kind, MAX_NESTING, Pkcs12Attribute, RecipientInfo,
     RevocationInfoChoices, SignerInfo, SpcAttributeAndOptionalValue, check_located,
     from_bytes_located,
 };
@@ -70,10 +70,10 @@ fn shapes_of_files_in_use(rt: HostRuntime) -> Result<(), Fail> {
         9,
     )?;
     // a recipient by key transport
-    is_invalid_at::<RecipientInfos>(
+    is_invalid_at::<RecipientInfo>(
         alloc,
-        "recipientinfos",
-        b"\x31\x12\x30\x10\x02\x01\x04\x30\x02\x04\x00\x30\x05\x06\x03\x2A\x03\x04\x04\x00",
-        2,
+        "recipientinfo",
+        b"\x30\x10\x02\x01\x04\x30\x02\x04\x00\x30\x05\x06\x03\x2A\x03\x04\x04\x00",
+        0,
     )
 }
