@@ -37,9 +37,9 @@ extern "C" {
 #endif
 
 /* The most levels of nesting that an input may have: bags in bags, signed data in time stamps, counter signatures of
- * counter signatures. A level takes up to 3.5 KB of stack, and one of signed data in time stamps 13.4 KB, so 64 of
- * these need 914 KB. A caller on a smaller stack passes a lower limit to der_check_limited and der_rewrite_limited.
- * That is measured (scripts/cost), not proved. */
+ * counter signatures. A level takes up to 3.5 KB of stack, and one of signed data in time stamps up to 13.4 KB, so 64
+ * of these need some 900 KB. A caller on a smaller stack passes a lower limit to der_check_limited and
+ * der_rewrite_limited. That is measured (scripts/cost), not proved. */
 #define DER_MAX_NESTING 64
 
 typedef enum der_status {
