@@ -1,0 +1,136 @@
+"""Checks and rewritings of DER, and the octets that the MAC of a PKCS #12 file covers, from Python.
+
+    library = Library("libder.so")
+    library.check("pfx", data)       Verdict(is_normal=True, length=1010, loose_end=None)
+    library.rewrite("pfx", data)     the normal (canonical) encoding, as bytes
+    library.mac_range(data)          range(30, 943), or None
+    library.kinds()                  ["macdata", ..]
+
+A kind is the name of a type in lower case. What is no encoding of its kind raises Refused, with the reason and the place.
+The calls are those of der.h, which says what is proved of them. Calls share nothing, so threads may make them side by
+side.
+
+The shared library is made of the static ones, at the top of a clone, after `rt lib` in crates/der_c:
+
+    cc -shared -o libder.so -Wl,--whole-archive crates/der_c/out/libder_c.a -Wl,--no-whole-archive \\
+        "$(dirname "$(rt doc)")/c/liblibc_c.a"
+"""
+import ctypes
+import os
+from typing import List, NamedTuple, Optional, Union
+
+# The most levels of nesting that an input may have.
+MAX_NESTING = 64
+
+NORMAL, LOOSE, UNKNOWN_KIND, TOO_LONG, NO_MEMORY, NO_ROOM, NO_RANGE = 0, 1, 2, 7, 8, 9, 10
+REASONS = {3: "malformed", 4: "missing", 5: "invalid", 6: "too deep"}
+
+Bytes = Union[bytes, bytearray, memoryview]
+
+
+class Refused(ValueError):
+    """An input that is no encoding of its kind.
+
+    reason is "malformed", "missing", "invalid" or "too deep", and place the offset at which the input is refused: where
+    the element begins that is invalid, nested too deep or none, or the end of the contents in which one is missing.
+    """
+
+    def __init__(self, reason: str, place: int) -> None:
+        super().__init__(f"{reason} at {place}")
+        self.reason = reason
+        self.place = place
+
+
+class UnknownKind(LookupError):
+    """A word that no kind has."""
+
+
+class Verdict(NamedTuple):
+    """What an accepted input is."""
+
+    # whether it is the normal encoding of its value
+    is_normal: bool
+    # how many bytes that encoding has
+    length: int
+    # in a loose input, the offset from which on it ends as that encoding does
+    loose_end: Optional[int]
+
+
+class Library:
+    """The calls of a shared library that der_c was made into."""
+
+    def __init__(self, path: Union[str, "os.PathLike[str]"]) -> None:
+        self._library = ctypes.CDLL(os.path.realpath(path))
+        octets, size, number = ctypes.c_char_p, ctypes.c_size_t, ctypes.POINTER(ctypes.c_size_t)
+        word = [octets, size, ctypes.c_uint8, octets, size]
+        for name, arguments in (
+            ("der_check_word_limited", [*word, number, number]),
+            ("der_rewrite_word_limited", [*word, octets, size, number]),
+            ("der_mac_range", [octets, size, number, number]),
+            ("der_kind_word", [size, octets, size, number]),
+        ):
+            call = getattr(self._library, name)
+            call.argtypes, call.restype = arguments, ctypes.c_uint32
+
+    def check(self, kind: str, data: Bytes, limit: int = MAX_NESTING) -> Verdict:
+        """What an input of a kind is, with at most limit levels of nesting (a limit above 64 counts as 64)."""
+        length, place = ctypes.c_size_t(), ctypes.c_size_t()
+        status = self._library.der_check_word_limited(
+            *_input(kind, data, limit), ctypes.byref(length), ctypes.byref(place)
+        )
+        _raise_for(status, kind, place.value)
+        return Verdict(status == NORMAL, length.value, place.value if status == LOOSE else None)
+
+    def rewrite(self, kind: str, data: Bytes, limit: int = MAX_NESTING) -> bytes:
+        """The normal encoding of an input of a kind."""
+        room, written = len(data) + 64, ctypes.c_size_t()
+        while True:
+            out = ctypes.create_string_buffer(room)
+            status = self._library.der_rewrite_word_limited(
+                *_input(kind, data, limit), out, room, ctypes.byref(written)
+            )
+            if status == NORMAL:
+                return out.raw[: written.value]
+            if status in REASONS:
+                self.check(kind, data, limit)
+            if status != NO_ROOM:
+                _raise_for(status, kind, 0)
+            room = written.value
+
+    def mac_range(self, data: Bytes) -> Optional[range]:
+        """Where a PKCS #12 file has the octets that its MAC covers. None where its authSafe isn't data."""
+        start, length = ctypes.c_size_t(), ctypes.c_size_t()
+        status = self._library.der_mac_range(bytes(data), len(data), ctypes.byref(start), ctypes.byref(length))
+        if status == NO_RANGE:
+            return None
+        if status in REASONS:
+            self.check("rawpfx", data)
+        _raise_for(status, "rawpfx", 0)
+        return range(start.value, start.value + length.value)
+
+    def kinds(self) -> List[str]:
+        """The words of all kinds."""
+        words, out, written = [], ctypes.create_string_buffer(64), ctypes.c_size_t()
+        while self._library.der_kind_word(len(words), out, len(out), ctypes.byref(written)) == NORMAL:
+            words.append(out.raw[: written.value].decode())
+        return words
+
+
+def _input(kind: str, data: Bytes, limit: int) -> tuple:
+    """The arguments that say what is asked of which input."""
+    if limit < 0:
+        raise ValueError(f"a limit of {limit} levels")
+    word = kind.encode()
+    return word, len(word), min(limit, MAX_NESTING), bytes(data), len(data)
+
+
+def _raise_for(status: int, kind: str, place: int) -> None:
+    """Raises what a status means that is no answer."""
+    if status in REASONS:
+        raise Refused(REASONS[status], place)
+    if status == UNKNOWN_KIND:
+        raise UnknownKind(kind)
+    if status == TOO_LONG:
+        raise OverflowError("the normal encoding has 2**64 bytes or more")
+    if status == NO_MEMORY:
+        raise MemoryError
