@@ -1,4 +1,5 @@
 pub mod Oids
+pub mod Below
 pub mod Forest
 pub mod Parts
 pub mod Rows

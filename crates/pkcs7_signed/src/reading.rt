@@ -3,7 +3,8 @@
 
 ghost use Rattle.std.specs.Prelude.{◌≡◌, ◌<◌, ℕ, List, map, false};
 ghost use Rattle.std.proofs.Common.{arith};
-ghost use Rattle.asn1_core.specs.Der.{MayBelow, GivesBelow, set_or_none, Gives, kept, less, GivesRow, within, octets_of, set_of, only_oid, lawful_only_oid};
+ghost use Rattle.asn1_core.specs.Der.{set_or_none, Gives, kept, less, GivesRow, within, octets_of, set_of, only_oid, lawful_only_oid};
+ghost use Rattle.pkcs7_signed.specs.Below.{ReadsSigners};
 ghost use Rattle.pkcs7_signed.specs.Oids.{signed_data_oid};
 ghost use Rattle.pkcs7_signed.specs.Rows.{kind_of, values_row};
 ghost use Rattle.pkcs7_signed.specs.SignerLaws.{lawful_signer, lawful_attribute, lawful_certificate, lawful_signed_data, lawful_signer_infos, lawful_unsigned_attributes};
@@ -128,8 +129,7 @@ fn read_signer_with<F: Fn(&mut Reader<'_>, u8) -> Result<SignerInfo, Error>>(
     by: &F,
 ) -> Result<SignerInfo, Error>
     requires sound { r.old.refused ≡ false }
-    requires called { MayBelow (F.pre by.now) nest }
-    requires gives { GivesBelow (F.post by.now) signer_value signer nest }
+    requires below { ReadsSigners (F.pre by.now) (F.post by.now) nest }
     ensures { Gives signer_value signer nest r.old r.new result }
 {
     let row = read_row_within_with::<SignerParts, _, _>(
@@ -139,8 +139,7 @@ fn read_signer_with<F: Fn(&mut Reader<'_>, u8) -> Result<SignerInfo, Error>>(
         0x30,
         &|s: &mut Reader<'_>|
             requires sound { s.old.refused ≡ false }
-            requires called { MayBelow (F.pre by.now) nest }
-            requires gives { GivesBelow (F.post by.now) signer_value signer nest }
+            requires below { ReadsSigners (F.pre by.now) (F.post by.now) nest }
             ensures { GivesRow (λ x. (map attribute_value x.0.items, tt)) (set_or_none 0xA1 attribute) nest s.old s.new result }
         { read_unsigned_with(alloc, s, nest, by) },
     )?;
@@ -165,8 +164,7 @@ fn read_unsigned_with<F: Fn(&mut Reader<'_>, u8) -> Result<SignerInfo, Error>>(
     by: &F,
 ) -> Result<SetOrNone<UnsignedAttribute>, Error>
     requires sound { r.old.refused ≡ false }
-    requires called { MayBelow (F.pre by.now) nest }
-    requires gives { GivesBelow (F.post by.now) signer_value signer nest }
+    requires below { ReadsSigners (F.pre by.now) (F.post by.now) nest }
     ensures { GivesRow (λ x. (map attribute_value x.0.items, tt)) (set_or_none 0xA1 attribute) nest r.old r.new result }
 {
     read_set_or_none_with(
@@ -175,8 +173,7 @@ fn read_unsigned_with<F: Fn(&mut Reader<'_>, u8) -> Result<SignerInfo, Error>>(
         nest,
         &|s: &mut Reader<'_>|
             requires sound { s.old.refused ≡ false }
-            requires called { MayBelow (F.pre by.now) nest }
-            requires gives { GivesBelow (F.post by.now) signer_value signer nest }
+            requires below { ReadsSigners (F.pre by.now) (F.post by.now) nest }
             ensures { Gives attribute_value attribute nest s.old s.new result }
         { read_attribute_with(alloc, s, nest, by) },
     )
@@ -190,8 +187,7 @@ fn read_attribute_with<F: Fn(&mut Reader<'_>, u8) -> Result<SignerInfo, Error>>(
     by: &F,
 ) -> Result<UnsignedAttribute, Error>
     requires sound { r.old.refused ≡ false }
-    requires called { MayBelow (F.pre by.now) nest }
-    requires gives { GivesBelow (F.post by.now) signer_value signer nest }
+    requires below { ReadsSigners (F.pre by.now) (F.post by.now) nest }
     ensures { Gives attribute_value attribute nest r.old r.new result }
 {
     let outer = open_element(r, 0x30)?;
@@ -210,8 +206,7 @@ fn read_values_with<F: Fn(&mut Reader<'_>, u8) -> Result<SignerInfo, Error>>(
     by: &F,
 ) -> Result<UnsignedAttributeValue, Error>
     requires sound { r.old.refused ≡ false }
-    requires called { MayBelow (F.pre by.now) nest }
-    requires gives { GivesBelow (F.post by.now) signer_value signer nest }
+    requires below { ReadsSigners (F.pre by.now) (F.post by.now) nest }
     ensures { GivesRow values_value (values_row certificate (less signer) (kind_of oid.now)) nest r.old r.new result }
 {
     match Kind::with_oid(oid) {
@@ -222,8 +217,7 @@ fn read_values_with<F: Fn(&mut Reader<'_>, u8) -> Result<SignerInfo, Error>>(
                 nest,
                 &|s: &mut Reader<'_>|
                     requires sound { s.old.refused ≡ false }
-                    requires called { MayBelow (F.pre by.now) nest }
-                    requires gives { GivesBelow (F.post by.now) signer_value signer nest }
+                    requires below { ReadsSigners (F.pre by.now) (F.post by.now) nest }
                     ensures { Gives certificate_value certificate nest s.old s.new result }
                 { read_certificate_with(alloc, s, nest, by) },
             )?;
@@ -248,8 +242,7 @@ fn read_certificate_with<F: Fn(&mut Reader<'_>, u8) -> Result<SignerInfo, Error>
     by: &F,
 ) -> Result<Pkcs7Certificate, Error>
     requires sound { r.old.refused ≡ false }
-    requires called { MayBelow (F.pre by.now) nest }
-    requires gives { GivesBelow (F.post by.now) signer_value signer nest }
+    requires below { ReadsSigners (F.pre by.now) (F.post by.now) nest }
     ensures { Gives certificate_value certificate nest r.old r.new result }
 {
     let row = read_row_within_with::<Part<SignedDataType, Tail<Held>>, _, _>(
@@ -259,8 +252,7 @@ fn read_certificate_with<F: Fn(&mut Reader<'_>, u8) -> Result<SignerInfo, Error>
         0x30,
         &|s: &mut Reader<'_>|
             requires sound { s.old.refused ≡ false }
-            requires called { MayBelow (F.pre by.now) nest }
-            requires gives { GivesBelow (F.post by.now) signer_value signer nest }
+            requires below { ReadsSigners (F.pre by.now) (F.post by.now) nest }
             ensures { GivesRow (λ x. signed_value x.0.0) (within 0xA0 signed_data) nest s.old s.new result }
         { read_held_with(alloc, s, nest, by) },
     )?;
@@ -276,8 +268,7 @@ fn read_held_with<F: Fn(&mut Reader<'_>, u8) -> Result<SignerInfo, Error>>(
     by: &F,
 ) -> Result<Held, Error>
     requires sound { r.old.refused ≡ false }
-    requires called { MayBelow (F.pre by.now) nest }
-    requires gives { GivesBelow (F.post by.now) signer_value signer nest }
+    requires below { ReadsSigners (F.pre by.now) (F.post by.now) nest }
     ensures { GivesRow (λ x. signed_value x.0.0) (within 0xA0 signed_data) nest r.old r.new result }
 {
     let outer = open_element(r, 0xA0)?;
@@ -300,8 +291,7 @@ fn read_signed_with<F: Fn(&mut Reader<'_>, u8) -> Result<SignerInfo, Error>>(
     by: &F,
 ) -> Result<SignedData, Error>
     requires sound { r.old.refused ≡ false }
-    requires called { MayBelow (F.pre by.now) nest }
-    requires gives { GivesBelow (F.post by.now) signer_value signer nest }
+    requires below { ReadsSigners (F.pre by.now) (F.post by.now) nest }
     ensures { Gives signed_value signed_data nest r.old r.new result }
 {
     if nest == 0 {
@@ -314,8 +304,7 @@ fn read_signed_with<F: Fn(&mut Reader<'_>, u8) -> Result<SignerInfo, Error>>(
         0x30,
         &|s: &mut Reader<'_>|
             requires sound { s.old.refused ≡ false }
-            requires called { MayBelow (F.pre by.now) nest }
-            requires gives { GivesBelow (F.post by.now) signer_value signer nest }
+            requires below { ReadsSigners (F.pre by.now) (F.post by.now) nest }
             ensures { GivesRow (λ x. map signer_value x.0.0.items) (set_of (less signer)) nest s.old s.new result }
         { read_signers_with(alloc, s, nest, by) },
     )?;
@@ -339,8 +328,7 @@ fn read_signers_with<F: Fn(&mut Reader<'_>, u8) -> Result<SignerInfo, Error>>(
     by: &F,
 ) -> Result<SignersBelow, Error>
     requires sound { r.old.refused ≡ false }
-    requires called { MayBelow (F.pre by.now) nest }
-    requires gives { GivesBelow (F.post by.now) signer_value signer nest }
+    requires below { ReadsSigners (F.pre by.now) (F.post by.now) nest }
     ensures { GivesRow (λ x. map signer_value x.0.0.items) (set_of (less signer)) nest r.old r.new result }
 {
     let signers = read_set_below_with(alloc, r, nest, by)?;
