@@ -12,7 +12,7 @@ use Rattle.x509_containers.specs.declared.kinds.enveloped.EnvelopedKind.TheVaria
 abbrev pub entry_of : EnvelopedKind → Entry
 entry_of Kind.ContentInfo = entry (codes "contentinfo") content_info
 entry_of Kind.EncryptedContentInfo = entry (codes "encryptedcontentinfo") encrypted_content
-entry_of Kind.EnvelopedData = entry (codes "envelopeddata") enveloped
+entry_of Kind.EnvelopedData = entry (codes "envelopeddata") (enveloped recipient)
 entry_of Kind.GeneralProtectionDescriptor = entry (codes "generalprotectiondescriptor") general_descriptor
 entry_of Kind.KekIdentifier = entry (codes "kekidentifier") kek_id
 entry_of Kind.KekRecipientInfo = entry (codes "kekrecipientinfo") kek_recipient

@@ -15,7 +15,6 @@ use Rattle.x509_base.specs.Algorithms.{AlgorithmValue, algorithm_identifier}
 use Rattle.x509_base.specs.AlgorithmLaws.{lawful_algorithm_identifier}
 use Rattle.x509_base.specs.AlgorithmParts.{algorithm_value}
 use Rattle.x509_base.specs.Names.{AttributeValue, attribute_value, attribute, lawful_attribute}
-use Rattle.x509_pkcs7.specs.Recipients.{KekRecipientValue, recipient_value, recipient, lawful_recipient}
 use Rattle.x509_pkcs7.specs.declared.enveloped.EncryptedContentInfo.{EncryptedContentInfo}
 use Rattle.x509_pkcs7.specs.declared.enveloped.EnvelopedData.{EnvelopedData}
 use Rattle.x509_pkcs7.specs.declared.enveloped.OriginatorInfo.{OriginatorInfo}
@@ -68,28 +67,29 @@ lawful_unprotected = lawful_implicit 0xA1 0x31 attributes (lawful_set attribute 
 lawful_originator_0 : IsLawful (implicit 0xA0 0x30 originator)
 lawful_originator_0 = lawful_implicit 0xA0 0x30 originator lawful_originator (within_tagged 0x30 (omega arith) originator_row) (omega arith)
 
-abbrev pub EnvelopedValue : Type 0
-EnvelopedValue = ℕ × (Option OriginatorValue × (List KekRecipientValue × (EncryptedContentValue × (Option (List AttributeValue) × Unit {0}))))
+-- over the values and the format of recipients
+abbrev pub EnvelopedValue : Type 0 → Type 0
+EnvelopedValue V = ℕ × (Option OriginatorValue × (List V × (EncryptedContentValue × (Option (List AttributeValue) × Unit {0}))))
 
-abbrev pub enveloped_value : EnvelopedData → EnvelopedValue
-enveloped_value x = (
+abbrev pub enveloped_value : {R V : Type 0} → (R → V) → EnvelopedData R → EnvelopedValue V
+enveloped_value value x = (
   number_of x.version,
   (
     option_value (λ o. originator_value o.0) x.originator_info.0,
     (
-      map recipient_value x.recipient_infos.0.items,
+      map value x.recipient_infos.0.items,
       (encrypted_content_value x.encrypted_content_info, (option_value (λ a. map attribute_value a.0.0.items) x.unprotected_attrs.0, tt)),
     ),
   ),
 )
 
-abbrev pub enveloped : Format EnvelopedValue
-enveloped =
-    sequence (part (number_below 6) (optional (implicit 0xA0 0x30 originator) (part (set_of recipient)
+abbrev pub enveloped : {V : Type 0} → Format V → Format (EnvelopedValue V)
+enveloped F =
+    sequence (part (number_below 6) (optional (implicit 0xA0 0x30 originator) (part (set_of F)
     (part encrypted_content (optional (implicit 0xA1 0x31 attributes) nothing)))))
 
-pub lawful_enveloped : IsLawful enveloped
-lawful_enveloped =
+pub lawful_enveloped : {V : Type 0} (F : Format V) → IsLawful F → IsLawful (enveloped F)
+lawful_enveloped F f =
     lawful_sequence (followed_by (lawful_number 6) (perhaps lawful_originator_0 (λ t h e. omega arith)
-    (followed_by (lawful_set recipient lawful_recipient)
+    (followed_by (lawful_set F f)
     (followed_by lawful_encrypted_content (perhaps lawful_unprotected (λ t h e. e) lawful_nothing)))))

@@ -1,8 +1,6 @@
 -- `==` is equality of what the values contain.
-use Rattle.std.specs.Prelude.{map}
-use Rattle.x509_base.specs.Names.{attribute_value}
-use Rattle.asn1_core.specs.Der.{SeesEqual, der_equal, two_equal, with_end, option_equal, list_equal}
-use Rattle.x509_base.specs.Equal.{x509_equal, attribute_equal}
+use Rattle.asn1_core.specs.Der.{SeesEqual, der_equal}
+use Rattle.x509_base.specs.Equal.{x509_equal}
 use Rattle.std.proofs.Common.{rules}
 use Rattle.asn1_leaves_times.specs.TimesLaws.{equal_generalized}
 use Rattle.pkcs7_content.specs.contracts.versions.CmsVersionPartialEq.TheImpl as Version
@@ -10,21 +8,20 @@ use Rattle.pkcs7_content.specs.Versions.{number_of}
 use Rattle.pkcs7_signed_parts.specs.Equal.{certificates_equal, revocations_equal}
 use Rattle.x509_pkcs7.specs.ContentInfos.{content_info_value}
 use Rattle.x509_pkcs7.specs.Descriptors.{descriptor_value, general_descriptor_value}
-use Rattle.x509_pkcs7.specs.Enveloped.{encrypted_content_value, originator_value, enveloped_value}
+use Rattle.x509_pkcs7.specs.Enveloped.{encrypted_content_value, originator_value}
 use Rattle.x509_pkcs7.specs.Recipients.{other_key_value, kek_id_value, kek_recipient_value, recipient_value}
 use Rattle.x509_pkcs7.specs.declared.recipients.RecipientInfo.TheVariants.{Kek}
 use Rattle.x509_pkcs7.specs.contracts.contents.ContentInfoPartialEq.TheImpl as Content
 use Rattle.x509_pkcs7.specs.contracts.descriptors.GeneralProtectionDescriptorPartialEq.TheImpl as General
 use Rattle.x509_pkcs7.specs.contracts.descriptors.ProtectionDescriptorPartialEq.TheImpl as Descriptor
 use Rattle.x509_pkcs7.specs.contracts.enveloped.EncryptedContentInfoPartialEq.TheImpl as Encrypted
-use Rattle.x509_pkcs7.specs.contracts.enveloped.EnvelopedDataPartialEq.TheImpl as Enveloped
 use Rattle.x509_pkcs7.specs.contracts.enveloped.OriginatorInfoPartialEq.TheImpl as Originator
 use Rattle.x509_pkcs7.specs.contracts.recipients.KekIdentifierPartialEq.TheImpl as KekId
 use Rattle.x509_pkcs7.specs.contracts.recipients.KekRecipientInfoPartialEq.TheImpl as KekRecipient
 use Rattle.x509_pkcs7.specs.contracts.recipients.OtherKeyAttributePartialEq.TheImpl as OtherKey
 use Rattle.x509_pkcs7.specs.contracts.recipients.RecipientInfoPartialEq.TheImpl as Recipient
 
-version_equal : SeesEqual Version.ghosts.eq number_of
+pub version_equal : SeesEqual Version.ghosts.eq number_of
 version_equal x y = search rules
 
 pub content_info_equal : SeesEqual Content.ghosts.eq content_info_value
@@ -47,14 +44,6 @@ encrypted_content_equal x y = search x509_equal depth 20
 
 pub originator_equal : SeesEqual Originator.ghosts.eq originator_value
 originator_equal x y = search (der_equal, certificates_equal, revocations_equal) depth 20
-
-pub enveloped_equal : SeesEqual Enveloped.ghosts.eq enveloped_value
-enveloped_equal x y =
-    two_equal (version_equal x.version y.version)
-    (two_equal (option_equal _ (λ o. originator_value o.0) (λ a b. originator_equal a.0 b.0) x.originator_info.0 y.originator_info.0)
-    (two_equal (list_equal _ _ recipient_equal x.recipient_infos.0.items y.recipient_infos.0.items)
-    (two_equal (encrypted_content_equal x.encrypted_content_info y.encrypted_content_info)
-    (with_end (option_equal _ (λ a. map attribute_value a.0.0.items) (λ a b. list_equal _ _ attribute_equal a.0.0.items b.0.0.items) x.unprotected_attrs.0 y.unprotected_attrs.0)))))
 
 pub descriptor_equal : SeesEqual Descriptor.ghosts.eq descriptor_value
 descriptor_equal x y = search rules

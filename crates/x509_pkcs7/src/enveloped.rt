@@ -1,10 +1,12 @@
 //! Enveloped data (RFC 5652, 6.1).
 
-ghost use Rattle.std.specs.Prelude.{◌≡◌};
+ghost use Rattle.std.specs.Prelude.{◌≡◌, map};
 ghost use Rattle.std.proofs.Common.{arith};
-ghost use Rattle.asn1_core.specs.Der.{within_tagged};
+ghost use Rattle.asn1_core.specs.Der.{within_tagged, list_equal, option_equal, two_equal, with_end};
+ghost use Rattle.x509_base.specs.Equal.{attribute_equal};
+ghost use Rattle.x509_base.specs.Names.{attribute_value};
 ghost use Rattle.x509_pkcs7.specs.Enveloped.{EncryptedContentValue, encrypted_content_value, encrypted_content, lawful_encrypted_content, OriginatorValue, originator_value, originator_row, originator, lawful_originator, EnvelopedValue, enveloped_value, enveloped, lawful_enveloped};
-ghost use Rattle.x509_pkcs7.specs.Equal.{encrypted_content_equal, originator_equal, enveloped_equal};
+ghost use Rattle.x509_pkcs7.specs.Equal.{version_equal, encrypted_content_equal, originator_equal};
 
 use crate::contents::ContentType;
 use crate::recipients::RecipientInfo;
@@ -24,7 +26,7 @@ pub type EncryptedContent = OctetStringAsn1;
 pub type UnprotectedAttributes = Asn1SetOf<Attribute>;
 
 /// `RecipientInfos ::= SET OF RecipientInfo`
-pub type RecipientInfos = Asn1SetOf<RecipientInfo>;
+pub type RecipientInfos<R = RecipientInfo> = Asn1SetOf<R>;
 
 /// `EncryptedContentInfo ::= SEQUENCE { contentType ContentType, contentEncryptionAlgorithm
 /// ContentEncryptionAlgorithmIdentifier, encryptedContent [0] IMPLICIT EncryptedContent OPTIONAL }`
@@ -77,6 +79,14 @@ impl DerDeserialize for EncryptedContentInfo {
 
 impl EqualByText for EncryptedContentInfo {
     ghost equal_by_text = { encrypted_content_equal };
+}
+
+impl TryClone for EncryptedContentInfo {
+    fn try_clone(&self, alloc: Global) -> Result<Self, Error> {
+        clone_of!(self, alloc; EncryptedContentInfo {
+            content_type, content_encryption_algorithm, encrypted_content
+        })
+    }
 }
 
 /// `OriginatorInfo ::= SEQUENCE { certs [0] IMPLICIT CertificateSet OPTIONAL, crls [1] IMPLICIT RevocationInfoChoices
@@ -149,38 +159,47 @@ impl EqualByText for OriginatorInfo {
     ghost equal_by_text = { originator_equal };
 }
 
+impl TryClone for OriginatorInfo {
+    fn try_clone(&self, alloc: Global) -> Result<Self, Error> {
+        clone_of!(self, alloc; OriginatorInfo { certs, crls })
+    }
+}
+
 /// `EnvelopedData ::= SEQUENCE { version CMSVersion, originatorInfo [0] IMPLICIT OriginatorInfo OPTIONAL,
 /// recipientInfos RecipientInfos, encryptedContentInfo EncryptedContentInfo, unprotectedAttrs [1] IMPLICIT
-/// UnprotectedAttributes OPTIONAL }`
+/// UnprotectedAttributes OPTIONAL }`, with recipients of the type `R`.
 #[derive(Debug, Drop, PartialEq)]
-pub struct EnvelopedData {
+pub struct EnvelopedData<R = RecipientInfo> {
     pub version: CmsVersion,
     pub originator_info: Optional<Option<ImplicitContextTag0<OriginatorInfo>>>,
-    pub recipient_infos: RecipientInfos,
+    pub recipient_infos: RecipientInfos<R>,
     pub encrypted_content_info: EncryptedContentInfo,
     pub unprotected_attrs: Optional<Option<ImplicitContextTag1<UnprotectedAttributes>>>,
 }
 
-type EnvelopedTail = Part<
-    Asn1SetOf<RecipientInfo>,
+type EnvelopedTail<R> = Part<
+    Asn1SetOf<R>,
     Part<EncryptedContentInfo, Maybe<ImplicitContextTag1<Asn1SetOf<Attribute>>, End>>,
 >;
 
-type EnvelopedRow = Part<CmsVersion, Maybe<ImplicitContextTag0<OriginatorInfo>, EnvelopedTail>>;
+type EnvelopedRow<R> = Part<
+    CmsVersion,
+    Maybe<ImplicitContextTag0<OriginatorInfo>, EnvelopedTail<R>>,
+>;
 
-type EnvelopedTailRef<'a> = Part<
-    &'a Asn1SetOf<RecipientInfo>,
+type EnvelopedTailRef<'a, R> = Part<
+    &'a Asn1SetOf<R>,
     Part<&'a EncryptedContentInfo, Maybe<&'a ImplicitContextTag1<Asn1SetOf<Attribute>>, End>>,
 >;
 
-type EnvelopedRef<'a> = Part<
+type EnvelopedRef<'a, R> = Part<
     CmsVersion,
-    Maybe<&'a ImplicitContextTag0<OriginatorInfo>, EnvelopedTailRef<'a>>,
+    Maybe<&'a ImplicitContextTag0<OriginatorInfo>, EnvelopedTailRef<'a, R>>,
 >;
 
-impl EnvelopedData {
-    fn row(&self) -> EnvelopedRef<'_>
-        ensures { ⟦<EnvelopedRef<'static> as WriteRow>⟧.value result ≡ enveloped_value self.now }
+impl<R: DerSerialize> EnvelopedData<R> {
+    fn row(&self) -> EnvelopedRef<'_, R>
+        ensures { ⟦<EnvelopedRef<'static, R> as WriteRow>⟧.value result ≡ enveloped_value R.value self.now }
     {
         let attributes = Maybe(self.unprotected_attrs.0.as_ref(), End);
         let content = Part(&self.encrypted_content_info, attributes);
@@ -192,12 +211,12 @@ impl EnvelopedData {
     }
 }
 
-impl DerSerialize for EnvelopedData {
-    ghost Value = { EnvelopedValue };
+impl<R: DerSerialize> DerSerialize for EnvelopedData<R> {
+    ghost Value = { EnvelopedValue R.Value };
 
-    ghost value = { enveloped_value };
+    ghost value = { enveloped_value R.value };
 
-    ghost format = { enveloped };
+    ghost format = { enveloped R.format };
 
     fn put<W: Writer>(&self, w: &mut W) -> Result<(), WriteError> {
         put_within(0x30, &self.row(), w)
@@ -208,9 +227,9 @@ impl DerSerialize for EnvelopedData {
     }
 }
 
-impl DerDeserialize for EnvelopedData {
+impl<R: DerDeserialize> DerDeserialize for EnvelopedData<R> {
     fn read(alloc: Global, r: &mut Reader<'_>, nest: u8) -> Result<Self, Error> {
-        let row: EnvelopedRow = read_within(alloc, r, nest, 0x30)?;
+        let row: EnvelopedRow<R> = read_within(alloc, r, nest, 0x30)?;
         let Part(version, Maybe(originator, Part(recipient_infos, rest))) = row;
         let Part(encrypted_content_info, Maybe(attributes, End)) = rest;
         Ok(EnvelopedData {
@@ -222,9 +241,23 @@ impl DerDeserialize for EnvelopedData {
         })
     }
 
-    ghost lawful = { lawful_enveloped };
+    ghost lawful = { lawful_enveloped R.DerSerialize.format R.lawful };
 }
 
-impl EqualByText for EnvelopedData {
-    ghost equal_by_text = { enveloped_equal };
+impl<R: EqualByText> EqualByText for EnvelopedData<R> {
+    ghost equal_by_text = { λ x y.
+        two_equal (version_equal x.version y.version)
+        (two_equal (option_equal _ (λ o. originator_value o.0) (λ a b. originator_equal a.0 b.0) x.originator_info.0 y.originator_info.0)
+        (two_equal (list_equal R.eq R.DerSerialize.value R.equal_by_text x.recipient_infos.0.items y.recipient_infos.0.items)
+        (two_equal (encrypted_content_equal x.encrypted_content_info y.encrypted_content_info)
+        (with_end (option_equal _ (λ a. map attribute_value a.0.0.items) (λ a b. list_equal _ _ attribute_equal a.0.0.items b.0.0.items) x.unprotected_attrs.0 y.unprotected_attrs.0))))) };
+}
+
+impl<R: TryClone + EqualByText> TryClone for EnvelopedData<R> {
+    fn try_clone(&self, alloc: Global) -> Result<Self, Error> {
+        clone_of!(self, alloc; EnvelopedData {
+            originator_info, recipient_infos, encrypted_content_info, unprotected_attrs;
+            version
+        })
+    }
 }

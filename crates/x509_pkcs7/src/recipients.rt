@@ -222,6 +222,15 @@ impl EqualByText for KekRecipientInfo {
     ghost equal_by_text = { kek_recipient_equal };
 }
 
+impl TryClone for KekRecipientInfo {
+    fn try_clone(&self, alloc: Global) -> Result<Self, Error> {
+        clone_of!(self, alloc; KekRecipientInfo {
+            kek_id, key_encryption_algorithm, encrypted_key;
+            version
+        })
+    }
+}
+
 /// `RecipientInfo ::= CHOICE { ktri .., kari [1] .., kekri [2] KEKRecipientInfo, pwri [3] .., ori [4] .. }` (RFC 5652,
 /// 6.2), of which `kekri` alone is supported: the four parts of its SEQUENCE are the whole contents of `[2]`.
 #[derive(Debug, Drop, PartialEq)]
@@ -257,6 +266,20 @@ impl DerDeserialize for RecipientInfo {
     ghost lawful = { lawful_recipient };
 }
 
+impl FirstTags for RecipientInfo {
+    fn begins(tag: u8) -> bool {
+        tag == 0xA2
+    }
+}
+
 impl EqualByText for RecipientInfo {
     ghost equal_by_text = { recipient_equal };
+}
+
+impl TryClone for RecipientInfo {
+    fn try_clone(&self, alloc: Global) -> Result<Self, Error> {
+        match self {
+            RecipientInfo::Kek(recipient) => Ok(RecipientInfo::Kek(recipient.try_clone(alloc)?)),
+        }
+    }
 }

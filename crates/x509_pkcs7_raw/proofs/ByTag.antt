@@ -1,0 +1,66 @@
+-- An element of a type, or any other, told apart by the next tag.
+use Rattle.std.proofs.Common.{◌≡◌, ◌≢◌, ◌↔◌, ℕ, List, [], ◌∷◌, ◌++◌, sym, subst, inl, inr, Result, Err}
+use Rattle.std.proofs.lemmas.List.{append-nil}
+use Rattle.std.specs.Prelude.{◌⊎◌}
+use Rattle.asn1_core.specs.Der.{Format, IsLawful, raw, IsElement, IsTagByte, Position, Took, GaveUp, Gives, NextIs, begins_next, ElementOctets}
+use Rattle.asn1_core_element.specs.Element.{head}
+use Rattle.asn1_core_element.specs.declared.error.Error.{Error}
+use Rattle.asn1_core_element.specs.declared.error.Error.TheVariants.{Memory}
+use Rattle.x509_pkcs7_raw.specs.KnownOrRaw.{known_or_raw}
+
+-- the element has a tag of T too
+abbrev with_tag : {S : ℕ → Type 0} (T : ℕ → Type 0) {b : List ℕ} → (e : IsElement S b) → T e.tag → IsElement T b
+with_tag T e h = record { tag = e.tag; contents = e.contents; is_tag = e.is_tag; is = e.is; allowed = h }
+
+abbrev any_tag : {S : ℕ → Type 0} {b : List ℕ} → IsElement S b → IsElement IsTagByte b
+any_tag e = with_tag IsTagByte e e.is_tag
+
+not_both : (S : ℕ → Type 0) (b : List ℕ) → NextIs S b → NextIs (λ t. S t → ⊥) b → ⊥
+not_both S [] n m = n
+not_both S (t ∷ b) n m = m n
+
+begins : (S : ℕ → Type 0) {b : List ℕ} → IsElement S b → NextIs S b
+begins S {b} e = begins_next S b [] b e (sym (append-nil b))
+
+tag_is : (S : ℕ → Type 0) {b : List ℕ} → (e : IsElement IsTagByte b) → NextIs S b → S e.tag
+unfolding head
+tag_is S {b} e n = subst (NextIs S) e.is n
+
+-- an element without a tag of S
+pub other_is : (S : ℕ → Type 0) (b : List ℕ) → ((NextIs S b → ⊥) × IsElement IsTagByte b) ↔ IsElement (λ t. S t → ⊥) b
+other_is S b = (
+  λ p. with_tag (λ t. S t → ⊥) p.1 (λ i. p.0 (begins S (with_tag S p.1 i))),
+  λ e. (λ n. e.allowed (tag_is S (any_tag e) n), any_tag e),
+)
+
+module _ {V : Type 0} (F : Format V) (f : IsLawful F) (k : ℕ) {old new : Position} {e : Error} where
+  none_known : NextIs F.IsTag old.left → GaveUp F k old new e → e ≢ Memory → (taken rest : List ℕ) (v : V ⊎ ElementOctets) → old.left ≡ taken ++ rest → (known_or_raw F).Reads k taken v → ⊥
+  none_known n g m taken rest (inl v) s r = g.none m taken rest v s r
+  none_known n g m taken rest (inr c) s r = not_both F.IsTag old.left n (begins_next (λ t. F.IsTag t → ⊥) taken rest old.left r.1 s)
+
+  pub known_refused : NextIs F.IsTag old.left → GaveUp F k old new e → GaveUp (known_or_raw F) k old new e
+  known_refused n g = record { kind = g.kind; none = none_known n g; counts = g.counts; at_most = g.at_most }
+
+  none_raw : (NextIs F.IsTag old.left → ⊥) → GaveUp raw k old new e → e ≢ Memory → (taken rest : List ℕ) (v : V ⊎ ElementOctets) → old.left ≡ taken ++ rest → (known_or_raw F).Reads k taken v → ⊥
+  none_raw n g m taken rest (inl v) s r = n (begins_next F.IsTag taken rest old.left (f.element k taken v r) s)
+  none_raw n g m taken rest (inr c) s r = g.none m taken rest c s (r.0, any_tag r.1)
+
+  pub raw_refused : (NextIs F.IsTag old.left → ⊥) → GaveUp raw k old new e → GaveUp (known_or_raw F) k old new e
+  raw_refused n g = record { kind = g.kind; none = none_raw n g; counts = g.counts; at_most = g.at_most }
+
+module _ {V : Type 0} (F : Format V) (k : ℕ) {old new : Position} where
+  pub raw_took : {c : List ℕ} → (NextIs F.IsTag old.left → ⊥) → Took raw k old new c → Took (known_or_raw F) k old new (inr c)
+  raw_took n t = record {
+    taken = t.taken;
+    split = t.split;
+    reads = (t.reads.0, with_tag (λ u. F.IsTag u → ⊥) t.reads.1 (λ i. n (begins_next F.IsTag t.taken new.left old.left (with_tag F.IsTag t.reads.1 i) t.split)));
+    beyond = t.beyond;
+    end = t.end;
+    refused = t.refused;
+    at_least = t.at_least;
+    at_most = t.at_most;
+  }
+
+-- an answer that is an error
+pub gave : {T V : Type 0} (value : T → V) (F : Format V) (k : ℕ) {old new : Position} {r : Result T Error} {e : Error} → ((x : Error) × (r ≡ Err x) × (x ≡ e)) → GaveUp F k old new e → Gives value F k old new r
+gave value F k {old} {new} p g = subst (Gives value F k old new) (sym p.1) (subst (GaveUp F k old new) (sym p.2) g)

@@ -1,0 +1,5 @@
+pub mod KnownOrRaw
+pub mod RawSigners
+pub mod RawContents
+pub mod RawSigned
+pub mod Equal
