@@ -8,3 +8,4 @@ pub mod MacRanges
 pub mod Parsed
 pub mod Equal
 pub mod Walks
+pub mod MacInputs
