@@ -9,8 +9,11 @@ pub mod mac_ranges;
 pub mod parsed;
 pub mod pfxs;
 pub mod raw;
+pub mod raw_bags;
+pub mod raw_bags_repr;
 pub mod representations;
 mod selections;
+pub mod utf16_strings;
 mod walks;
 
 pub use auth_safes::AuthenticatedSafeContentInfo;
@@ -29,7 +32,10 @@ pub use pkcs12_algs::{
     Pkcs12DigestAlgorithm, Pkcs12DigestInfo, Pkcs12EncryptionAlgorithm,
 };
 pub use raw::{RawAuthenticatedSafeContentInfo, RawAuthenticatedSafeDataRepr, RawPfx};
+pub use raw_bags::{RawSafeBag, RawSafeContents};
+pub use raw_bags_repr::{RawBagsAuthenticatedSafeDataRepr, RawBagsContentInfo, RawBagsPfx};
 pub use representations::AuthenticatedSafeDataRepr;
+pub use utf16_strings::Utf16String;
 pub use x509_pkcs12_bags::{SafeBag, SafeBagKind, SafeContents, first_with_key_id};
 pub use x509_pkcs12_parts::{
     CertificateBag, CrlBag, EncryptedKeyBag, EncryptedSafeContents, KeyBag, Pkcs12Attribute,
