@@ -1,1 +1,2 @@
 pub mod MacPlaces
+mod Utf16Units

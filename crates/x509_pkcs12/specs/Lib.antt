@@ -8,3 +8,9 @@ pub mod MacRanges
 pub mod Parsed
 pub mod Equal
 pub mod Walks
+pub mod MacInputs
+pub mod Utf16
+pub mod Utf16Octets
+pub mod RawBags
+pub mod RawBagsEqual
+pub mod RawSafes

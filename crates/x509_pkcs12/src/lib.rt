@@ -4,11 +4,16 @@
 pub mod auth_safes;
 pub mod contents;
 pub mod laws;
+pub mod mac_inputs;
 pub mod mac_ranges;
 pub mod parsed;
 pub mod pfxs;
 pub mod raw;
+pub mod raw_bags;
+pub mod raw_bags_repr;
 pub mod representations;
+mod selections;
+pub mod utf16_strings;
 mod walks;
 
 pub use auth_safes::AuthenticatedSafeContentInfo;
@@ -17,6 +22,7 @@ pub use laws::{
     mac_octets_stand_in_the_input, mac_octets_stand_in_the_text, mac_octets_survive_where_normal,
     reads_as_the_raw_one,
 };
+pub use mac_inputs::{MacInput, NoMac};
 pub use mac_ranges::mac_range;
 pub use parsed::ParsedAuthenticatedSafeDataRepr;
 pub use pfxs::Pfx;
@@ -26,8 +32,11 @@ pub use pkcs12_algs::{
     Pkcs12DigestAlgorithm, Pkcs12DigestInfo, Pkcs12EncryptionAlgorithm,
 };
 pub use raw::{RawAuthenticatedSafeContentInfo, RawAuthenticatedSafeDataRepr, RawPfx};
+pub use raw_bags::{RawSafeBag, RawSafeContents};
+pub use raw_bags_repr::{RawBagsAuthenticatedSafeDataRepr, RawBagsContentInfo, RawBagsPfx};
 pub use representations::AuthenticatedSafeDataRepr;
-pub use x509_pkcs12_bags::{SafeBag, SafeBagKind, SafeContents};
+pub use utf16_strings::Utf16String;
+pub use x509_pkcs12_bags::{SafeBag, SafeBagKind, SafeContents, first_with_key_id};
 pub use x509_pkcs12_parts::{
     CertificateBag, CrlBag, EncryptedKeyBag, EncryptedSafeContents, KeyBag, Pkcs12Attribute,
     SecretBag, X509Bag,

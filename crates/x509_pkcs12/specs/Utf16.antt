@@ -1,0 +1,38 @@
+-- The contents octets of a BMPString that holds UTF-16: two for each unit, the high one first. A character past U+FFFF
+-- takes two units, a pair of surrogates.
+use Rattle.std.specs.Prelude.{◌≡◌, ℕ, ◌+◌, ◌*◌, ◌%◌, false, List, [], ◌∷◌, length}
+use Rattle.std.specs.Char.Utf16.{has_unpaired_surrogate}
+use Rattle.asn1_core_element.specs.declared.error.Error.{Error}
+use Rattle.asn1_core_element.specs.declared.error.Error.TheVariants.{Memory, Invalid}
+use Rattle.asn1_core_format.specs.Format.{Format, IsLawful}
+use Rattle.asn1_core_format.specs.Leaf.{leaf, kept}
+use Rattle.asn1_core_format.specs.LeafLaws.{lawful_leaf, lawful_kept}
+use Rattle.std.proofs.Common.{refl, arith}
+
+-- the units of octets, two by two
+abbrev pub units_of : List ℕ → List ℕ
+units_of [] = []
+units_of (high ∷ []) = []
+units_of (high ∷ low ∷ after) = (high * 256 + low) ∷ units_of after
+
+-- whole units, in which each surrogate has its partner
+abbrev pub IsUtf16 : List ℕ → Type 0
+IsUtf16 octets = (length octets % 2 ≡ 0) × (has_unpaired_surrogate (units_of octets) ≡ false)
+
+abbrev pub utf16_string : Format (List ℕ)
+utf16_string = leaf 0x1E (kept IsUtf16)
+
+pub lawful_utf16_string : IsLawful utf16_string
+lawful_utf16_string = lawful_leaf 0x1E (omega arith) (kept IsUtf16) (lawful_kept IsUtf16)
+
+-- why octets give no text: they aren't UTF-16, or memory was refused
+abbrev pub NoText : List ℕ → Error → Type 0
+NoText octets Invalid = ¬ (IsUtf16 octets)
+NoText octets Memory = Unit {0}
+NoText octets other = ⊥
+
+-- of UTF-16, memory alone is refused
+pub memory_alone : (octets : List ℕ) (e : Error) → IsUtf16 octets → NoText octets e → e ≡ Memory
+memory_alone octets Invalid is none = absurd (none is)
+memory_alone octets Memory is none = refl
+memory_alone octets e is none = absurd none

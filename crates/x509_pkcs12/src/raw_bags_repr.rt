@@ -1,0 +1,95 @@
+//! The representation that keeps the values of bags as they are.
+
+ghost use Rattle.std.specs.Prelude.{List, map};
+ghost use Rattle.std.proofs.Common.{refl, rules};
+ghost use Rattle.asn1_core.specs.Der.{list_equal, SeesEqual};
+ghost use Rattle.x509_pkcs12.specs.RawBagsEqual.{raw_contents_equal};
+ghost use Rattle.x509_pkcs12.specs.RawSafes.{RawInfoValue, raw_safe, lawful_raw_safe};
+
+use crate::auth_safes::AuthenticatedSafeContentInfo;
+use crate::pfxs::Pfx;
+use crate::raw_bags::RawSafeContents;
+use crate::representations::AuthenticatedSafeDataRepr;
+use asn1_core::prelude::*;
+use std::alloc::Global;
+
+/// An item of `AuthenticatedSafe`, a `ContentInfo` (RFC 7292, 4.1): the bags in the OCTET STRING of `pkcs7-data`, which
+/// are not parsed, or any other content, encrypted bags too.
+pub type RawBagsContentInfo = AuthenticatedSafeContentInfo<RawSafeContents>;
+
+/// `AuthenticatedSafe ::= SEQUENCE OF ContentInfo` (RFC 7292, 4.1), with bags that are not parsed.
+#[derive(Debug, Drop, PartialEq, Eq)]
+pub struct RawBagsAuthenticatedSafeDataRepr {
+    contents: Vec<RawBagsContentInfo>,
+}
+
+/// A PFX of which the bags are not parsed.
+pub type RawBagsPfx = Pfx<RawBagsAuthenticatedSafeDataRepr>;
+
+impl DerSerialize for RawBagsAuthenticatedSafeDataRepr {
+    ghost Value = { List RawInfoValue };
+
+    ghost value = { λ x. map ⟦<RawBagsContentInfo as DerSerialize>⟧.value x.contents.items };
+
+    ghost format = { raw_safe };
+
+    fn put<W: Writer>(&self, w: &mut W) -> Result<(), WriteError> {
+        put_within(0x30, &self.contents, w)
+    }
+
+    fn well_formed_at(&self, limit: u8) -> bool {
+        self.contents.row_well_formed_at(limit)
+    }
+}
+
+impl DerDeserialize for RawBagsAuthenticatedSafeDataRepr {
+    fn read(alloc: Global, r: &mut Reader<'_>, nest: u8) -> Result<Self, Error> {
+        let contents = read_within::<Vec<RawBagsContentInfo>>(alloc, r, nest, 0x30)?;
+        Ok(RawBagsAuthenticatedSafeDataRepr { contents })
+    }
+
+    ghost lawful = { lawful_raw_safe };
+}
+
+impl EqualByText for RawBagsAuthenticatedSafeDataRepr {
+    ghost equal_by_text = { λ x y.
+        let bags = raw_contents_equal in
+        let infos : SeesEqual ⟦<RawBagsContentInfo as PartialEq>⟧.eq ⟦<RawBagsContentInfo as DerSerialize>⟧.value = Prim.search rules in
+        list_equal _ _ infos x.contents.items y.contents.items };
+}
+
+impl TryClone for RawBagsAuthenticatedSafeDataRepr {
+    fn try_clone(&self, alloc: Global) -> Result<Self, Error> {
+        clone_of!(self, alloc; RawBagsAuthenticatedSafeDataRepr { contents })
+    }
+}
+
+impl AuthenticatedSafeDataRepr for RawBagsAuthenticatedSafeDataRepr {
+    type Repr = Vec<RawBagsContentInfo>;
+
+    ghost into = { λ x. x.contents };
+
+    ghost from = { λ r. record { contents = r } };
+
+    fn into_repr(self) -> Vec<RawBagsContentInfo> {
+        self.contents
+    }
+
+    fn from_repr(repr: Vec<RawBagsContentInfo>) -> Self {
+        RawBagsAuthenticatedSafeDataRepr { contents: repr }
+    }
+
+    fn put_repr<W: Writer>(repr: &Vec<RawBagsContentInfo>, w: &mut W) -> Result<(), WriteError> {
+        put_within(0x30, repr, w)
+    }
+
+    fn repr_well_formed_at(repr: &Vec<RawBagsContentInfo>, limit: u8) -> bool {
+        repr.row_well_formed_at(limit)
+    }
+
+    ghost there = { λ x. refl };
+
+    ghost back = { λ x. refl };
+
+    ghost seen = { λ x y. (λ e. e, λ e. e) };
+}
