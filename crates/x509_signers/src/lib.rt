@@ -7,9 +7,11 @@ pub mod heads;
 pub mod key_identifiers;
 pub mod matches;
 pub mod parts;
+pub mod time_stamps;
 
 pub use hashed::hashed_octets;
 pub use heads::{CertificateHead, TbsCertificateHead};
 pub use key_identifiers::first_extension;
 pub use matches::{certificate_element, signer_certificate};
 pub use parts::{certificates, signers};
+pub use time_stamps::{Accuracy, GenTime, TimeStampAuthority, TimeStampExtensions, TstInfo};
