@@ -1,0 +1,5 @@
+pub mod Heads
+pub mod KeyIdentifiers
+pub mod Matches
+pub mod Hashed
+pub mod TimeStamps
