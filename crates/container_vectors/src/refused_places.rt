@@ -1,79 +1,62 @@
-//! Where files in use are refused that the types have no place for. The places were found by hand: each is where the header
-//! begins of the element that is to blame.
+//! Where files are refused that the types have no place for. Tools made the files, by the commands of docs/TESTING.md.
+//! The places are those of `openssl asn1parse`: where the header begins of the element that is to blame.
+
+mod authenticode;
+mod enveloped;
+mod signed;
+mod stores;
+mod trust_lists;
 
 use asn1_core::DerDeserialize;
+use authenticode::INDIRECT_DATA;
+use enveloped::RECIPIENTS;
+use signed::SIGNED;
 use std::alloc::Global;
 use std::test::Fail;
+use stores::NAMES;
+use trust_lists::{LISTS, SIGNED_LISTS};
 use x509_containers::{
-    EncapsulatedContentInfo, Error, Kind, MAX_NESTING, Pkcs12Attribute, RecipientInfo,
-    RevocationInfoChoices, SignerInfo, SpcAttributeAndOptionalValue, check_located,
+    Ctl, EnvelopedData, EnvelopedKind, Error, Kind, MAX_NESTING, ParsedAuthenticatedSafeDataRepr,
+    Pfx, Pkcs7Certificate, SignedDataKind, StoreKind, TrustListKind, check_located,
     from_bytes_located,
 };
 
-/// Asks that an input is invalid at that place, as the type and as its kind.
-fn is_invalid_at<T: DerDeserialize>(
-    alloc: Global,
-    word: &str,
-    input: &[u8],
+/// A file, why it is refused, and where.
+pub struct Refused {
+    /// The tool that made it, and what is refused.
+    file: &'static str,
+    input: &'static [u8],
+    error: Error,
     place: usize,
+}
+
+/// Asks that each file is refused at its place, as the type and as its kind.
+fn are_refused_at<T: DerDeserialize>(
+    alloc: Global,
+    kind: Kind,
+    files: &[Refused],
 ) -> Result<(), Fail> {
-    let found = match from_bytes_located::<T>(alloc, input) {
-        Ok(_) => None,
-        Err(refusal) => Some(refusal),
-    };
-    let by_kind = match Kind::from_word(word) {
-        Some(kind) => check_located(alloc, kind, MAX_NESTING, input).err(),
-        None => None,
-    };
-    if found != Some((Error::Invalid, place)) || by_kind != found {
-        return Err(Fail::new(format_args!("{found:?}, {by_kind:?}: {word}")));
+    for file in files {
+        let found = from_bytes_located::<T>(alloc, file.input).err();
+        let by_kind = check_located(alloc, kind, MAX_NESTING, file.input).err();
+        if found != Some((file.error, file.place)) || by_kind != found {
+            let name = file.file;
+            return Err(Fail::new(format_args!("{found:?}, {by_kind:?}: {name}")));
+        }
     }
     Ok(())
 }
 
 #[test]
-fn shapes_of_files_in_use(rt: HostRuntime) -> Result<(), Fail> {
+fn files_of_tools(rt: HostRuntime) -> Result<(), Fail> {
     let alloc = rt.alloc();
-    // a signer of version 3, which is named by a key identifier
-    is_invalid_at::<SignerInfo>(
-        alloc,
-        "signerinfo",
-        b"\x30\x15\x02\x01\x03\x80\x00\x30\x05\x06\x03\x2A\x03\x04\x30\x05\x06\x03\x2A\x03\x04\x04\x00",
-        2,
-    )?;
-    // a friendly name outside of the Basic Multilingual Plane
-    is_invalid_at::<Pkcs12Attribute>(
-        alloc,
-        "pkcs12attribute",
-        b"\x30\x13\x06\x09\x2A\x86\x48\x86\xF7\x0D\x01\x09\x14\x31\x06\x1E\x04\xD8\x3D\xDE\x00",
-        15,
-    )?;
-    // indirect data of a cabinet
-    is_invalid_at::<SpcAttributeAndOptionalValue>(
-        alloc,
-        "spcattributeandoptionalvalue",
-        b"\x30\x14\x06\x0A\x2B\x06\x01\x04\x01\x82\x37\x02\x01\x19\x30\x06\xA0\x04\xA2\x02\x80\x00",
-        2,
-    )?;
-    // other content under the type of a trust list
-    is_invalid_at::<EncapsulatedContentInfo>(
-        alloc,
-        "encapsulatedcontentinfo",
-        b"\x30\x10\x06\x09\x2B\x06\x01\x04\x01\x82\x37\x0A\x01\xA0\x03\x04\x01\x01",
-        15,
-    )?;
-    // other revocation information than NULL
-    is_invalid_at::<RevocationInfoChoices>(
-        alloc,
-        "revocationinfochoices",
-        b"\xA1\x09\xA1\x07\x06\x03\x2A\x03\x04\x04\x00",
-        9,
-    )?;
-    // a recipient by key transport
-    is_invalid_at::<RecipientInfo>(
-        alloc,
-        "recipientinfo",
-        b"\x30\x10\x02\x01\x04\x30\x02\x04\x00\x30\x05\x06\x03\x2A\x03\x04\x04\x00",
-        0,
-    )
+    let signed = Kind::SignedData(SignedDataKind::Pkcs7Certificate);
+    are_refused_at::<Pkcs7Certificate>(alloc, signed, &SIGNED)?;
+    are_refused_at::<Pkcs7Certificate>(alloc, signed, &INDIRECT_DATA)?;
+    are_refused_at::<Pkcs7Certificate>(alloc, signed, &SIGNED_LISTS)?;
+    are_refused_at::<Ctl>(alloc, Kind::TrustList(TrustListKind::Ctl), &LISTS)?;
+    let enveloped = Kind::Enveloped(EnvelopedKind::EnvelopedData);
+    are_refused_at::<EnvelopedData>(alloc, enveloped, &RECIPIENTS)?;
+    let store = Kind::Store(StoreKind::Pfx);
+    are_refused_at::<Pfx<ParsedAuthenticatedSafeDataRepr>>(alloc, store, &NAMES)
 }
