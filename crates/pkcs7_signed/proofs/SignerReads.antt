@@ -1,9 +1,10 @@
 -- Reading signers, what they hold and signed data, one level of them.
-use Rattle.std.proofs.Common.{◌≡◌, ℕ, List, map, Vec, Global, Option, ap, ◌∙◌, subst, rules}
-use Rattle.asn1_core.specs.Der.{octets_of, Position, Took, GaveUp, less, TookRow, GaveUpRow}
+use Rattle.std.proofs.Common.{◌≡◌, ℕ, ◌++◌, List, map, length, Vec, Global, Option, sym, ap, ◌∙◌, subst, rules, arith, length-append}
+use Rattle.asn1_core.specs.Der.{octets_of, Format, Position, Took, GaveUp, less, TookRow, GaveUpRow}
 use Rattle.asn1_core.specs.declared.objects.ObjectIdentifierAsn1.{ObjectIdentifierAsn1}
 use Rattle.asn1_core.specs.declared.lists.Asn1SetOf.{Asn1SetOf}
 use Rattle.asn1_core_element.specs.declared.error.Error.{Error}
+use Rattle.asn1_core_element.specs.declared.error.Error.TheVariants.{Memory}
 use Rattle.asn1_core_format.proofs.LevelReads.{took_level, refused_level, took_rolled, refused_rolled}
 use Rattle.pkcs7_content.specs.declared.contents.EncapsulatedContentInfo.{EncapsulatedContentInfo}
 use Rattle.pkcs7_content.specs.declared.versions.CmsVersion.{CmsVersion}
@@ -74,3 +75,12 @@ module _ {o p : List ℕ} (e : o ≡ p) {k : ℕ} {old new : Position} where
 
   pub refused_at_octets : {x : Error} → GaveUpRow (values_row certificate (less signer) (kind_of o)) k old new x → GaveUpRow (values_row certificate (less signer) (kind_of p)) k old new x
   refused_at_octets {x} g = subst (λ q. GaveUpRow (values_row certificate (less signer) (kind_of q)) k old new x) e g
+
+-- memory was refused after an encoding was read
+pub no_memory : {V : Type 0} (F : Format V) (k : ℕ) {old new : Position} {v : V} {e : Error} → Took F k old new v → e ≡ Memory → GaveUp F k old new e
+no_memory F k {old} {new} t m = record {
+  kind = λ x. (let h = sym m ∙ x in cc);
+  none = λ x taken rest v s r. x m;
+  counts = omega (arith, t.at_least);
+  at_most = omega (arith, t.at_most, ap length t.split, length-append t.taken new.left);
+}

@@ -1,9 +1,11 @@
 //! `==` and clones of signers, what they hold and signed data.
 
-ghost use Rattle.std.specs.Prelude.{map};
+ghost use Rattle.std.specs.Prelude.{◌≡◌, map};
 ghost use Rattle.asn1_core.specs.Der.{Clones};
 ghost use Rattle.pkcs7_signed.specs.SignerEqual.{signer_equal, signers_equal, attributes_equal, attribute_equal, values_equal, certificate_equal, signed_equal};
-ghost use Rattle.pkcs7_signed.specs.SignerValues.{signer_value, certificate_value};
+ghost use Rattle.pkcs7_signed.specs.SignerValues.{signer_value, signers_value, attributes_value, certificate_value, signed_value};
+ghost use Rattle.pkcs7_signed.specs.declared.signers.SignedData.{out-SignedData};
+ghost use Rattle.pkcs7_signed.specs.declared.signers.SignerInfo.{out-SignerInfo};
 
 use crate::signers::{
     Pkcs7Certificate, SignedData, SignerInfo, SignersInfos, UnsignedAttribute,
@@ -19,15 +21,8 @@ impl EqualByText for SignerInfo {
 impl TryClone for SignerInfo {
     #[cycle(copy)]
     fn try_clone(&self, alloc: Global) -> Result<Self, Error> {
-        Ok(SignerInfo {
-            version: self.version,
-            sid: self.sid.try_clone(alloc)?,
-            digest_algorithm: self.digest_algorithm.try_clone(alloc)?,
-            signed_attrs: self.signed_attrs.try_clone(alloc)?,
-            signature_algorithm: self.signature_algorithm.try_clone(alloc)?,
-            signature: self.signature.try_clone(alloc)?,
-            unsigned_attrs: Optional(self.unsigned_attrs.0.try_clone(alloc)?),
-        })
+        let unsigned = self.unsigned_attrs.0.try_clone(alloc)?;
+        signer_with(self, unsigned, alloc)
     }
 }
 
@@ -104,9 +99,8 @@ impl EqualByText for SignedData {
 impl TryClone for SignedData {
     #[cycle(copy)]
     fn try_clone(&self, alloc: Global) -> Result<Self, Error> {
-        clone_of!(self, alloc; SignedData {
-            digest_algorithms, content_info, certificates, crls, signers_infos; version
-        })
+        let signers = self.signers_infos.try_clone(alloc)?;
+        signed_with(self, signers, alloc)
     }
 }
 
@@ -138,4 +132,45 @@ fn cloned_certificates(
         certificates.push(certificate.try_clone(alloc)?)?;
     }
     Ok(Asn1SetOf(certificates))
+}
+
+/// A clone of the signer, with unsigned attributes that are cloned. While these are, nothing else of it is held.
+#[inline(never)]
+fn signer_with(
+    signer: &SignerInfo,
+    unsigned: UnsignedAttributes,
+    alloc: Global,
+) -> Result<SignerInfo, Error>
+    requires { attributes_value unsigned ≡ attributes_value (out-SignerInfo signer.now).unsigned_attrs.0 }
+    ensures { Clones signer_value signer.now result }
+{
+    Ok(SignerInfo {
+        version: signer.version,
+        sid: signer.sid.try_clone(alloc)?,
+        digest_algorithm: signer.digest_algorithm.try_clone(alloc)?,
+        signed_attrs: signer.signed_attrs.try_clone(alloc)?,
+        signature_algorithm: signer.signature_algorithm.try_clone(alloc)?,
+        signature: signer.signature.try_clone(alloc)?,
+        unsigned_attrs: Optional(unsigned),
+    })
+}
+
+/// A clone of the signed data, with signers that are cloned. While these are, nothing else of it is held.
+#[inline(never)]
+fn signed_with(
+    signed: &SignedData,
+    signers_infos: SignersInfos,
+    alloc: Global,
+) -> Result<SignedData, Error>
+    requires { signers_value signers_infos ≡ signers_value (out-SignedData signed.now).signers_infos }
+    ensures { Clones signed_value signed.now result }
+{
+    Ok(SignedData {
+        version: signed.version,
+        digest_algorithms: signed.digest_algorithms.try_clone(alloc)?,
+        content_info: signed.content_info.try_clone(alloc)?,
+        certificates: signed.certificates.try_clone(alloc)?,
+        crls: signed.crls.try_clone(alloc)?,
+        signers_infos,
+    })
 }

@@ -1,6 +1,7 @@
 //! Signed data and signers, which hold one another (RFC 5652, 5), and their parts.
 #![tactic(auto)]
 
+mod boxed;
 mod clones;
 mod heads;
 mod oids;

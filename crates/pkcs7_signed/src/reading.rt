@@ -1,16 +1,19 @@
 //! How signers, what they hold and signed data are read. Each signer a level down is read by a closure, which only the
 //! signer's own `read` makes; so all else stands outside of the recursion.
 
-ghost use Rattle.std.specs.Prelude.{◌≡◌, ◌<◌, ℕ, List, map, false};
+ghost use Rattle.std.specs.Prelude.{◌≡◌, ◌<◌, ℕ, List, map, false, MatchResult};
 ghost use Rattle.std.proofs.Common.{arith};
 ghost use Rattle.asn1_core.specs.Der.{set_or_none, Gives, kept, less, GivesRow, within, octets_of, set_of, only_oid, lawful_only_oid};
+ghost use Rattle.asn1_core_element.specs.declared.error.Error.TheVariants.{Memory};
 ghost use Rattle.pkcs7_signed.specs.Below.{ReadsSigners};
+ghost use Rattle.pkcs7_signed.specs.Heads.{signed_parts_value};
 ghost use Rattle.pkcs7_signed.specs.Oids.{signed_data_oid};
 ghost use Rattle.pkcs7_signed.specs.Rows.{kind_of, values_row};
 ghost use Rattle.pkcs7_signed.specs.SignerLaws.{lawful_signer, lawful_attribute, lawful_certificate, lawful_signed_data, lawful_signer_infos, lawful_unsigned_attributes};
 ghost use Rattle.pkcs7_signed.specs.SignerValues.{signer_value, attribute_value, values_value, certificate_value, signed_value};
 ghost use Rattle.pkcs7_signed.specs.Signers.{Value, signers, signer, attribute, certificate, signed_data};
 
+use crate::boxed::{Boxed, in_box};
 use crate::oids::SIGNED_DATA;
 use crate::signers::{
     Kind, Pkcs7Certificate, SignedData, SignerInfo, SignersInfos, UnsignedAttribute,
@@ -116,10 +119,10 @@ type SignedTail = Omitted<CertificateSet, Maybe<RevocationInfoChoices, Tail<Sign
 
 type SignedParts = Part<
     CmsVersion,
-    Part<DigestAlgorithmIdentifiers, Part<EncapsulatedContentInfo, SignedTail>>,
+    Part<DigestAlgorithmIdentifiers, Part<Boxed<EncapsulatedContentInfo>, SignedTail>>,
 >;
 
-type Held = Alone<ExplicitContextTag0<SignedData>>;
+type Held = Alone<ExplicitContextTag0<Boxed<SignedData>>>;
 
 /// Reads a signer.
 fn read_signer_with<F: Fn(&mut Reader<'_>, u8) -> Result<SignerInfo, Error>>(
@@ -234,7 +237,8 @@ fn read_values_with<F: Fn(&mut Reader<'_>, u8) -> Result<SignerInfo, Error>>(
     }
 }
 
-/// Reads signed data with its content type.
+/// Reads signed data with its content type. It isn't inlined, so that a counter signature takes none of its stack.
+#[inline(never)]
 fn read_certificate_with<F: Fn(&mut Reader<'_>, u8) -> Result<SignerInfo, Error>>(
     alloc: Global,
     r: &mut Reader<'_>,
@@ -253,11 +257,14 @@ fn read_certificate_with<F: Fn(&mut Reader<'_>, u8) -> Result<SignerInfo, Error>
         &|s: &mut Reader<'_>|
             requires sound { s.old.refused ≡ false }
             requires below { ReadsSigners (F.pre by.now) (F.post by.now) nest }
-            ensures { GivesRow (λ x. signed_value x.0.0) (within 0xA0 signed_data) nest s.old s.new result }
+            ensures { GivesRow (λ x. signed_value x.0.0.0.value) (within 0xA0 signed_data) nest s.old s.new result }
         { read_held_with(alloc, s, nest, by) },
     )?;
-    let Part(SignedDataType(oid), Tail(Alone(signed_data))) = row;
-    Ok(Pkcs7Certificate { oid, signed_data })
+    let Part(SignedDataType(oid), Tail(Alone(ExplicitContextTag0(signed)))) = row;
+    Ok(Pkcs7Certificate {
+        oid,
+        signed_data: ExplicitContextTag0(signed.open()),
+    })
 }
 
 /// Reads signed data under their tag, to the end of the open contents.
@@ -269,7 +276,7 @@ fn read_held_with<F: Fn(&mut Reader<'_>, u8) -> Result<SignerInfo, Error>>(
 ) -> Result<Held, Error>
     requires sound { r.old.refused ≡ false }
     requires below { ReadsSigners (F.pre by.now) (F.post by.now) nest }
-    ensures { GivesRow (λ x. signed_value x.0.0) (within 0xA0 signed_data) nest r.old r.new result }
+    ensures { GivesRow (λ x. signed_value x.0.0.0.value) (within 0xA0 signed_data) nest r.old r.new result }
 {
     let outer = open_element(r, 0xA0)?;
     let signed = read_signed_with(alloc, r, nest, by)?;
@@ -289,10 +296,10 @@ fn read_signed_with<F: Fn(&mut Reader<'_>, u8) -> Result<SignerInfo, Error>>(
     r: &mut Reader<'_>,
     nest: u8,
     by: &F,
-) -> Result<SignedData, Error>
+) -> Result<Boxed<SignedData>, Error>
     requires sound { r.old.refused ≡ false }
     requires below { ReadsSigners (F.pre by.now) (F.post by.now) nest }
-    ensures { Gives signed_value signed_data nest r.old r.new result }
+    ensures { Gives (λ x. signed_value x.0.value) signed_data nest r.old r.new result }
 {
     if nest == 0 {
         return Err(Error::TooDeep);
@@ -308,16 +315,29 @@ fn read_signed_with<F: Fn(&mut Reader<'_>, u8) -> Result<SignerInfo, Error>>(
             ensures { GivesRow (λ x. map signer_value x.0.0.items) (set_of (less signer)) nest s.old s.new result }
         { read_signers_with(alloc, s, nest, by) },
     )?;
+    let signed = signed_of(alloc, row)?;
+    Ok(signed)
+}
+
+/// Signed data of their parts, in memory of their own. Refuses by `Memory` alone.
+#[inline(never)]
+fn signed_of(alloc: Global, row: SignedParts) -> Result<Boxed<SignedData>, Error>
+    ensures { MatchResult result
+        (λ x. signed_value x.0.value ≡ signed_parts_value row.0 row.1.0 row.1.1.0.0.value row.1.1.1.0 row.1.1.1.1.0 (map signer_value row.1.1.1.1.1.0.0.0.items))
+        (λ e. e ≡ Memory) }
+{
     let Part(version, Part(digest_algorithms, Part(content_info, rest))) = row;
     let Omitted(certificates, Maybe(crls, Tail(SignersBelow(signers)))) = rest;
-    Ok(SignedData {
+    let signed = SignedData {
         version,
         digest_algorithms,
-        content_info,
+        content_info: content_info.open(),
         certificates: Optional(certificates),
         crls,
         signers_infos: SignersInfos(signers),
-    })
+    };
+    let signed = in_box(alloc, signed)?;
+    Ok(signed)
 }
 
 /// Reads the signers of signed data, to the end of the open contents.
@@ -390,7 +410,7 @@ impl DerDeserialize for Pkcs7Certificate {
 
 impl DerDeserialize for SignedData {
     fn read(alloc: Global, r: &mut Reader<'_>, nest: u8) -> Result<Self, Error> {
-        read_signed_with(
+        let signed = read_signed_with(
             alloc,
             r,
             nest,
@@ -398,7 +418,8 @@ impl DerDeserialize for SignedData {
                 requires { s.old.refused ≡ false }
                 ensures { Gives signer_value signer below s.old s.new result }
             { SignerInfo::read(alloc, s, below) },
-        )
+        )?;
+        Ok(signed.open())
     }
 
     ghost lawful = { lawful_signed_data };

@@ -175,6 +175,8 @@ impl DerSerialize for RevocationInfoChoices {
 }
 
 impl DerDeserialize for RevocationInfoChoices {
+    // so that it takes none of the stack that signed data takes at each level
+    #[inline(never)]
     fn read(alloc: Global, r: &mut Reader<'_>, nest: u8) -> Result<Self, Error> {
         Ok(RevocationInfoChoices(read_within(alloc, r, nest, 0xA1)?))
     }

@@ -10,12 +10,12 @@ use Rattle.pkcs7_signed.proofs.reading.read_held_with.Goals as goal
 
 pub returns-in_err-signed : goal.returns-in_err-signed
 returns-in_err-signed g c =
-    gave_row (λ x. signed_value x.0.0) (within 0xA0 signed_data) c.args.nest (err_from_is_err_and c.from_residual-in_err-signed.result c.from_residual-in_err-signed.ensures.1)
+    gave_row (λ x. signed_value x.0.0.0.value) (within 0xA0 signed_data) c.args.nest (err_from_is_err_and c.from_residual-in_err-signed.result c.from_residual-in_err-signed.ensures.1)
     (alone_refused (within 0xA0 signed_data) c.args.nest (within_refused signed_data c.args.nest 0xA0 c.in_ok-outer.ensures (alone_refused signed_data c.args.nest c.in_err-signed.ensures)))
 
 pub returns-in_err-outer : goal.returns-in_err-outer
 returns-in_err-outer g c =
-    gave_row (λ x. signed_value x.0.0) (within 0xA0 signed_data) c.args.nest (err_from_is_err_and c.from_residual.result c.from_residual.ensures.1)
+    gave_row (λ x. signed_value x.0.0.0.value) (within 0xA0 signed_data) c.args.nest (err_from_is_err_and c.from_residual.result c.from_residual.ensures.1)
     (alone_refused (within 0xA0 signed_data) c.args.nest (unopened signed_data c.args.nest 0xA0 c.in_err-outer.ensures))
 
 pub returns-then-left-gt0 : goal.returns-then-left-gt0

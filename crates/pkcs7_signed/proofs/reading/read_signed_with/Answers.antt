@@ -7,7 +7,7 @@ use Rattle.pkcs7_signed.specs.Parts.{signed_parts}
 use Rattle.pkcs7_signed.specs.Signers.{signer, signed_data}
 use Rattle.pkcs7_signed.specs.SignerLaws.{lawful_signer}
 use Rattle.pkcs7_signed.specs.SignerValues.{signed_value}
-use Rattle.pkcs7_signed.proofs.SignerReads.{made_signed}
+use Rattle.pkcs7_signed.proofs.SignerReads.{no_memory}
 use Rattle.pkcs7_signed.proofs.reading.read_signed_with.Goals as goal
 
 pub read_row_within_with-requires-clause-lawful : goal.read_row_within_with-requires-clause-lawful
@@ -16,10 +16,16 @@ read_row_within_with-requires-clause-lawful g c = (lawful_set (less signer) (law
 pub returns-in_err-row : goal.returns-in_err-row
 returns-in_err-row g c =
     let n : suc (c.args.nest - 1) ≡ c.args.nest = omega arith in
-    gave signed_value signed_data c.args.nest (err_from_is_err_and c.from_residual.result c.from_residual.ensures.1) (refused_gated (sequence (signed_parts (set_of (less signer)))) n c.in_err-row.ensures)
+    gave (λ x. signed_value x.0.value) signed_data c.args.nest (err_from_is_err_and c.from_residual.result c.from_residual.ensures.1) (refused_gated (sequence (signed_parts (set_of (less signer)))) n c.in_err-row.ensures)
+
+pub returns-in_err-signed : goal.returns-in_err-signed
+returns-in_err-signed g c =
+    let n : suc (c.args.nest - 1) ≡ c.args.nest = omega arith in
+    gave (λ x. signed_value x.0.value) signed_data c.args.nest (err_from_is_err_and c.from_residual-in_err-signed.result c.from_residual-in_err-signed.ensures.1)
+    (no_memory signed_data c.args.nest (took_gated (sequence (signed_parts (set_of (less signer)))) n c.in_ok-row.ensures) c.in_err-signed.ensures)
 
 pub returns : goal.returns
 returns g c =
     let n : suc (c.args.nest - 1) ≡ c.args.nest = omega arith in
     let t = took_gated (sequence (signed_parts (set_of (less signer)))) n c.in_ok-row.ensures in
-    subst (Took signed_data c.args.nest c.args.r.now c.read_row_within_with.new.r) (sym (made_signed c.in_ok-row.row.0 c.in_ok-row.row.1.0 c.in_ok-row.row.1.1.0 c.in_ok-row.row.1.1.1.0 c.in_ok-row.row.1.1.1.1.0 c.in_ok-row.row.1.1.1.1.1.0.0)) t
+    subst (Took signed_data c.args.nest c.args.r.now c.read_row_within_with.new.r) (sym c.in_ok-signed.ensures) t
