@@ -1,6 +1,6 @@
 -- ContentInfo ::= SEQUENCE { contentType ContentType, content [0] EXPLICIT ANY DEFINED BY contentType OPTIONAL }
 -- (RFC 2315, 7)
-use Rattle.std.specs.Prelude.{List, ℕ, Option, None, Some, Result}
+use Rattle.std.specs.Prelude.{Option, None, Some, Result}
 use Rattle.std.proofs.Common.{arith}
 use Rattle.asn1_core_element.specs.declared.error.Error.{Error}
 use Rattle.asn1_core.specs.Der.{Format, IsLawful, sequence, part, optional, nothing, explicit, raw, object_identifier, octets_of, option_value, OidOctets, ElementOctets, lawful_sequence, followed_by, perhaps_last, lawful_explicit, lawful_object_identifier, lawful_raw, AnswersInput}
