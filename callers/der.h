@@ -37,9 +37,9 @@ extern "C" {
 #endif
 
 /* The most levels of nesting that an input may have: bags in bags, signed data in time stamps, counter signatures of
- * counter signatures. A level takes up to 3.5 KB of stack, and one of signed data in time stamps up to 13.4 KB, so 64
- * of these need some 900 KB. A caller on a smaller stack passes a lower limit to der_check_limited and
- * der_rewrite_limited. That is measured (scripts/cost), not proved. */
+ * counter signatures. A level of bags takes up to 4 KB of stack, one of counter signatures up to 6 KB, and one of
+ * signed data in time stamps up to 8 KB, so 64 levels need up to 600 KB. A caller on a smaller stack passes a lower
+ * limit to der_check_limited and der_rewrite_limited. That is measured, not proved. */
 #define DER_MAX_NESTING 64
 
 typedef enum der_status {

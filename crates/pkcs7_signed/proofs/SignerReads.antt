@@ -1,30 +1,24 @@
 -- Reading signers, what they hold and signed data, one level of them.
-use Rattle.std.proofs.Common.{◌≡◌, ℕ, ◌++◌, List, map, length, Vec, Global, Option, sym, ap, ◌∙◌, subst, rules, arith, length-append}
+use Rattle.std.proofs.Common.{◌≡◌, ℕ, List, map, length, Vec, Global, sym, ap, ◌∙◌, subst, rules, arith, length-append}
 use Rattle.asn1_core.specs.Der.{octets_of, Format, Position, Took, GaveUp, less, TookRow, GaveUpRow}
 use Rattle.asn1_core.specs.declared.objects.ObjectIdentifierAsn1.{ObjectIdentifierAsn1}
-use Rattle.asn1_core.specs.declared.lists.Asn1SetOf.{Asn1SetOf}
 use Rattle.asn1_core_element.specs.declared.error.Error.{Error}
 use Rattle.asn1_core_element.specs.declared.error.Error.TheVariants.{Memory}
 use Rattle.asn1_core_format.proofs.LevelReads.{took_level, refused_level, took_rolled, refused_rolled}
-use Rattle.pkcs7_content.specs.declared.contents.EncapsulatedContentInfo.{EncapsulatedContentInfo}
 use Rattle.pkcs7_content.specs.declared.versions.CmsVersion.{CmsVersion}
 use Rattle.pkcs7_signed_parts.specs.declared.algorithms.DigestAlgorithmIdentifier.{DigestAlgorithmIdentifier}
-use Rattle.pkcs7_signed_parts.specs.declared.algorithms.DigestAlgorithmIdentifiers.{DigestAlgorithmIdentifiers}
 use Rattle.pkcs7_signed_parts.specs.declared.algorithms.SignatureAlgorithmIdentifier.{SignatureAlgorithmIdentifier}
 use Rattle.pkcs7_signed_parts.specs.declared.attributes.Attributes.{Attributes}
-use Rattle.pkcs7_signed_parts.specs.declared.certificates.CertificateSet.{CertificateSet}
-use Rattle.pkcs7_signed_parts.specs.declared.revocations.RevocationInfoChoices.{RevocationInfoChoices}
 use Rattle.pkcs7_signed_parts.specs.declared.signers.SignatureValue.{SignatureValue}
 use Rattle.pkcs7_signed_parts.specs.declared.signers.SignerIdentifier.{SignerIdentifier}
 use Rattle.pkcs7_signed.specs.Rows.{signer_row, certificate_row, attribute_row, UnsignedValues, kind_of, values_row}
 use Rattle.pkcs7_signed.specs.Signers.{Value, signers, attributes, certificates, signer_out, signer_into, certificate_out, certificate_into, attribute_out, attribute_into, still, step, signer, attribute, certificate}
 use Rattle.pkcs7_signed.specs.SignerLaws.{signer_there, certificate_there, attribute_there, signer_step}
-use Rattle.pkcs7_signed.specs.Heads.{signer_parts_value, signed_parts_value}
+use Rattle.pkcs7_signed.specs.Heads.{signer_parts_value}
 use Rattle.pkcs7_signed.specs.SignerValues.{signer_value, attribute_value, values_value, certificate_value, signed_value}
 use Rattle.pkcs7_signed.specs.declared.signers.Pkcs7Certificate.{roll-Pkcs7Certificate}
-use Rattle.pkcs7_signed.specs.declared.signers.SignedData.{SignedData, roll-SignedData}
-use Rattle.pkcs7_signed.specs.declared.signers.SignerInfo.{SignerInfo, roll-SignerInfo}
-use Rattle.pkcs7_signed.specs.declared.signers.SignersInfos.{roll-SignersInfos}
+use Rattle.pkcs7_signed.specs.declared.signers.SignedData.{SignedData}
+use Rattle.pkcs7_signed.specs.declared.signers.SignerInfo.{roll-SignerInfo}
 use Rattle.pkcs7_signed.specs.declared.signers.UnsignedAttribute.{UnsignedAttribute, roll-UnsignedAttribute}
 use Rattle.pkcs7_signed.specs.declared.signers.UnsignedAttributeValue.{UnsignedAttributeValue}
 use Rattle.pkcs7_signed.specs.declared.signers.UnsignedAttributes.{roll-UnsignedAttributes}
@@ -54,9 +48,6 @@ pub made_signer : (v : CmsVersion) (s : SignerIdentifier) (d : DigestAlgorithmId
 made_signer v s d a g o us =
     let e : signer_value (roll-SignerInfo record { version = v; sid = s; digest_algorithm = d; signed_attrs = record { 0 = a }; signature_algorithm = g; signature = o; unsigned_attrs = record { 0 = roll-UnsignedAttributes record { 0 = us } } }) ≡ signer_into (signer_parts_value v s d a g o (map attribute_value us.items, tt)) = search (rules, the_lemmas) in
     ap signer_out e ∙ signer_there _
-
-pub made_signed : (v : CmsVersion) (d : DigestAlgorithmIdentifiers) (i : EncapsulatedContentInfo) (c : CertificateSet) (l : Option RevocationInfoChoices) (s : Asn1SetOf SignerInfo) → signed_value (roll-SignedData record { version = v; digest_algorithms = d; content_info = i; certificates = record { 0 = c }; crls = l; signers_infos = roll-SignersInfos record { 0 = s } }) ≡ signed_parts_value v d i c l (map signer_value s.0.items)
-made_signed v d i c l s = search (rules, the_lemmas)
 
 pub made_certificate : (o : ObjectIdentifierAsn1) (s : SignedData) → certificate_out (certificate_value (roll-Pkcs7Certificate record { oid = o; signed_data = record { 0 = s } })) ≡ (octets_of o.0, signed_value s)
 made_certificate o s =
