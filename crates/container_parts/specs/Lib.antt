@@ -1,0 +1,7 @@
+pub mod Copies
+pub mod Inputs
+pub mod MacParts
+pub mod SignedParts
+pub mod SignedRows
+pub mod StoreParts
+pub mod Parts

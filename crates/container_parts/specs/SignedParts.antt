@@ -1,0 +1,63 @@
+-- Parts of signed data, as octets: projections of its value.
+use Rattle.std.specs.Prelude.{ℕ, List, Option, None, Some, slice_get}
+use Rattle.std.proofs.Common.{inl, inr}
+use Rattle.asn1_core.specs.Der.{option_value, ElementOctets}
+use Rattle.x509_base.specs.Algorithms.{algorithm_identifier}
+use Rattle.x509_base.specs.Names.{name}
+use Rattle.pkcs7_signed_parts.specs.Certificates.{CertificateValue}
+use Rattle.pkcs7_signed_parts.specs.SignedSets.{attributes_as_set, some_attributes}
+use Rattle.pkcs7_signed_parts.specs.Signers.{SignerIdValue}
+use Rattle.pkcs7_signed.specs.Parts.{SignerParts, behind_signed}
+use Rattle.pkcs7_signed.specs.Signers.{Value, signers, certificates, certificate, signer_out, certificate_out}
+use Rattle.container_parts.specs.Inputs.{Projection}
+use Rattle.container_parts.specs.declared.signed.SignedPart.{SignedPart}
+use Rattle.container_parts.specs.declared.signed.SignedPart.TheVariants.{Certificate, OfSigner}
+use Rattle.container_parts.specs.declared.signed.SignerPart.{SignerPart}
+use Rattle.container_parts.specs.declared.signed.SignerPart.TheVariants.{SignedAttributes, Issuer, SerialNumber, KeyIdentifier, DigestAlgorithm, SignatureAlgorithm, Signature}
+
+-- a certificate as it is, or another choice
+abbrev pub choice_octets : CertificateValue → ElementOctets
+choice_octets (inl c) = c
+choice_octets (inr c) = c
+
+-- the encoding of the issuer, and the contents octets of the serial number, or of the key identifier
+abbrev pub issuer_of : SignerIdValue → Option (List ℕ)
+issuer_of (inl by_issuer) = Some (name.text by_issuer.0)
+issuer_of (inr key) = None
+
+abbrev pub serial_number_of : SignerIdValue → Option (List ℕ)
+serial_number_of (inl by_issuer) = Some by_issuer.1.0
+serial_number_of (inr key) = None
+
+abbrev pub key_identifier_of : SignerIdValue → Option (List ℕ)
+key_identifier_of (inl by_issuer) = None
+key_identifier_of (inr key) = Some key
+
+-- a part of a signer
+abbrev pub of_signer : {R : Type 0} → SignerPart → SignerParts R → Option (List ℕ)
+of_signer SignedAttributes s = option_value attributes_as_set.text (some_attributes s.1.1.1.0)
+of_signer Issuer s = issuer_of s.1.0
+of_signer SerialNumber s = serial_number_of s.1.0
+of_signer KeyIdentifier s = key_identifier_of s.1.0
+of_signer DigestAlgorithm s = Some s.1.1.0.0
+of_signer SignatureAlgorithm s = Some (algorithm_identifier.text s.1.1.1.1.0)
+of_signer Signature s = Some s.1.1.1.1.1.0
+
+-- what there is of an item, if there is the item
+abbrev pub of_some : {A B : Type 0} → (A → Option B) → Option A → Option B
+of_some f None = None
+of_some f (Some x) = f x
+
+abbrev pub signers_in : Value certificates → List (Value signers)
+signers_in v = behind_signed (certificate_out v).1
+
+abbrev pub certificates_in : Value certificates → List CertificateValue
+certificates_in v = (certificate_out v).1.1.1.1.0
+
+-- the part with that index
+abbrev pub signed_part : SignedPart → ℕ → Value certificates → Option (List ℕ)
+signed_part Certificate i v = option_value choice_octets (slice_get (certificates_in v) i)
+signed_part (OfSigner part) i v = of_some (λ s. of_signer part (signer_out s)) (slice_get (signers_in v) i)
+
+abbrev pub in_signed : SignedPart → ℕ → Projection
+in_signed part i = record { Value = Value certificates; format = certificate; part = signed_part part i }

@@ -1,0 +1,32 @@
+//! Octets that are copied out of a value.
+
+ghost use Rattle.std.specs.Prelude.{◌≡◌, Some, slice_get};
+ghost use Rattle.asn1_core.specs.Der.{option_value};
+ghost use Rattle.container_parts.specs.Copies.{Copies};
+
+use asn1_core::{DerSerialize, Error, to_vec};
+use std::alloc::Global;
+
+/// A copy of the octets. Refuses by `Memory` alone.
+pub(crate) fn copy(alloc: Global, octets: &[u8]) -> Result<Option<Vec<u8>>, Error>
+    ensures { Copies (Some octets.now) result }
+{
+    Ok(Some(Vec::from_slice(alloc, octets)?))
+}
+
+/// The encoding of a value. Refuses by `TooLong` or `Memory` alone.
+pub(crate) fn encoding<T: DerSerialize>(alloc: Global, value: &T) -> Result<Option<Vec<u8>>, Error>
+    ensures { Copies (Some (T.format.text (T.value value.now))) result }
+{
+    Ok(Some(to_vec(alloc, value)?))
+}
+
+/// The item with that index.
+pub(crate) fn item<T>(items: &[T], index: usize) -> Option<&T>
+    ensures { option_value (λ x. x.now) result ≡ slice_get items.now index }
+{
+    match items.get(index) {
+        Some(item) => Some(item),
+        None => None,
+    }
+}

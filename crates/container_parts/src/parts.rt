@@ -1,0 +1,63 @@
+//! Parts of containers of all kinds.
+
+ghost use Rattle.std.specs.Prelude.{◌≡◌};
+ghost use Rattle.container_parts.specs.Inputs.{GivesPart};
+ghost use Rattle.container_parts.specs.Parts.{parts, projection_of};
+
+use crate::macs::{MacPart, mac_part};
+use crate::signed::{SignedPart, SignerPart, signed_part};
+use crate::stores::{StorePart, store_part};
+use asn1_core::Error;
+use std::alloc::Global;
+
+/// A part of a container.
+#[derive(Clone, Copy, Debug, PartialEq, Eq)]
+pub enum ContainerPart {
+    /// Of signed data.
+    Signed(SignedPart),
+    /// Of what a PKCS #12 file holds.
+    Store(StorePart),
+    /// Of the MAC of a PKCS #12 file.
+    Mac(MacPart),
+}
+
+impl ContainerPart {
+    /// All parts, in the order of their numbers in `der.h`.
+    pub fn all() -> &'static [ContainerPart]
+        ensures { result.now ≡ parts }
+    {
+        &[
+            ContainerPart::Signed(SignedPart::Certificate),
+            ContainerPart::Signed(SignedPart::OfSigner(SignerPart::SignedAttributes)),
+            ContainerPart::Signed(SignedPart::OfSigner(SignerPart::Issuer)),
+            ContainerPart::Signed(SignedPart::OfSigner(SignerPart::SerialNumber)),
+            ContainerPart::Signed(SignedPart::OfSigner(SignerPart::KeyIdentifier)),
+            ContainerPart::Signed(SignedPart::OfSigner(SignerPart::DigestAlgorithm)),
+            ContainerPart::Signed(SignedPart::OfSigner(SignerPart::SignatureAlgorithm)),
+            ContainerPart::Signed(SignedPart::OfSigner(SignerPart::Signature)),
+            ContainerPart::Store(StorePart::Certificate),
+            ContainerPart::Store(StorePart::WholeBag),
+            ContainerPart::Mac(MacPart::DigestAlgorithm),
+            ContainerPart::Mac(MacPart::Digest),
+            ContainerPart::Mac(MacPart::Salt),
+        ]
+    }
+}
+
+/// The part with that index, from 0 on, of the container that the input is, with at most 64 levels of nesting, as
+/// octets. `None` where it has none. A MAC has one of each part, whatever the index is. The refusals are those of
+/// `from_bytes`, and `TooLong` of an encoding that is too long. The input is read anew by each call.
+pub fn container_part(
+    alloc: Global,
+    part: ContainerPart,
+    index: usize,
+    input: &[u8],
+) -> Result<Option<Vec<u8>>, Error>
+    ensures { GivesPart (projection_of part index) input.now result }
+{
+    match part {
+        ContainerPart::Signed(part) => signed_part(alloc, part, index, input),
+        ContainerPart::Store(part) => store_part(alloc, part, index, input),
+        ContainerPart::Mac(part) => mac_part(alloc, part, input),
+    }
+}
