@@ -10,6 +10,8 @@ mod attributes;
 #[cfg(test)]
 mod contents;
 #[cfg(test)]
+mod key_stores;
+#[cfg(test)]
 mod levels;
 #[cfg(test)]
 mod loose_ends;
