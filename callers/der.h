@@ -1,10 +1,10 @@
-/* Checks and rewritings of DER, and the octets that the MAC of a PKCS #12 file covers: the static library der_c.
+/* Checks and rewritings of DER, and the parts of containers that a verifier needs, as octets: the static library der_c.
  *
- * What is proved of its four calls, for all inputs, and what isn't:
+ * What is proved of its six calls, for all inputs, and what isn't:
  *  - A call answers no status but those that are listed at it. What it writes into numbers and into out is as said
  *    below.
- *  - DER_NORMAL, DER_LOOSE, DER_UNKNOWN_KIND, DER_TOO_LONG, DER_NO_ROOM and DER_NO_RANGE are true where they are
- *    answered.
+ *  - DER_NORMAL, DER_LOOSE, DER_UNKNOWN_KIND, DER_TOO_LONG, DER_NO_ROOM, DER_NO_RANGE and DER_NO_PART are true where
+ *    they are answered.
  *  - At DER_MALFORMED, DER_MISSING, DER_INVALID and DER_TOO_DEEP the input is no encoding of the kind. Which of the
  *    four it is isn't proved: tests tell them apart.
  *  - That memory was refused where a call answers DER_NO_MEMORY isn't proved. Tests show that calls with memory enough
@@ -43,18 +43,39 @@ extern "C" {
 #define DER_MAX_NESTING 64
 
 typedef enum der_status {
-  DER_NORMAL = 0,       /* the input is normal; of der_rewrite, der_kind and der_mac_range: it is done */
+  DER_NORMAL = 0,       /* the input is normal; of a call that writes more than a length: it is done */
   DER_LOOSE = 1,        /* the input has another encoding, which is normal */
-  DER_UNKNOWN_KIND = 2, /* no kind has that word, or that index */
+  DER_UNKNOWN_KIND = 2, /* no kind has that word, or that index; no part has that number */
   DER_MALFORMED = 3,    /* 3 to 6: the input is no encoding of the kind: bytes that are no element, or too many */
   DER_MISSING = 4,      /* an element isn't there */
   DER_INVALID = 5,      /* a tag, version, object identifier, character or number that can't be there */
   DER_TOO_DEEP = 6,     /* more levels of nesting than the limit */
-  DER_TOO_LONG = 7,     /* its normal encoding has 2^64 bytes or more */
+  DER_TOO_LONG = 7,     /* its normal encoding, or the part, has 2^64 bytes or more */
   DER_NO_MEMORY = 8,    /* a request for memory was refused: nothing is said of the input */
   DER_NO_ROOM = 9,      /* out is too short: the number of bytes that are needed is written */
-  DER_NO_RANGE = 10     /* authSafe isn't data, so that no octets of the file are covered by a MAC */
+  DER_NO_RANGE = 10,    /* authSafe isn't data, so that no octets of the file are covered by a MAC */
+  DER_NO_PART = 11      /* the container has no such part, or not so many; of der_mac: the file has no MAC */
 } der_status;
+
+/* The parts of containers. Each is of the type that the input is read as, which is said before it. */
+typedef enum der_part_number {
+  /* "pkcs7certificate": signed data with its content type (RFC 5652, 5) */
+  DER_PART_CERTIFICATE = 0,         /* a certificate, or another choice, as it is in certificates */
+  DER_PART_SIGNED_ATTRIBUTES = 1,   /* of a signer: signedAttrs under the tag of a SET OF, which the signature covers */
+  DER_PART_ISSUER = 2,              /* of a signer: the encoding of the issuer's Name */
+  DER_PART_SERIAL_NUMBER = 3,       /* of a signer: the contents octets of serialNumber, an INTEGER */
+  DER_PART_KEY_IDENTIFIER = 4,      /* of a signer: the octets of subjectKeyIdentifier */
+  DER_PART_DIGEST_ALGORITHM = 5,    /* of a signer: the contents octets of the object identifier */
+  DER_PART_SIGNATURE_ALGORITHM = 6, /* of a signer: the encoding of signatureAlgorithm, with its parameters */
+  DER_PART_SIGNATURE = 7,           /* of a signer: the octets of signature */
+  /* "pfx": a PKCS #12 file, without what is encrypted in it (RFC 7292, 4) */
+  DER_PART_STORE_CERTIFICATE = 8, /* an X.509 certificate, of a bag or of a bag in a bag */
+  DER_PART_STORE_BAG = 9,         /* a bag, with all that it holds; a bag comes before the bags in it */
+  /* "rawpfx": the MAC of a PKCS #12 file; the index isn't looked at */
+  DER_PART_MAC_DIGEST_ALGORITHM = 10, /* the contents octets of the object identifier */
+  DER_PART_MAC_DIGEST = 11,           /* what a verifier compares with the MAC that it makes */
+  DER_PART_MAC_SALT = 12              /* macSalt */
+} der_part_number;
 
 /* The calls themselves, which answer a der_status. The functions that follow them take strings. A limit above 64 counts
  * as 64. */
@@ -63,6 +84,8 @@ uint32_t der_check_word_limited(const uint8_t *word, size_t word_len, uint8_t li
 uint32_t der_rewrite_word_limited(const uint8_t *word, size_t word_len, uint8_t limit, const uint8_t *input,
                                   size_t input_len, uint8_t *out, size_t out_len, size_t *written);
 uint32_t der_kind_word(size_t index, uint8_t *out, size_t out_len, size_t *written);
+uint32_t der_part_octets(size_t number, size_t index, const uint8_t *input, size_t input_len, uint8_t *out,
+                         size_t out_len, size_t *written);
 
 /* Which octets of a PKCS #12 file a MAC covers: the contents octets of the OCTET STRING that is the content of
  * authSafe, without its tag and length.
@@ -75,6 +98,15 @@ uint32_t der_kind_word(size_t index, uint8_t *out, size_t out_len, size_t *writt
  *  - DER_NO_MEMORY.
  * Unless at DER_NORMAL both numbers are 0. */
 uint32_t der_mac_range(const uint8_t *input, size_t input_len, size_t *start, size_t *len);
+
+/* What a verifier of a PKCS #12 file's MAC needs beside DER_PART_MAC_DIGEST_ALGORITHM, DER_PART_MAC_DIGEST and
+ * DER_PART_MAC_SALT: the range of der_mac_range, and how often the key derivation hashes, 1 where that is left out.
+ *  - DER_NORMAL: the file has a MAC, which covers the *len octets from input + *start on. Nothing is said of whether it
+ *    is right: the caller makes it and compares.
+ *  - DER_NO_PART: its authSafe is data, and it has no MAC.
+ *  - DER_NO_RANGE, DER_MALFORMED to DER_TOO_DEEP, DER_NO_MEMORY: as of der_mac_range.
+ * Unless at DER_NORMAL the numbers are 0. */
+uint32_t der_mac(const uint8_t *input, size_t input_len, size_t *start, size_t *len, size_t *iterations);
 
 /* A limit as the calls take it: one that a byte is too small for counts as DER_MAX_NESTING too. */
 static inline uint8_t der_levels(unsigned limit) {
@@ -146,6 +178,23 @@ static inline der_status der_rewrite(const char *kind, const uint8_t *input, siz
   return der_rewrite_limited(kind, DER_MAX_NESTING, input, input_len, out, out_len, written);
 }
 
+/* Writes a part of a container, with at most DER_MAX_NESTING levels, to the front of out. Parts that a container has
+ * several of, certificates, signers and bags, are counted by the index from 0 on.
+ *  - DER_NORMAL: *written bytes were written, and the rest of out is as it was.
+ *  - DER_NO_ROOM: *written bytes are needed, and out_len is less.
+ *  - DER_NO_PART: the container has none of that index; or a signer has no signed attributes, is named by its key
+ *    and not by its issuer, or the other way round; or the file has no MAC.
+ *  - DER_MALFORMED to DER_TOO_DEEP: the input is no encoding of the type that the part is of. der_locate says where.
+ *  - DER_TOO_LONG: the part is too long.
+ *  - DER_UNKNOWN_KIND: no part has that number.
+ *  - DER_NO_MEMORY.
+ * Unless at DER_NORMAL out is as it was, and unless at DER_NORMAL and DER_NO_ROOM *written is 0. Each call reads the
+ * input anew. */
+static inline der_status der_part(der_part_number part, size_t index, const uint8_t *input, size_t input_len,
+                                  uint8_t *out, size_t out_len, size_t *written) {
+  return (der_status)der_part_octets((size_t)part, index, input, input_len, out, out_len, written);
+}
+
 /* Writes the word of the kind with that index, from 0 on, to the front of out.
  *  - DER_NORMAL: *written bytes were written, without a zero byte after them, and the rest of out is as it was.
  *  - DER_NO_ROOM: *written bytes are needed, and out_len is less.
@@ -158,8 +207,8 @@ static inline der_status der_kind(size_t index, char *out, size_t out_len, size_
 /* A word for each status. */
 static inline const char *der_status_word(der_status status) {
   static const char *const words[] = {"normal",   "loose",    "unknown kind", "malformed", "missing", "invalid",
-                                      "too deep", "too long", "no memory",    "no room",   "no range"};
-  return (unsigned)status <= DER_NO_RANGE ? words[status] : "unknown status";
+                                      "too deep", "too long", "no memory",    "no room",   "no range", "no part"};
+  return (unsigned)status <= DER_NO_PART ? words[status] : "unknown status";
 }
 
 #ifdef __cplusplus

@@ -1,9 +1,11 @@
-"""Checks and rewritings of DER, and the octets that the MAC of a PKCS #12 file covers, from Python.
+"""Checks and rewritings of DER, and the parts of containers that a verifier needs, as octets, from Python.
 
     library = Library("libder.so")
     library.check("pfx", data)       Verdict(is_normal=True, length=1010, loose_end=None)
     library.rewrite("pfx", data)     the normal (canonical) encoding, as bytes
     library.mac_range(data)          range(30, 943), or None
+    library.mac(data)                Mac(covered=range(30, 943), digest_algorithm='2.16.840.1.101.3.4.2.1', ..), or None
+    library.part(Part.SIGNATURE, signed, 0)   the octets of a part, or None
     library.kinds()                  ["macdata", ..]
 
 A kind is the name of a type in lower case. What is no encoding of its kind raises Refused, with the reason and the place.
@@ -16,13 +18,14 @@ The shared library is made of the static ones, at the top of a clone, after `rt 
         "$(dirname "$(rt doc)")/c/liblibc_c.a"
 """
 import ctypes
+import enum
 import os
 from typing import List, NamedTuple, Optional, Union
 
 # The most levels of nesting that an input may have.
 MAX_NESTING = 64
 
-NORMAL, LOOSE, UNKNOWN_KIND, TOO_LONG, NO_MEMORY, NO_ROOM, NO_RANGE = 0, 1, 2, 7, 8, 9, 10
+NORMAL, LOOSE, UNKNOWN_KIND, TOO_LONG, NO_MEMORY, NO_ROOM, NO_RANGE, NO_PART = 0, 1, 2, 7, 8, 9, 10, 11
 REASONS = {3: "malformed", 4: "missing", 5: "invalid", 6: "too deep"}
 
 Bytes = Union[bytes, bytearray, memoryview]
@@ -56,6 +59,51 @@ class Verdict(NamedTuple):
     loose_end: Optional[int]
 
 
+class Part(enum.Enum):
+    """A part of a container: its number in der.h, and the kind that the input is read as."""
+
+    # of signed data: certificate number index, or another choice, as it is
+    CERTIFICATE = 0, "pkcs7certificate"
+    # of signer number index: what its signature covers where there are signed attributes, their encoding as a SET OF
+    SIGNED_ATTRIBUTES = 1, "pkcs7certificate"
+    # the encoding of its issuer's Name, and the contents octets of the serial number, an INTEGER
+    ISSUER = 2, "pkcs7certificate"
+    SERIAL_NUMBER = 3, "pkcs7certificate"
+    # the octets of its key identifier, where it is named by that
+    KEY_IDENTIFIER = 4, "pkcs7certificate"
+    # the contents octets of the object identifier (dotted makes text of them)
+    DIGEST_ALGORITHM = 5, "pkcs7certificate"
+    # the encoding of its signature algorithm, and the octets of its signature
+    SIGNATURE_ALGORITHM = 6, "pkcs7certificate"
+    SIGNATURE = 7, "pkcs7certificate"
+    # of a PKCS #12 file, without what is encrypted: X.509 certificate number index, the encoding of bag number index
+    STORE_CERTIFICATE = 8, "pfx"
+    STORE_BAG = 9, "pfx"
+    # of its MAC, whatever the index is
+    MAC_DIGEST_ALGORITHM = 10, "rawpfx"
+    MAC_DIGEST = 11, "rawpfx"
+    MAC_SALT = 12, "rawpfx"
+
+    @property
+    def kind(self) -> str:
+        """The kind that the input is read as."""
+        return self.value[1]
+
+
+class Mac(NamedTuple):
+    """What a verifier of a PKCS #12 file's MAC needs beside the password. Nothing says that the MAC is right."""
+
+    # where the file has the octets that the MAC covers
+    covered: range
+    # the object identifier of the digest algorithm, as "1.3.14.3.2.26"
+    digest_algorithm: str
+    # the MAC that the file has
+    digest: bytes
+    salt: bytes
+    # how often the key derivation hashes
+    iterations: int
+
+
 class Library:
     """The calls of a shared library that der_c was made into."""
 
@@ -68,6 +116,8 @@ class Library:
             ("der_rewrite_word_limited", [*word, octets, size, number]),
             ("der_mac_range", [octets, size, number, number]),
             ("der_kind_word", [size, octets, size, number]),
+            ("der_mac", [octets, size, number, number, number]),
+            ("der_part_octets", [size, size, octets, size, octets, size, number]),
         ):
             call = getattr(self._library, name)
             call.argtypes, call.restype = arguments, ctypes.c_uint32
@@ -108,12 +158,65 @@ class Library:
         _raise_for(status, "rawpfx", 0)
         return range(start.value, start.value + length.value)
 
+    def mac(self, data: Bytes) -> Optional[Mac]:
+        """What a verifier of a PKCS #12 file's MAC needs. None where its authSafe isn't data, or it has no MAC."""
+        start, length, iterations = ctypes.c_size_t(), ctypes.c_size_t(), ctypes.c_size_t()
+        numbers = map(ctypes.byref, (start, length, iterations))
+        status = self._library.der_mac(bytes(data), len(data), *numbers)
+        if status in (NO_RANGE, NO_PART):
+            return None
+        if status in REASONS:
+            self.check("rawpfx", data)
+        _raise_for(status, "rawpfx", 0)
+        return Mac(
+            range(start.value, start.value + length.value),
+            dotted(self.part(Part.MAC_DIGEST_ALGORITHM, data) or b""),
+            self.part(Part.MAC_DIGEST, data) or b"",
+            self.part(Part.MAC_SALT, data) or b"",
+            iterations.value,
+        )
+
+    def part(self, part: Part, data: Bytes, index: int = 0) -> Optional[bytes]:
+        """A part of a container, as octets: of certificates, signers and bags that with the index, from 0 on.
+
+        None where the container has no such part, or not so many. Raises Refused where the input is no encoding of
+        part.kind.
+        """
+        if index < 0:
+            raise ValueError(f"an index of {index}")
+        room, written = len(data) + 64, ctypes.c_size_t()
+        while True:
+            out = ctypes.create_string_buffer(room)
+            status = self._library.der_part_octets(
+                part.value[0], index, bytes(data), len(data), out, room, ctypes.byref(written)
+            )
+            if status == NORMAL:
+                return out.raw[: written.value]
+            if status == NO_PART:
+                return None
+            if status in REASONS:
+                self.check(part.kind, data)
+            if status != NO_ROOM:
+                _raise_for(status, part.kind, 0)
+            room = written.value
+
     def kinds(self) -> List[str]:
         """The words of all kinds."""
         words, out, written = [], ctypes.create_string_buffer(64), ctypes.c_size_t()
         while self._library.der_kind_word(len(words), out, len(out), ctypes.byref(written)) == NORMAL:
             words.append(out.raw[: written.value].decode())
         return words
+
+
+def dotted(contents: bytes) -> str:
+    """An object identifier, as "1.3.14.3.2.26", by its contents octets."""
+    arcs, arc = [], 0
+    for octet in contents:
+        arc = arc << 7 | octet & 0x7F
+        if octet < 0x80:
+            arcs += [arc] if arcs else [min(arc // 40, 2), arc - 40 * min(arc // 40, 2)]
+            arc = 0
+    return ".".join(map(str, arcs))
 
 
 def _input(kind: str, data: Bytes, limit: int) -> tuple:

@@ -12,10 +12,10 @@
 enum { MARK = 0xEE, MARGIN = 64, SPARE = 16 };
 
 /* The calls, by the word that begins their lines. */
-typedef enum { CHECK, LOCATE, LOOSE_END, REWRITE, MAC, KIND } call;
-static const char *const calls[] = {"check", "locate", "loose_end", "rewrite", "mac", "kind"};
+typedef enum { CHECK, LOCATE, LOOSE_END, REWRITE, MAC, MAC_NUMBERS, PART, KIND } call;
+static const char *const calls[] = {"check", "locate", "loose_end", "rewrite", "mac", "mac_numbers", "part", "kind"};
 
-/* What a call is given: where it takes a kind's index, that, and where a limit of levels is asked for, it. */
+/* What a call is given: the index of a kind or the number of a part where it takes one, and a limit if there is one. */
 typedef struct {
   const char *kind;
   const uint8_t *input;
@@ -27,7 +27,7 @@ typedef struct {
 /* What a call answers: its status, and its numbers, 0 where it has but one. */
 typedef struct {
   der_status status;
-  size_t first, second;
+  size_t first, second, third;
 } answer;
 
 /* A number that a call writes, between marks. */
@@ -70,10 +70,11 @@ static int is_marked(const number *it) { return it->before == MARKS && it->behin
 
 /* Makes a call, with so many bytes of out between marks. */
 static answer made(call it, const given *its, uint8_t *room, size_t out_len) {
-  number first = {MARKS, MARKS, MARKS}, second = {MARKS, it == MAC ? MARKS : 0, MARKS};
+  number first = {MARKS, MARKS, MARKS}, second = {MARKS, it == MAC || it == MAC_NUMBERS ? MARKS : 0, MARKS};
+  number third = {MARKS, it == MAC_NUMBERS ? MARKS : 0, MARKS};
   size_t written = 0, at, before = held;
   uint8_t *out = room + MARGIN;
-  answer said = {DER_NORMAL, 0, 0};
+  answer said = {DER_NORMAL, 0, 0, 0};
   memset(room, MARK, MARGIN + out_len + MARGIN);
   switch (it) {
   case CHECK:
@@ -94,17 +95,24 @@ static answer made(call it, const given *its, uint8_t *room, size_t out_len) {
   case MAC:
     said.status = (der_status)der_mac_range(its->input, its->len, &first.it, &second.it);
     break;
+  case MAC_NUMBERS:
+    said.status = (der_status)der_mac(its->input, its->len, &first.it, &second.it, &third.it);
+    break;
+  case PART:
+    said.status = der_part((der_part_number)its->index, 0, its->input, its->len, out, out_len, &first.it);
+    break;
   case KIND:
     said.status = der_kind(its->index, (char *)out, out_len, &first.it);
     break;
   }
   said.first = first.it;
   said.second = second.it;
+  said.third = third.it;
   if (held != before)
     fault(it, "memory is kept");
-  if (!is_marked(&first) || !is_marked(&second))
+  if (!is_marked(&first) || !is_marked(&second) || !is_marked(&third))
     fault(it, "it writes beside a number");
-  if ((it == REWRITE || it == KIND) && said.status == DER_NORMAL && (written = said.first) > out_len)
+  if ((it == REWRITE || it == PART || it == KIND) && said.status == DER_NORMAL && (written = said.first) > out_len)
     fault(it, "it says that it wrote more than there is room for");
   for (at = 0; at < MARGIN + out_len + MARGIN; at++)
     if ((at < MARGIN || at >= MARGIN + written) && room[at] != MARK)
@@ -116,7 +124,7 @@ static answer made(call it, const given *its, uint8_t *room, size_t out_len) {
 static answer tried(call it, const given *its, uint8_t *room, size_t out_len) {
   answer ample = made(it, its, room, out_len), said;
   size_t nth, short_of = 0;
-  printf("%s %d %zu %zu\n", calls[it], (int)ample.status, ample.first, ample.second);
+  printf("%s %d %zu %zu %zu\n", calls[it], (int)ample.status, ample.first, ample.second, ample.third);
   for (nth = 1;; nth++) {
     requests = 0;
     refused = nth;
@@ -124,13 +132,14 @@ static answer tried(call it, const given *its, uint8_t *room, size_t out_len) {
     refused = 0;
     if (requests < nth)
       break;
-    if (said.status == DER_NO_MEMORY && !said.first && !said.second)
+    if (said.status == DER_NO_MEMORY && !said.first && !said.second && !said.third)
       short_of++;
-    else if (said.status != ample.status || said.first != ample.first || said.second != ample.second)
+    else if (said.status != ample.status || said.first != ample.first || said.second != ample.second ||
+             said.third != ample.third)
       fault(it, "a refused request for memory changes the answer");
   }
   if (short_of)
-    printf("%s %d 0 0\n", calls[it], (int)DER_NO_MEMORY);
+    printf("%s %d 0 0 0\n", calls[it], (int)DER_NO_MEMORY);
   return ample;
 }
 
@@ -170,5 +179,11 @@ int main(int count, char **words) {
   if (said.status <= DER_LOOSE)
     tried(REWRITE, &its, room, said.first - 1);
   tried(MAC, &its, room, 0);
+  tried(MAC_NUMBERS, &its, room, 0);
+  for (its.index = 0; its.index <= DER_PART_MAC_SALT + 1; its.index++) {
+    said = tried(PART, &its, room, 2 * its.len);
+    if (said.status == DER_NORMAL && said.first)
+      tried(PART, &its, room, said.first - 1);
+  }
   return 0;
 }

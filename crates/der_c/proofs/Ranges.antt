@@ -1,12 +1,13 @@
 -- From the range of a MAC to its status.
 use Rattle.std.proofs.Common.{◌≡◌, ◌≢◌, ℕ, ◌+◌, ◌-◌, ◌≤◌, List, ap, subst, sym, arith, inl, inr, refl}
-use Rattle.std.specs.Prelude.{Some}
+use Rattle.std.specs.Prelude.{◌⊎◌, None, Some}
+use Rattle.container_parts.specs.MacParts.{HasCount}
 use Rattle.asn1_core.specs.Der.{raw, HasNoValue}
 use Rattle.asn1_core_element.specs.declared.error.Error.{Error}
 use Rattle.asn1_core_element.specs.declared.error.Error.TheVariants.{Malformed, Missing, Invalid, TooDeep, TooLong, Memory}
 use Rattle.x509_pkcs12.specs.MacRanges.{IsMacRange}
 use Rattle.x509_pkcs12.specs.Pfxs.{pfx}
-use Rattle.der_c.specs.Calls.{status_of, FindsRange}
+use Rattle.der_c.specs.Calls.{status_of, FindsMac, FindsRange}
 
 pub found : (b : List ℕ) (start end : ℕ) → IsMacRange b (Some (start, end)) → FindsRange b start (end - start) 0
 found b start end is =
@@ -39,3 +40,54 @@ not_found b e status is why =
       no_place = λ _. (refl, refl);
       range = inr (inr (omega (arith, is, range.0), (omega (arith, is, range.1.0), λ seven. range.1.1 (omega (arith, is, seven)))));
     }
+
+abbrev RangeStatus : ℕ → Type 0
+RangeStatus status = (status ≡ 0) ⊎ ((status ≡ 10) ⊎ ((3 ≤ status) × ((status ≤ 8) × (status ≢ 7))))
+
+eleven : (status : ℕ) → status ≡ 11 → RangeStatus status → ⊥
+eleven status h (inl e) = omega (arith, h, e)
+eleven status h (inr (inl e)) = omega (arith, h, e)
+eleven status h (inr (inr e)) = omega (arith, h, e.1.0)
+
+further : (status : ℕ) → RangeStatus status → (status ≡ 0) ⊎ ((status ≡ 10) ⊎ ((status ≡ 11) ⊎ ((3 ≤ status) × ((status ≤ 8) × (status ≢ 7)))))
+further status (inl e) = inl e
+further status (inr (inl e)) = inr (inl e)
+further status (inr (inr e)) = inr (inr (inr e))
+
+module _ (b : List ℕ) where
+  -- the answer where there is no range
+  pub no_range_no_mac : (start len status : ℕ) → status ≢ 0 → FindsRange b start len status → FindsMac b start len 0 status
+  no_range_no_mac start len status n r = record {
+    found = λ h. absurd (n h);
+    no_range = r.none;
+    no_mac = λ h. absurd (eleven status h r.range);
+    refused = r.refused;
+    no_place = λ h. ((r.no_place h).0, ((r.no_place h).1, refl));
+    range = further status r.range;
+  }
+
+  -- a range and a count
+  pub mac_found : (start len count status : ℕ) → status ≡ 0 → FindsRange b start len status → HasCount b (Some count) → FindsMac b start len count 0
+  mac_found start len count status zero r is = record {
+    found = λ h. (r.found zero, is);
+    no_range = λ h. absurd (omega (arith, h));
+    no_mac = λ h. absurd (omega (arith, h));
+    refused = λ h. absurd (omega (arith, h));
+    no_place = λ h. absurd (h refl);
+    range = inl refl;
+  }
+
+  -- a range without a MAC
+  pub no_mac_there : HasCount b None → FindsMac b 0 0 0 11
+  no_mac_there is = record {
+    found = λ h. absurd (omega (arith, h));
+    no_range = λ h. absurd (omega (arith, h));
+    no_mac = λ h. is;
+    refused = λ h low. absurd (omega (arith, low));
+    no_place = λ _. (refl, (refl, refl));
+    range = inr (inr (inl refl));
+  }
+
+  pub mac_not_found : (e : Error) (status : ℕ) → status ≡ status_of e → HasNoValue (pfx raw) 64 b e → FindsMac b 0 0 0 status
+  mac_not_found e status is why =
+      no_range_no_mac 0 0 status (λ h. omega (arith, h, is, (in_range e why.kind).0)) (not_found b e status is why)

@@ -4,6 +4,11 @@ use Rattle.asn1_core.specs.Der.{raw, IsValueOf}
 use Rattle.asn1_core_element.specs.declared.error.Error.{Error}
 use Rattle.asn1_core_element.specs.declared.error.Error.TheVariants.{Malformed, Missing, Invalid, TooDeep, TooLong, Memory}
 use Rattle.asn1_core_writers.specs.Comparing.{IsLongestEnd}
+use Rattle.container_parts.specs.Copies.{IsLong}
+use Rattle.container_parts.specs.Inputs.{Projection, HasPart}
+use Rattle.container_parts.specs.MacParts.{HasCount}
+use Rattle.container_parts.specs.Parts.{parts, projection_of}
+use Rattle.container_parts.specs.declared.parts.ContainerPart.{ContainerPart}
 use Rattle.der_engine.specs.Engine.{Rewriting}
 use Rattle.x509_containers.specs.Kinds.{kinds, rewriting_at, word_of}
 use Rattle.x509_containers.specs.declared.kinds.Kind.{Kind}
@@ -91,3 +96,43 @@ pub record NamesKind (index : ℕ) (old new : List ℕ) (len status : ℕ) : Typ
   pub no_room : status ≡ 9 → (k : Kind) × IsKindAt index k × (len ≡ length (word_of k)) × (length old < len)
   pub kept : status ≢ 0 → new ≡ old
   pub range : (status ≡ 0) ⊎ ((status ≡ 2) ⊎ (status ≡ 9))
+
+-- what der_mac answers of the input b
+pub record FindsMac (b : List ℕ) (start len iterations status : ℕ) : Type 0 where
+  -- DER_NORMAL: these octets of the file the MAC covers, and so often its key derivation hashes
+  pub found : status ≡ 0 → IsMacRange b (Some (start, start + len)) × HasCount b (Some iterations)
+  -- DER_NO_RANGE: authSafe isn't data
+  pub no_range : status ≡ 10 → IsMacRange b None
+  -- DER_NO_PART: there is no MAC
+  pub no_mac : status ≡ 11 → HasCount b None
+  -- DER_MALFORMED, DER_MISSING, DER_INVALID, DER_TOO_DEEP: no raw PFX
+  pub refused : 3 ≤ status → status ≤ 6 → (v : PfxValue (List ℕ)) → (pfx raw).Reads 64 b v → ⊥
+  pub no_place : status ≢ 0 → (start ≡ 0) × ((len ≡ 0) × (iterations ≡ 0))
+  -- and never DER_TOO_LONG
+  pub range : (status ≡ 0) ⊎ ((status ≡ 10) ⊎ ((status ≡ 11) ⊎ ((3 ≤ status) × ((status ≤ 8) × (status ≢ 7)))))
+
+-- p is the part with that number
+abbrev pub IsPartAt : ℕ → ContainerPart → Type 0
+IsPartAt number p = (number < length parts) × (p ≡ get_or parts number p)
+
+-- a part with that number, of which P holds
+abbrev pub OfPart : ℕ → ℕ → (Projection → Type 0) → Type 0
+OfPart number index P = (p : ContainerPart) × IsPartAt number p × P (projection_of p index)
+
+-- what der_part_octets answers of the input b and a buffer
+pub record CopiesPart (number index : ℕ) (b old new : List ℕ) (len status : ℕ) : Type 0 where
+  -- DER_NORMAL: the part is at the front of the buffer, and the rest of it is as it was
+  pub copied : status ≡ 0 → OfPart number index (λ P. (t : List ℕ) × HasPart P b (Some t) × (len ≡ length t) × (new ≡ t ++ drop len old))
+  -- DER_NO_ROOM: the part needs that many bytes
+  pub no_room : status ≡ 9 → OfPart number index (λ P. (t : List ℕ) × HasPart P b (Some t) × (len ≡ length t) × (length old < len))
+  -- DER_NO_PART: the container has no such part
+  pub absent : status ≡ 11 → OfPart number index (λ P. HasPart P b None)
+  -- DER_UNKNOWN_KIND: there are fewer parts
+  pub unknown : status ≡ 2 → length parts ≤ number
+  -- DER_MALFORMED, DER_MISSING, DER_INVALID, DER_TOO_DEEP: the input is no encoding of the type
+  pub refused : 3 ≤ status → status ≤ 6 → OfPart number index (λ P. (v : P.Value) → P.format.Reads 64 b v → ⊥)
+  -- DER_TOO_LONG
+  pub long : status ≡ 7 → OfPart number index (λ P. (v : P.Value) × IsValueOf P.format 64 b v × IsLong (P.part v))
+  pub no_len : status ≢ 0 → status ≢ 9 → len ≡ 0
+  pub kept : status ≢ 0 → new ≡ old
+  pub range : (status ≢ 1) × ((status ≢ 10) × (status ≤ 11))

@@ -4,8 +4,10 @@
 
 ghost use Rattle.std.specs.Prelude.{◌≡◌, ◌≤◌, length, MatchOption};
 ghost use Rattle.x509_containers.specs.Kinds.{kinds};
-ghost use Rattle.der_c.specs.Calls.{status_of, ChecksWord, FindsRange, IsKindAt, NamesKind, RewritesWord};
+ghost use Rattle.container_parts.specs.Parts.{parts};
+ghost use Rattle.der_c.specs.Calls.{status_of, ChecksWord, CopiesPart, FindsMac, FindsRange, IsKindAt, IsPartAt, NamesKind, RewritesWord};
 
+use container_parts::{ContainerPart, container_part, mac_iterations};
 use std::alloc::Global;
 use x509_containers::{
     Error, Kind, KindOfInput, MAX_NESTING, check_located, mac_range, rewrite_limited,
@@ -30,6 +32,15 @@ fn kind_at(index: usize) -> Option<Kind>
 {
     match Kind::all().get(index) {
         Some(kind) => Some(*kind),
+        None => None,
+    }
+}
+
+fn part_at(number: usize) -> Option<ContainerPart>
+    ensures { MatchOption result (length parts ≤ number) (λ part. IsPartAt number part) }
+{
+    match ContainerPart::all().get(number) {
+        Some(part) => Some(*part),
         None => None,
     }
 }
@@ -129,6 +140,78 @@ pub extern "C" fn der_mac_range(
     }
 }
 
+/// What a verifier of a PKCS #12 file's MAC needs beside octets: at 0 the MAC covers `len` octets from `start` on, and
+/// its key derivation hashes `iterations` times. At 10 the file has no range, at 11 no MAC. Any other status is as of
+/// `der_mac_range`. Unless at 0 the numbers are 0.
+#[tactic(auto, using(crate::proofs::Ranges::no_range_no_mac, crate::proofs::Ranges::mac_found, crate::proofs::Ranges::no_mac_there, crate::proofs::Ranges::mac_not_found))]
+#[unsafe(no_mangle)]
+pub extern "C" fn der_mac(
+    alloc: Global,
+    input: &[u8],
+    start: &mut usize,
+    len: &mut usize,
+    iterations: &mut usize,
+) -> u32
+    ensures { FindsMac input.now start.new len.new iterations.new result }
+{
+    *iterations = 0;
+    let status = der_mac_range(alloc, input, start, len);
+    if status != 0 {
+        return status;
+    }
+    match mac_iterations(alloc, input) {
+        Ok(Some(count)) => {
+            *iterations = count as usize;
+            0
+        }
+        Ok(None) => {
+            *start = 0;
+            *len = 0;
+            11
+        }
+        Err(error) => {
+            *start = 0;
+            *len = 0;
+            status_of(error)
+        }
+    }
+}
+
+/// Writes the part with that number and index to the front of `out`, as octets. At 0 `written` is their count, at 9, where
+/// `out` is too short, the count that it needs, and otherwise 0. At 2 no part has the number, and at 11 the container has
+/// no such part. Any other status is as of `der_check_word_limited` for the type that the part is of, and 64 levels, 7 of
+/// a part that is too long. Unless at 0 `out` is as it was.
+#[tactic(auto, using(crate::proofs::Parts::not_given, crate::proofs::Parts::none_given))]
+#[unsafe(no_mangle)]
+pub extern "C" fn der_part_octets(
+    alloc: Global,
+    number: usize,
+    index: usize,
+    input: &[u8],
+    out: &mut [u8],
+    written: &mut usize,
+) -> u32
+    ensures { CopiesPart number index input.now out.old out.new written.new result }
+{
+    *written = 0;
+    let Some(part) = part_at(number) else {
+        return 2;
+    };
+    match container_part(alloc, part, index, input) {
+        Ok(Some(octets)) => {
+            let size = octets.len();
+            *written = size;
+            if out.len() < size {
+                return 9;
+            }
+            out[..size].copy_from_slice(&octets);
+            0
+        }
+        Ok(None) => 11,
+        Err(error) => status_of(error),
+    }
+}
+
 /// Writes the word of the kind with that index to the front of `out`. At 0 `written` is its length, at 9, where `out` is
 /// too short, the length that it needs, and at 2, where there are no more kinds, 0. Unless at 0 `out` is as it was.
 #[unsafe(no_mangle)]
@@ -152,7 +235,10 @@ pub extern "C" fn der_kind_word(index: usize, out: &mut [u8], written: &mut usiz
 /// refusals an input has.
 #[cfg(test)]
 mod tests {
-    use super::{der_check_word_limited, der_kind_word, der_mac_range, der_rewrite_word_limited};
+    use super::{
+        der_check_word_limited, der_kind_word, der_mac, der_mac_range, der_part_octets,
+        der_rewrite_word_limited,
+    };
 
     /// A PFX whose authSafe is data, around an empty SEQUENCE.
     const STORE: &[u8] =
@@ -161,6 +247,27 @@ mod tests {
     /// A PFX whose authSafe is signed.
     const SIGNED: &[u8] =
         b"\x30\x14\x02\x01\x03\x30\x0F\x06\x09\x2A\x86\x48\x86\xF7\x0D\x01\x07\x02\xA0\x02\x30\x00";
+
+    /// The same with a MAC: SHA-1 without a password, as its digest AA BB, its salt 5A, and 2048 iterations.
+    const WITH_MAC: &[u8] = b"\
+        \x30\x30\x02\x01\x03\x30\x11\x06\x09\x2A\x86\x48\x86\xF7\x0D\x01\x07\x01\xA0\x04\x04\x02\x30\x00\
+        \x30\x18\x30\x0F\x30\x09\x06\x05\x2B\x0E\x03\x02\x1A\x05\x00\x04\x02\xAA\xBB\x04\x01\x5A\x02\x02\
+        \x08\x00";
+
+    /// Signed data with an empty SEQUENCE as certificate and two signers, the second with a signed attribute.
+    const SIGNED_BY_TWO: &[u8] = b"\
+        \x30\x72\x06\x09\x2A\x86\x48\x86\xF7\x0D\x01\x07\x02\xA0\x65\x30\x63\x02\x01\x01\x31\x00\x30\x0B\
+        \x06\x09\x2A\x86\x48\x86\xF7\x0D\x01\x07\x01\xA0\x02\x30\x00\x31\x4B\x30\x1B\x02\x01\x01\x80\x01\
+        \x4B\x30\x07\x06\x05\x2B\x0E\x03\x02\x1A\x30\x07\x06\x05\x2B\x0E\x03\x02\x1A\x04\x01\x51\x30\x2C\
+        \x02\x01\x01\x30\x05\x30\x00\x02\x01\x07\x30\x07\x06\x05\x2B\x0E\x03\x02\x1A\xA0\x0B\x30\x09\x06\
+        \x03\x2A\x03\x04\x31\x02\x05\x00\x30\x07\x06\x05\x2B\x0E\x03\x02\x1A\x04\x01\x52";
+
+    /// A PFX whose data hold one bag, with the octet 43 as certificate.
+    const WITH_CERTIFICATE: &[u8] = b"\
+        \x30\x4D\x02\x01\x03\x30\x48\x06\x09\x2A\x86\x48\x86\xF7\x0D\x01\x07\x01\xA0\x3B\x04\x39\x30\x37\
+        \x30\x35\x06\x09\x2A\x86\x48\x86\xF7\x0D\x01\x07\x01\xA0\x28\x04\x26\x30\x24\x30\x22\x06\x0B\x2A\
+        \x86\x48\x86\xF7\x0D\x01\x0C\x0A\x01\x03\xA0\x13\x30\x11\x06\x0A\x2A\x86\x48\x86\xF7\x0D\x01\x09\
+        \x16\x01\xA0\x03\x04\x01\x43";
 
     /// A digest without parameters, and the same with NULL.
     const WITHOUT_NULL: &[u8] = b"\
@@ -286,5 +393,105 @@ mod tests {
         assert_eq!(rt; written, 0);
         assert_eq!(rt; der_kind_word(0, [0xEE; 6].as_mut_slice(), &mut written), 9);
         assert_eq!(rt; written, 7);
+    }
+
+    #[test]
+    fn parts(rt: HostRuntime) {
+        for (number, index, input, status, octets) in [
+            (0, 0, SIGNED_BY_TWO, 0, b"\x30\x00".as_slice()),
+            (0, 1, SIGNED_BY_TWO, 11, b"".as_slice()),
+            (1, 0, SIGNED_BY_TWO, 11, b"".as_slice()),
+            (
+                1,
+                1,
+                SIGNED_BY_TWO,
+                0,
+                b"\x31\x0B\x30\x09\x06\x03\x2A\x03\x04\x31\x02\x05\x00".as_slice(),
+            ),
+            (2, 0, SIGNED_BY_TWO, 11, b"".as_slice()),
+            (2, 1, SIGNED_BY_TWO, 0, b"\x30\x00".as_slice()),
+            (3, 1, SIGNED_BY_TWO, 0, b"\x07".as_slice()),
+            (4, 0, SIGNED_BY_TWO, 0, b"\x4B".as_slice()),
+            (4, 1, SIGNED_BY_TWO, 11, b"".as_slice()),
+            (5, 0, SIGNED_BY_TWO, 0, b"\x2B\x0E\x03\x02\x1A".as_slice()),
+            (
+                6,
+                0,
+                SIGNED_BY_TWO,
+                0,
+                b"\x30\x07\x06\x05\x2B\x0E\x03\x02\x1A".as_slice(),
+            ),
+            (7, 0, SIGNED_BY_TWO, 0, b"\x51".as_slice()),
+            (7, 1, SIGNED_BY_TWO, 0, b"\x52".as_slice()),
+            (7, 2, SIGNED_BY_TWO, 11, b"".as_slice()),
+            (8, 0, WITH_CERTIFICATE, 0, b"\x43".as_slice()),
+            (8, 1, WITH_CERTIFICATE, 11, b"".as_slice()),
+            (
+                9,
+                0,
+                WITH_CERTIFICATE,
+                0,
+                b"\x30\x22\x06\x0B\x2A\x86\x48\x86\xF7\x0D\x01\x0C\x0A\x01\x03\xA0\x13\x30\x11\x06\x0A\x2A\x86\x48\x86\xF7\x0D\x01\x09\x16\x01\xA0\x03\x04\x01\x43".as_slice(),
+            ),
+            (10, 0, WITH_MAC, 0, b"\x2B\x0E\x03\x02\x1A".as_slice()),
+            (11, 0, WITH_MAC, 0, b"\xAA\xBB".as_slice()),
+            (12, 0, WITH_MAC, 0, b"\x5A".as_slice()),
+            (12, 0, STORE, 11, b"".as_slice()),
+            (13, 0, STORE, 2, b"".as_slice()),
+            (12, 0, VERSION_2, 5, b"".as_slice()),
+            (8, 0, BER, 3, b"".as_slice()),
+        ] {
+            let mut out = [0xEE; 48];
+            let mut written = 1;
+            assert_eq!(rt;
+                der_part_octets(
+                    rt.alloc(),
+                    number,
+                    index,
+                    input,
+                    out.as_mut_slice(),
+                    &mut written
+                ),
+                status
+            );
+            assert_eq!(rt; written, octets.len());
+            assert!(rt; out.starts_with(octets));
+        }
+        let mut written = 1;
+        assert_eq!(rt;
+            der_part_octets(
+                rt.alloc(),
+                11,
+                0,
+                WITH_MAC,
+                [0xEE; 1].as_mut_slice(),
+                &mut written
+            ),
+            9
+        );
+        assert_eq!(rt; written, 2);
+    }
+
+    #[test]
+    fn macs(rt: HostRuntime) {
+        for (input, status, start, len, iterations) in [
+            (WITH_MAC, 0, 22, 2, 2048),
+            (STORE, 11, 0, 0, 0),
+            (SIGNED, 10, 0, 0, 0),
+            (VERSION_2, 5, 0, 0, 0),
+        ] {
+            let mut numbers = (1, 1, 1);
+            assert_eq!(rt;
+                der_mac(
+                    rt.alloc(),
+                    input,
+                    &mut numbers.0,
+                    &mut numbers.1,
+                    &mut numbers.2
+                ),
+                status
+            );
+            assert_eq!(rt; numbers, (start, len, iterations));
+        }
     }
 }
