@@ -24,3 +24,5 @@ mod refused_places;
 mod representations;
 #[cfg(test)]
 mod runs;
+#[cfg(test)]
+mod signers;
