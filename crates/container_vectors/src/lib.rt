@@ -27,4 +27,6 @@ mod representations;
 #[cfg(test)]
 mod runs;
 #[cfg(test)]
+mod signers;
+#[cfg(test)]
 mod utf16_names;
