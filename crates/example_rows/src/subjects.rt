@@ -2,6 +2,7 @@
 
 pub mod kinds;
 mod leaves;
+mod raw_shapes;
 mod wrappers;
 mod x509;
 
@@ -12,6 +13,7 @@ use std::test::Fail;
 /// Asks what a row says of the type that the word names, which is no kind of `derbox`.
 pub fn is_so(alloc: Global, word: &str, row: &Row) -> Result<(), Fail> {
     if leaves::is_so(alloc, word, row)?
+        || raw_shapes::is_so(alloc, word, row)?
         || wrappers::is_so(alloc, word, row)?
         || x509::is_so(alloc, word, row)?
     {

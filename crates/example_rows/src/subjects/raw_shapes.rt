@@ -1,0 +1,29 @@
+//! Raw counterparts of CMS types. These are no kinds of `derbox`.
+
+use crate::checks::is_so as at;
+use crate::rows::Row;
+use std::alloc::Global;
+use std::test::Fail;
+use x509_containers::{
+    Asn1RawDer, RawEncapsulatedContentInfo, RawEnvelopedData, RawPkcs7Certificate,
+    RawRecipientInfo, RawRevocationInfoChoices, RawSignedData, RawSignerInfo,
+    RawUnsignedAttributes, SignerInfo,
+};
+
+/// Asks what a row says, where the word names one of these types.
+pub fn is_so(alloc: Global, word: &str, row: &Row) -> Result<bool, Fail> {
+    match word {
+        "rawencapsulatedcontentinfo" => at::<RawEncapsulatedContentInfo>(alloc, row)?,
+        "rawenvelopeddata" => at::<RawEnvelopedData>(alloc, row)?,
+        "rawpkcs7certificate" => at::<RawPkcs7Certificate>(alloc, row)?,
+        "rawpkcs7certificate-asn1rawder" => at::<RawPkcs7Certificate<Asn1RawDer>>(alloc, row)?,
+        "rawpkcs7certificate-signerinfo" => at::<RawPkcs7Certificate<SignerInfo>>(alloc, row)?,
+        "rawrecipientinfo" => at::<RawRecipientInfo>(alloc, row)?,
+        "rawrevocationinfochoices" => at::<RawRevocationInfoChoices>(alloc, row)?,
+        "rawsigneddata" => at::<RawSignedData>(alloc, row)?,
+        "rawsignerinfo" => at::<RawSignerInfo>(alloc, row)?,
+        "rawunsignedattributes" => at::<RawUnsignedAttributes>(alloc, row)?,
+        _ => return Ok(false),
+    }
+    Ok(true)
+}
