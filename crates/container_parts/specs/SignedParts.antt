@@ -9,16 +9,12 @@ use Rattle.pkcs7_signed_parts.specs.SignedSets.{attributes_as_set, some_attribut
 use Rattle.pkcs7_signed_parts.specs.Signers.{SignerIdValue}
 use Rattle.pkcs7_signed.specs.Parts.{SignerParts, behind_signed}
 use Rattle.pkcs7_signed.specs.Signers.{Value, signers, certificates, certificate, signer_out, certificate_out}
+use Rattle.x509_signers.specs.Matches.{choice_octets}
 use Rattle.container_parts.specs.Inputs.{Projection}
 use Rattle.container_parts.specs.declared.signed.SignedPart.{SignedPart}
 use Rattle.container_parts.specs.declared.signed.SignedPart.TheVariants.{Certificate, OfSigner}
 use Rattle.container_parts.specs.declared.signed.SignerPart.{SignerPart}
 use Rattle.container_parts.specs.declared.signed.SignerPart.TheVariants.{SignedAttributes, Issuer, SerialNumber, KeyIdentifier, DigestAlgorithm, SignatureAlgorithm, Signature}
-
--- a certificate as it is, or another choice
-abbrev pub choice_octets : CertificateValue → ElementOctets
-choice_octets (inl c) = c
-choice_octets (inr c) = c
 
 -- the encoding of the issuer, and the contents octets of the serial number, or of the key identifier
 abbrev pub issuer_of : SignerIdValue → Option (List ℕ)

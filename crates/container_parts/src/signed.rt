@@ -6,12 +6,14 @@ ghost use Rattle.pkcs7_signed.specs.Signers.{signer_out};
 ghost use Rattle.pkcs7_signed.specs.SignerValues.{certificate_value, signer_value};
 ghost use Rattle.container_parts.specs.Copies.{Copies};
 ghost use Rattle.container_parts.specs.Inputs.{GivesPart};
-ghost use Rattle.container_parts.specs.SignedParts.{certificates_in, choice_octets, in_signed, of_signer, signed_part, signers_in};
+ghost use Rattle.x509_signers.specs.Matches.{choice_octets};
+ghost use Rattle.container_parts.specs.SignedParts.{certificates_in, in_signed, of_signer, signed_part, signers_in};
 
 use crate::copies::{copy, encoding, item};
 use asn1_core::{Error, from_bytes};
-use pkcs7_signed::{CertificateChoices, Pkcs7Certificate, SignerIdentifier, SignerInfo};
+use pkcs7_signed::{Pkcs7Certificate, SignerIdentifier, SignerInfo};
 use std::alloc::Global;
+use x509_signers::certificate_element;
 
 /// A part of signed data.
 #[derive(Clone, Copy, Debug, PartialEq, Eq)]
@@ -82,8 +84,7 @@ fn certificate_at(file: &Pkcs7Certificate, index: usize) -> Option<&[u8]>
     ensures { option_value (λ s. s.now) result ≡ option_value choice_octets (slice_get (certificates_in (certificate_value file.now)) index) }
 {
     match item(file.signed_data.0.certificates.0.0.as_slice(), index) {
-        Some(CertificateChoices::Certificate(element)) => Some(element.0.as_slice()),
-        Some(CertificateChoices::Other(element)) => Some(element.0.as_slice()),
+        Some(certificate) => Some(certificate_element(certificate).0.as_slice()),
         None => None,
     }
 }

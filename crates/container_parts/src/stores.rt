@@ -5,12 +5,12 @@ ghost use Rattle.asn1_core.specs.Der.{option_value};
 ghost use Rattle.x509_pkcs12_bags.specs.BagValues.{bag_value};
 ghost use Rattle.container_parts.specs.Copies.{Copies};
 ghost use Rattle.container_parts.specs.Inputs.{GivesPart};
-ghost use Rattle.container_parts.specs.StoreParts.{certificate_in, certificates_of, in_store, store_part};
+ghost use Rattle.container_parts.specs.StoreParts.{certificates_of, in_store, store_part};
 
 use crate::copies::{copy, encoding, item};
 use asn1_core::{DerSerialize, Error, from_bytes};
 use std::alloc::Global;
-use x509_pkcs12::{ParsedAuthenticatedSafeDataRepr, Pfx, SafeBag, SafeBagKind, X509Bag};
+use x509_pkcs12::{ParsedAuthenticatedSafeDataRepr, Pfx, SafeBag};
 
 /// A part of a PKCS #12 file, in the order of `Pfx::all_bags`, which gives nothing of what is encrypted.
 #[derive(Clone, Copy, Debug, PartialEq, Eq)]
@@ -63,7 +63,7 @@ fn certificate_among<'a>(bags: &[&'a SafeBag], index: usize) -> Option<&'a [u8]>
 {
     let mut left = index;
     for bag in bags {
-        if let Some(octets) = certificate_of(bag) {
+        if let Some(octets) = bag.x509_certificate() {
             if left == 0 {
                 return Some(octets);
             }
@@ -71,20 +71,4 @@ fn certificate_among<'a>(bags: &[&'a SafeBag], index: usize) -> Option<&'a [u8]>
         }
     }
     None
-}
-
-/// The octets of the X.509 certificate in a bag, where it holds one.
-fn certificate_of(bag: &SafeBag) -> Option<&[u8]>
-    ensures { option_value (λ s. s.now) result ≡ certificate_in (bag_value bag.now) }
-{
-    match &bag.kind {
-        SafeBagKind::Certificate(X509Bag::X509(octets)) => Some(octets.0.as_slice()),
-        SafeBagKind::Certificate(X509Bag::Unknown { .. }) => None,
-        SafeBagKind::Key(_) => None,
-        SafeBagKind::EncryptedKey(_) => None,
-        SafeBagKind::Crl(_) => None,
-        SafeBagKind::Secret(_) => None,
-        SafeBagKind::SafeContents(_) => None,
-        SafeBagKind::Unknown { .. } => None,
-    }
 }

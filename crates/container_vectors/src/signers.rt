@@ -1,9 +1,9 @@
-//! What a verifier asks of signed data, over files that `openssl cms -sign`, `openssl req -x509` and `openssl ts` made.
+//! What a verifier asks of signed data, over files that `openssl cms -sign` and `openssl req -x509` made.
 
 use std::test::Fail;
 use x509_containers::{
-    CertificateHead, Pkcs7Certificate, SignerIdentifier, TstInfo, certificate_element,
-    certificates, from_bytes, hashed_octets, signer_certificate, signers, to_vec,
+    Pkcs7Certificate, SignerIdentifier, certificate_element, certificates, from_bytes,
+    hashed_octets, signer_certificate, signers,
 };
 
 /// A certificate with the serial number 1, and 01 02 03 04 05 as its key's identifier.
@@ -113,22 +113,6 @@ const DETACHED: &[u8] = b"\
     \x4C\x61\x02\x20\x13\x35\x7E\x98\x5C\x20\xD4\x0A\xB2\x0D\x52\xA4\xE4\x67\xED\x15\xD2\x1E\xD8\x6B\x6A\
     \x7D\x5B\xAA\xA3\x06\x63\x45\x0D\xCB\x9A\x4D";
 
-/// What a time stamp with all optional parts but extensions signs, and what one with none of them does.
-const TIME_STAMPS: [&[u8]; 2] = [
-    b"\
-    \x30\x81\x80\x02\x01\x01\x06\x04\x2A\x03\x04\x01\x30\x31\x30\x0D\x06\x09\x60\x86\x48\x01\x65\x03\x04\
-    \x02\x01\x05\x00\x04\x20\x09\xCA\x7E\x4E\xAA\x6E\x8A\xE9\xC7\xD2\x61\x16\x71\x29\x18\x48\x83\x64\x4D\
-    \x07\xDF\xBA\x7C\xBF\xBC\x4C\x8A\x2E\x08\x36\x0D\x5B\x02\x01\x02\x18\x13\x32\x30\x32\x36\x31\x31\x32\
-    \x36\x30\x34\x32\x30\x35\x30\x2E\x33\x32\x36\x5A\x30\x0A\x02\x01\x01\x80\x02\x01\xF4\x81\x01\x64\x01\
-    \x01\xFF\x02\x09\x00\xC1\x66\xE8\x05\x6A\x3E\x24\xAF\xA0\x10\xA4\x0E\x30\x0C\x31\x0A\x30\x08\x06\x03\
-    \x55\x04\x03\x0C\x01\x54",
-    b"\
-    \x30\x50\x02\x01\x01\x06\x04\x2A\x03\x04\x01\x30\x31\x30\x0D\x06\x09\x60\x86\x48\x01\x65\x03\x04\x02\
-    \x01\x05\x00\x04\x20\x09\xCA\x7E\x4E\xAA\x6E\x8A\xE9\xC7\xD2\x61\x16\x71\x29\x18\x48\x83\x64\x4D\x07\
-    \xDF\xBA\x7C\xBF\xBC\x4C\x8A\x2E\x08\x36\x0D\x5B\x02\x01\x03\x18\x0F\x32\x30\x32\x36\x31\x31\x32\x36\
-    \x30\x34\x32\x30\x35\x30\x5A",
-];
-
 /// Of each file the hashed octets, how many certificates it has, and the certificate of its signer.
 #[test]
 fn signed_files(rt: HostRuntime) -> Result<(), Fail> {
@@ -183,21 +167,6 @@ fn by_key(rt: HostRuntime) -> Result<(), Fail> {
     match all.first() {
         Some(first) => assert_eq!(rt; certificate_element(first).0.as_slice(), SECOND),
         None => return Err(Fail::new(format_args!("no certificate"))),
-    }
-    Ok(())
-}
-
-/// Certificates and what time stamps sign are written as they were read.
-#[test]
-fn written_again(rt: HostRuntime) -> Result<(), Fail> {
-    let alloc = rt.alloc();
-    for file in [FIRST, SECOND] {
-        let head: CertificateHead = from_bytes(alloc, file)?;
-        assert_eq!(rt; to_vec(alloc, &head)?.as_slice(), file);
-    }
-    for file in TIME_STAMPS {
-        let info: TstInfo = from_bytes(alloc, file)?;
-        assert_eq!(rt; to_vec(alloc, &info)?.as_slice(), file);
     }
     Ok(())
 }

@@ -1,87 +1,12 @@
 //! Extensions (RFC 5280, 4.2).
 
-ghost use Rattle.std.specs.Prelude.{List, Bool};
-ghost use Rattle.std.proofs.Common.{arith};
-ghost use Rattle.x509_base.specs.Booleans.{booleans, boolean, lawful_boolean, explicit_false, is_false, false_left_out, false_reads};
+ghost use Rattle.std.specs.Prelude.{List};
 ghost use Rattle.x509_base.specs.Equal.{extension_equal, extensions_equal};
 ghost use Rattle.x509_base.specs.Extensions.{ExtensionValue, extension_value, extension, extensions_value, extensions, lawful_extension, lawful_extensions};
 
+use crate::booleans::DefaultFalse;
 use asn1_core::prelude::*;
 use std::alloc::Global;
-
-/// BOOLEAN (X.690, 8.2 and 11.1), with FALSE as its DEFAULT.
-#[derive(Clone, Copy)]
-struct Critical(bool);
-
-impl Leaf for Critical {
-    ghost Value = { Bool };
-
-    ghost value = { λ x. x.0 };
-
-    ghost spelling = { booleans };
-
-    fn from_contents(_alloc: Global, contents: &[u8]) -> Result<Self, Error> {
-        match contents {
-            [0x00] => Ok(Critical(false)),
-            [0xFF] => Ok(Critical(true)),
-            _ => Err(Error::Invalid),
-        }
-    }
-}
-
-impl DerSerialize for Critical {
-    ghost Value = { Bool };
-
-    ghost value = { λ x. x.0 };
-
-    ghost format = { boolean };
-
-    fn put<W: Writer>(&self, w: &mut W) -> Result<(), WriteError> {
-        if self.0 {
-            put_element(0x01, &[0xFF], w)
-        } else {
-            put_element(0x01, &[0x00], w)
-        }
-    }
-
-    fn well_formed_at(&self, _limit: u8) -> bool {
-        true
-    }
-}
-
-impl DerDeserialize for Critical {
-    fn read(alloc: Global, r: &mut Reader<'_>, nest: u8) -> Result<Self, Error> {
-        read_leaf(alloc, r, nest, 0x01)
-    }
-
-    ghost lawful = { lawful_boolean };
-}
-
-impl FirstTags for Critical {
-    fn begins(tag: u8) -> bool {
-        tag == 0x01
-    }
-}
-
-impl HasDefault for Critical {
-    ghost DEFAULT = { explicit_false };
-
-    #[tactic(auto, using(crate::specs::Booleans::is_false))]
-    fn is_default(&self) -> bool {
-        !self.0
-    }
-
-    #[tactic(auto, using(crate::specs::Booleans::false_reads))]
-    fn absent(_alloc: Global) -> Result<Self, Error> {
-        Ok(Critical(false))
-    }
-
-    ghost left_out = { false_left_out };
-}
-
-impl ApartFrom<OctetStringAsn1> for Critical {
-    ghost no_common_tag = { λ t h e. Prim.omega arith };
-}
 
 /// `Extension ::= SEQUENCE { extnID OBJECT IDENTIFIER, critical BOOLEAN DEFAULT FALSE, extnValue OCTET STRING }`
 #[derive(Debug, Drop, PartialEq, Eq)]
@@ -91,7 +16,7 @@ pub struct Extension {
     pub extn_value: OctetStringAsn1,
 }
 
-type ExtensionRow = Part<ObjectIdentifierAsn1, Omitted<Critical, Part<OctetStringAsn1, End>>>;
+type ExtensionRow = Part<ObjectIdentifierAsn1, Omitted<DefaultFalse, Part<OctetStringAsn1, End>>>;
 
 impl DerSerialize for Extension {
     ghost Value = { ExtensionValue };
@@ -102,13 +27,13 @@ impl DerSerialize for Extension {
 
     fn put<W: Writer>(&self, w: &mut W) -> Result<(), WriteError> {
         let value = Part(&self.extn_value, End);
-        let critical = Omitted(Critical(self.critical), value);
+        let critical = Omitted(DefaultFalse(self.critical), value);
         put_within(0x30, &Part(&self.extn_id, critical), w)
     }
 
     fn well_formed_at(&self, limit: u8) -> bool {
         let value = Part(&self.extn_value, End);
-        let critical = Omitted(Critical(self.critical), value);
+        let critical = Omitted(DefaultFalse(self.critical), value);
         Part(&self.extn_id, critical).row_well_formed_at(limit)
     }
 }
@@ -116,7 +41,7 @@ impl DerSerialize for Extension {
 impl DerDeserialize for Extension {
     fn read(alloc: Global, r: &mut Reader<'_>, nest: u8) -> Result<Self, Error> {
         let row: ExtensionRow = read_within(alloc, r, nest, 0x30)?;
-        let Part(extn_id, Omitted(Critical(critical), Part(extn_value, End))) = row;
+        let Part(extn_id, Omitted(DefaultFalse(critical), Part(extn_value, End))) = row;
         Ok(Extension {
             extn_id,
             critical,

@@ -4,6 +4,7 @@
 
 pub mod algorithms;
 pub mod attributes_by_oid;
+pub mod booleans;
 pub mod digests;
 pub mod extensions;
 pub mod names;
@@ -12,6 +13,7 @@ pub mod versions;
 
 pub use algorithms::{AlgorithmIdentifier, RawAlgorithmIdentifier};
 pub use attributes_by_oid::{FirstAttribute, first_attribute, only_value, only_value_as};
+pub use booleans::DefaultFalse;
 pub use digests::{DigestInfo, SubjectKeyIdentifier};
 pub use extensions::{Extension, Extensions};
 pub use names::{Attribute, Name, NameValue};

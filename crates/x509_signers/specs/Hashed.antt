@@ -5,6 +5,9 @@ use Rattle.std.proofs.Common.{refl, sym, ◌∙◌, subst, append-nil, inl, inr,
 use Rattle.asn1_core.specs.Der.{element, head, IsElement, IsTagByte, Octets}
 use Rattle.asn1_core_element.specs.Element.{IsFront, HasNoFront}
 use Rattle.asn1_core_element.specs.ElementLaws.{head_cut}
+use Rattle.asn1_core_element.specs.declared.error.Error.{Error}
+use Rattle.asn1_core_element.specs.declared.error.Error.TheVariants.{Memory}
+use Rattle.asn1_core_writers.specs.Texts.{IsWriteError}
 use Rattle.pkcs7_content.specs.Contents.{ContentValues, content_values}
 
 -- the octets are the contents of the one element that the encoding is
@@ -18,6 +21,11 @@ abbrev pub IsHashed : Option ContentValues → Option Octets → Type 0
 IsHashed None octets = octets ≡ None
 IsHashed (Some content) None = ⊥
 IsHashed (Some content) (Some octets) = AreContentsOf octets (content_values.text content)
+
+-- why they aren't given: memory was refused, or the encoding of the content is too long
+abbrev pub IsNotHashed : Option ContentValues → Error → Type 0
+IsNotHashed None e = e ≡ Memory
+IsNotHashed (Some content) e = IsWriteError (content_values.text content) e
 
 pub content_is_element : (content : ContentValues) → IsElement IsTagByte (content_values.text content)
 content_is_element (inl c) = record { tag = 0x30; is_tag = omega arith; contents = _; is = refl; allowed = omega arith }

@@ -1,10 +1,10 @@
 //! The octets of content that are hashed (RFC 2315, 9.3; RFC 5652, 5.4).
 
-ghost use Rattle.std.specs.Prelude.{◌≡◌, ◌⊎◌, MatchResult};
+ghost use Rattle.std.specs.Prelude.{MatchResult};
 ghost use Rattle.asn1_core.specs.Der.{option_value, IsElement, IsTagByte};
-ghost use Rattle.asn1_core_element.specs.declared.error.Error.TheVariants.{TooLong, Memory};
+ghost use Rattle.asn1_core_writers.specs.Texts.{IsWriteError};
 ghost use Rattle.pkcs7_content.specs.Contents.{content_values, content_value};
-ghost use Rattle.x509_signers.specs.Hashed.{AreContentsOf, IsHashed};
+ghost use Rattle.x509_signers.specs.Hashed.{AreContentsOf, IsHashed, IsNotHashed};
 
 use asn1_core::prelude::*;
 use asn1_core::to_vec;
@@ -21,7 +21,7 @@ pub fn hashed_octets(
 ) -> Result<Option<Vec<u8>>, Error>
     ensures { MatchResult result
         (λ octets. IsHashed (option_value (λ c. content_value c.0) info.now.content) (option_value (λ v. v.items) octets))
-        (λ e. (e ≡ TooLong) ⊎ (e ≡ Memory)) }
+        (λ e. IsNotHashed (option_value (λ c. content_value c.0) info.now.content) e) }
 {
     match &info.content {
         Some(tagged) => Ok(Some(content_octets(alloc, &tagged.0)?)),
@@ -33,7 +33,7 @@ pub fn hashed_octets(
 fn content_octets(alloc: Global, content: &ContentValue) -> Result<Vec<u8>, Error>
     ensures { MatchResult result
         (λ v. AreContentsOf v.items (content_values.text (content_value content.now)))
-        (λ e. (e ≡ TooLong) ⊎ (e ≡ Memory)) }
+        (λ e. IsWriteError (content_values.text (content_value content.now)) e) }
 {
     let encoding = to_vec(alloc, content)?;
     Ok(Vec::from_slice(alloc, contents_in(encoding.as_slice()))?)

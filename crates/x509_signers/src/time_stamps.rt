@@ -1,17 +1,16 @@
 //! What a time stamp signs (RFC 3161, 2.4.2): the content of signed data whose content type is `id-ct-TSTInfo`, in its
 //! octets.
 
-ghost use Rattle.std.specs.Prelude.{◌≡◌, ℕ, List, Bool};
+ghost use Rattle.std.specs.Prelude.{◌≡◌, List};
 ghost use Rattle.std.proofs.Common.{rules, arith};
 ghost use Rattle.asn1_core.specs.Der.{any_octets, raw, octets_equal, raw_equal, Octets, ElementOctets};
-ghost use Rattle.x509_base.specs.Booleans.{boolean, booleans, lawful_boolean, explicit_false, is_false, false_left_out, false_reads};
 ghost use Rattle.x509_base.specs.Extensions.{ExtensionValue};
 ghost use Rattle.x509_signers.specs.TimeStamps.{generation_time, lawful_generation_time, accuracy_value, accuracy, lawful_accuracy, not_accuracy, accuracy_equal, authority, lawful_authority, time_stamp_extensions_value, time_stamp_extensions, lawful_time_stamp_extensions, time_stamp_extensions_equal, OptionsValue, options_value, TstInfoValue, tst_info_value, tst_info, lawful_tst_info, tst_info_equal};
 
 use asn1_core::prelude::*;
 use asn1_leaves::IntegerAsn1;
 use std::alloc::Global;
-use x509_base::{DigestInfo, Extension};
+use x509_base::{DefaultFalse, DigestInfo, Extension};
 
 /// GeneralizedTime, by its contents octets, of whatever spelling: a time stamp may have a fraction of a second, as
 /// `20260102030405.25Z`.
@@ -109,85 +108,11 @@ impl TryClone for Accuracy {
     }
 }
 
-/// BOOLEAN DEFAULT FALSE (X.690, 8.2 and 11.1).
-#[derive(Clone, Copy)]
-struct Ordering(bool);
-
-impl Leaf for Ordering {
-    ghost Value = { Bool };
-
-    ghost value = { λ x. x.0 };
-
-    ghost spelling = { booleans };
-
-    fn from_contents(_alloc: Global, contents: &[u8]) -> Result<Self, Error> {
-        match contents {
-            [0x00] => Ok(Ordering(false)),
-            [0xFF] => Ok(Ordering(true)),
-            _ => Err(Error::Invalid),
-        }
-    }
-}
-
-impl DerSerialize for Ordering {
-    ghost Value = { Bool };
-
-    ghost value = { λ x. x.0 };
-
-    ghost format = { boolean };
-
-    fn put<W: Writer>(&self, w: &mut W) -> Result<(), WriteError> {
-        if self.0 {
-            put_element(0x01, &[0xFF], w)
-        } else {
-            put_element(0x01, &[0x00], w)
-        }
-    }
-
-    fn well_formed_at(&self, _limit: u8) -> bool {
-        true
-    }
-}
-
-impl DerDeserialize for Ordering {
-    fn read(alloc: Global, r: &mut Reader<'_>, nest: u8) -> Result<Self, Error> {
-        read_leaf(alloc, r, nest, 0x01)
-    }
-
-    ghost lawful = { lawful_boolean };
-}
-
-impl FirstTags for Ordering {
-    fn begins(tag: u8) -> bool {
-        tag == 0x01
-    }
-}
-
-impl HasDefault for Ordering {
-    ghost DEFAULT = { explicit_false };
-
-    #[tactic(auto, using(x509_base::specs::Booleans::is_false))]
-    fn is_default(&self) -> bool {
-        !self.0
-    }
-
-    #[tactic(auto, using(x509_base::specs::Booleans::false_reads))]
-    fn absent(_alloc: Global) -> Result<Self, Error> {
-        Ok(Ordering(false))
-    }
-
-    ghost left_out = { false_left_out };
-}
-
-impl ApartFrom<IntegerAsn1> for Ordering {
+impl ApartFrom<TimeStampAuthority> for DefaultFalse {
     ghost no_common_tag = { λ t h e. Prim.omega arith };
 }
 
-impl ApartFrom<TimeStampAuthority> for Ordering {
-    ghost no_common_tag = { λ t h e. Prim.omega arith };
-}
-
-impl ApartFrom<TimeStampExtensions> for Ordering {
+impl ApartFrom<TimeStampExtensions> for DefaultFalse {
     ghost no_common_tag = { λ t h e. Prim.omega arith };
 }
 
@@ -311,11 +236,11 @@ pub struct TstInfo {
 
 type NonceRow = Maybe<IntegerAsn1, Maybe<TimeStampAuthority, Maybe<TimeStampExtensions, End>>>;
 
-impl TagsApart<Omitted<Ordering, NonceRow>> for Accuracy {
+impl TagsApart<Omitted<DefaultFalse, NonceRow>> for Accuracy {
     ghost apart = { not_accuracy };
 }
 
-type OptionsRow = Maybe<Accuracy, Omitted<Ordering, NonceRow>>;
+type OptionsRow = Maybe<Accuracy, Omitted<DefaultFalse, NonceRow>>;
 
 type TstInfoRow = Part<
     FixedVersion<1>,
@@ -325,7 +250,7 @@ type TstInfoRow = Part<
 type OptionsRef<'a> = Maybe<
     &'a Accuracy,
     Omitted<
-        Ordering,
+        DefaultFalse,
         Maybe<&'a IntegerAsn1, Maybe<&'a TimeStampAuthority, Maybe<&'a TimeStampExtensions, End>>>,
     >,
 >;
@@ -344,7 +269,7 @@ impl TstInfo {
         ensures { ◌≡◌ {A = OptionsValue} (⟦<OptionsRef<'static> as WriteRow>⟧.value result) (options_value self.now) }
     {
         let tsa = Maybe(self.tsa.as_ref(), Maybe(self.extensions.as_ref(), End));
-        let ordering = Omitted(Ordering(self.ordering), Maybe(self.nonce.as_ref(), tsa));
+        let ordering = Omitted(DefaultFalse(self.ordering), Maybe(self.nonce.as_ref(), tsa));
         Maybe(self.accuracy.as_ref(), ordering)
     }
 
@@ -377,7 +302,7 @@ impl DerDeserialize for TstInfo {
     fn read(alloc: Global, r: &mut Reader<'_>, nest: u8) -> Result<Self, Error> {
         let row: TstInfoRow = read_within(alloc, r, nest, 0x30)?;
         let Part(_, Part(policy, Part(message_imprint, Part(serial_number, time)))) = row;
-        let Part(gen_time, Maybe(accuracy, Omitted(Ordering(ordering), nonce))) = time;
+        let Part(gen_time, Maybe(accuracy, Omitted(DefaultFalse(ordering), nonce))) = time;
         let Maybe(nonce, Maybe(tsa, Maybe(extensions, End))) = nonce;
         Ok(TstInfo {
             policy,

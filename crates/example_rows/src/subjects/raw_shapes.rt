@@ -1,18 +1,19 @@
-//! Raw counterparts of CMS types. These are no kinds of `derbox`.
+//! Raw counterparts of the types of CMS and PKCS #12. These are no kinds of `derbox`.
 
 use crate::checks::is_so as at;
 use crate::rows::Row;
 use std::alloc::Global;
 use std::test::Fail;
 use x509_containers::{
-    Asn1RawDer, RawEncapsulatedContentInfo, RawEnvelopedData, RawPkcs7Certificate,
-    RawRecipientInfo, RawRevocationInfoChoices, RawSignedData, RawSignerInfo,
-    RawUnsignedAttributes, SignerInfo,
+    Asn1RawDer, RawBagsPfx, RawEncapsulatedContentInfo, RawEnvelopedData, RawPkcs7Certificate,
+    RawRecipientInfo, RawRevocationInfoChoices, RawSafeContents, RawSignedData, RawSignerInfo,
+    RawUnsignedAttributes, SignerInfo, Utf16String,
 };
 
 /// Asks what a row says, where the word names one of these types.
 pub fn is_so(alloc: Global, word: &str, row: &Row) -> Result<bool, Fail> {
     match word {
+        "rawbagspfx" => at::<RawBagsPfx>(alloc, row)?,
         "rawencapsulatedcontentinfo" => at::<RawEncapsulatedContentInfo>(alloc, row)?,
         "rawenvelopeddata" => at::<RawEnvelopedData>(alloc, row)?,
         "rawpkcs7certificate" => at::<RawPkcs7Certificate>(alloc, row)?,
@@ -20,9 +21,11 @@ pub fn is_so(alloc: Global, word: &str, row: &Row) -> Result<bool, Fail> {
         "rawpkcs7certificate-signerinfo" => at::<RawPkcs7Certificate<SignerInfo>>(alloc, row)?,
         "rawrecipientinfo" => at::<RawRecipientInfo>(alloc, row)?,
         "rawrevocationinfochoices" => at::<RawRevocationInfoChoices>(alloc, row)?,
+        "rawsafecontents" => at::<RawSafeContents>(alloc, row)?,
         "rawsigneddata" => at::<RawSignedData>(alloc, row)?,
         "rawsignerinfo" => at::<RawSignerInfo>(alloc, row)?,
         "rawunsignedattributes" => at::<RawUnsignedAttributes>(alloc, row)?,
+        "utf16string" => at::<Utf16String>(alloc, row)?,
         _ => return Ok(false),
     }
     Ok(true)

@@ -1,12 +1,12 @@
-//! The types of X.509. These are no kinds of `derbox`.
+//! The types of X.509, and what a time stamp signs. These are no kinds of `derbox`.
 
 use crate::checks::{is_so as at, is_so_under_tags as under_tags};
 use crate::rows::Row;
 use std::alloc::Global;
 use std::test::Fail;
 use x509_containers::{
-    AlgorithmIdentifier, Attribute, DigestInfo, Extension, Extensions, Name, NameValue,
-    RawAlgorithmIdentifier, SubjectKeyIdentifier, Time, Version,
+    AlgorithmIdentifier, Attribute, CertificateHead, DigestInfo, Extension, Extensions, Name,
+    NameValue, RawAlgorithmIdentifier, SubjectKeyIdentifier, Time, TstInfo, Version,
 };
 
 /// Asks what a row says, where the word names one of these types.
@@ -14,6 +14,7 @@ pub fn is_so(alloc: Global, word: &str, row: &Row) -> Result<bool, Fail> {
     match word {
         "algorithmidentifier" => at::<AlgorithmIdentifier>(alloc, row)?,
         "attribute" => at::<Attribute>(alloc, row)?,
+        "certificatehead" => at::<CertificateHead>(alloc, row)?,
         "digestinfo" => at::<DigestInfo>(alloc, row)?,
         "extension" => at::<Extension>(alloc, row)?,
         "extensions" => at::<Extensions>(alloc, row)?,
@@ -22,6 +23,7 @@ pub fn is_so(alloc: Global, word: &str, row: &Row) -> Result<bool, Fail> {
         "rawalgorithmidentifier" => at::<RawAlgorithmIdentifier>(alloc, row)?,
         "subjectkeyidentifier" => under_tags::<SubjectKeyIdentifier>(alloc, row)?,
         "time" => at::<Time>(alloc, row)?,
+        "tstinfo" => at::<TstInfo>(alloc, row)?,
         "version" => at::<Version>(alloc, row)?,
         _ => return Ok(false),
     }
