@@ -16,8 +16,6 @@ pub struct Stamp {
     pub count: Option<u32>,
 }
 
-type StampRow = Part<ObjectIdentifierAsn1, Part<OctetStringAsn1, Maybe<u32, End>>>;
-
 impl DerSerialize for Stamp {
     ghost Value = { StampValue };
 
@@ -26,22 +24,17 @@ impl DerSerialize for Stamp {
     ghost format = { stamp };
 
     fn put<W: Writer>(&self, w: &mut W) -> Result<(), WriteError> {
-        put_within(
-            0x30,
-            &Part(&self.id, Part(&self.data, Maybe(self.count, End))),
-            w,
-        )
+        put_within(0x30, &body_of!(self; id, data, count OPTIONAL), w)
     }
 
     fn well_formed_at(&self, limit: u8) -> bool {
-        Part(&self.id, Part(&self.data, Maybe(self.count, End))).row_well_formed_at(limit)
+        body_of!(self; id, data, count OPTIONAL).row_well_formed_at(limit)
     }
 }
 
 impl DerDeserialize for Stamp {
     fn read(alloc: Global, r: &mut Reader<'_>, nest: u8) -> Result<Self, Error> {
-        let row: StampRow = read_within(alloc, r, nest, 0x30)?;
-        let Part(id, Part(data, Maybe(count, End))) = row;
+        let fields_of!(id, data, count OPTIONAL) = read_within(alloc, r, nest, 0x30)?;
         Ok(Stamp { id, data, count })
     }
 
