@@ -2,7 +2,7 @@
 
 /// The body of a SEQUENCE over references to its fields, for `put` and `well_formed_at`:
 /// `body_of!(self; id, data, count OPTIONAL)`. A field is followed by `OPTIONAL` where it is an `Option`, and by `DEFAULT`
-/// where its type has a default. Any other part is an expression in parentheses, as `(Null)`; with `DEFAULT`, a value.
+/// where its type has a default. Any other part is an expression in parentheses, as `(Null)`.
 #[macro_export]
 macro_rules! body_of {
     ($value:ident;) => { $crate::prelude::End };
@@ -17,6 +17,9 @@ macro_rules! body_of {
     };
     ($value:ident; ($part:expr) OPTIONAL $(, $($rest:tt)*)?) => {
         $crate::prelude::Maybe($part, $crate::body_of!($value; $($($rest)*)?))
+    };
+    ($value:ident; (&$part:expr) DEFAULT $(, $($rest:tt)*)?) => {
+        $crate::prelude::OmittedRef(&$part, $crate::body_of!($value; $($($rest)*)?))
     };
     ($value:ident; ($part:expr) DEFAULT $(, $($rest:tt)*)?) => {
         $crate::prelude::Omitted($part, $crate::body_of!($value; $($($rest)*)?))

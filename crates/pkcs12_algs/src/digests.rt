@@ -136,8 +136,6 @@ pub struct Pkcs12DigestInfo {
     pub digest: OctetStringAsn1,
 }
 
-type DigestInfoRow = Part<AlgorithmPart<Pkcs12DigestAlgorithm>, Part<OctetStringAsn1, End>>;
-
 impl DerSerialize for Pkcs12DigestInfo {
     ghost Value = { DigestInfoValue };
 
@@ -146,26 +144,20 @@ impl DerSerialize for Pkcs12DigestInfo {
     ghost format = { digest_info };
 
     fn put<W: Writer>(&self, w: &mut W) -> Result<(), WriteError> {
-        let row = Part(
-            AlgorithmRef(&self.digest_algorithm),
-            Part(&self.digest, End),
-        );
-        put_within(0x30, &row, w)
+        let body = body_of!(self; (AlgorithmRef(&self.digest_algorithm)), digest);
+        put_within(0x30, &body, w)
     }
 
     fn well_formed_at(&self, limit: u8) -> bool {
-        let row = Part(
-            AlgorithmRef(&self.digest_algorithm),
-            Part(&self.digest, End),
-        );
-        row.row_well_formed_at(limit)
+        body_of!(self; (AlgorithmRef(&self.digest_algorithm)), digest).row_well_formed_at(limit)
     }
 }
 
 impl DerDeserialize for Pkcs12DigestInfo {
     fn read(alloc: Global, r: &mut Reader<'_>, nest: u8) -> Result<Self, Error> {
-        let row: DigestInfoRow = read_within(alloc, r, nest, 0x30)?;
-        let Part(AlgorithmPart(digest_algorithm), Part(digest, End)) = row;
+        let fields_of!((AlgorithmPart(digest_algorithm)), digest) = read_within(
+            alloc, r, nest, 0x30,
+        )?;
         Ok(Self {
             digest_algorithm,
             digest,

@@ -31,8 +31,6 @@ impl MacData {
     }
 }
 
-type MacRow = Part<Pkcs12DigestInfo, Part<OctetStringAsn1, Maybe<u32, End>>>;
-
 impl DerSerialize for MacData {
     ghost Value = { MacValue };
 
@@ -41,22 +39,17 @@ impl DerSerialize for MacData {
     ghost format = { mac_data };
 
     fn put<W: Writer>(&self, w: &mut W) -> Result<(), WriteError> {
-        put_within(
-            0x30,
-            &Part(&self.mac, Part(&self.salt, Maybe(self.iterations, End))),
-            w,
-        )
+        put_within(0x30, &body_of!(self; mac, salt, iterations OPTIONAL), w)
     }
 
     fn well_formed_at(&self, limit: u8) -> bool {
-        Part(&self.mac, Part(&self.salt, Maybe(self.iterations, End))).row_well_formed_at(limit)
+        body_of!(self; mac, salt, iterations OPTIONAL).row_well_formed_at(limit)
     }
 }
 
 impl DerDeserialize for MacData {
     fn read(alloc: Global, r: &mut Reader<'_>, nest: u8) -> Result<Self, Error> {
-        let row: MacRow = read_within(alloc, r, nest, 0x30)?;
-        let Part(mac, Part(salt, Maybe(iterations, End))) = row;
+        let fields_of!(mac, salt, iterations OPTIONAL) = read_within(alloc, r, nest, 0x30)?;
         Ok(Self {
             mac,
             salt,

@@ -105,8 +105,6 @@ pub struct Pbes1Params {
     pub iterations: u32,
 }
 
-type Pbes1Row = Part<OctetStringAsn1, Part<u32, End>>;
-
 impl DerSerialize for Pbes1Params {
     ghost Value = { Pbes1Value };
 
@@ -115,18 +113,17 @@ impl DerSerialize for Pbes1Params {
     ghost format = { pbes1_params };
 
     fn put<W: Writer>(&self, w: &mut W) -> Result<(), WriteError> {
-        put_within(0x30, &Part(&self.salt, Part(self.iterations, End)), w)
+        put_within(0x30, &body_of!(self; salt, iterations), w)
     }
 
     fn well_formed_at(&self, limit: u8) -> bool {
-        Part(&self.salt, Part(self.iterations, End)).row_well_formed_at(limit)
+        body_of!(self; salt, iterations).row_well_formed_at(limit)
     }
 }
 
 impl DerDeserialize for Pbes1Params {
     fn read(alloc: Global, r: &mut Reader<'_>, nest: u8) -> Result<Self, Error> {
-        let row: Pbes1Row = read_within(alloc, r, nest, 0x30)?;
-        let Part(salt, Part(iterations, End)) = row;
+        let fields_of!(salt, iterations) = read_within(alloc, r, nest, 0x30)?;
         Ok(Self { salt, iterations })
     }
 

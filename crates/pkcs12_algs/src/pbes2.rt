@@ -256,8 +256,6 @@ pub struct Pbes2Params {
     pub encryption_scheme: Pbes2EncryptionScheme,
 }
 
-type Pbes2Row = Part<Pbes2KeyDerivationFunc, Part<Pbes2EncryptionScheme, End>>;
-
 impl DerSerialize for Pbes2Params {
     ghost Value = { Pbes2Value };
 
@@ -266,20 +264,18 @@ impl DerSerialize for Pbes2Params {
     ghost format = { pbes2_params };
 
     fn put<W: Writer>(&self, w: &mut W) -> Result<(), WriteError> {
-        let scheme = Part(&self.encryption_scheme, End);
-        put_within(0x30, &Part(&self.key_derivation_func, scheme), w)
+        let body = body_of!(self; key_derivation_func, encryption_scheme);
+        put_within(0x30, &body, w)
     }
 
     fn well_formed_at(&self, limit: u8) -> bool {
-        let scheme = Part(&self.encryption_scheme, End);
-        Part(&self.key_derivation_func, scheme).row_well_formed_at(limit)
+        body_of!(self; key_derivation_func, encryption_scheme).row_well_formed_at(limit)
     }
 }
 
 impl DerDeserialize for Pbes2Params {
     fn read(alloc: Global, r: &mut Reader<'_>, nest: u8) -> Result<Self, Error> {
-        let row: Pbes2Row = read_within(alloc, r, nest, 0x30)?;
-        let Part(key_derivation_func, Part(encryption_scheme, End)) = row;
+        let fields_of!(key_derivation_func, encryption_scheme) = read_within(alloc, r, nest, 0x30)?;
         Ok(Self {
             key_derivation_func,
             encryption_scheme,

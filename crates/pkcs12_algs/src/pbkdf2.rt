@@ -114,8 +114,6 @@ pub struct Pbkdf2Params {
     pub prf: Option<Pbkdf2Prf>,
 }
 
-type Pbkdf2Row = Part<SaltPart, Part<u32, Maybe<u32, Maybe<AlgorithmPart<Pbkdf2Prf>, End>>>>;
-
 type Pbkdf2Ref<'a> = Part<
     SaltRef<'a>,
     Part<u32, Maybe<u32, Maybe<AlgorithmRef<'a, Pbkdf2Prf>, End>>>,
@@ -157,8 +155,9 @@ impl DerSerialize for Pbkdf2Params {
 
 impl DerDeserialize for Pbkdf2Params {
     fn read(alloc: Global, r: &mut Reader<'_>, nest: u8) -> Result<Self, Error> {
-        let row: Pbkdf2Row = read_within(alloc, r, nest, 0x30)?;
-        let Part(SaltPart(salt), Part(iteration_count, Maybe(key_length, Maybe(prf, End)))) = row;
+        let fields_of!(
+            (SaltPart(salt)), iteration_count, key_length OPTIONAL, prf OPTIONAL
+        ) = read_within(alloc, r, nest, 0x30)?;
         let prf = match prf {
             Some(AlgorithmPart(prf)) => Some(prf),
             None => None,

@@ -178,8 +178,6 @@ pub struct SpcIndirectDataContent {
     pub message_digest: DigestInfo,
 }
 
-type IndirectDataRow = Part<SpcAttributeAndOptionalValue, Part<DigestInfo, End>>;
-
 impl DerSerialize for SpcIndirectDataContent {
     ghost Value = { IndirectDataValue };
 
@@ -188,22 +186,17 @@ impl DerSerialize for SpcIndirectDataContent {
     ghost format = { indirect_data };
 
     fn put<W: Writer>(&self, w: &mut W) -> Result<(), WriteError> {
-        put_within(
-            0x30,
-            &Part(&self.spc_data, Part(&self.message_digest, End)),
-            w,
-        )
+        put_within(0x30, &body_of!(self; spc_data, message_digest), w)
     }
 
     fn well_formed_at(&self, limit: u8) -> bool {
-        Part(&self.spc_data, Part(&self.message_digest, End)).row_well_formed_at(limit)
+        body_of!(self; spc_data, message_digest).row_well_formed_at(limit)
     }
 }
 
 impl DerDeserialize for SpcIndirectDataContent {
     fn read(alloc: Global, r: &mut Reader<'_>, nest: u8) -> Result<Self, Error> {
-        let row: IndirectDataRow = read_within(alloc, r, nest, 0x30)?;
-        let Part(spc_data, Part(message_digest, End)) = row;
+        let fields_of!(spc_data, message_digest) = read_within(alloc, r, nest, 0x30)?;
         Ok(SpcIndirectDataContent {
             spc_data,
             message_digest,

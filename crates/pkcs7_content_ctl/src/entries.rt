@@ -1,6 +1,5 @@
 //! Trust lists and their entries.
 
-ghost use Rattle.std.specs.Prelude.{◌≡◌};
 ghost use Rattle.pkcs7_content_ctl.specs.Equal.{entry_equal, ctl_equal};
 ghost use Rattle.pkcs7_content_ctl.specs.TrustLists.{EntryValue, entry, lawful_entry, CtlValue, ctl, lawful_ctl, entry_value, ctl_value};
 
@@ -17,8 +16,6 @@ pub struct CTLEntry {
     pub attributes: Asn1SetOf<CTLEntryAttribute>,
 }
 
-type EntryRow = Part<OctetStringAsn1, Part<Asn1SetOf<CTLEntryAttribute>, End>>;
-
 impl DerSerialize for CTLEntry {
     ghost Value = { EntryValue };
 
@@ -27,22 +24,17 @@ impl DerSerialize for CTLEntry {
     ghost format = { entry };
 
     fn put<W: Writer>(&self, w: &mut W) -> Result<(), WriteError> {
-        put_within(
-            0x30,
-            &Part(&self.cert_fingerprint, Part(&self.attributes, End)),
-            w,
-        )
+        put_within(0x30, &body_of!(self; cert_fingerprint, attributes), w)
     }
 
     fn well_formed_at(&self, limit: u8) -> bool {
-        Part(&self.cert_fingerprint, Part(&self.attributes, End)).row_well_formed_at(limit)
+        body_of!(self; cert_fingerprint, attributes).row_well_formed_at(limit)
     }
 }
 
 impl DerDeserialize for CTLEntry {
     fn read(alloc: Global, r: &mut Reader<'_>, nest: u8) -> Result<Self, Error> {
-        let row: EntryRow = read_within(alloc, r, nest, 0x30)?;
-        let Part(cert_fingerprint, Part(attributes, End)) = row;
+        let fields_of!(cert_fingerprint, attributes) = read_within(alloc, r, nest, 0x30)?;
         Ok(CTLEntry {
             cert_fingerprint,
             attributes,
@@ -79,35 +71,6 @@ pub struct Ctl {
     pub crl_entries: Asn1SequenceOf<CTLEntry>,
 }
 
-type CtlRow = Part<
-    Asn1SequenceOf<ObjectIdentifierAsn1>,
-    Part<
-        IntegerAsn1,
-        Part<UTCTimeAsn1, Part<AlgorithmIdentifier, Part<Asn1SequenceOf<CTLEntry>, End>>>,
-    >,
->;
-
-type CtlRef<'a> = Part<
-    &'a Asn1SequenceOf<ObjectIdentifierAsn1>,
-    Part<
-        &'a IntegerAsn1,
-        Part<
-            &'a UTCTimeAsn1,
-            Part<&'a AlgorithmIdentifier, Part<&'a Asn1SequenceOf<CTLEntry>, End>>,
-        >,
-    >,
->;
-
-impl Ctl {
-    fn row(&self) -> CtlRef<'_>
-        ensures { ⟦<CtlRef<'static> as WriteRow>⟧.value result ≡ ctl_value self.now }
-    {
-        let subjects = Part(&self.digest_algorithm, Part(&self.crl_entries, End));
-        let dated = Part(&self.sequence_number, Part(&self.effective_date, subjects));
-        Part(&self.signers, dated)
-    }
-}
-
 impl DerSerialize for Ctl {
     ghost Value = { CtlValue };
 
@@ -116,19 +79,29 @@ impl DerSerialize for Ctl {
     ghost format = { ctl };
 
     fn put<W: Writer>(&self, w: &mut W) -> Result<(), WriteError> {
-        put_within(0x30, &self.row(), w)
+        let body = body_of!(self;
+            signers, sequence_number, effective_date, digest_algorithm, crl_entries
+        );
+        put_within(0x30, &body, w)
     }
 
     fn well_formed_at(&self, limit: u8) -> bool {
-        self.row().row_well_formed_at(limit)
+        let body = body_of!(self;
+            signers, sequence_number, effective_date, digest_algorithm, crl_entries
+        );
+        body.row_well_formed_at(limit)
     }
 }
 
 impl DerDeserialize for Ctl {
     fn read(alloc: Global, r: &mut Reader<'_>, nest: u8) -> Result<Self, Error> {
-        let row: CtlRow = read_within(alloc, r, nest, 0x30)?;
-        let Part(signers, Part(sequence_number, Part(effective_date, subjects))) = row;
-        let Part(digest_algorithm, Part(crl_entries, End)) = subjects;
+        let fields_of!(
+            signers,
+            sequence_number,
+            effective_date,
+            digest_algorithm,
+            crl_entries
+        ) = read_within(alloc, r, nest, 0x30)?;
         Ok(Ctl {
             signers,
             sequence_number,

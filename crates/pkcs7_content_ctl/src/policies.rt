@@ -21,7 +21,7 @@ impl DerSerialize for RootProgramChainPolicy {
     ghost format = { chain_policy };
 
     fn put<W: Writer>(&self, w: &mut W) -> Result<(), WriteError> {
-        put_within(0x30, &Part(&self.oid, End), w)
+        put_within(0x30, &body_of!(self; oid), w)
     }
 
     fn well_formed_at(&self, limit: u8) -> bool {
@@ -31,7 +31,7 @@ impl DerSerialize for RootProgramChainPolicy {
 
 impl DerDeserialize for RootProgramChainPolicy {
     fn read(alloc: Global, r: &mut Reader<'_>, nest: u8) -> Result<Self, Error> {
-        let Part(oid, End) = read_within::<Part<ObjectIdentifierAsn1, End>>(alloc, r, nest, 0x30)?;
+        let fields_of!(oid) = read_within(alloc, r, nest, 0x30)?;
         Ok(RootProgramChainPolicy { oid })
     }
 
@@ -55,8 +55,6 @@ pub struct PolicyQualifier {
     pub bits: BitStringAsn1,
 }
 
-type QualifierRow = Part<ObjectIdentifierAsn1, Part<BitStringAsn1, End>>;
-
 impl DerSerialize for PolicyQualifier {
     ghost Value = { QualifierValue };
 
@@ -65,17 +63,17 @@ impl DerSerialize for PolicyQualifier {
     ghost format = { policy_qualifier };
 
     fn put<W: Writer>(&self, w: &mut W) -> Result<(), WriteError> {
-        put_within(0x30, &Part(&self.oid, Part(&self.bits, End)), w)
+        put_within(0x30, &body_of!(self; oid, bits), w)
     }
 
     fn well_formed_at(&self, limit: u8) -> bool {
-        Part(&self.oid, Part(&self.bits, End)).row_well_formed_at(limit)
+        body_of!(self; oid, bits).row_well_formed_at(limit)
     }
 }
 
 impl DerDeserialize for PolicyQualifier {
     fn read(alloc: Global, r: &mut Reader<'_>, nest: u8) -> Result<Self, Error> {
-        let Part(oid, Part(bits, End)) = read_within::<QualifierRow>(alloc, r, nest, 0x30)?;
+        let fields_of!(oid, bits) = read_within(alloc, r, nest, 0x30)?;
         Ok(PolicyQualifier { oid, bits })
     }
 
@@ -99,8 +97,6 @@ pub struct CertPolicy {
     pub qualifier: Asn1SequenceOf<PolicyQualifier>,
 }
 
-type CertPolicyRow = Part<ObjectIdentifierAsn1, Part<Asn1SequenceOf<PolicyQualifier>, End>>;
-
 impl DerSerialize for CertPolicy {
     ghost Value = { CertPolicyValue };
 
@@ -109,17 +105,17 @@ impl DerSerialize for CertPolicy {
     ghost format = { cert_policy };
 
     fn put<W: Writer>(&self, w: &mut W) -> Result<(), WriteError> {
-        put_within(0x30, &Part(&self.oid, Part(&self.qualifier, End)), w)
+        put_within(0x30, &body_of!(self; oid, qualifier), w)
     }
 
     fn well_formed_at(&self, limit: u8) -> bool {
-        Part(&self.oid, Part(&self.qualifier, End)).row_well_formed_at(limit)
+        body_of!(self; oid, qualifier).row_well_formed_at(limit)
     }
 }
 
 impl DerDeserialize for CertPolicy {
     fn read(alloc: Global, r: &mut Reader<'_>, nest: u8) -> Result<Self, Error> {
-        let Part(oid, Part(qualifier, End)) = read_within::<CertPolicyRow>(alloc, r, nest, 0x30)?;
+        let fields_of!(oid, qualifier) = read_within(alloc, r, nest, 0x30)?;
         Ok(CertPolicy { oid, qualifier })
     }
 

@@ -5,7 +5,7 @@ ghost use Rattle.std.proofs.Common.{arith};
 ghost use Rattle.asn1_core.specs.Der.{option_value};
 ghost use Rattle.x509_base.specs.Extensions.{extensions_value};
 ghost use Rattle.x509_base.specs.Versions.{number_of};
-ghost use Rattle.pkcs7_signed_parts.specs.CertificateLists.{list_value, TbsListValue, tbs_list_value, tbs_list, lawful_tbs_list, CertificateListValue, certificate_list_value, certificate_list, lawful_certificate_list};
+ghost use Rattle.pkcs7_signed_parts.specs.CertificateLists.{TbsListValue, tbs_list_value, tbs_list, lawful_tbs_list, CertificateListValue, certificate_list_value, certificate_list, lawful_certificate_list};
 ghost use Rattle.pkcs7_signed_parts.specs.Equal.{tbs_list_equal, certificate_list_equal};
 
 use crate::revoked::RevokedCertificates;
@@ -28,23 +28,6 @@ pub struct TbsCertList {
     /// `crlExtensions`. `None` is written as nothing, without the tag.
     pub crl_extension: ExplicitContextTag0<Option<Extensions>>,
 }
-
-type UpdatesRow = Maybe<
-    Time,
-    Maybe<RevokedCertificates, Maybe<ExplicitContextTag0<Extensions>, End>>,
->;
-
-type TbsListRow = Maybe<
-    FixedVersion<1>,
-    Part<AlgorithmIdentifier, Part<Name, Part<Time, UpdatesRow>>>,
->;
-
-type UpdatesRef<'a> = Maybe<
-    &'a Time,
-    Maybe<&'a RevokedCertificates, Maybe<ExplicitContextTag0<&'a Extensions>, End>>,
->;
-
-type ListRef<'a> = Part<&'a AlgorithmIdentifier, Part<&'a Name, Part<&'a Time, UpdatesRef<'a>>>>;
 
 /// The version that was read, where one was.
 fn version_of(read: Option<FixedVersion<1>>) -> Option<Version>
@@ -76,21 +59,6 @@ fn untagged(extensions: Option<ExplicitContextTag0<Extensions>>) -> Option<Exten
     }
 }
 
-impl TbsCertList {
-    /// What follows the version.
-    fn row(&self) -> ListRef<'_>
-        ensures { ⟦<ListRef<'static> as WriteRow>⟧.value result ≡ list_value self.now }
-    {
-        let extensions = Maybe(tagged(&self.crl_extension.0), End);
-        let revoked = Maybe(self.revoked_certificates.as_ref(), extensions);
-        let updates = Maybe(self.next_update.as_ref(), revoked);
-        Part(
-            &self.signature,
-            Part(&self.issuer, Part(&self.this_update, updates)),
-        )
-    }
-}
-
 impl DerSerialize for TbsCertList {
     ghost Value = { TbsListValue };
 
@@ -99,12 +67,22 @@ impl DerSerialize for TbsCertList {
     ghost format = { tbs_list };
 
     fn put<W: Writer>(&self, w: &mut W) -> Result<(), WriteError> {
-        put_within(0x30, &Maybe(self.version, self.row()), w)
+        let body = body_of!(self;
+            version OPTIONAL, signature, issuer, this_update, next_update OPTIONAL,
+            revoked_certificates OPTIONAL, (tagged(&self.crl_extension.0)) OPTIONAL
+        );
+        put_within(0x30, &body, w)
     }
 
     fn well_formed_at(&self, limit: u8) -> bool {
         match self.version {
-            None | Some(Version::V2) => self.row().row_well_formed_at(limit),
+            None | Some(Version::V2) => {
+                let after_version = body_of!(self;
+                    signature, issuer, this_update, next_update OPTIONAL,
+                    revoked_certificates OPTIONAL, (tagged(&self.crl_extension.0)) OPTIONAL
+                );
+                after_version.row_well_formed_at(limit)
+            }
             Some(_) => false,
         }
     }
@@ -112,9 +90,10 @@ impl DerSerialize for TbsCertList {
 
 impl DerDeserialize for TbsCertList {
     fn read(alloc: Global, r: &mut Reader<'_>, nest: u8) -> Result<Self, Error> {
-        let row: TbsListRow = read_within(alloc, r, nest, 0x30)?;
-        let Maybe(version, Part(signature, Part(issuer, Part(this_update, updates)))) = row;
-        let Maybe(next_update, Maybe(revoked_certificates, Maybe(extensions, End))) = updates;
+        let fields_of!(
+            version OPTIONAL, signature, issuer, this_update, next_update OPTIONAL,
+            revoked_certificates OPTIONAL, extensions OPTIONAL
+        ) = read_within(alloc, r, nest, 0x30)?;
         Ok(TbsCertList {
             version: version_of(version),
             signature,
@@ -151,8 +130,6 @@ pub struct CertificateList {
     pub signature_value: BitStringAsn1,
 }
 
-type CertificateListRow = Part<TbsCertList, Part<AlgorithmIdentifier, Part<BitStringAsn1, End>>>;
-
 impl DerSerialize for CertificateList {
     ghost Value = { CertificateListValue };
 
@@ -161,20 +138,21 @@ impl DerSerialize for CertificateList {
     ghost format = { certificate_list };
 
     fn put<W: Writer>(&self, w: &mut W) -> Result<(), WriteError> {
-        let signature = Part(&self.signature_algorithm, Part(&self.signature_value, End));
-        put_within(0x30, &Part(&self.tbs_cert_list, signature), w)
+        let body = body_of!(self; tbs_cert_list, signature_algorithm, signature_value);
+        put_within(0x30, &body, w)
     }
 
     fn well_formed_at(&self, limit: u8) -> bool {
-        let signature = Part(&self.signature_algorithm, Part(&self.signature_value, End));
-        Part(&self.tbs_cert_list, signature).row_well_formed_at(limit)
+        let body = body_of!(self; tbs_cert_list, signature_algorithm, signature_value);
+        body.row_well_formed_at(limit)
     }
 }
 
 impl DerDeserialize for CertificateList {
     fn read(alloc: Global, r: &mut Reader<'_>, nest: u8) -> Result<Self, Error> {
-        let row: CertificateListRow = read_within(alloc, r, nest, 0x30)?;
-        let Part(tbs_cert_list, Part(signature_algorithm, Part(signature_value, End))) = row;
+        let fields_of!(tbs_cert_list, signature_algorithm, signature_value) = read_within(
+            alloc, r, nest, 0x30,
+        )?;
         Ok(CertificateList {
             tbs_cert_list,
             signature_algorithm,

@@ -19,8 +19,6 @@ pub struct OtherRevocationInfoFormat {
     other_rev_info: (),
 }
 
-type OtherFormatRow = Part<ObjectIdentifierAsn1, Part<Null, End>>;
-
 impl DerSerialize for OtherRevocationInfoFormat {
     ghost Value = { OtherFormatValue };
 
@@ -29,7 +27,7 @@ impl DerSerialize for OtherRevocationInfoFormat {
     ghost format = { other_format };
 
     fn put<W: Writer>(&self, w: &mut W) -> Result<(), WriteError> {
-        put_within(0x30, &Part(&self.other_rev_info_format, Part(Null, End)), w)
+        put_within(0x30, &body_of!(self; other_rev_info_format, (Null)), w)
     }
 
     fn well_formed_at(&self, limit: u8) -> bool {
@@ -39,8 +37,7 @@ impl DerSerialize for OtherRevocationInfoFormat {
 
 impl DerDeserialize for OtherRevocationInfoFormat {
     fn read(alloc: Global, r: &mut Reader<'_>, nest: u8) -> Result<Self, Error> {
-        let row: OtherFormatRow = read_within(alloc, r, nest, 0x30)?;
-        let Part(other_rev_info_format, Part(Null, End)) = row;
+        let fields_of!(other_rev_info_format, (Null)) = read_within(alloc, r, nest, 0x30)?;
         Ok(OtherRevocationInfoFormat {
             other_rev_info_format,
             other_rev_info: (),
@@ -56,12 +53,11 @@ impl DerTagged for OtherRevocationInfoFormat {
     const TAG: u8 = 0x30;
 
     fn put_as<W: Writer>(&self, tag: u8, w: &mut W) -> Result<(), WriteError> {
-        put_within(tag, &Part(&self.other_rev_info_format, Part(Null, End)), w)
+        put_within(tag, &body_of!(self; other_rev_info_format, (Null)), w)
     }
 
     fn read_contents(alloc: Global, r: &mut Reader<'_>, nest: u8) -> Result<Self, Error> {
-        let row: OtherFormatRow = read_row_contents(alloc, r, nest, 0x30)?;
-        let Part(other_rev_info_format, Part(Null, End)) = row;
+        let fields_of!(other_rev_info_format, (Null)) = read_row_contents(alloc, r, nest, 0x30)?;
         Ok(OtherRevocationInfoFormat {
             other_rev_info_format,
             other_rev_info: (),

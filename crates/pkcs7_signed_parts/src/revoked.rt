@@ -19,22 +19,6 @@ pub struct RevokedCertificate {
     pub crl_entry_extensions: Option<Extensions>,
 }
 
-type RevokedRow = Part<CertificateSerialNumber, Part<Time, Maybe<Extensions, End>>>;
-
-type RevokedRef<'a> = Part<&'a CertificateSerialNumber, Part<&'a Time, Maybe<&'a Extensions, End>>>;
-
-impl RevokedCertificate {
-    fn row(&self) -> RevokedRef<'_>
-        ensures { ⟦<RevokedRef<'static> as WriteRow>⟧.value result ≡ revoked_value self.now }
-    {
-        let extensions = Maybe(self.crl_entry_extensions.as_ref(), End);
-        Part(
-            &self.user_certificate,
-            Part(&self.revocation_data, extensions),
-        )
-    }
-}
-
 impl DerSerialize for RevokedCertificate {
     ghost Value = { RevokedValue };
 
@@ -43,18 +27,21 @@ impl DerSerialize for RevokedCertificate {
     ghost format = { revoked };
 
     fn put<W: Writer>(&self, w: &mut W) -> Result<(), WriteError> {
-        put_within(0x30, &self.row(), w)
+        let body = body_of!(self; user_certificate, revocation_data, crl_entry_extensions OPTIONAL);
+        put_within(0x30, &body, w)
     }
 
     fn well_formed_at(&self, limit: u8) -> bool {
-        self.row().row_well_formed_at(limit)
+        let body = body_of!(self; user_certificate, revocation_data, crl_entry_extensions OPTIONAL);
+        body.row_well_formed_at(limit)
     }
 }
 
 impl DerDeserialize for RevokedCertificate {
     fn read(alloc: Global, r: &mut Reader<'_>, nest: u8) -> Result<Self, Error> {
-        let row: RevokedRow = read_within(alloc, r, nest, 0x30)?;
-        let Part(user_certificate, Part(revocation_data, Maybe(crl_entry_extensions, End))) = row;
+        let fields_of!(
+            user_certificate, revocation_data, crl_entry_extensions OPTIONAL
+        ) = read_within(alloc, r, nest, 0x30)?;
         Ok(RevokedCertificate {
             user_certificate,
             revocation_data,

@@ -56,8 +56,6 @@ pub struct IssuerAndSerialNumber {
     pub serial_number: CertificateSerialNumber,
 }
 
-type IssuerSerialRow = Part<Name, Part<CertificateSerialNumber, End>>;
-
 impl DerSerialize for IssuerAndSerialNumber {
     ghost Value = { IssuerSerialValue };
 
@@ -66,18 +64,17 @@ impl DerSerialize for IssuerAndSerialNumber {
     ghost format = { issuer_serial };
 
     fn put<W: Writer>(&self, w: &mut W) -> Result<(), WriteError> {
-        put_within(0x30, &Part(&self.issuer, Part(&self.serial_number, End)), w)
+        put_within(0x30, &body_of!(self; issuer, serial_number), w)
     }
 
     fn well_formed_at(&self, limit: u8) -> bool {
-        Part(&self.issuer, Part(&self.serial_number, End)).row_well_formed_at(limit)
+        body_of!(self; issuer, serial_number).row_well_formed_at(limit)
     }
 }
 
 impl DerDeserialize for IssuerAndSerialNumber {
     fn read(alloc: Global, r: &mut Reader<'_>, nest: u8) -> Result<Self, Error> {
-        let row: IssuerSerialRow = read_within(alloc, r, nest, 0x30)?;
-        let Part(issuer, Part(serial_number, End)) = row;
+        let fields_of!(issuer, serial_number) = read_within(alloc, r, nest, 0x30)?;
         Ok(IssuerAndSerialNumber {
             issuer,
             serial_number,

@@ -15,8 +15,6 @@ pub struct DigestInfo {
     pub digest: OctetStringAsn1,
 }
 
-type DigestInfoRow = Part<AlgorithmIdentifier, Part<OctetStringAsn1, End>>;
-
 impl DerSerialize for DigestInfo {
     ghost Value = { DigestInfoValue };
 
@@ -25,17 +23,17 @@ impl DerSerialize for DigestInfo {
     ghost format = { digest_info };
 
     fn put<W: Writer>(&self, w: &mut W) -> Result<(), WriteError> {
-        put_within(0x30, &Part(&self.oid, Part(&self.digest, End)), w)
+        put_within(0x30, &body_of!(self; oid, digest), w)
     }
 
     fn well_formed_at(&self, limit: u8) -> bool {
-        Part(&self.oid, Part(&self.digest, End)).row_well_formed_at(limit)
+        body_of!(self; oid, digest).row_well_formed_at(limit)
     }
 }
 
 impl DerDeserialize for DigestInfo {
     fn read(alloc: Global, r: &mut Reader<'_>, nest: u8) -> Result<Self, Error> {
-        let Part(oid, Part(digest, End)) = read_within::<DigestInfoRow>(alloc, r, nest, 0x30)?;
+        let fields_of!(oid, digest) = read_within(alloc, r, nest, 0x30)?;
         Ok(DigestInfo { oid, digest })
     }
 

@@ -16,8 +16,6 @@ pub struct Extension {
     pub extn_value: OctetStringAsn1,
 }
 
-type ExtensionRow = Part<ObjectIdentifierAsn1, Omitted<DefaultFalse, Part<OctetStringAsn1, End>>>;
-
 impl DerSerialize for Extension {
     ghost Value = { ExtensionValue };
 
@@ -26,22 +24,21 @@ impl DerSerialize for Extension {
     ghost format = { extension };
 
     fn put<W: Writer>(&self, w: &mut W) -> Result<(), WriteError> {
-        let value = Part(&self.extn_value, End);
-        let critical = Omitted(DefaultFalse(self.critical), value);
-        put_within(0x30, &Part(&self.extn_id, critical), w)
+        let body = body_of!(self; extn_id, (DefaultFalse(self.critical)) DEFAULT, extn_value);
+        put_within(0x30, &body, w)
     }
 
     fn well_formed_at(&self, limit: u8) -> bool {
-        let value = Part(&self.extn_value, End);
-        let critical = Omitted(DefaultFalse(self.critical), value);
-        Part(&self.extn_id, critical).row_well_formed_at(limit)
+        let body = body_of!(self; extn_id, (DefaultFalse(self.critical)) DEFAULT, extn_value);
+        body.row_well_formed_at(limit)
     }
 }
 
 impl DerDeserialize for Extension {
     fn read(alloc: Global, r: &mut Reader<'_>, nest: u8) -> Result<Self, Error> {
-        let row: ExtensionRow = read_within(alloc, r, nest, 0x30)?;
-        let Part(extn_id, Omitted(DefaultFalse(critical), Part(extn_value, End))) = row;
+        let fields_of!(
+            extn_id, (DefaultFalse(critical)) DEFAULT, extn_value
+        ) = read_within(alloc, r, nest, 0x30)?;
         Ok(Extension {
             extn_id,
             critical,

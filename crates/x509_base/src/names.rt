@@ -13,8 +13,6 @@ pub struct NameValue {
     pub value: Asn1RawDer,
 }
 
-type NameValueRow = Part<ObjectIdentifierAsn1, Part<Asn1RawDer, End>>;
-
 impl DerSerialize for NameValue {
     ghost Value = { NameValueValue };
 
@@ -23,17 +21,17 @@ impl DerSerialize for NameValue {
     ghost format = { name_value };
 
     fn put<W: Writer>(&self, w: &mut W) -> Result<(), WriteError> {
-        put_within(0x30, &Part(&self.ty, Part(&self.value, End)), w)
+        put_within(0x30, &body_of!(self; ty, value), w)
     }
 
     fn well_formed_at(&self, limit: u8) -> bool {
-        Part(&self.ty, Part(&self.value, End)).row_well_formed_at(limit)
+        body_of!(self; ty, value).row_well_formed_at(limit)
     }
 }
 
 impl DerDeserialize for NameValue {
     fn read(alloc: Global, r: &mut Reader<'_>, nest: u8) -> Result<Self, Error> {
-        let Part(ty, Part(value, End)) = read_within::<NameValueRow>(alloc, r, nest, 0x30)?;
+        let fields_of!(ty, value) = read_within(alloc, r, nest, 0x30)?;
         Ok(NameValue { ty, value })
     }
 
@@ -101,8 +99,6 @@ pub struct Attribute {
     pub value: Asn1SetOf<Asn1RawDer>,
 }
 
-type AttributeRow = Part<ObjectIdentifierAsn1, Part<Asn1SetOf<Asn1RawDer>, End>>;
-
 impl DerSerialize for Attribute {
     ghost Value = { AttributeValue };
 
@@ -111,17 +107,17 @@ impl DerSerialize for Attribute {
     ghost format = { attribute };
 
     fn put<W: Writer>(&self, w: &mut W) -> Result<(), WriteError> {
-        put_within(0x30, &Part(&self.ty, Part(&self.value, End)), w)
+        put_within(0x30, &body_of!(self; ty, value), w)
     }
 
     fn well_formed_at(&self, limit: u8) -> bool {
-        Part(&self.ty, Part(&self.value, End)).row_well_formed_at(limit)
+        body_of!(self; ty, value).row_well_formed_at(limit)
     }
 }
 
 impl DerDeserialize for Attribute {
     fn read(alloc: Global, r: &mut Reader<'_>, nest: u8) -> Result<Self, Error> {
-        let Part(ty, Part(value, End)) = read_within::<AttributeRow>(alloc, r, nest, 0x30)?;
+        let fields_of!(ty, value) = read_within(alloc, r, nest, 0x30)?;
         Ok(Attribute { ty, value })
     }
 

@@ -68,8 +68,6 @@ pub struct SpcSerializedObject {
     pub serialized_data: OctetStringAsn1,
 }
 
-type SerializedObjectRow = Part<SpcUuid, Part<OctetStringAsn1, End>>;
-
 impl SpcSerializedObject {
     /// The class of page hashes, with no data.
     pub fn default_in(alloc: Global) -> Result<Self, Error>
@@ -93,20 +91,17 @@ impl DerSerialize for SpcSerializedObject {
     ghost format = { serialized_object };
 
     fn put<W: Writer>(&self, w: &mut W) -> Result<(), WriteError> {
-        let row = Part(&self.class_id, Part(&self.serialized_data, End));
-        put_within(0x30, &row, w)
+        put_within(0x30, &body_of!(self; class_id, serialized_data), w)
     }
 
     fn well_formed_at(&self, limit: u8) -> bool {
-        Part(&self.class_id, Part(&self.serialized_data, End)).row_well_formed_at(limit)
+        body_of!(self; class_id, serialized_data).row_well_formed_at(limit)
     }
 }
 
 impl DerDeserialize for SpcSerializedObject {
     fn read(alloc: Global, r: &mut Reader<'_>, nest: u8) -> Result<Self, Error> {
-        let Part(class_id, Part(serialized_data, End)) = read_within::<SerializedObjectRow>(
-            alloc, r, nest, 0x30,
-        )?;
+        let fields_of!(class_id, serialized_data) = read_within(alloc, r, nest, 0x30)?;
         Ok(SpcSerializedObject {
             class_id,
             serialized_data,
@@ -122,14 +117,11 @@ impl DerTagged for SpcSerializedObject {
     const TAG: u8 = 0x30;
 
     fn put_as<W: Writer>(&self, tag: u8, w: &mut W) -> Result<(), WriteError> {
-        let row = Part(&self.class_id, Part(&self.serialized_data, End));
-        put_within(tag, &row, w)
+        put_within(tag, &body_of!(self; class_id, serialized_data), w)
     }
 
     fn read_contents(alloc: Global, r: &mut Reader<'_>, nest: u8) -> Result<Self, Error> {
-        let Part(class_id, Part(serialized_data, End)) = read_row_contents::<SerializedObjectRow>(
-            alloc, r, nest, 0x30,
-        )?;
+        let fields_of!(class_id, serialized_data) = read_row_contents(alloc, r, nest, 0x30)?;
         Ok(SpcSerializedObject {
             class_id,
             serialized_data,

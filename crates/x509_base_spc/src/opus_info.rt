@@ -15,8 +15,6 @@ pub struct SpcSpOpusInfo {
     pub more_info: Option<ExplicitContextTag1<SpcLink>>,
 }
 
-type OpusInfoRow = Maybe<ExplicitContextTag0<SpcString>, Maybe<ExplicitContextTag1<SpcLink>, End>>;
-
 impl DerSerialize for SpcSpOpusInfo {
     ghost Value = { OpusInfoValue };
 
@@ -25,21 +23,20 @@ impl DerSerialize for SpcSpOpusInfo {
     ghost format = { opus_info };
 
     fn put<W: Writer>(&self, w: &mut W) -> Result<(), WriteError> {
-        let link = Maybe(self.more_info.as_ref(), End);
-        put_within(0x30, &Maybe(self.program_name.as_ref(), link), w)
+        let body = body_of!(self; program_name OPTIONAL, more_info OPTIONAL);
+        put_within(0x30, &body, w)
     }
 
     fn well_formed_at(&self, limit: u8) -> bool {
-        let link = Maybe(self.more_info.as_ref(), End);
-        Maybe(self.program_name.as_ref(), link).row_well_formed_at(limit)
+        body_of!(self; program_name OPTIONAL, more_info OPTIONAL).row_well_formed_at(limit)
     }
 }
 
 impl DerDeserialize for SpcSpOpusInfo {
     fn read(alloc: Global, r: &mut Reader<'_>, nest: u8) -> Result<Self, Error> {
-        let Maybe(program_name, Maybe(more_info, End)) = read_within::<OpusInfoRow>(
-            alloc, r, nest, 0x30,
-        )?;
+        let fields_of!(
+            program_name OPTIONAL, more_info OPTIONAL
+        ) = read_within(alloc, r, nest, 0x30)?;
         Ok(SpcSpOpusInfo {
             program_name,
             more_info,

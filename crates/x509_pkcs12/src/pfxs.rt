@@ -25,8 +25,6 @@ pub struct Pfx<R: AuthenticatedSafeDataRepr> {
     pub mac_data: Option<MacData>,
 }
 
-type PfxRow<R> = Part<FixedVersion<3>, Part<AuthenticatedSafeContentInfo<R>, Maybe<MacData, End>>>;
-
 impl<R: AuthenticatedSafeDataRepr> DerSerialize for Pfx<R> {
     ghost Value = { PfxValue R.Value };
 
@@ -35,20 +33,24 @@ impl<R: AuthenticatedSafeDataRepr> DerSerialize for Pfx<R> {
     ghost format = { pfx R.format };
 
     fn put<W: Writer>(&self, w: &mut W) -> Result<(), WriteError> {
-        let rest = Part(&self.auth_safe, Maybe(self.mac_data.as_ref(), End));
-        put_within(0x30, &Part(self.version, rest), w)
+        put_within(
+            0x30,
+            &body_of!(self; version, auth_safe, mac_data OPTIONAL),
+            w,
+        )
     }
 
     fn well_formed_at(&self, limit: u8) -> bool {
-        let rest = Part(&self.auth_safe, Maybe(self.mac_data.as_ref(), End));
+        let rest = body_of!(self; auth_safe, mac_data OPTIONAL);
         self.version == 3 && rest.row_well_formed_at(limit)
     }
 }
 
 impl<R: AuthenticatedSafeDataRepr> DerDeserialize for Pfx<R> {
     fn read(alloc: Global, r: &mut Reader<'_>, nest: u8) -> Result<Self, Error> {
-        let row: PfxRow<R> = read_within(alloc, r, nest, 0x30)?;
-        let Part(FixedVersion, Part(auth_safe, Maybe(mac_data, End))) = row;
+        let fields_of!((FixedVersion::<3>), auth_safe, mac_data OPTIONAL) = read_within(
+            alloc, r, nest, 0x30,
+        )?;
         Ok(Pfx {
             version: 3,
             auth_safe,

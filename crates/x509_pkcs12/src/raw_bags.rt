@@ -32,11 +32,6 @@ pub struct RawSafeBag {
     pub bag_attributes: Option<Asn1SetOf<Attribute>>,
 }
 
-type RawBagRow = Part<
-    ObjectIdentifierAsn1,
-    Part<ExplicitContextTag0<Asn1RawDer>, Maybe<Asn1SetOf<Attribute>, End>>,
->;
-
 impl RawSafeBag {
     /// The bytes of the value's element with its header, without the tag `[0]` around it.
     pub fn value(&self) -> &[u8]
@@ -95,20 +90,20 @@ impl DerSerialize for RawSafeBag {
     ghost format = { raw_bag };
 
     fn put<W: Writer>(&self, w: &mut W) -> Result<(), WriteError> {
-        let rest = Part(&self.bag_value, Maybe(self.bag_attributes.as_ref(), End));
-        put_within(0x30, &Part(&self.bag_id, rest), w)
+        let body = body_of!(self; bag_id, bag_value, bag_attributes OPTIONAL);
+        put_within(0x30, &body, w)
     }
 
     fn well_formed_at(&self, limit: u8) -> bool {
-        let rest = Part(&self.bag_value, Maybe(self.bag_attributes.as_ref(), End));
-        Part(&self.bag_id, rest).row_well_formed_at(limit)
+        body_of!(self; bag_id, bag_value, bag_attributes OPTIONAL).row_well_formed_at(limit)
     }
 }
 
 impl DerDeserialize for RawSafeBag {
     fn read(alloc: Global, r: &mut Reader<'_>, nest: u8) -> Result<Self, Error> {
-        let row: RawBagRow = read_within(alloc, r, nest, 0x30)?;
-        let Part(bag_id, Part(bag_value, Maybe(bag_attributes, End))) = row;
+        let fields_of!(
+            bag_id, bag_value, bag_attributes OPTIONAL
+        ) = read_within(alloc, r, nest, 0x30)?;
         Ok(RawSafeBag {
             bag_id,
             bag_value,

@@ -115,21 +115,6 @@ pub struct SecretBag {
     pub value: Asn1RawDer,
 }
 
-type SecretRow = Part<ObjectIdentifierAsn1, Part<ExplicitContextTag0<Asn1RawDer>, End>>;
-
-type SecretRef<'a> = Part<OidRef<'a>, Part<ExplicitContextTag0<&'a Asn1RawDer>, End>>;
-
-impl SecretBag {
-    fn row(&self) -> SecretRef<'_>
-        ensures { ⟦<SecretRef<'static> as WriteRow>⟧.value result ≡ ⟦<SecretBag as DerSerialize>⟧.value self.now }
-    {
-        Part(
-            OidRef(&self.type_id),
-            Part(ExplicitContextTag0(&self.value), End),
-        )
-    }
-}
-
 impl DerSerialize for SecretBag {
     ghost Value = { SecretValue };
 
@@ -138,18 +123,22 @@ impl DerSerialize for SecretBag {
     ghost format = { secret_bag };
 
     fn put<W: Writer>(&self, w: &mut W) -> Result<(), WriteError> {
-        put_within(0x30, &self.row(), w)
+        let body = body_of!(self; (OidRef(&self.type_id)), (ExplicitContextTag0(&self.value)));
+        put_within(0x30, &body, w)
     }
 
     fn well_formed_at(&self, limit: u8) -> bool {
-        self.row().row_well_formed_at(limit)
+        let body = body_of!(self; (OidRef(&self.type_id)), (ExplicitContextTag0(&self.value)));
+        body.row_well_formed_at(limit)
     }
 }
 
 impl DerDeserialize for SecretBag {
     fn read(alloc: Global, r: &mut Reader<'_>, nest: u8) -> Result<Self, Error> {
-        let row: SecretRow = read_within(alloc, r, nest, 0x30)?;
-        let Part(ObjectIdentifierAsn1(type_id), Part(ExplicitContextTag0(value), End)) = row;
+        let fields_of!(
+            (ObjectIdentifierAsn1(type_id)),
+            (ExplicitContextTag0(value))
+        ) = read_within(alloc, r, nest, 0x30)?;
         Ok(SecretBag { type_id, value })
     }
 
@@ -174,8 +163,6 @@ pub struct EncryptedKeyBag {
     pub encrypted_data: OctetStringAsn1,
 }
 
-type EncryptedKeyRow = Part<Pkcs12EncryptionAlgorithm, Part<OctetStringAsn1, End>>;
-
 impl DerSerialize for EncryptedKeyBag {
     ghost Value = { EncryptedKeyValue };
 
@@ -184,22 +171,17 @@ impl DerSerialize for EncryptedKeyBag {
     ghost format = { encrypted_key_bag };
 
     fn put<W: Writer>(&self, w: &mut W) -> Result<(), WriteError> {
-        put_within(
-            0x30,
-            &Part(&self.algorithm, Part(&self.encrypted_data, End)),
-            w,
-        )
+        put_within(0x30, &body_of!(self; algorithm, encrypted_data), w)
     }
 
     fn well_formed_at(&self, limit: u8) -> bool {
-        Part(&self.algorithm, Part(&self.encrypted_data, End)).row_well_formed_at(limit)
+        body_of!(self; algorithm, encrypted_data).row_well_formed_at(limit)
     }
 }
 
 impl DerDeserialize for EncryptedKeyBag {
     fn read(alloc: Global, r: &mut Reader<'_>, nest: u8) -> Result<Self, Error> {
-        let row: EncryptedKeyRow = read_within(alloc, r, nest, 0x30)?;
-        let Part(algorithm, Part(encrypted_data, End)) = row;
+        let fields_of!(algorithm, encrypted_data) = read_within(alloc, r, nest, 0x30)?;
         Ok(EncryptedKeyBag {
             algorithm,
             encrypted_data,

@@ -85,11 +85,6 @@ pub struct EncryptedSafeContents {
     pub encrypted_content: Option<OctetStringAsn1>,
 }
 
-type ContentsRow = Part<
-    DataType,
-    Part<Pkcs12EncryptionAlgorithm, Maybe<ImplicitContextTag0<OctetStringAsn1>, End>>,
->;
-
 type ContentsRef<'a> = Part<
     DataType,
     Part<&'a Pkcs12EncryptionAlgorithm, Maybe<EncryptedRef<'a>, End>>,
@@ -125,8 +120,9 @@ impl DerSerialize for EncryptedSafeContents {
 
 impl DerDeserialize for EncryptedSafeContents {
     fn read(alloc: Global, r: &mut Reader<'_>, nest: u8) -> Result<Self, Error> {
-        let row: ContentsRow = read_within(alloc, r, nest, 0x30)?;
-        let Part(DataType, Part(algorithm, Maybe(content, End))) = row;
+        let fields_of!((DataType), algorithm, content OPTIONAL) = read_within(
+            alloc, r, nest, 0x30,
+        )?;
         let encrypted_content = match content {
             Some(ImplicitContextTag0(octets)) => Some(octets),
             None => None,

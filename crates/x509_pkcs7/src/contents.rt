@@ -20,8 +20,6 @@ pub struct ContentInfo {
     pub content: ExplicitContextTag0<Asn1RawDer>,
 }
 
-type ContentInfoRow = Part<ContentType, Part<ExplicitContextTag0<Asn1RawDer>, End>>;
-
 impl ContentInfo {
     /// The bytes of the content's element with its header, without the tag `[0]` around it.
     pub fn content(&self) -> &[u8]
@@ -47,18 +45,17 @@ impl DerSerialize for ContentInfo {
     ghost format = { content_info };
 
     fn put<W: Writer>(&self, w: &mut W) -> Result<(), WriteError> {
-        put_within(0x30, &Part(&self.content_type, Part(&self.content, End)), w)
+        put_within(0x30, &body_of!(self; content_type, content), w)
     }
 
     fn well_formed_at(&self, limit: u8) -> bool {
-        Part(&self.content_type, Part(&self.content, End)).row_well_formed_at(limit)
+        body_of!(self; content_type, content).row_well_formed_at(limit)
     }
 }
 
 impl DerDeserialize for ContentInfo {
     fn read(alloc: Global, r: &mut Reader<'_>, nest: u8) -> Result<Self, Error> {
-        let row: ContentInfoRow = read_within(alloc, r, nest, 0x30)?;
-        let Part(content_type, Part(content, End)) = row;
+        let fields_of!(content_type, content) = read_within(alloc, r, nest, 0x30)?;
         Ok(ContentInfo {
             content_type,
             content,

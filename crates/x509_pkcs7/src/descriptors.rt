@@ -15,8 +15,6 @@ pub struct ProtectionDescriptor {
     pub descriptor_value: Utf8StringAsn1,
 }
 
-type DescriptorRow = Part<Utf8StringAsn1, Part<Utf8StringAsn1, End>>;
-
 impl DerSerialize for ProtectionDescriptor {
     ghost Value = { DescriptorValue };
 
@@ -25,20 +23,18 @@ impl DerSerialize for ProtectionDescriptor {
     ghost format = { descriptor };
 
     fn put<W: Writer>(&self, w: &mut W) -> Result<(), WriteError> {
-        let value = Part(&self.descriptor_value, End);
-        put_within(0x30, &Part(&self.descriptor_type, value), w)
+        let body = body_of!(self; descriptor_type, descriptor_value);
+        put_within(0x30, &body, w)
     }
 
     fn well_formed_at(&self, limit: u8) -> bool {
-        let value = Part(&self.descriptor_value, End);
-        Part(&self.descriptor_type, value).row_well_formed_at(limit)
+        body_of!(self; descriptor_type, descriptor_value).row_well_formed_at(limit)
     }
 }
 
 impl DerDeserialize for ProtectionDescriptor {
     fn read(alloc: Global, r: &mut Reader<'_>, nest: u8) -> Result<Self, Error> {
-        let row: DescriptorRow = read_within(alloc, r, nest, 0x30)?;
-        let Part(descriptor_type, Part(descriptor_value, End)) = row;
+        let fields_of!(descriptor_type, descriptor_value) = read_within(alloc, r, nest, 0x30)?;
         Ok(ProtectionDescriptor {
             descriptor_type,
             descriptor_value,
@@ -66,11 +62,6 @@ pub struct GeneralProtectionDescriptor {
     pub descriptors: Asn1SequenceOf<Asn1SequenceOf<ProtectionDescriptor>>,
 }
 
-type GeneralDescriptorRow = Part<
-    ObjectIdentifierAsn1,
-    Part<Asn1SequenceOf<Asn1SequenceOf<ProtectionDescriptor>>, End>,
->;
-
 impl DerSerialize for GeneralProtectionDescriptor {
     ghost Value = { GeneralDescriptorValue };
 
@@ -79,20 +70,17 @@ impl DerSerialize for GeneralProtectionDescriptor {
     ghost format = { general_descriptor };
 
     fn put<W: Writer>(&self, w: &mut W) -> Result<(), WriteError> {
-        let descriptors = Part(&self.descriptors, End);
-        put_within(0x30, &Part(&self.descriptor_type, descriptors), w)
+        put_within(0x30, &body_of!(self; descriptor_type, descriptors), w)
     }
 
     fn well_formed_at(&self, limit: u8) -> bool {
-        let descriptors = Part(&self.descriptors, End);
-        Part(&self.descriptor_type, descriptors).row_well_formed_at(limit)
+        body_of!(self; descriptor_type, descriptors).row_well_formed_at(limit)
     }
 }
 
 impl DerDeserialize for GeneralProtectionDescriptor {
     fn read(alloc: Global, r: &mut Reader<'_>, nest: u8) -> Result<Self, Error> {
-        let row: GeneralDescriptorRow = read_within(alloc, r, nest, 0x30)?;
-        let Part(descriptor_type, Part(descriptors, End)) = row;
+        let fields_of!(descriptor_type, descriptors) = read_within(alloc, r, nest, 0x30)?;
         Ok(GeneralProtectionDescriptor {
             descriptor_type,
             descriptors,

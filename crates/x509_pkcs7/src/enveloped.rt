@@ -1,6 +1,6 @@
 //! Enveloped data (RFC 5652, 6.1).
 
-ghost use Rattle.std.specs.Prelude.{◌≡◌, map};
+ghost use Rattle.std.specs.Prelude.{map};
 ghost use Rattle.std.proofs.Common.{arith};
 ghost use Rattle.asn1_core.specs.Der.{within_tagged, list_equal, option_equal, two_equal, with_end};
 ghost use Rattle.x509_base.specs.Equal.{attribute_equal};
@@ -38,11 +38,6 @@ pub struct EncryptedContentInfo {
     pub encrypted_content: Optional<Option<ImplicitContextTag0<EncryptedContent>>>,
 }
 
-type EncryptedContentRow = Part<
-    ContentType,
-    Part<AlgorithmIdentifier, Maybe<ImplicitContextTag0<OctetStringAsn1>, End>>,
->;
-
 impl DerSerialize for EncryptedContentInfo {
     ghost Value = { EncryptedContentValue };
 
@@ -51,22 +46,25 @@ impl DerSerialize for EncryptedContentInfo {
     ghost format = { encrypted_content };
 
     fn put<W: Writer>(&self, w: &mut W) -> Result<(), WriteError> {
-        let content = Maybe(self.encrypted_content.0.as_ref(), End);
-        let algorithm = Part(&self.content_encryption_algorithm, content);
-        put_within(0x30, &Part(&self.content_type, algorithm), w)
+        let body = body_of!(self;
+            content_type, content_encryption_algorithm, (self.encrypted_content.0.as_ref()) OPTIONAL
+        );
+        put_within(0x30, &body, w)
     }
 
     fn well_formed_at(&self, limit: u8) -> bool {
-        let content = Maybe(self.encrypted_content.0.as_ref(), End);
-        let algorithm = Part(&self.content_encryption_algorithm, content);
-        Part(&self.content_type, algorithm).row_well_formed_at(limit)
+        let body = body_of!(self;
+            content_type, content_encryption_algorithm, (self.encrypted_content.0.as_ref()) OPTIONAL
+        );
+        body.row_well_formed_at(limit)
     }
 }
 
 impl DerDeserialize for EncryptedContentInfo {
     fn read(alloc: Global, r: &mut Reader<'_>, nest: u8) -> Result<Self, Error> {
-        let row: EncryptedContentRow = read_within(alloc, r, nest, 0x30)?;
-        let Part(content_type, Part(content_encryption_algorithm, Maybe(content, End))) = row;
+        let fields_of!(
+            content_type, content_encryption_algorithm, content OPTIONAL
+        ) = read_within(alloc, r, nest, 0x30)?;
         Ok(EncryptedContentInfo {
             content_type,
             content_encryption_algorithm,
@@ -97,11 +95,6 @@ pub struct OriginatorInfo {
     pub crls: Optional<Option<ImplicitContextTag1<RevocationInfoChoices>>>,
 }
 
-type OriginatorRow = Maybe<
-    ImplicitContextTag0<CertificateSet>,
-    Maybe<ImplicitContextTag1<RevocationInfoChoices>, End>,
->;
-
 impl DerSerialize for OriginatorInfo {
     ghost Value = { OriginatorValue };
 
@@ -110,20 +103,23 @@ impl DerSerialize for OriginatorInfo {
     ghost format = { originator };
 
     fn put<W: Writer>(&self, w: &mut W) -> Result<(), WriteError> {
-        let lists = Maybe(self.crls.0.as_ref(), End);
-        put_within(0x30, &Maybe(self.certs.0.as_ref(), lists), w)
+        let body = body_of!(self;
+            (self.certs.0.as_ref()) OPTIONAL, (self.crls.0.as_ref()) OPTIONAL
+        );
+        put_within(0x30, &body, w)
     }
 
     fn well_formed_at(&self, limit: u8) -> bool {
-        let lists = Maybe(self.crls.0.as_ref(), End);
-        Maybe(self.certs.0.as_ref(), lists).row_well_formed_at(limit)
+        let body = body_of!(self;
+            (self.certs.0.as_ref()) OPTIONAL, (self.crls.0.as_ref()) OPTIONAL
+        );
+        body.row_well_formed_at(limit)
     }
 }
 
 impl DerDeserialize for OriginatorInfo {
     fn read(alloc: Global, r: &mut Reader<'_>, nest: u8) -> Result<Self, Error> {
-        let row: OriginatorRow = read_within(alloc, r, nest, 0x30)?;
-        let Maybe(certs, Maybe(crls, End)) = row;
+        let fields_of!(certs OPTIONAL, crls OPTIONAL) = read_within(alloc, r, nest, 0x30)?;
         Ok(OriginatorInfo {
             certs: Optional(certs),
             crls: Optional(crls),
@@ -139,13 +135,13 @@ impl DerTagged for OriginatorInfo {
     const TAG: u8 = 0x30;
 
     fn put_as<W: Writer>(&self, tag: u8, w: &mut W) -> Result<(), WriteError> {
-        let lists = Maybe(self.crls.0.as_ref(), End);
-        put_within(tag, &Maybe(self.certs.0.as_ref(), lists), w)
+        let body =
+            body_of!(self; (self.certs.0.as_ref()) OPTIONAL, (self.crls.0.as_ref()) OPTIONAL);
+        put_within(tag, &body, w)
     }
 
     fn read_contents(alloc: Global, r: &mut Reader<'_>, nest: u8) -> Result<Self, Error> {
-        let row: OriginatorRow = read_row_contents(alloc, r, nest, 0x30)?;
-        let Maybe(certs, Maybe(crls, End)) = row;
+        let fields_of!(certs OPTIONAL, crls OPTIONAL) = read_row_contents(alloc, r, nest, 0x30)?;
         Ok(OriginatorInfo {
             certs: Optional(certs),
             crls: Optional(crls),
@@ -177,40 +173,6 @@ pub struct EnvelopedData<R = RecipientInfo> {
     pub unprotected_attrs: Optional<Option<ImplicitContextTag1<UnprotectedAttributes>>>,
 }
 
-type EnvelopedTail<R> = Part<
-    Asn1SetOf<R>,
-    Part<EncryptedContentInfo, Maybe<ImplicitContextTag1<Asn1SetOf<Attribute>>, End>>,
->;
-
-type EnvelopedRow<R> = Part<
-    CmsVersion,
-    Maybe<ImplicitContextTag0<OriginatorInfo>, EnvelopedTail<R>>,
->;
-
-type EnvelopedTailRef<'a, R> = Part<
-    &'a Asn1SetOf<R>,
-    Part<&'a EncryptedContentInfo, Maybe<&'a ImplicitContextTag1<Asn1SetOf<Attribute>>, End>>,
->;
-
-type EnvelopedRef<'a, R> = Part<
-    CmsVersion,
-    Maybe<&'a ImplicitContextTag0<OriginatorInfo>, EnvelopedTailRef<'a, R>>,
->;
-
-impl<R: DerSerialize> EnvelopedData<R> {
-    fn row(&self) -> EnvelopedRef<'_, R>
-        ensures { ⟦<EnvelopedRef<'static, R> as WriteRow>⟧.value result ≡ enveloped_value R.value self.now }
-    {
-        let attributes = Maybe(self.unprotected_attrs.0.as_ref(), End);
-        let content = Part(&self.encrypted_content_info, attributes);
-        let recipients = Part(&self.recipient_infos, content);
-        Part(
-            self.version,
-            Maybe(self.originator_info.0.as_ref(), recipients),
-        )
-    }
-}
-
 impl<R: DerSerialize> DerSerialize for EnvelopedData<R> {
     ghost Value = { EnvelopedValue R.Value };
 
@@ -219,19 +181,28 @@ impl<R: DerSerialize> DerSerialize for EnvelopedData<R> {
     ghost format = { enveloped R.format };
 
     fn put<W: Writer>(&self, w: &mut W) -> Result<(), WriteError> {
-        put_within(0x30, &self.row(), w)
+        let body = body_of!(self;
+            version, (self.originator_info.0.as_ref()) OPTIONAL, recipient_infos,
+            encrypted_content_info, (self.unprotected_attrs.0.as_ref()) OPTIONAL
+        );
+        put_within(0x30, &body, w)
     }
 
     fn well_formed_at(&self, limit: u8) -> bool {
-        self.row().row_well_formed_at(limit)
+        let body = body_of!(self;
+            version, (self.originator_info.0.as_ref()) OPTIONAL, recipient_infos,
+            encrypted_content_info, (self.unprotected_attrs.0.as_ref()) OPTIONAL
+        );
+        body.row_well_formed_at(limit)
     }
 }
 
 impl<R: DerDeserialize> DerDeserialize for EnvelopedData<R> {
     fn read(alloc: Global, r: &mut Reader<'_>, nest: u8) -> Result<Self, Error> {
-        let row: EnvelopedRow<R> = read_within(alloc, r, nest, 0x30)?;
-        let Part(version, Maybe(originator, Part(recipient_infos, rest))) = row;
-        let Part(encrypted_content_info, Maybe(attributes, End)) = rest;
+        let fields_of!(
+            version, originator OPTIONAL, recipient_infos, encrypted_content_info,
+            attributes OPTIONAL
+        ) = read_within(alloc, r, nest, 0x30)?;
         Ok(EnvelopedData {
             version,
             originator_info: Optional(originator),

@@ -1,6 +1,5 @@
 //! Recipients of enveloped data who have a key encryption key (RFC 5652, 6.2.3).
 
-ghost use Rattle.std.specs.Prelude.{◌≡◌};
 ghost use Rattle.std.proofs.Common.{arith};
 ghost use Rattle.asn1_core.specs.Der.{within_tagged};
 ghost use Rattle.x509_pkcs7.specs.Equal.{other_key_equal, kek_id_equal, kek_recipient_equal, recipient_equal};
@@ -26,8 +25,6 @@ pub struct OtherKeyAttribute {
     pub key_attr: Option<Asn1RawDer>,
 }
 
-type OtherKeyRow = Part<ObjectIdentifierAsn1, Maybe<Asn1RawDer, End>>;
-
 impl DerSerialize for OtherKeyAttribute {
     ghost Value = { OtherKeyValue };
 
@@ -36,20 +33,17 @@ impl DerSerialize for OtherKeyAttribute {
     ghost format = { other_key };
 
     fn put<W: Writer>(&self, w: &mut W) -> Result<(), WriteError> {
-        let attribute = Maybe(self.key_attr.as_ref(), End);
-        put_within(0x30, &Part(&self.key_attr_id, attribute), w)
+        put_within(0x30, &body_of!(self; key_attr_id, key_attr OPTIONAL), w)
     }
 
     fn well_formed_at(&self, limit: u8) -> bool {
-        let attribute = Maybe(self.key_attr.as_ref(), End);
-        Part(&self.key_attr_id, attribute).row_well_formed_at(limit)
+        body_of!(self; key_attr_id, key_attr OPTIONAL).row_well_formed_at(limit)
     }
 }
 
 impl DerDeserialize for OtherKeyAttribute {
     fn read(alloc: Global, r: &mut Reader<'_>, nest: u8) -> Result<Self, Error> {
-        let row: OtherKeyRow = read_within(alloc, r, nest, 0x30)?;
-        let Part(key_attr_id, Maybe(key_attr, End)) = row;
+        let fields_of!(key_attr_id, key_attr OPTIONAL) = read_within(alloc, r, nest, 0x30)?;
         Ok(OtherKeyAttribute {
             key_attr_id,
             key_attr,
@@ -88,8 +82,6 @@ pub struct KekIdentifier {
     pub other: Optional<Option<OtherKeyAttribute>>,
 }
 
-type KekIdRow = Part<OctetStringAsn1, Maybe<GeneralizedTimeAsn1, Maybe<OtherKeyAttribute, End>>>;
-
 impl DerSerialize for KekIdentifier {
     ghost Value = { KekIdValue };
 
@@ -98,20 +90,25 @@ impl DerSerialize for KekIdentifier {
     ghost format = { kek_id };
 
     fn put<W: Writer>(&self, w: &mut W) -> Result<(), WriteError> {
-        let others = Maybe(self.date.0.as_ref(), Maybe(self.other.0.as_ref(), End));
-        put_within(0x30, &Part(&self.key_identifier, others), w)
+        let body = body_of!(self;
+            key_identifier, (self.date.0.as_ref()) OPTIONAL, (self.other.0.as_ref()) OPTIONAL
+        );
+        put_within(0x30, &body, w)
     }
 
     fn well_formed_at(&self, limit: u8) -> bool {
-        let others = Maybe(self.date.0.as_ref(), Maybe(self.other.0.as_ref(), End));
-        Part(&self.key_identifier, others).row_well_formed_at(limit)
+        let body = body_of!(self;
+            key_identifier, (self.date.0.as_ref()) OPTIONAL, (self.other.0.as_ref()) OPTIONAL
+        );
+        body.row_well_formed_at(limit)
     }
 }
 
 impl DerDeserialize for KekIdentifier {
     fn read(alloc: Global, r: &mut Reader<'_>, nest: u8) -> Result<Self, Error> {
-        let row: KekIdRow = read_within(alloc, r, nest, 0x30)?;
-        let Part(key_identifier, Maybe(date, Maybe(other, End))) = row;
+        let fields_of!(
+            key_identifier, date OPTIONAL, other OPTIONAL
+        ) = read_within(alloc, r, nest, 0x30)?;
         Ok(KekIdentifier {
             key_identifier,
             date: Optional(date),
@@ -142,28 +139,6 @@ pub struct KekRecipientInfo {
     pub encrypted_key: EncryptedKey,
 }
 
-type KekRecipientRow = Part<
-    CmsVersion,
-    Part<KekIdentifier, Part<AlgorithmIdentifier, Part<OctetStringAsn1, End>>>,
->;
-
-type KekRecipientRef<'a> = Part<
-    CmsVersion,
-    Part<&'a KekIdentifier, Part<&'a AlgorithmIdentifier, Part<&'a OctetStringAsn1, End>>>,
->;
-
-impl KekRecipientInfo {
-    fn row(&self) -> KekRecipientRef<'_>
-        ensures { ⟦<KekRecipientRef<'static> as WriteRow>⟧.value result ≡ kek_recipient_value self.now }
-    {
-        let key = Part(
-            &self.key_encryption_algorithm,
-            Part(&self.encrypted_key, End),
-        );
-        Part(self.version, Part(&self.kek_id, key))
-    }
-}
-
 impl DerSerialize for KekRecipientInfo {
     ghost Value = { KekRecipientValue };
 
@@ -172,22 +147,25 @@ impl DerSerialize for KekRecipientInfo {
     ghost format = { kek_recipient };
 
     fn put<W: Writer>(&self, w: &mut W) -> Result<(), WriteError> {
-        put_within(0x30, &self.row(), w)
+        let body = body_of!(self; version, kek_id, key_encryption_algorithm, encrypted_key);
+        put_within(0x30, &body, w)
     }
 
     fn well_formed_at(&self, limit: u8) -> bool {
-        self.row().row_well_formed_at(limit)
+        let body = body_of!(self; version, kek_id, key_encryption_algorithm, encrypted_key);
+        body.row_well_formed_at(limit)
     }
 }
 
 impl DerDeserialize for KekRecipientInfo {
     fn read(alloc: Global, r: &mut Reader<'_>, nest: u8) -> Result<Self, Error> {
-        let row: KekRecipientRow = read_within(alloc, r, nest, 0x30)?;
-        let Part(version, Part(kek_id, Part(algorithm, Part(encrypted_key, End)))) = row;
+        let fields_of!(version, kek_id, key_encryption_algorithm, encrypted_key) = read_within(
+            alloc, r, nest, 0x30,
+        )?;
         Ok(KekRecipientInfo {
             version,
             kek_id,
-            key_encryption_algorithm: algorithm,
+            key_encryption_algorithm,
             encrypted_key,
         })
     }
@@ -201,16 +179,17 @@ impl DerTagged for KekRecipientInfo {
     const TAG: u8 = 0x30;
 
     fn put_as<W: Writer>(&self, tag: u8, w: &mut W) -> Result<(), WriteError> {
-        put_within(tag, &self.row(), w)
+        let body = body_of!(self; version, kek_id, key_encryption_algorithm, encrypted_key);
+        put_within(tag, &body, w)
     }
 
     fn read_contents(alloc: Global, r: &mut Reader<'_>, nest: u8) -> Result<Self, Error> {
-        let row: KekRecipientRow = read_row_contents(alloc, r, nest, 0x30)?;
-        let Part(version, Part(kek_id, Part(algorithm, Part(encrypted_key, End)))) = row;
+        let fields_of!(version, kek_id, key_encryption_algorithm, encrypted_key) =
+            read_row_contents(alloc, r, nest, 0x30)?;
         Ok(KekRecipientInfo {
             version,
             kek_id,
-            key_encryption_algorithm: algorithm,
+            key_encryption_algorithm,
             encrypted_key,
         })
     }

@@ -18,8 +18,6 @@ pub struct RawEncapsulatedContentInfo {
     pub content: Option<ExplicitContextTag0<Asn1RawDer>>,
 }
 
-type RawEncapsulatedRow = Part<ObjectIdentifierAsn1, Maybe<ExplicitContextTag0<Asn1RawDer>, End>>;
-
 impl RawEncapsulatedContentInfo {
     /// The bytes of the content's element with its header, without the tag `[0]` around it.
     pub fn content(&self) -> Option<&[u8]>
@@ -51,20 +49,17 @@ impl DerSerialize for RawEncapsulatedContentInfo {
     ghost format = { raw_encapsulated };
 
     fn put<W: Writer>(&self, w: &mut W) -> Result<(), WriteError> {
-        let content = Maybe(self.content.as_ref(), End);
-        put_within(0x30, &Part(&self.content_type, content), w)
+        put_within(0x30, &body_of!(self; content_type, content OPTIONAL), w)
     }
 
     fn well_formed_at(&self, limit: u8) -> bool {
-        let content = Maybe(self.content.as_ref(), End);
-        Part(&self.content_type, content).row_well_formed_at(limit)
+        body_of!(self; content_type, content OPTIONAL).row_well_formed_at(limit)
     }
 }
 
 impl DerDeserialize for RawEncapsulatedContentInfo {
     fn read(alloc: Global, r: &mut Reader<'_>, nest: u8) -> Result<Self, Error> {
-        let row: RawEncapsulatedRow = read_within(alloc, r, nest, 0x30)?;
-        let Part(content_type, Maybe(content, End)) = row;
+        let fields_of!(content_type, content OPTIONAL) = read_within(alloc, r, nest, 0x30)?;
         Ok(RawEncapsulatedContentInfo {
             content_type,
             content,

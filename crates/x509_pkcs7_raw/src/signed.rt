@@ -122,38 +122,6 @@ pub struct RawSignedData<S = RawSignerInfo> {
     pub signers_infos: RawSignersInfos<S>,
 }
 
-type ContentRow<R> = Part<RawEncapsulatedContentInfo, Omitted<CertificateSet, R>>;
-
-type RawSignedRow<S> = Part<
-    CmsVersion,
-    Part<
-        DigestAlgorithmIdentifiers,
-        ContentRow<Maybe<RawRevocationInfoChoices, Part<RawSignersInfos<S>, End>>>,
-    >,
->;
-
-type ContentRef<'a, R> = Part<&'a RawEncapsulatedContentInfo, OmittedRef<&'a CertificateSet, R>>;
-
-type SignersRef<'a, S> = Maybe<&'a RawRevocationInfoChoices, Part<&'a RawSignersInfos<S>, End>>;
-
-type RawSignedRef<'a, S> = Part<
-    CmsVersion,
-    Part<&'a DigestAlgorithmIdentifiers, ContentRef<'a, SignersRef<'a, S>>>,
->;
-
-impl<S: DerSerialize> RawSignedData<S> {
-    fn row(&self) -> RawSignedRef<'_, S>
-        ensures { ⟦<RawSignedRef<'static, S> as WriteRow>⟧.value result ≡ raw_signed_value S.value self.now }
-    {
-        let signers = Maybe(self.crls.as_ref(), Part(&self.signers_infos, End));
-        let content = Part(
-            &self.content_info,
-            OmittedRef(&self.certificates.0, signers),
-        );
-        Part(self.version, Part(&self.digest_algorithms, content))
-    }
-}
-
 impl<S: DerSerialize> DerSerialize for RawSignedData<S> {
     ghost Value = { RawSignedValue S.Value };
 
@@ -162,19 +130,28 @@ impl<S: DerSerialize> DerSerialize for RawSignedData<S> {
     ghost format = { raw_signed S.format };
 
     fn put<W: Writer>(&self, w: &mut W) -> Result<(), WriteError> {
-        put_within(0x30, &self.row(), w)
+        let body = body_of!(self;
+            version, digest_algorithms, content_info, (&self.certificates.0) DEFAULT,
+            crls OPTIONAL, signers_infos
+        );
+        put_within(0x30, &body, w)
     }
 
     fn well_formed_at(&self, limit: u8) -> bool {
-        self.row().row_well_formed_at(limit)
+        let body = body_of!(self;
+            version, digest_algorithms, content_info, (&self.certificates.0) DEFAULT,
+            crls OPTIONAL, signers_infos
+        );
+        body.row_well_formed_at(limit)
     }
 }
 
 impl<S: DerDeserialize> DerDeserialize for RawSignedData<S> {
     fn read(alloc: Global, r: &mut Reader<'_>, nest: u8) -> Result<Self, Error> {
-        let row: RawSignedRow<S> = read_within(alloc, r, nest, 0x30)?;
-        let Part(version, Part(digest_algorithms, Part(content_info, rest))) = row;
-        let Omitted(certificates, Maybe(crls, Part(signers_infos, End))) = rest;
+        let fields_of!(
+            version, digest_algorithms, content_info, certificates DEFAULT, crls OPTIONAL,
+            signers_infos
+        ) = read_within(alloc, r, nest, 0x30)?;
         Ok(RawSignedData {
             version,
             digest_algorithms,
@@ -256,8 +233,6 @@ pub struct RawPkcs7Certificate<S = RawSignerInfo> {
     pub signed_data: ExplicitContextTag0<RawSignedData<S>>,
 }
 
-type RawCertificateRow<S> = Part<SignedDataType, Part<ExplicitContextTag0<RawSignedData<S>>, End>>;
-
 impl<S: DerSerialize> DerSerialize for RawPkcs7Certificate<S> {
     ghost Value = { RawCertificateValue S.Value };
 
@@ -266,7 +241,7 @@ impl<S: DerSerialize> DerSerialize for RawPkcs7Certificate<S> {
     ghost format = { raw_certificate S.format };
 
     fn put<W: Writer>(&self, w: &mut W) -> Result<(), WriteError> {
-        put_within(0x30, &Part(SignedDataType, Part(&self.signed_data, End)), w)
+        put_within(0x30, &body_of!(self; (SignedDataType), signed_data), w)
     }
 
     fn well_formed_at(&self, limit: u8) -> bool {
@@ -276,8 +251,7 @@ impl<S: DerSerialize> DerSerialize for RawPkcs7Certificate<S> {
 
 impl<S: DerDeserialize> DerDeserialize for RawPkcs7Certificate<S> {
     fn read(alloc: Global, r: &mut Reader<'_>, nest: u8) -> Result<Self, Error> {
-        let row: RawCertificateRow<S> = read_within(alloc, r, nest, 0x30)?;
-        let Part(SignedDataType, Part(signed_data, End)) = row;
+        let fields_of!((SignedDataType), signed_data) = read_within(alloc, r, nest, 0x30)?;
         Ok(RawPkcs7Certificate { signed_data })
     }
 

@@ -1,6 +1,6 @@
 //! Signers of every version, whose unsigned attributes keep their values as they are (RFC 5652, 5.3).
 
-ghost use Rattle.std.specs.Prelude.{◌≡◌, List};
+ghost use Rattle.std.specs.Prelude.{List};
 ghost use Rattle.x509_base.specs.Names.{AttributeValue};
 ghost use Rattle.x509_pkcs7_raw.specs.RawSigners.{unsigned_attributes_value, unsigned_attributes, lawful_unsigned_attributes, no_unsigned_attributes, no_unsigned_attributes_left_out, RawSignerValue, raw_signer_value, raw_signer, lawful_raw_signer};
 ghost use Rattle.x509_pkcs7_raw.specs.Equal.{unsigned_attributes_equal, raw_signer_equal};
@@ -89,42 +89,6 @@ pub struct RawSignerInfo {
     pub unsigned_attrs: Optional<RawUnsignedAttributes>,
 }
 
-type SignatureRow = Part<
-    SignatureAlgorithmIdentifier,
-    Part<SignatureValue, Omitted<RawUnsignedAttributes, End>>,
->;
-
-type RawSignerRow = Part<
-    CmsVersion,
-    Part<SignerIdentifier, Part<DigestAlgorithmIdentifier, Omitted<Attributes, SignatureRow>>>,
->;
-
-type SignatureRef<'a> = Part<
-    &'a SignatureAlgorithmIdentifier,
-    Part<&'a SignatureValue, OmittedRef<&'a RawUnsignedAttributes, End>>,
->;
-
-type SignedRef<'a> = Part<
-    &'a DigestAlgorithmIdentifier,
-    OmittedRef<&'a Attributes, SignatureRef<'a>>,
->;
-
-type RawSignerRef<'a> = Part<CmsVersion, Part<&'a SignerIdentifier, SignedRef<'a>>>;
-
-impl RawSignerInfo {
-    fn row(&self) -> RawSignerRef<'_>
-        ensures { ⟦<RawSignerRef<'static> as WriteRow>⟧.value result ≡ raw_signer_value self.now }
-    {
-        let unsigned = OmittedRef(&self.unsigned_attrs.0, End);
-        let signature = Part(&self.signature_algorithm, Part(&self.signature, unsigned));
-        let signed = OmittedRef(&self.signed_attrs.0, signature);
-        Part(
-            self.version,
-            Part(&self.sid, Part(&self.digest_algorithm, signed)),
-        )
-    }
-}
-
 impl DerSerialize for RawSignerInfo {
     ghost Value = { RawSignerValue };
 
@@ -133,19 +97,28 @@ impl DerSerialize for RawSignerInfo {
     ghost format = { raw_signer };
 
     fn put<W: Writer>(&self, w: &mut W) -> Result<(), WriteError> {
-        put_within(0x30, &self.row(), w)
+        let body = body_of!(self;
+            version, sid, digest_algorithm, (&self.signed_attrs.0) DEFAULT, signature_algorithm,
+            signature, (&self.unsigned_attrs.0) DEFAULT
+        );
+        put_within(0x30, &body, w)
     }
 
     fn well_formed_at(&self, limit: u8) -> bool {
-        self.row().row_well_formed_at(limit)
+        let body = body_of!(self;
+            version, sid, digest_algorithm, (&self.signed_attrs.0) DEFAULT, signature_algorithm,
+            signature, (&self.unsigned_attrs.0) DEFAULT
+        );
+        body.row_well_formed_at(limit)
     }
 }
 
 impl DerDeserialize for RawSignerInfo {
     fn read(alloc: Global, r: &mut Reader<'_>, nest: u8) -> Result<Self, Error> {
-        let row: RawSignerRow = read_within(alloc, r, nest, 0x30)?;
-        let Part(version, Part(sid, Part(digest_algorithm, Omitted(signed, rest)))) = row;
-        let Part(signature_algorithm, Part(signature, Omitted(unsigned, End))) = rest;
+        let fields_of!(
+            version, sid, digest_algorithm, signed DEFAULT, signature_algorithm, signature,
+            unsigned DEFAULT
+        ) = read_within(alloc, r, nest, 0x30)?;
         Ok(RawSignerInfo {
             version,
             sid,
