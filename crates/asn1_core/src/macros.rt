@@ -29,9 +29,9 @@ macro_rules! body_of {
     };
 }
 
-/// The parts of a SEQUENCE's body as a pattern, for `read`, with the words of `body_of`:
-/// `let fields_of!(id, data, count OPTIONAL) = read_within(alloc, r, nest, 0x30)?;`. Where a part isn't a field, its pattern
-/// is in parentheses.
+/// The parts of a SEQUENCE's body as a pattern, for what `read_of` doesn't do, with the words of `body_of`:
+/// `let fields_of!((Null), count OPTIONAL) = read_within(alloc, r, nest, 0x30)?;`. Where a part isn't a field, its pattern is in
+/// parentheses.
 #[macro_export]
 macro_rules! fields_of {
     () => { $crate::prelude::End };
@@ -53,6 +53,16 @@ macro_rules! fields_of {
     (($part:pat) $(, $($rest:tt)*)?) => {
         $crate::prelude::Part($part, $crate::fields_of!($($($rest)*)?))
     };
+}
+
+/// Reads a SEQUENCE whose parts are the fields of a struct, as the body of `DerDeserialize::read`:
+/// `read_of!(alloc, r, nest; Stamp { id, data, count OPTIONAL })`.
+#[macro_export]
+macro_rules! read_of {
+    ($alloc:ident, $r:ident, $nest:ident; $type:ident { $($field:ident $($word:ident)?),* }) => {{
+        let $crate::fields_of!($($field $($word)?),*) = $crate::prelude::read_within($alloc, $r, $nest, 0x30)?;
+        Ok($type { $($field),* })
+    }};
 }
 
 /// Clones a struct with named fields, as the body of `TryClone::try_clone`: `clone_of!(self, alloc; Attribute { ty,

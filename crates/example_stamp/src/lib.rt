@@ -34,8 +34,7 @@ impl DerSerialize for Stamp {
 
 impl DerDeserialize for Stamp {
     fn read(alloc: Global, r: &mut Reader<'_>, nest: u8) -> Result<Self, Error> {
-        let fields_of!(id, data, count OPTIONAL) = read_within(alloc, r, nest, 0x30)?;
-        Ok(Stamp { id, data, count })
+        read_of!(alloc, r, nest; Stamp { id, data, count OPTIONAL })
     }
 
     ghost lawful = { lawful_stamp };

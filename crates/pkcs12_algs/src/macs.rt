@@ -49,12 +49,7 @@ impl DerSerialize for MacData {
 
 impl DerDeserialize for MacData {
     fn read(alloc: Global, r: &mut Reader<'_>, nest: u8) -> Result<Self, Error> {
-        let fields_of!(mac, salt, iterations OPTIONAL) = read_within(alloc, r, nest, 0x30)?;
-        Ok(Self {
-            mac,
-            salt,
-            iterations,
-        })
+        read_of!(alloc, r, nest; Self { mac, salt, iterations OPTIONAL })
     }
 
     ghost lawful = { lawful_mac_data };

@@ -123,8 +123,7 @@ impl DerSerialize for Pbes1Params {
 
 impl DerDeserialize for Pbes1Params {
     fn read(alloc: Global, r: &mut Reader<'_>, nest: u8) -> Result<Self, Error> {
-        let fields_of!(salt, iterations) = read_within(alloc, r, nest, 0x30)?;
-        Ok(Self { salt, iterations })
+        read_of!(alloc, r, nest; Self { salt, iterations })
     }
 
     ghost lawful = { lawful_pbes1_params };

@@ -275,11 +275,7 @@ impl DerSerialize for Pbes2Params {
 
 impl DerDeserialize for Pbes2Params {
     fn read(alloc: Global, r: &mut Reader<'_>, nest: u8) -> Result<Self, Error> {
-        let fields_of!(key_derivation_func, encryption_scheme) = read_within(alloc, r, nest, 0x30)?;
-        Ok(Self {
-            key_derivation_func,
-            encryption_scheme,
-        })
+        read_of!(alloc, r, nest; Self { key_derivation_func, encryption_scheme })
     }
 
     ghost lawful = { lawful_pbes2_params };

@@ -196,11 +196,7 @@ impl DerSerialize for SpcIndirectDataContent {
 
 impl DerDeserialize for SpcIndirectDataContent {
     fn read(alloc: Global, r: &mut Reader<'_>, nest: u8) -> Result<Self, Error> {
-        let fields_of!(spc_data, message_digest) = read_within(alloc, r, nest, 0x30)?;
-        Ok(SpcIndirectDataContent {
-            spc_data,
-            message_digest,
-        })
+        read_of!(alloc, r, nest; SpcIndirectDataContent { spc_data, message_digest })
     }
 
     ghost lawful = { lawful_indirect_data };

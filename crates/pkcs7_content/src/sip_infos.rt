@@ -44,17 +44,8 @@ impl DerSerialize for SpcSipInfo {
 
 impl DerDeserialize for SpcSipInfo {
     fn read(alloc: Global, r: &mut Reader<'_>, nest: u8) -> Result<Self, Error> {
-        let fields_of!(
+        read_of!(alloc, r, nest; SpcSipInfo {
             version, uuid, reserved1, reserved2, reserved3, reserved4, reserved5
-        ) = read_within(alloc, r, nest, 0x30)?;
-        Ok(SpcSipInfo {
-            version,
-            uuid,
-            reserved1,
-            reserved2,
-            reserved3,
-            reserved4,
-            reserved5,
         })
     }
 

@@ -34,11 +34,7 @@ impl DerSerialize for CTLEntry {
 
 impl DerDeserialize for CTLEntry {
     fn read(alloc: Global, r: &mut Reader<'_>, nest: u8) -> Result<Self, Error> {
-        let fields_of!(cert_fingerprint, attributes) = read_within(alloc, r, nest, 0x30)?;
-        Ok(CTLEntry {
-            cert_fingerprint,
-            attributes,
-        })
+        read_of!(alloc, r, nest; CTLEntry { cert_fingerprint, attributes })
     }
 
     ghost lawful = { lawful_entry };
@@ -95,19 +91,8 @@ impl DerSerialize for Ctl {
 
 impl DerDeserialize for Ctl {
     fn read(alloc: Global, r: &mut Reader<'_>, nest: u8) -> Result<Self, Error> {
-        let fields_of!(
-            signers,
-            sequence_number,
-            effective_date,
-            digest_algorithm,
-            crl_entries
-        ) = read_within(alloc, r, nest, 0x30)?;
-        Ok(Ctl {
-            signers,
-            sequence_number,
-            effective_date,
-            digest_algorithm,
-            crl_entries,
+        read_of!(alloc, r, nest; Ctl {
+            signers, sequence_number, effective_date, digest_algorithm, crl_entries
         })
     }
 

@@ -31,8 +31,7 @@ impl DerSerialize for RootProgramChainPolicy {
 
 impl DerDeserialize for RootProgramChainPolicy {
     fn read(alloc: Global, r: &mut Reader<'_>, nest: u8) -> Result<Self, Error> {
-        let fields_of!(oid) = read_within(alloc, r, nest, 0x30)?;
-        Ok(RootProgramChainPolicy { oid })
+        read_of!(alloc, r, nest; RootProgramChainPolicy { oid })
     }
 
     ghost lawful = { lawful_chain_policy };
@@ -73,8 +72,7 @@ impl DerSerialize for PolicyQualifier {
 
 impl DerDeserialize for PolicyQualifier {
     fn read(alloc: Global, r: &mut Reader<'_>, nest: u8) -> Result<Self, Error> {
-        let fields_of!(oid, bits) = read_within(alloc, r, nest, 0x30)?;
-        Ok(PolicyQualifier { oid, bits })
+        read_of!(alloc, r, nest; PolicyQualifier { oid, bits })
     }
 
     ghost lawful = { lawful_policy_qualifier };
@@ -115,8 +113,7 @@ impl DerSerialize for CertPolicy {
 
 impl DerDeserialize for CertPolicy {
     fn read(alloc: Global, r: &mut Reader<'_>, nest: u8) -> Result<Self, Error> {
-        let fields_of!(oid, qualifier) = read_within(alloc, r, nest, 0x30)?;
-        Ok(CertPolicy { oid, qualifier })
+        read_of!(alloc, r, nest; CertPolicy { oid, qualifier })
     }
 
     ghost lawful = { lawful_cert_policy };

@@ -150,13 +150,8 @@ impl DerSerialize for CertificateList {
 
 impl DerDeserialize for CertificateList {
     fn read(alloc: Global, r: &mut Reader<'_>, nest: u8) -> Result<Self, Error> {
-        let fields_of!(tbs_cert_list, signature_algorithm, signature_value) = read_within(
-            alloc, r, nest, 0x30,
-        )?;
-        Ok(CertificateList {
-            tbs_cert_list,
-            signature_algorithm,
-            signature_value,
+        read_of!(alloc, r, nest; CertificateList {
+            tbs_cert_list, signature_algorithm, signature_value
         })
     }
 

@@ -39,13 +39,8 @@ impl DerSerialize for RevokedCertificate {
 
 impl DerDeserialize for RevokedCertificate {
     fn read(alloc: Global, r: &mut Reader<'_>, nest: u8) -> Result<Self, Error> {
-        let fields_of!(
+        read_of!(alloc, r, nest; RevokedCertificate {
             user_certificate, revocation_data, crl_entry_extensions OPTIONAL
-        ) = read_within(alloc, r, nest, 0x30)?;
-        Ok(RevokedCertificate {
-            user_certificate,
-            revocation_data,
-            crl_entry_extensions,
         })
     }
 

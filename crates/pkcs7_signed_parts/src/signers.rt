@@ -74,11 +74,7 @@ impl DerSerialize for IssuerAndSerialNumber {
 
 impl DerDeserialize for IssuerAndSerialNumber {
     fn read(alloc: Global, r: &mut Reader<'_>, nest: u8) -> Result<Self, Error> {
-        let fields_of!(issuer, serial_number) = read_within(alloc, r, nest, 0x30)?;
-        Ok(IssuerAndSerialNumber {
-            issuer,
-            serial_number,
-        })
+        read_of!(alloc, r, nest; IssuerAndSerialNumber { issuer, serial_number })
     }
 
     ghost lawful = { lawful_issuer_serial };

@@ -33,8 +33,7 @@ impl DerSerialize for DigestInfo {
 
 impl DerDeserialize for DigestInfo {
     fn read(alloc: Global, r: &mut Reader<'_>, nest: u8) -> Result<Self, Error> {
-        let fields_of!(oid, digest) = read_within(alloc, r, nest, 0x30)?;
-        Ok(DigestInfo { oid, digest })
+        read_of!(alloc, r, nest; DigestInfo { oid, digest })
     }
 
     ghost lawful = { lawful_digest_info };

@@ -31,8 +31,7 @@ impl DerSerialize for NameValue {
 
 impl DerDeserialize for NameValue {
     fn read(alloc: Global, r: &mut Reader<'_>, nest: u8) -> Result<Self, Error> {
-        let fields_of!(ty, value) = read_within(alloc, r, nest, 0x30)?;
-        Ok(NameValue { ty, value })
+        read_of!(alloc, r, nest; NameValue { ty, value })
     }
 
     ghost lawful = { lawful_name_value };
@@ -117,8 +116,7 @@ impl DerSerialize for Attribute {
 
 impl DerDeserialize for Attribute {
     fn read(alloc: Global, r: &mut Reader<'_>, nest: u8) -> Result<Self, Error> {
-        let fields_of!(ty, value) = read_within(alloc, r, nest, 0x30)?;
-        Ok(Attribute { ty, value })
+        read_of!(alloc, r, nest; Attribute { ty, value })
     }
 
     ghost lawful = { lawful_attribute };

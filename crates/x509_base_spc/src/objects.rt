@@ -101,11 +101,7 @@ impl DerSerialize for SpcSerializedObject {
 
 impl DerDeserialize for SpcSerializedObject {
     fn read(alloc: Global, r: &mut Reader<'_>, nest: u8) -> Result<Self, Error> {
-        let fields_of!(class_id, serialized_data) = read_within(alloc, r, nest, 0x30)?;
-        Ok(SpcSerializedObject {
-            class_id,
-            serialized_data,
-        })
+        read_of!(alloc, r, nest; SpcSerializedObject { class_id, serialized_data })
     }
 
     ghost lawful = { lawful_serialized_object };

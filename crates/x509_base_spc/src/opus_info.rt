@@ -34,13 +34,7 @@ impl DerSerialize for SpcSpOpusInfo {
 
 impl DerDeserialize for SpcSpOpusInfo {
     fn read(alloc: Global, r: &mut Reader<'_>, nest: u8) -> Result<Self, Error> {
-        let fields_of!(
-            program_name OPTIONAL, more_info OPTIONAL
-        ) = read_within(alloc, r, nest, 0x30)?;
-        Ok(SpcSpOpusInfo {
-            program_name,
-            more_info,
-        })
+        read_of!(alloc, r, nest; SpcSpOpusInfo { program_name OPTIONAL, more_info OPTIONAL })
     }
 
     ghost lawful = { lawful_opus_info };

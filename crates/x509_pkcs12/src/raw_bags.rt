@@ -101,14 +101,7 @@ impl DerSerialize for RawSafeBag {
 
 impl DerDeserialize for RawSafeBag {
     fn read(alloc: Global, r: &mut Reader<'_>, nest: u8) -> Result<Self, Error> {
-        let fields_of!(
-            bag_id, bag_value, bag_attributes OPTIONAL
-        ) = read_within(alloc, r, nest, 0x30)?;
-        Ok(RawSafeBag {
-            bag_id,
-            bag_value,
-            bag_attributes,
-        })
+        read_of!(alloc, r, nest; RawSafeBag { bag_id, bag_value, bag_attributes OPTIONAL })
     }
 
     ghost lawful = { lawful_raw_bag };

@@ -181,11 +181,7 @@ impl DerSerialize for EncryptedKeyBag {
 
 impl DerDeserialize for EncryptedKeyBag {
     fn read(alloc: Global, r: &mut Reader<'_>, nest: u8) -> Result<Self, Error> {
-        let fields_of!(algorithm, encrypted_data) = read_within(alloc, r, nest, 0x30)?;
-        Ok(EncryptedKeyBag {
-            algorithm,
-            encrypted_data,
-        })
+        read_of!(alloc, r, nest; EncryptedKeyBag { algorithm, encrypted_data })
     }
 
     ghost lawful = { lawful_encrypted_key_bag };

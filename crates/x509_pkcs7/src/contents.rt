@@ -55,11 +55,7 @@ impl DerSerialize for ContentInfo {
 
 impl DerDeserialize for ContentInfo {
     fn read(alloc: Global, r: &mut Reader<'_>, nest: u8) -> Result<Self, Error> {
-        let fields_of!(content_type, content) = read_within(alloc, r, nest, 0x30)?;
-        Ok(ContentInfo {
-            content_type,
-            content,
-        })
+        read_of!(alloc, r, nest; ContentInfo { content_type, content })
     }
 
     ghost lawful = { lawful_content_info };

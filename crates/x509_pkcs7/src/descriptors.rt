@@ -34,11 +34,7 @@ impl DerSerialize for ProtectionDescriptor {
 
 impl DerDeserialize for ProtectionDescriptor {
     fn read(alloc: Global, r: &mut Reader<'_>, nest: u8) -> Result<Self, Error> {
-        let fields_of!(descriptor_type, descriptor_value) = read_within(alloc, r, nest, 0x30)?;
-        Ok(ProtectionDescriptor {
-            descriptor_type,
-            descriptor_value,
-        })
+        read_of!(alloc, r, nest; ProtectionDescriptor { descriptor_type, descriptor_value })
     }
 
     ghost lawful = { lawful_descriptor };
@@ -80,11 +76,7 @@ impl DerSerialize for GeneralProtectionDescriptor {
 
 impl DerDeserialize for GeneralProtectionDescriptor {
     fn read(alloc: Global, r: &mut Reader<'_>, nest: u8) -> Result<Self, Error> {
-        let fields_of!(descriptor_type, descriptors) = read_within(alloc, r, nest, 0x30)?;
-        Ok(GeneralProtectionDescriptor {
-            descriptor_type,
-            descriptors,
-        })
+        read_of!(alloc, r, nest; GeneralProtectionDescriptor { descriptor_type, descriptors })
     }
 
     ghost lawful = { lawful_general_descriptor };

@@ -43,11 +43,7 @@ impl DerSerialize for OtherKeyAttribute {
 
 impl DerDeserialize for OtherKeyAttribute {
     fn read(alloc: Global, r: &mut Reader<'_>, nest: u8) -> Result<Self, Error> {
-        let fields_of!(key_attr_id, key_attr OPTIONAL) = read_within(alloc, r, nest, 0x30)?;
-        Ok(OtherKeyAttribute {
-            key_attr_id,
-            key_attr,
-        })
+        read_of!(alloc, r, nest; OtherKeyAttribute { key_attr_id, key_attr OPTIONAL })
     }
 
     ghost lawful = { lawful_other_key };
@@ -159,14 +155,8 @@ impl DerSerialize for KekRecipientInfo {
 
 impl DerDeserialize for KekRecipientInfo {
     fn read(alloc: Global, r: &mut Reader<'_>, nest: u8) -> Result<Self, Error> {
-        let fields_of!(version, kek_id, key_encryption_algorithm, encrypted_key) = read_within(
-            alloc, r, nest, 0x30,
-        )?;
-        Ok(KekRecipientInfo {
-            version,
-            kek_id,
-            key_encryption_algorithm,
-            encrypted_key,
+        read_of!(alloc, r, nest; KekRecipientInfo {
+            version, kek_id, key_encryption_algorithm, encrypted_key
         })
     }
 

@@ -59,11 +59,7 @@ impl DerSerialize for RawEncapsulatedContentInfo {
 
 impl DerDeserialize for RawEncapsulatedContentInfo {
     fn read(alloc: Global, r: &mut Reader<'_>, nest: u8) -> Result<Self, Error> {
-        let fields_of!(content_type, content OPTIONAL) = read_within(alloc, r, nest, 0x30)?;
-        Ok(RawEncapsulatedContentInfo {
-            content_type,
-            content,
-        })
+        read_of!(alloc, r, nest; RawEncapsulatedContentInfo { content_type, content OPTIONAL })
     }
 
     ghost lawful = { lawful_raw_encapsulated };
