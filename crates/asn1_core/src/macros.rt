@@ -1,7 +1,6 @@
-//! What is alike in the methods of every SEQUENCE: its body over references, its fields as a pattern, and a clone.
+//! What is alike in the methods of every SEQUENCE: `put_of`, `formed_of`, `read_of` and `clone_of` are their bodies.
 
-/// The body of a SEQUENCE over references to its fields, for `put` and `well_formed_at`:
-/// `body_of!(self; id, data, count OPTIONAL)`. A field is followed by `OPTIONAL` where it is an `Option`, and by `DEFAULT`
+/// The body of a SEQUENCE over references to its fields: `body_of!(self; id, data, count OPTIONAL)`. A field is followed by `OPTIONAL` where it is an `Option`, and by `DEFAULT`
 /// where its type has a default. Any other part is an expression in parentheses, as `(Null)`.
 #[macro_export]
 macro_rules! body_of {
@@ -52,6 +51,24 @@ macro_rules! fields_of {
     };
     (($part:pat) $(, $($rest:tt)*)?) => {
         $crate::prelude::Part($part, $crate::fields_of!($($($rest)*)?))
+    };
+}
+
+/// Writes a SEQUENCE, as the body of `DerSerialize::put`: `put_of!(self, w; id, data, count OPTIONAL)`, with the parts of
+/// `body_of`.
+#[macro_export]
+macro_rules! put_of {
+    ($value:ident, $w:ident; $($parts:tt)*) => {
+        $crate::prelude::put_within(0x30, &$crate::body_of!($value; $($parts)*), $w)
+    };
+}
+
+/// Whether the parts of a SEQUENCE are well-formed, as the body of `DerSerialize::well_formed_at`:
+/// `formed_of!(self, limit; id, data, count OPTIONAL)`.
+#[macro_export]
+macro_rules! formed_of {
+    ($value:ident, $limit:ident; $($parts:tt)*) => {
+        $crate::body_of!($value; $($parts)*).row_well_formed_at($limit)
     };
 }
 

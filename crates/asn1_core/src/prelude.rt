@@ -5,7 +5,7 @@ pub use crate::{
     Asn1RawDer, Asn1SequenceOf, Asn1SetOf, ExplicitContextTag0, ExplicitContextTag1,
     ExplicitContextTag2, FixedVersion, ImplicitContextTag0, ImplicitContextTag1, KnownOid, Null,
     ObjectIdentifierAsn1, OctetStringAsn1, OctetStringAsn1Container, Optional, SeenByText, body_of,
-    clone_of, fields_of, read_of,
+    clone_of, fields_of, formed_of, put_of, read_of,
 };
 pub use asn1_core_element::{Error, Reader};
 pub use asn1_core_format::{

@@ -24,11 +24,11 @@ impl DerSerialize for Stamp {
     ghost format = { stamp };
 
     fn put<W: Writer>(&self, w: &mut W) -> Result<(), WriteError> {
-        put_within(0x30, &body_of!(self; id, data, count OPTIONAL), w)
+        put_of!(self, w; id, data, count OPTIONAL)
     }
 
     fn well_formed_at(&self, limit: u8) -> bool {
-        body_of!(self; id, data, count OPTIONAL).row_well_formed_at(limit)
+        formed_of!(self, limit; id, data, count OPTIONAL)
     }
 }
 

@@ -144,12 +144,11 @@ impl DerSerialize for Pkcs12DigestInfo {
     ghost format = { digest_info };
 
     fn put<W: Writer>(&self, w: &mut W) -> Result<(), WriteError> {
-        let body = body_of!(self; (AlgorithmRef(&self.digest_algorithm)), digest);
-        put_within(0x30, &body, w)
+        put_of!(self, w; (AlgorithmRef(&self.digest_algorithm)), digest)
     }
 
     fn well_formed_at(&self, limit: u8) -> bool {
-        body_of!(self; (AlgorithmRef(&self.digest_algorithm)), digest).row_well_formed_at(limit)
+        formed_of!(self, limit; (AlgorithmRef(&self.digest_algorithm)), digest)
     }
 }
 

@@ -39,11 +39,11 @@ impl DerSerialize for MacData {
     ghost format = { mac_data };
 
     fn put<W: Writer>(&self, w: &mut W) -> Result<(), WriteError> {
-        put_within(0x30, &body_of!(self; mac, salt, iterations OPTIONAL), w)
+        put_of!(self, w; mac, salt, iterations OPTIONAL)
     }
 
     fn well_formed_at(&self, limit: u8) -> bool {
-        body_of!(self; mac, salt, iterations OPTIONAL).row_well_formed_at(limit)
+        formed_of!(self, limit; mac, salt, iterations OPTIONAL)
     }
 }
 

@@ -113,11 +113,11 @@ impl DerSerialize for Pbes1Params {
     ghost format = { pbes1_params };
 
     fn put<W: Writer>(&self, w: &mut W) -> Result<(), WriteError> {
-        put_within(0x30, &body_of!(self; salt, iterations), w)
+        put_of!(self, w; salt, iterations)
     }
 
     fn well_formed_at(&self, limit: u8) -> bool {
-        body_of!(self; salt, iterations).row_well_formed_at(limit)
+        formed_of!(self, limit; salt, iterations)
     }
 }
 

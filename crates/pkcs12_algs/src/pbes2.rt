@@ -264,12 +264,11 @@ impl DerSerialize for Pbes2Params {
     ghost format = { pbes2_params };
 
     fn put<W: Writer>(&self, w: &mut W) -> Result<(), WriteError> {
-        let body = body_of!(self; key_derivation_func, encryption_scheme);
-        put_within(0x30, &body, w)
+        put_of!(self, w; key_derivation_func, encryption_scheme)
     }
 
     fn well_formed_at(&self, limit: u8) -> bool {
-        body_of!(self; key_derivation_func, encryption_scheme).row_well_formed_at(limit)
+        formed_of!(self, limit; key_derivation_func, encryption_scheme)
     }
 }
 

@@ -186,11 +186,11 @@ impl DerSerialize for SpcIndirectDataContent {
     ghost format = { indirect_data };
 
     fn put<W: Writer>(&self, w: &mut W) -> Result<(), WriteError> {
-        put_within(0x30, &body_of!(self; spc_data, message_digest), w)
+        put_of!(self, w; spc_data, message_digest)
     }
 
     fn well_formed_at(&self, limit: u8) -> bool {
-        body_of!(self; spc_data, message_digest).row_well_formed_at(limit)
+        formed_of!(self, limit; spc_data, message_digest)
     }
 }
 

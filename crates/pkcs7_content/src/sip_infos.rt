@@ -28,17 +28,13 @@ impl DerSerialize for SpcSipInfo {
     ghost format = { sip_info };
 
     fn put<W: Writer>(&self, w: &mut W) -> Result<(), WriteError> {
-        let body = body_of!(self;
-            version, uuid, reserved1, reserved2, reserved3, reserved4, reserved5
-        );
-        put_within(0x30, &body, w)
+        put_of!(self, w; version, uuid, reserved1, reserved2, reserved3, reserved4, reserved5)
     }
 
     fn well_formed_at(&self, limit: u8) -> bool {
-        let body = body_of!(self;
+        formed_of!(self, limit;
             version, uuid, reserved1, reserved2, reserved3, reserved4, reserved5
-        );
-        body.row_well_formed_at(limit)
+        )
     }
 }
 

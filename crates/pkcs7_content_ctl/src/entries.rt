@@ -24,11 +24,11 @@ impl DerSerialize for CTLEntry {
     ghost format = { entry };
 
     fn put<W: Writer>(&self, w: &mut W) -> Result<(), WriteError> {
-        put_within(0x30, &body_of!(self; cert_fingerprint, attributes), w)
+        put_of!(self, w; cert_fingerprint, attributes)
     }
 
     fn well_formed_at(&self, limit: u8) -> bool {
-        body_of!(self; cert_fingerprint, attributes).row_well_formed_at(limit)
+        formed_of!(self, limit; cert_fingerprint, attributes)
     }
 }
 
@@ -75,17 +75,13 @@ impl DerSerialize for Ctl {
     ghost format = { ctl };
 
     fn put<W: Writer>(&self, w: &mut W) -> Result<(), WriteError> {
-        let body = body_of!(self;
-            signers, sequence_number, effective_date, digest_algorithm, crl_entries
-        );
-        put_within(0x30, &body, w)
+        put_of!(self, w; signers, sequence_number, effective_date, digest_algorithm, crl_entries)
     }
 
     fn well_formed_at(&self, limit: u8) -> bool {
-        let body = body_of!(self;
+        formed_of!(self, limit;
             signers, sequence_number, effective_date, digest_algorithm, crl_entries
-        );
-        body.row_well_formed_at(limit)
+        )
     }
 }
 

@@ -21,7 +21,7 @@ impl DerSerialize for RootProgramChainPolicy {
     ghost format = { chain_policy };
 
     fn put<W: Writer>(&self, w: &mut W) -> Result<(), WriteError> {
-        put_within(0x30, &body_of!(self; oid), w)
+        put_of!(self, w; oid)
     }
 
     fn well_formed_at(&self, limit: u8) -> bool {
@@ -62,11 +62,11 @@ impl DerSerialize for PolicyQualifier {
     ghost format = { policy_qualifier };
 
     fn put<W: Writer>(&self, w: &mut W) -> Result<(), WriteError> {
-        put_within(0x30, &body_of!(self; oid, bits), w)
+        put_of!(self, w; oid, bits)
     }
 
     fn well_formed_at(&self, limit: u8) -> bool {
-        body_of!(self; oid, bits).row_well_formed_at(limit)
+        formed_of!(self, limit; oid, bits)
     }
 }
 
@@ -103,11 +103,11 @@ impl DerSerialize for CertPolicy {
     ghost format = { cert_policy };
 
     fn put<W: Writer>(&self, w: &mut W) -> Result<(), WriteError> {
-        put_within(0x30, &body_of!(self; oid, qualifier), w)
+        put_of!(self, w; oid, qualifier)
     }
 
     fn well_formed_at(&self, limit: u8) -> bool {
-        body_of!(self; oid, qualifier).row_well_formed_at(limit)
+        formed_of!(self, limit; oid, qualifier)
     }
 }
 

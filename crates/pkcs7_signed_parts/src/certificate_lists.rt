@@ -67,11 +67,10 @@ impl DerSerialize for TbsCertList {
     ghost format = { tbs_list };
 
     fn put<W: Writer>(&self, w: &mut W) -> Result<(), WriteError> {
-        let body = body_of!(self;
+        put_of!(self, w;
             version OPTIONAL, signature, issuer, this_update, next_update OPTIONAL,
             revoked_certificates OPTIONAL, (tagged(&self.crl_extension.0)) OPTIONAL
-        );
-        put_within(0x30, &body, w)
+        )
     }
 
     fn well_formed_at(&self, limit: u8) -> bool {
@@ -138,13 +137,11 @@ impl DerSerialize for CertificateList {
     ghost format = { certificate_list };
 
     fn put<W: Writer>(&self, w: &mut W) -> Result<(), WriteError> {
-        let body = body_of!(self; tbs_cert_list, signature_algorithm, signature_value);
-        put_within(0x30, &body, w)
+        put_of!(self, w; tbs_cert_list, signature_algorithm, signature_value)
     }
 
     fn well_formed_at(&self, limit: u8) -> bool {
-        let body = body_of!(self; tbs_cert_list, signature_algorithm, signature_value);
-        body.row_well_formed_at(limit)
+        formed_of!(self, limit; tbs_cert_list, signature_algorithm, signature_value)
     }
 }
 

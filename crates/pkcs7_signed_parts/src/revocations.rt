@@ -27,7 +27,7 @@ impl DerSerialize for OtherRevocationInfoFormat {
     ghost format = { other_format };
 
     fn put<W: Writer>(&self, w: &mut W) -> Result<(), WriteError> {
-        put_within(0x30, &body_of!(self; other_rev_info_format, (Null)), w)
+        put_of!(self, w; other_rev_info_format, (Null))
     }
 
     fn well_formed_at(&self, limit: u8) -> bool {

@@ -27,13 +27,11 @@ impl DerSerialize for RevokedCertificate {
     ghost format = { revoked };
 
     fn put<W: Writer>(&self, w: &mut W) -> Result<(), WriteError> {
-        let body = body_of!(self; user_certificate, revocation_data, crl_entry_extensions OPTIONAL);
-        put_within(0x30, &body, w)
+        put_of!(self, w; user_certificate, revocation_data, crl_entry_extensions OPTIONAL)
     }
 
     fn well_formed_at(&self, limit: u8) -> bool {
-        let body = body_of!(self; user_certificate, revocation_data, crl_entry_extensions OPTIONAL);
-        body.row_well_formed_at(limit)
+        formed_of!(self, limit; user_certificate, revocation_data, crl_entry_extensions OPTIONAL)
     }
 }
 

@@ -64,11 +64,11 @@ impl DerSerialize for IssuerAndSerialNumber {
     ghost format = { issuer_serial };
 
     fn put<W: Writer>(&self, w: &mut W) -> Result<(), WriteError> {
-        put_within(0x30, &body_of!(self; issuer, serial_number), w)
+        put_of!(self, w; issuer, serial_number)
     }
 
     fn well_formed_at(&self, limit: u8) -> bool {
-        body_of!(self; issuer, serial_number).row_well_formed_at(limit)
+        formed_of!(self, limit; issuer, serial_number)
     }
 }
 

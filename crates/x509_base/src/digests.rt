@@ -23,11 +23,11 @@ impl DerSerialize for DigestInfo {
     ghost format = { digest_info };
 
     fn put<W: Writer>(&self, w: &mut W) -> Result<(), WriteError> {
-        put_within(0x30, &body_of!(self; oid, digest), w)
+        put_of!(self, w; oid, digest)
     }
 
     fn well_formed_at(&self, limit: u8) -> bool {
-        body_of!(self; oid, digest).row_well_formed_at(limit)
+        formed_of!(self, limit; oid, digest)
     }
 }
 

@@ -24,13 +24,11 @@ impl DerSerialize for Extension {
     ghost format = { extension };
 
     fn put<W: Writer>(&self, w: &mut W) -> Result<(), WriteError> {
-        let body = body_of!(self; extn_id, (DefaultFalse(self.critical)) DEFAULT, extn_value);
-        put_within(0x30, &body, w)
+        put_of!(self, w; extn_id, (DefaultFalse(self.critical)) DEFAULT, extn_value)
     }
 
     fn well_formed_at(&self, limit: u8) -> bool {
-        let body = body_of!(self; extn_id, (DefaultFalse(self.critical)) DEFAULT, extn_value);
-        body.row_well_formed_at(limit)
+        formed_of!(self, limit; extn_id, (DefaultFalse(self.critical)) DEFAULT, extn_value)
     }
 }
 

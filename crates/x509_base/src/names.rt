@@ -21,11 +21,11 @@ impl DerSerialize for NameValue {
     ghost format = { name_value };
 
     fn put<W: Writer>(&self, w: &mut W) -> Result<(), WriteError> {
-        put_within(0x30, &body_of!(self; ty, value), w)
+        put_of!(self, w; ty, value)
     }
 
     fn well_formed_at(&self, limit: u8) -> bool {
-        body_of!(self; ty, value).row_well_formed_at(limit)
+        formed_of!(self, limit; ty, value)
     }
 }
 
@@ -106,11 +106,11 @@ impl DerSerialize for Attribute {
     ghost format = { attribute };
 
     fn put<W: Writer>(&self, w: &mut W) -> Result<(), WriteError> {
-        put_within(0x30, &body_of!(self; ty, value), w)
+        put_of!(self, w; ty, value)
     }
 
     fn well_formed_at(&self, limit: u8) -> bool {
-        body_of!(self; ty, value).row_well_formed_at(limit)
+        formed_of!(self, limit; ty, value)
     }
 }
 

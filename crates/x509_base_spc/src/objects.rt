@@ -91,11 +91,11 @@ impl DerSerialize for SpcSerializedObject {
     ghost format = { serialized_object };
 
     fn put<W: Writer>(&self, w: &mut W) -> Result<(), WriteError> {
-        put_within(0x30, &body_of!(self; class_id, serialized_data), w)
+        put_of!(self, w; class_id, serialized_data)
     }
 
     fn well_formed_at(&self, limit: u8) -> bool {
-        body_of!(self; class_id, serialized_data).row_well_formed_at(limit)
+        formed_of!(self, limit; class_id, serialized_data)
     }
 }
 

@@ -23,12 +23,11 @@ impl DerSerialize for SpcSpOpusInfo {
     ghost format = { opus_info };
 
     fn put<W: Writer>(&self, w: &mut W) -> Result<(), WriteError> {
-        let body = body_of!(self; program_name OPTIONAL, more_info OPTIONAL);
-        put_within(0x30, &body, w)
+        put_of!(self, w; program_name OPTIONAL, more_info OPTIONAL)
     }
 
     fn well_formed_at(&self, limit: u8) -> bool {
-        body_of!(self; program_name OPTIONAL, more_info OPTIONAL).row_well_formed_at(limit)
+        formed_of!(self, limit; program_name OPTIONAL, more_info OPTIONAL)
     }
 }
 

@@ -90,12 +90,11 @@ impl DerSerialize for RawSafeBag {
     ghost format = { raw_bag };
 
     fn put<W: Writer>(&self, w: &mut W) -> Result<(), WriteError> {
-        let body = body_of!(self; bag_id, bag_value, bag_attributes OPTIONAL);
-        put_within(0x30, &body, w)
+        put_of!(self, w; bag_id, bag_value, bag_attributes OPTIONAL)
     }
 
     fn well_formed_at(&self, limit: u8) -> bool {
-        body_of!(self; bag_id, bag_value, bag_attributes OPTIONAL).row_well_formed_at(limit)
+        formed_of!(self, limit; bag_id, bag_value, bag_attributes OPTIONAL)
     }
 }
 

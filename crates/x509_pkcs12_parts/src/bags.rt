@@ -123,13 +123,11 @@ impl DerSerialize for SecretBag {
     ghost format = { secret_bag };
 
     fn put<W: Writer>(&self, w: &mut W) -> Result<(), WriteError> {
-        let body = body_of!(self; (OidRef(&self.type_id)), (ExplicitContextTag0(&self.value)));
-        put_within(0x30, &body, w)
+        put_of!(self, w; (OidRef(&self.type_id)), (ExplicitContextTag0(&self.value)))
     }
 
     fn well_formed_at(&self, limit: u8) -> bool {
-        let body = body_of!(self; (OidRef(&self.type_id)), (ExplicitContextTag0(&self.value)));
-        body.row_well_formed_at(limit)
+        formed_of!(self, limit; (OidRef(&self.type_id)), (ExplicitContextTag0(&self.value)))
     }
 }
 
@@ -171,11 +169,11 @@ impl DerSerialize for EncryptedKeyBag {
     ghost format = { encrypted_key_bag };
 
     fn put<W: Writer>(&self, w: &mut W) -> Result<(), WriteError> {
-        put_within(0x30, &body_of!(self; algorithm, encrypted_data), w)
+        put_of!(self, w; algorithm, encrypted_data)
     }
 
     fn well_formed_at(&self, limit: u8) -> bool {
-        body_of!(self; algorithm, encrypted_data).row_well_formed_at(limit)
+        formed_of!(self, limit; algorithm, encrypted_data)
     }
 }
 

@@ -45,11 +45,11 @@ impl DerSerialize for ContentInfo {
     ghost format = { content_info };
 
     fn put<W: Writer>(&self, w: &mut W) -> Result<(), WriteError> {
-        put_within(0x30, &body_of!(self; content_type, content), w)
+        put_of!(self, w; content_type, content)
     }
 
     fn well_formed_at(&self, limit: u8) -> bool {
-        body_of!(self; content_type, content).row_well_formed_at(limit)
+        formed_of!(self, limit; content_type, content)
     }
 }
 

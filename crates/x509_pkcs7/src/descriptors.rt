@@ -23,12 +23,11 @@ impl DerSerialize for ProtectionDescriptor {
     ghost format = { descriptor };
 
     fn put<W: Writer>(&self, w: &mut W) -> Result<(), WriteError> {
-        let body = body_of!(self; descriptor_type, descriptor_value);
-        put_within(0x30, &body, w)
+        put_of!(self, w; descriptor_type, descriptor_value)
     }
 
     fn well_formed_at(&self, limit: u8) -> bool {
-        body_of!(self; descriptor_type, descriptor_value).row_well_formed_at(limit)
+        formed_of!(self, limit; descriptor_type, descriptor_value)
     }
 }
 
@@ -66,11 +65,11 @@ impl DerSerialize for GeneralProtectionDescriptor {
     ghost format = { general_descriptor };
 
     fn put<W: Writer>(&self, w: &mut W) -> Result<(), WriteError> {
-        put_within(0x30, &body_of!(self; descriptor_type, descriptors), w)
+        put_of!(self, w; descriptor_type, descriptors)
     }
 
     fn well_formed_at(&self, limit: u8) -> bool {
-        body_of!(self; descriptor_type, descriptors).row_well_formed_at(limit)
+        formed_of!(self, limit; descriptor_type, descriptors)
     }
 }
 

@@ -46,17 +46,17 @@ impl DerSerialize for EncryptedContentInfo {
     ghost format = { encrypted_content };
 
     fn put<W: Writer>(&self, w: &mut W) -> Result<(), WriteError> {
-        let body = body_of!(self;
-            content_type, content_encryption_algorithm, (self.encrypted_content.0.as_ref()) OPTIONAL
-        );
-        put_within(0x30, &body, w)
+        put_of!(self, w;
+            content_type, content_encryption_algorithm,
+            (self.encrypted_content.0.as_ref()) OPTIONAL
+        )
     }
 
     fn well_formed_at(&self, limit: u8) -> bool {
-        let body = body_of!(self;
-            content_type, content_encryption_algorithm, (self.encrypted_content.0.as_ref()) OPTIONAL
-        );
-        body.row_well_formed_at(limit)
+        formed_of!(self, limit;
+            content_type, content_encryption_algorithm,
+            (self.encrypted_content.0.as_ref()) OPTIONAL
+        )
     }
 }
 
@@ -103,17 +103,11 @@ impl DerSerialize for OriginatorInfo {
     ghost format = { originator };
 
     fn put<W: Writer>(&self, w: &mut W) -> Result<(), WriteError> {
-        let body = body_of!(self;
-            (self.certs.0.as_ref()) OPTIONAL, (self.crls.0.as_ref()) OPTIONAL
-        );
-        put_within(0x30, &body, w)
+        put_of!(self, w; (self.certs.0.as_ref()) OPTIONAL, (self.crls.0.as_ref()) OPTIONAL)
     }
 
     fn well_formed_at(&self, limit: u8) -> bool {
-        let body = body_of!(self;
-            (self.certs.0.as_ref()) OPTIONAL, (self.crls.0.as_ref()) OPTIONAL
-        );
-        body.row_well_formed_at(limit)
+        formed_of!(self, limit; (self.certs.0.as_ref()) OPTIONAL, (self.crls.0.as_ref()) OPTIONAL)
     }
 }
 
@@ -181,19 +175,17 @@ impl<R: DerSerialize> DerSerialize for EnvelopedData<R> {
     ghost format = { enveloped R.format };
 
     fn put<W: Writer>(&self, w: &mut W) -> Result<(), WriteError> {
-        let body = body_of!(self;
+        put_of!(self, w;
             version, (self.originator_info.0.as_ref()) OPTIONAL, recipient_infos,
             encrypted_content_info, (self.unprotected_attrs.0.as_ref()) OPTIONAL
-        );
-        put_within(0x30, &body, w)
+        )
     }
 
     fn well_formed_at(&self, limit: u8) -> bool {
-        let body = body_of!(self;
+        formed_of!(self, limit;
             version, (self.originator_info.0.as_ref()) OPTIONAL, recipient_infos,
             encrypted_content_info, (self.unprotected_attrs.0.as_ref()) OPTIONAL
-        );
-        body.row_well_formed_at(limit)
+        )
     }
 }
 

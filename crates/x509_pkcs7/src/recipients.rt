@@ -33,11 +33,11 @@ impl DerSerialize for OtherKeyAttribute {
     ghost format = { other_key };
 
     fn put<W: Writer>(&self, w: &mut W) -> Result<(), WriteError> {
-        put_within(0x30, &body_of!(self; key_attr_id, key_attr OPTIONAL), w)
+        put_of!(self, w; key_attr_id, key_attr OPTIONAL)
     }
 
     fn well_formed_at(&self, limit: u8) -> bool {
-        body_of!(self; key_attr_id, key_attr OPTIONAL).row_well_formed_at(limit)
+        formed_of!(self, limit; key_attr_id, key_attr OPTIONAL)
     }
 }
 
@@ -86,17 +86,15 @@ impl DerSerialize for KekIdentifier {
     ghost format = { kek_id };
 
     fn put<W: Writer>(&self, w: &mut W) -> Result<(), WriteError> {
-        let body = body_of!(self;
+        put_of!(self, w;
             key_identifier, (self.date.0.as_ref()) OPTIONAL, (self.other.0.as_ref()) OPTIONAL
-        );
-        put_within(0x30, &body, w)
+        )
     }
 
     fn well_formed_at(&self, limit: u8) -> bool {
-        let body = body_of!(self;
+        formed_of!(self, limit;
             key_identifier, (self.date.0.as_ref()) OPTIONAL, (self.other.0.as_ref()) OPTIONAL
-        );
-        body.row_well_formed_at(limit)
+        )
     }
 }
 
@@ -143,13 +141,11 @@ impl DerSerialize for KekRecipientInfo {
     ghost format = { kek_recipient };
 
     fn put<W: Writer>(&self, w: &mut W) -> Result<(), WriteError> {
-        let body = body_of!(self; version, kek_id, key_encryption_algorithm, encrypted_key);
-        put_within(0x30, &body, w)
+        put_of!(self, w; version, kek_id, key_encryption_algorithm, encrypted_key)
     }
 
     fn well_formed_at(&self, limit: u8) -> bool {
-        let body = body_of!(self; version, kek_id, key_encryption_algorithm, encrypted_key);
-        body.row_well_formed_at(limit)
+        formed_of!(self, limit; version, kek_id, key_encryption_algorithm, encrypted_key)
     }
 }
 

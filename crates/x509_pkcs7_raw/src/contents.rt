@@ -49,11 +49,11 @@ impl DerSerialize for RawEncapsulatedContentInfo {
     ghost format = { raw_encapsulated };
 
     fn put<W: Writer>(&self, w: &mut W) -> Result<(), WriteError> {
-        put_within(0x30, &body_of!(self; content_type, content OPTIONAL), w)
+        put_of!(self, w; content_type, content OPTIONAL)
     }
 
     fn well_formed_at(&self, limit: u8) -> bool {
-        body_of!(self; content_type, content OPTIONAL).row_well_formed_at(limit)
+        formed_of!(self, limit; content_type, content OPTIONAL)
     }
 }
 

@@ -130,19 +130,17 @@ impl<S: DerSerialize> DerSerialize for RawSignedData<S> {
     ghost format = { raw_signed S.format };
 
     fn put<W: Writer>(&self, w: &mut W) -> Result<(), WriteError> {
-        let body = body_of!(self;
+        put_of!(self, w;
             version, digest_algorithms, content_info, (&self.certificates.0) DEFAULT,
             crls OPTIONAL, signers_infos
-        );
-        put_within(0x30, &body, w)
+        )
     }
 
     fn well_formed_at(&self, limit: u8) -> bool {
-        let body = body_of!(self;
+        formed_of!(self, limit;
             version, digest_algorithms, content_info, (&self.certificates.0) DEFAULT,
             crls OPTIONAL, signers_infos
-        );
-        body.row_well_formed_at(limit)
+        )
     }
 }
 
@@ -241,7 +239,7 @@ impl<S: DerSerialize> DerSerialize for RawPkcs7Certificate<S> {
     ghost format = { raw_certificate S.format };
 
     fn put<W: Writer>(&self, w: &mut W) -> Result<(), WriteError> {
-        put_within(0x30, &body_of!(self; (SignedDataType), signed_data), w)
+        put_of!(self, w; (SignedDataType), signed_data)
     }
 
     fn well_formed_at(&self, limit: u8) -> bool {

@@ -97,19 +97,17 @@ impl DerSerialize for RawSignerInfo {
     ghost format = { raw_signer };
 
     fn put<W: Writer>(&self, w: &mut W) -> Result<(), WriteError> {
-        let body = body_of!(self;
+        put_of!(self, w;
             version, sid, digest_algorithm, (&self.signed_attrs.0) DEFAULT, signature_algorithm,
             signature, (&self.unsigned_attrs.0) DEFAULT
-        );
-        put_within(0x30, &body, w)
+        )
     }
 
     fn well_formed_at(&self, limit: u8) -> bool {
-        let body = body_of!(self;
+        formed_of!(self, limit;
             version, sid, digest_algorithm, (&self.signed_attrs.0) DEFAULT, signature_algorithm,
             signature, (&self.unsigned_attrs.0) DEFAULT
-        );
-        body.row_well_formed_at(limit)
+        )
     }
 }
 
