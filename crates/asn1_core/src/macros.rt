@@ -1,7 +1,8 @@
 //! What is alike in the methods of every SEQUENCE: `put_of`, `formed_of`, `read_of` and `clone_of` are their bodies.
 
-/// The body of a SEQUENCE over references to its fields: `body_of!(self; id, data, count OPTIONAL)`. A field is followed by `OPTIONAL` where it is an `Option`, and by `DEFAULT`
-/// where its type has a default. Any other part is an expression in parentheses, as `(Null)`.
+/// The body of a SEQUENCE over references to its fields: `body_of!(self; id, data, count OPTIONAL)`. A field is followed by
+/// `OPTIONAL` where it is an `Option`, and by `DEFAULT` where its type has a default. Any other part is an expression in
+/// parentheses, as `(Null)`.
 #[macro_export]
 macro_rules! body_of {
     ($value:ident;) => { $crate::prelude::End };
@@ -28,8 +29,8 @@ macro_rules! body_of {
     };
 }
 
-/// The parts of a SEQUENCE's body as a pattern, for what `read_of` doesn't do, with the words of `body_of`:
-/// `let fields_of!((Null), count OPTIONAL) = read_within(alloc, r, nest, 0x30)?;`. Where a part isn't a field, its pattern is in
+/// The parts of a SEQUENCE's body as a pattern, with the words of `body_of`, for a `read` that does more than `read_of`:
+/// `let fields_of!((Null), count OPTIONAL) = read_within(alloc, r, nest, 0x30)?;`. What isn't a field is a pattern in
 /// parentheses.
 #[macro_export]
 macro_rules! fields_of {

@@ -33,11 +33,7 @@ impl<R: AuthenticatedSafeDataRepr> DerSerialize for Pfx<R> {
     ghost format = { pfx R.format };
 
     fn put<W: Writer>(&self, w: &mut W) -> Result<(), WriteError> {
-        put_within(
-            0x30,
-            &body_of!(self; version, auth_safe, mac_data OPTIONAL),
-            w,
-        )
+        put_of!(self, w; version, auth_safe, mac_data OPTIONAL)
     }
 
     fn well_formed_at(&self, limit: u8) -> bool {
