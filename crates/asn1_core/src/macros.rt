@@ -1,8 +1,8 @@
 //! What is alike in the methods of every SEQUENCE: `put_of`, `formed_of`, `read_of` and `clone_of` are their bodies.
 
-/// The body of a SEQUENCE over references to its fields: `body_of!(self; id, data, count OPTIONAL)`. A field is followed by
-/// `OPTIONAL` where it is an `Option`, and by `DEFAULT` where its type has a default. Any other part is an expression in
-/// parentheses, as `(Null)`.
+/// The body of a SEQUENCE over references to its fields: `body_of!(self; id, data, count OPTIONAL)`. A field is
+/// followed by `OPTIONAL` where it is an `Option`, and by `DEFAULT` where its type has a default. Any other part is an
+/// expression in parentheses, as `(Null)`.
 #[macro_export]
 macro_rules! body_of {
     ($value:ident;) => { $crate::prelude::End };
@@ -29,9 +29,9 @@ macro_rules! body_of {
     };
 }
 
-/// The parts of a SEQUENCE's body as a pattern, with the words of `body_of`, for a `read` that does more than `read_of`:
-/// `let fields_of!((Null), count OPTIONAL) = read_within(alloc, r, nest, 0x30)?;`. What isn't a field is a pattern in
-/// parentheses.
+/// The parts of a SEQUENCE's body as a pattern, with the words of `body_of`, for a `read` that does more than
+/// `read_of`: `let fields_of!((Null), count OPTIONAL) = read_within(alloc, r, nest, 0x30)?;`. What isn't a field is a
+/// pattern in parentheses.
 #[macro_export]
 macro_rules! fields_of {
     () => { $crate::prelude::End };
@@ -55,8 +55,8 @@ macro_rules! fields_of {
     };
 }
 
-/// Writes a SEQUENCE, as the body of `DerSerialize::put`: `put_of!(self, w; id, data, count OPTIONAL)`, with the parts of
-/// `body_of`.
+/// Writes a SEQUENCE, as the body of `DerSerialize::put`: `put_of!(self, w; id, data, count OPTIONAL)`, with the parts
+/// of `body_of`.
 #[macro_export]
 macro_rules! put_of {
     ($value:ident, $w:ident; $($parts:tt)*) => {
@@ -64,8 +64,8 @@ macro_rules! put_of {
     };
 }
 
-/// Whether the parts of a SEQUENCE are well-formed, as the body of `DerSerialize::well_formed_at`:
-/// `formed_of!(self, limit; id, data, count OPTIONAL)`.
+/// Whether the parts of a SEQUENCE are well-formed, as the body of `DerSerialize::well_formed_at`: `formed_of!(self,
+/// limit; id, data, count OPTIONAL)`.
 #[macro_export]
 macro_rules! formed_of {
     ($value:ident, $limit:ident; $($parts:tt)*) => {
@@ -73,8 +73,8 @@ macro_rules! formed_of {
     };
 }
 
-/// Reads a SEQUENCE whose parts are the fields of a struct, as the body of `DerDeserialize::read`:
-/// `read_of!(alloc, r, nest; Stamp { id, data, count OPTIONAL })`.
+/// Reads a SEQUENCE whose parts are the fields of a struct, as the body of `DerDeserialize::read`: `read_of!(alloc, r,
+/// nest; Stamp { id, data, count OPTIONAL })`.
 #[macro_export]
 macro_rules! read_of {
     ($alloc:ident, $r:ident, $nest:ident; $type:ident { $($field:ident $($word:ident)?),* }) => {{
