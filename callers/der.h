@@ -50,7 +50,7 @@ typedef enum der_status {
   DER_MISSING = 4,      /* an element isn't there */
   DER_INVALID = 5,      /* a tag, version, object identifier, character or number that can't be there */
   DER_TOO_DEEP = 6,     /* more levels of nesting than the limit */
-  DER_TOO_LONG = 7,     /* its normal encoding, or the part, has 2^64 bytes or more */
+  DER_TOO_LONG = 7,     /* its normal encoding, or that of the part, has 2^64 bytes or more */
   DER_NO_MEMORY = 8,    /* a request for memory was refused: nothing is said of the input */
   DER_NO_ROOM = 9,      /* out is too short: the number of bytes that are needed is written */
   DER_NO_RANGE = 10,    /* authSafe isn't data, so that no octets of the file are covered by a MAC */
@@ -60,21 +60,24 @@ typedef enum der_status {
 /* The parts of containers. Each is of the type that the input is read as, which is said before it. */
 typedef enum der_part_number {
   /* "pkcs7certificate": signed data with its content type (RFC 5652, 5) */
-  DER_PART_CERTIFICATE = 0,         /* a certificate, or another choice, as it is in certificates */
-  DER_PART_SIGNED_ATTRIBUTES = 1,   /* of a signer: signedAttrs under the tag of a SET OF, which the signature covers */
-  DER_PART_ISSUER = 2,              /* of a signer: the encoding of the issuer's Name */
-  DER_PART_SERIAL_NUMBER = 3,       /* of a signer: the contents octets of serialNumber, an INTEGER */
-  DER_PART_KEY_IDENTIFIER = 4,      /* of a signer: the octets of subjectKeyIdentifier */
-  DER_PART_DIGEST_ALGORITHM = 5,    /* of a signer: the contents octets of the object identifier */
-  DER_PART_SIGNATURE_ALGORITHM = 6, /* of a signer: the encoding of signatureAlgorithm, with its parameters */
-  DER_PART_SIGNATURE = 7,           /* of a signer: the octets of signature */
-  /* "pfx": a PKCS #12 file, without what is encrypted in it (RFC 7292, 4) */
-  DER_PART_STORE_CERTIFICATE = 8, /* an X.509 certificate, of a bag or of a bag in a bag */
-  DER_PART_STORE_BAG = 9,         /* a bag, with all that it holds; a bag comes before the bags in it */
+  DER_PART_HASHED_CONTENT = 0,      /* contents octets of the content, which are hashed; the index isn't looked at */
+  DER_PART_CERTIFICATE = 1,         /* a certificate, or another choice, as it is in certificates */
+  DER_PART_SIGNED_ATTRIBUTES = 2,   /* of a signer: signedAttrs under the tag of a SET OF, which the signature covers */
+  DER_PART_ISSUER = 3,              /* of a signer: the encoding of the issuer's Name */
+  DER_PART_SERIAL_NUMBER = 4,       /* of a signer: the contents octets of serialNumber, an INTEGER */
+  DER_PART_KEY_IDENTIFIER = 5,      /* of a signer: the octets of subjectKeyIdentifier */
+  DER_PART_DIGEST_ALGORITHM = 6,    /* of a signer: the contents octets of the object identifier */
+  DER_PART_SIGNATURE_ALGORITHM = 7, /* of a signer: the encoding of signatureAlgorithm, with its parameters */
+  DER_PART_SIGNATURE = 8,           /* of a signer: the octets of signature */
+  /* "pfx": a PKCS #12 file, without what is encrypted in it; bags in bags count too (RFC 7292, 4) */
+  DER_PART_STORE_CERTIFICATE = 9,    /* an X.509 certificate */
+  DER_PART_STORE_KEY = 10,           /* a key that isn't encrypted: a PrivateKeyInfo, as it is */
+  DER_PART_STORE_ENCRYPTED_KEY = 11, /* an encrypted key: the encoding of an EncryptedPrivateKeyInfo */
+  DER_PART_STORE_BAG = 12,           /* a bag, with all that it holds; a bag comes before the bags in it */
   /* "rawpfx": the MAC of a PKCS #12 file; the index isn't looked at */
-  DER_PART_MAC_DIGEST_ALGORITHM = 10, /* the contents octets of the object identifier */
-  DER_PART_MAC_DIGEST = 11,           /* what a verifier compares with the MAC that it makes */
-  DER_PART_MAC_SALT = 12              /* macSalt */
+  DER_PART_MAC_DIGEST_ALGORITHM = 13, /* the contents octets of the object identifier */
+  DER_PART_MAC_DIGEST = 14,           /* what a verifier compares with the MAC that it makes */
+  DER_PART_MAC_SALT = 15              /* macSalt */
 } der_part_number;
 
 /* The calls themselves, which answer a der_status. The functions that follow them take strings. A limit above 64 counts
@@ -179,13 +182,15 @@ static inline der_status der_rewrite(const char *kind, const uint8_t *input, siz
 }
 
 /* Writes a part of a container, with at most DER_MAX_NESTING levels, to the front of out. Parts that a container has
- * several of, certificates, signers and bags, are counted by the index from 0 on.
+ * several of, certificates, signers, keys and bags, are counted by the index from 0 on. What is said to be an encoding,
+ * and the content that is hashed, is written anew, and so normal where the input is loose.
  *  - DER_NORMAL: *written bytes were written, and the rest of out is as it was.
  *  - DER_NO_ROOM: *written bytes are needed, and out_len is less.
- *  - DER_NO_PART: the container has none of that index; or a signer has no signed attributes, is named by its key
- *    and not by its issuer, or the other way round; or the file has no MAC.
+ *  - DER_NO_PART: the container has none of that index; or signed data have no content, since the signature is
+ *    detached; or a signer has no signed attributes, is named by its key and not by its issuer, or the other way round;
+ *    or the file has no MAC.
  *  - DER_MALFORMED to DER_TOO_DEEP: the input is no encoding of the type that the part is of. der_locate says where.
- *  - DER_TOO_LONG: the part is too long.
+ *  - DER_TOO_LONG: the part is too long, or the encoding of the content that is hashed.
  *  - DER_UNKNOWN_KIND: no part has that number.
  *  - DER_NO_MEMORY.
  * Unless at DER_NORMAL out is as it was, and unless at DER_NORMAL and DER_NO_ROOM *written is 0. Each call reads the

@@ -62,27 +62,33 @@ class Verdict(NamedTuple):
 class Part(enum.Enum):
     """A part of a container: its number in der.h, and the kind that the input is read as."""
 
-    # of signed data: certificate number index, or another choice, as it is
-    CERTIFICATE = 0, "pkcs7certificate"
+    # of signed data, whatever the index is: the octets of its content that are hashed, none where that is detached
+    HASHED_CONTENT = 0, "pkcs7certificate"
+    # certificate number index, or another choice, as it is
+    CERTIFICATE = 1, "pkcs7certificate"
     # of signer number index: what its signature covers where there are signed attributes, their encoding as a SET OF
-    SIGNED_ATTRIBUTES = 1, "pkcs7certificate"
+    SIGNED_ATTRIBUTES = 2, "pkcs7certificate"
     # the encoding of its issuer's Name, and the contents octets of the serial number, an INTEGER
-    ISSUER = 2, "pkcs7certificate"
-    SERIAL_NUMBER = 3, "pkcs7certificate"
+    ISSUER = 3, "pkcs7certificate"
+    SERIAL_NUMBER = 4, "pkcs7certificate"
     # the octets of its key identifier, where it is named by that
-    KEY_IDENTIFIER = 4, "pkcs7certificate"
+    KEY_IDENTIFIER = 5, "pkcs7certificate"
     # the contents octets of the object identifier (dotted makes text of them)
-    DIGEST_ALGORITHM = 5, "pkcs7certificate"
+    DIGEST_ALGORITHM = 6, "pkcs7certificate"
     # the encoding of its signature algorithm, and the octets of its signature
-    SIGNATURE_ALGORITHM = 6, "pkcs7certificate"
-    SIGNATURE = 7, "pkcs7certificate"
-    # of a PKCS #12 file, without what is encrypted: X.509 certificate number index, the encoding of bag number index
-    STORE_CERTIFICATE = 8, "pfx"
-    STORE_BAG = 9, "pfx"
+    SIGNATURE_ALGORITHM = 7, "pkcs7certificate"
+    SIGNATURE = 8, "pkcs7certificate"
+    # of a PKCS #12 file, without what is encrypted: X.509 certificate number index
+    STORE_CERTIFICATE = 9, "pfx"
+    # PrivateKeyInfo number index, and EncryptedPrivateKeyInfo number index
+    STORE_KEY = 10, "pfx"
+    STORE_ENCRYPTED_KEY = 11, "pfx"
+    # the encoding of bag number index, with all that it holds
+    STORE_BAG = 12, "pfx"
     # of its MAC, whatever the index is
-    MAC_DIGEST_ALGORITHM = 10, "rawpfx"
-    MAC_DIGEST = 11, "rawpfx"
-    MAC_SALT = 12, "rawpfx"
+    MAC_DIGEST_ALGORITHM = 13, "rawpfx"
+    MAC_DIGEST = 14, "rawpfx"
+    MAC_SALT = 15, "rawpfx"
 
     @property
     def kind(self) -> str:
@@ -177,7 +183,7 @@ class Library:
         )
 
     def part(self, part: Part, data: Bytes, index: int = 0) -> Optional[bytes]:
-        """A part of a container, as octets: of certificates, signers and bags that with the index, from 0 on.
+        """A part of a container, as octets: of certificates, signers, keys and bags that with the index, from 0 on.
 
         None where the container has no such part, or not so many. Raises Refused where the input is no encoding of
         part.kind.

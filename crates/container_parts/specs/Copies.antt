@@ -18,9 +18,13 @@ IsLong (Some octets) = 2 ^ 64 ≤ length octets
 abbrev pub IsNotCopied : Option (List ℕ) → Error → Type 0
 IsNotCopied octets e = (e ≡ Memory) ⊎ ((e ≡ TooLong) × IsLong octets)
 
--- these octets were copied, or it is said that there are none
+-- these octets were copied out of a text, or it is said that there are none
+abbrev pub CopiesOutOf : Option (List ℕ) → Option (List ℕ) → Result (Option (Vec ℕ Global)) Error → Type 0
+CopiesOutOf text octets r = MatchResult r (λ found. copied found ≡ octets) (λ e. IsNotCopied text e)
+
+-- they are the whole text
 abbrev pub Copies : Option (List ℕ) → Result (Option (Vec ℕ Global)) Error → Type 0
-Copies octets r = MatchResult r (λ found. copied found ≡ octets) (λ e. IsNotCopied octets e)
+Copies octets r = CopiesOutOf octets octets r
 
 -- an item by its index, as its value
 pub get_value : {A B : Type 0} (f : A → B) (xs : List A) (i : ℕ) → slice_get (map f xs) i ≡ option_value f (slice_get xs i)

@@ -4,4 +4,5 @@ pub mod MacParts
 pub mod SignedParts
 pub mod SignedRows
 pub mod StoreParts
+pub mod StoreRows
 pub mod Parts

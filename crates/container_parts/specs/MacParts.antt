@@ -31,4 +31,4 @@ abbrev pub mac_part : MacPart → PfxValue Octets → Option (List ℕ)
 mac_part part v = option_value (of_mac part) (mac_of v)
 
 abbrev pub in_mac : MacPart → Projection
-in_mac part = record { Value = PfxValue Octets; format = pfx raw; part = mac_part part }
+in_mac part = record { Value = PfxValue Octets; format = pfx raw; part = mac_part part; text = mac_part part }

@@ -11,7 +11,8 @@ use Rattle.container_parts.specs.declared.signed.SignedPart.TheVariants as OfSig
 use Rattle.container_parts.specs.declared.signed.SignerPart.TheVariants as OfSigner
 use Rattle.container_parts.specs.declared.stores.StorePart.TheVariants as OfStore
 
--- which type the part is of, and what part of it; a MAC has one of each, whatever the index is
+-- which type the part is of, and what part of it; of the hashed content and of a MAC there
+-- is one, whatever the index is
 abbrev pub projection_of : ContainerPart → ℕ → Projection
 projection_of (Signed part) i = in_signed part i
 projection_of (Store part) i = in_store part i
@@ -19,8 +20,9 @@ projection_of (Mac part) i = in_mac part
 
 abbrev pub parts : List ContainerPart
 parts =
-    Signed OfSigned.Certificate ∷ Signed (OfSigned.OfSigner OfSigner.SignedAttributes) ∷ Signed (OfSigned.OfSigner OfSigner.Issuer)
-    ∷ Signed (OfSigned.OfSigner OfSigner.SerialNumber) ∷ Signed (OfSigned.OfSigner OfSigner.KeyIdentifier)
-    ∷ Signed (OfSigned.OfSigner OfSigner.DigestAlgorithm) ∷ Signed (OfSigned.OfSigner OfSigner.SignatureAlgorithm)
-    ∷ Signed (OfSigned.OfSigner OfSigner.Signature) ∷ Store OfStore.Certificate ∷ Store OfStore.WholeBag
+    Signed OfSigned.HashedContent ∷ Signed OfSigned.Certificate ∷ Signed (OfSigned.OfSigner OfSigner.SignedAttributes)
+    ∷ Signed (OfSigned.OfSigner OfSigner.Issuer) ∷ Signed (OfSigned.OfSigner OfSigner.SerialNumber)
+    ∷ Signed (OfSigned.OfSigner OfSigner.KeyIdentifier) ∷ Signed (OfSigned.OfSigner OfSigner.DigestAlgorithm)
+    ∷ Signed (OfSigned.OfSigner OfSigner.SignatureAlgorithm) ∷ Signed (OfSigned.OfSigner OfSigner.Signature)
+    ∷ Store OfStore.Certificate ∷ Store OfStore.Key ∷ Store OfStore.EncryptedKey ∷ Store OfStore.WholeBag
     ∷ Mac OfMac.DigestAlgorithm ∷ Mac OfMac.Digest ∷ Mac OfMac.Salt ∷ []

@@ -4,15 +4,17 @@ use Rattle.std.proofs.Common.{inl, inr}
 use Rattle.asn1_core.specs.Der.{option_value, ElementOctets}
 use Rattle.x509_base.specs.Algorithms.{algorithm_identifier}
 use Rattle.x509_base.specs.Names.{name}
+use Rattle.pkcs7_content.specs.Contents.{ContentValues, content_values}
 use Rattle.pkcs7_signed_parts.specs.Certificates.{CertificateValue}
 use Rattle.pkcs7_signed_parts.specs.SignedSets.{attributes_as_set, some_attributes}
 use Rattle.pkcs7_signed_parts.specs.Signers.{SignerIdValue}
 use Rattle.pkcs7_signed.specs.Parts.{SignerParts, behind_signed}
 use Rattle.pkcs7_signed.specs.Signers.{Value, signers, certificates, certificate, signer_out, certificate_out}
+use Rattle.x509_signers.specs.Hashed.{content_is_element}
 use Rattle.x509_signers.specs.Matches.{choice_octets}
 use Rattle.container_parts.specs.Inputs.{Projection}
 use Rattle.container_parts.specs.declared.signed.SignedPart.{SignedPart}
-use Rattle.container_parts.specs.declared.signed.SignedPart.TheVariants.{Certificate, OfSigner}
+use Rattle.container_parts.specs.declared.signed.SignedPart.TheVariants.{HashedContent, Certificate, OfSigner}
 use Rattle.container_parts.specs.declared.signed.SignerPart.{SignerPart}
 use Rattle.container_parts.specs.declared.signed.SignerPart.TheVariants.{SignedAttributes, Issuer, SerialNumber, KeyIdentifier, DigestAlgorithm, SignatureAlgorithm, Signature}
 
@@ -50,10 +52,24 @@ signers_in v = behind_signed (certificate_out v).1
 abbrev pub certificates_in : Value certificates → List CertificateValue
 certificates_in v = (certificate_out v).1.1.1.1.0
 
--- the part with that index
+abbrev pub content_in : Value certificates → Option ContentValues
+content_in v = (certificate_out v).1.1.1.0.1.0
+
+-- the contents octets of the one element that the encoding of content is
+abbrev pub hashed_of : ContentValues → List ℕ
+hashed_of content = (content_is_element content).contents
+
+-- the part with that index; of the hashed content there is one, whatever the index is
 abbrev pub signed_part : SignedPart → ℕ → Value certificates → Option (List ℕ)
+signed_part HashedContent i v = option_value hashed_of (content_in v)
 signed_part Certificate i v = option_value choice_octets (slice_get (certificates_in v) i)
 signed_part (OfSigner part) i v = of_some (λ s. of_signer part (signer_out s)) (slice_get (signers_in v) i)
 
+-- the text that it is taken out of
+abbrev pub signed_text : SignedPart → ℕ → Value certificates → Option (List ℕ)
+signed_text HashedContent i v = option_value content_values.text (content_in v)
+signed_text Certificate i v = signed_part Certificate i v
+signed_text (OfSigner part) i v = signed_part (OfSigner part) i v
+
 abbrev pub in_signed : SignedPart → ℕ → Projection
-in_signed part i = record { Value = Value certificates; format = certificate; part = signed_part part i }
+in_signed part i = record { Value = Value certificates; format = certificate; part = signed_part part i; text = signed_text part i }

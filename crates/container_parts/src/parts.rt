@@ -27,6 +27,7 @@ impl ContainerPart {
         ensures { result.now ≡ parts }
     {
         &[
+            ContainerPart::Signed(SignedPart::HashedContent),
             ContainerPart::Signed(SignedPart::Certificate),
             ContainerPart::Signed(SignedPart::OfSigner(SignerPart::SignedAttributes)),
             ContainerPart::Signed(SignedPart::OfSigner(SignerPart::Issuer)),
@@ -36,6 +37,8 @@ impl ContainerPart {
             ContainerPart::Signed(SignedPart::OfSigner(SignerPart::SignatureAlgorithm)),
             ContainerPart::Signed(SignedPart::OfSigner(SignerPart::Signature)),
             ContainerPart::Store(StorePart::Certificate),
+            ContainerPart::Store(StorePart::Key),
+            ContainerPart::Store(StorePart::EncryptedKey),
             ContainerPart::Store(StorePart::WholeBag),
             ContainerPart::Mac(MacPart::DigestAlgorithm),
             ContainerPart::Mac(MacPart::Digest),
@@ -45,8 +48,9 @@ impl ContainerPart {
 }
 
 /// The part with that index, from 0 on, of the container that the input is, with at most 64 levels of nesting, as
-/// octets. `None` where it has none. A MAC has one of each part, whatever the index is. The refusals are those of
-/// `from_bytes`, and `TooLong` of an encoding that is too long. The input is read anew by each call.
+/// octets. `None` where it has none. Signed data have one hashed content, and a MAC has one of each part, whatever the
+/// index is. The refusals are those of `from_bytes`, and `TooLong` of an encoding that is too long. The input is read anew
+/// by each call.
 pub fn container_part(
     alloc: Global,
     part: ContainerPart,

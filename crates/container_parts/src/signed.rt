@@ -2,22 +2,26 @@
 
 ghost use Rattle.std.specs.Prelude.{◌≡◌, slice_get};
 ghost use Rattle.asn1_core.specs.Der.{option_value};
+ghost use Rattle.pkcs7_content.specs.Contents.{content_values};
 ghost use Rattle.pkcs7_signed.specs.Signers.{signer_out};
 ghost use Rattle.pkcs7_signed.specs.SignerValues.{certificate_value, signer_value};
-ghost use Rattle.container_parts.specs.Copies.{Copies};
+ghost use Rattle.container_parts.specs.Copies.{Copies, CopiesOutOf};
 ghost use Rattle.container_parts.specs.Inputs.{GivesPart};
 ghost use Rattle.x509_signers.specs.Matches.{choice_octets};
-ghost use Rattle.container_parts.specs.SignedParts.{certificates_in, in_signed, of_signer, signed_part, signers_in};
+ghost use Rattle.container_parts.specs.SignedParts.{certificates_in, content_in, hashed_of, in_signed, of_signer, signed_part, signed_text, signers_in};
 
 use crate::copies::{copy, encoding, item};
 use asn1_core::{Error, from_bytes};
 use pkcs7_signed::{Pkcs7Certificate, SignerIdentifier, SignerInfo};
 use std::alloc::Global;
-use x509_signers::certificate_element;
+use x509_signers::{certificate_element, hashed_octets};
 
 /// A part of signed data.
 #[derive(Clone, Copy, Debug, PartialEq, Eq)]
 pub enum SignedPart {
+    /// The octets of the content that are hashed, as `hashed_octets` of `x509_signers` gives them (RFC 5652, 5.4). There
+    /// is one content, whatever the index is, and none where the signature is detached.
+    HashedContent,
     /// An element of `certificates`, as it is (RFC 5652, 5.1).
     Certificate,
     /// A part of an element of `signerInfos`.
@@ -65,9 +69,10 @@ fn part_of_file(
     index: usize,
     file: &Pkcs7Certificate,
 ) -> Result<Option<Vec<u8>>, Error>
-    ensures { Copies (signed_part part index (certificate_value file.now)) result }
+    ensures { CopiesOutOf (signed_text part index (certificate_value file.now)) (signed_part part index (certificate_value file.now)) result }
 {
     match part {
+        SignedPart::HashedContent => hashed_content(alloc, file),
         SignedPart::Certificate => match certificate_at(file, index) {
             Some(octets) => copy(alloc, octets),
             None => Ok(None),
@@ -77,6 +82,13 @@ fn part_of_file(
             None => Ok(None),
         },
     }
+}
+
+#[tactic(auto, using(crate::specs::SignedRows::hashed_content_is))]
+fn hashed_content(alloc: Global, file: &Pkcs7Certificate) -> Result<Option<Vec<u8>>, Error>
+    ensures { CopiesOutOf (option_value content_values.text (content_in (certificate_value file.now))) (option_value hashed_of (content_in (certificate_value file.now))) result }
+{
+    hashed_octets(alloc, &file.signed_data.0.content_info)
 }
 
 #[tactic(auto, using(crate::specs::Copies::get_value, crate::specs::SignedRows::certificates_are))]

@@ -1,23 +1,32 @@
 //! Parts of PKCS #12 files.
 
-ghost use Rattle.std.specs.Prelude.{◌≡◌, map, slice_get};
+ghost use Rattle.std.specs.Prelude.{◌≡◌, is_some, map, slice_get};
 ghost use Rattle.asn1_core.specs.Der.{option_value};
+ghost use Rattle.x509_pkcs12_parts.specs.Bags.{encrypted_key_value};
 ghost use Rattle.x509_pkcs12_bags.specs.BagValues.{bag_value};
+ghost use Rattle.x509_pkcs12_bags.specs.Bags.{bag_out};
 ghost use Rattle.container_parts.specs.Copies.{Copies};
 ghost use Rattle.container_parts.specs.Inputs.{GivesPart};
-ghost use Rattle.container_parts.specs.StoreParts.{certificates_of, in_store, store_part};
+ghost use Rattle.container_parts.specs.SignedParts.{of_some};
+ghost use Rattle.container_parts.specs.StoreParts.{all_in, encrypted_key_in, in_store, key_in, octets_in, store_part};
 
-use crate::copies::{copy, encoding, item};
+use crate::copies::{copy, encoding};
 use asn1_core::{DerSerialize, Error, from_bytes};
 use std::alloc::Global;
-use x509_pkcs12::{ParsedAuthenticatedSafeDataRepr, Pfx, SafeBag};
+use x509_pkcs12::{
+    EncryptedKeyBag, KeyBag, ParsedAuthenticatedSafeDataRepr, Pfx, SafeBag, SafeBagKind,
+};
 
 /// A part of a PKCS #12 file, in the order of `Pfx::all_bags`, which gives nothing of what is encrypted.
 #[derive(Clone, Copy, Debug, PartialEq, Eq)]
 pub enum StorePart {
     /// The octets of an X.509 certificate (RFC 7292, 4.2.3).
     Certificate,
-    /// The encoding of a bag, with all that it holds: a key, an encrypted key, bags (RFC 7292, 4.2).
+    /// The element of a key that isn't encrypted, a `PrivateKeyInfo`, as it is (RFC 7292, 4.2.1).
+    Key,
+    /// The encoding of an encrypted key, an `EncryptedPrivateKeyInfo` (RFC 7292, 4.2.2).
+    EncryptedKey,
+    /// The encoding of a bag, with all that it holds: a key, bags, attributes (RFC 7292, 4.2).
     WholeBag,
 }
 
@@ -36,7 +45,6 @@ pub fn store_part(
     part_of_store(alloc, part, index, &file)
 }
 
-#[tactic(auto, using(crate::specs::Copies::get_value))]
 fn part_of_store(
     alloc: Global,
     part: StorePart,
@@ -46,29 +54,73 @@ fn part_of_store(
     ensures { Copies (store_part part index (⟦<Pfx<ParsedAuthenticatedSafeDataRepr> as DerSerialize>⟧.value file.now)) result }
 {
     let bags = file.all_bags(alloc)?;
-    match part {
-        StorePart::Certificate => match certificate_among(bags.as_slice(), index) {
-            Some(octets) => copy(alloc, octets),
-            None => Ok(None),
-        },
-        StorePart::WholeBag => match item(bags.as_slice(), index) {
-            Some(bag) => encoding(alloc, *bag),
-            None => Ok(None),
-        },
+    match bag_among(part, bags.as_slice(), index) {
+        Some(bag) => part_of_bag(alloc, part, bag),
+        None => Ok(None),
     }
 }
 
-fn certificate_among<'a>(bags: &[&'a SafeBag], index: usize) -> Option<&'a [u8]>
-    ensures { option_value (λ s. s.now) result ≡ slice_get (certificates_of (map (λ bag. bag_value bag.now) bags.now)) index }
+/// The bag with that index, of those that hold the part.
+fn bag_among<'a>(part: StorePart, bags: &[&'a SafeBag], index: usize) -> Option<&'a SafeBag>
+    ensures { of_some (λ bag. octets_in part (bag_value bag.now)) result ≡ slice_get (all_in part (map (λ bag. bag_value bag.now) bags.now)) index }
 {
     let mut left = index;
     for bag in bags {
-        if let Some(octets) = bag.x509_certificate() {
+        if holds(part, bag) {
             if left == 0 {
-                return Some(octets);
+                return Some(bag);
             }
             left -= 1;
         }
     }
     None
+}
+
+fn holds(part: StorePart, bag: &SafeBag) -> bool
+    ensures { result ≡ is_some (octets_in part (bag_value bag.now)) }
+{
+    match part {
+        StorePart::Certificate => bag.x509_certificate().is_some(),
+        StorePart::Key => key(bag).is_some(),
+        StorePart::EncryptedKey => encrypted_key(bag).is_some(),
+        StorePart::WholeBag => true,
+    }
+}
+
+fn part_of_bag(alloc: Global, part: StorePart, bag: &SafeBag) -> Result<Option<Vec<u8>>, Error>
+    ensures { Copies (octets_in part (bag_value bag.now)) result }
+{
+    match part {
+        StorePart::Certificate => match bag.x509_certificate() {
+            Some(octets) => copy(alloc, octets),
+            None => Ok(None),
+        },
+        StorePart::Key => match key(bag) {
+            Some(key) => copy(alloc, key.0.as_slice()),
+            None => Ok(None),
+        },
+        StorePart::EncryptedKey => match encrypted_key(bag) {
+            Some(key) => encoding(alloc, key),
+            None => Ok(None),
+        },
+        StorePart::WholeBag => encoding(alloc, bag),
+    }
+}
+
+fn key(bag: &SafeBag) -> Option<&KeyBag>
+    ensures { option_value (λ key. key.now.0.items) result ≡ key_in (bag_out (bag_value bag.now)) }
+{
+    match &bag.kind {
+        SafeBagKind::Key(key) => Some(key),
+        _ => None,
+    }
+}
+
+fn encrypted_key(bag: &SafeBag) -> Option<&EncryptedKeyBag>
+    ensures { option_value (λ key. encrypted_key_value key.now) result ≡ encrypted_key_in (bag_out (bag_value bag.now)) }
+{
+    match &bag.kind {
+        SafeBagKind::EncryptedKey(key) => Some(key),
+        _ => None,
+    }
 }

@@ -132,7 +132,7 @@ pub record CopiesPart (number index : ℕ) (b old new : List ℕ) (len status : 
   -- DER_MALFORMED, DER_MISSING, DER_INVALID, DER_TOO_DEEP: the input is no encoding of the type
   pub refused : 3 ≤ status → status ≤ 6 → OfPart number index (λ P. (v : P.Value) → P.format.Reads 64 b v → ⊥)
   -- DER_TOO_LONG
-  pub long : status ≡ 7 → OfPart number index (λ P. (v : P.Value) × IsValueOf P.format 64 b v × IsLong (P.part v))
+  pub long : status ≡ 7 → OfPart number index (λ P. (v : P.Value) × IsValueOf P.format 64 b v × IsLong (P.text v))
   pub no_len : status ≢ 0 → status ≢ 9 → len ≡ 0
   pub kept : status ≢ 0 → new ≡ old
   pub range : (status ≢ 1) × ((status ≢ 10) × (status ≤ 11))
