@@ -9,7 +9,7 @@ use asn1_core::{
 use std::alloc::Global;
 use std::fmt::Debug;
 use std::test::Fail;
-use vector_checks::checks::{is_rewritten, is_sent, is_written_anew};
+use vector_checks::checks::{is_rewritten, is_sent};
 use x509_containers::{
     Kind, Mode, Outcome, check, check_as, check_as_limited, rewrite, rewrite_as,
     rewrite_as_limited, run,
@@ -187,10 +187,13 @@ fn is_shown<T: Debug>(alloc: Global, value: &T, row: &Row) -> Result<(), Fail> {
     Err(Fail::new(format_args!("its value is {shown}")))
 }
 
-/// Asks of an accepted input that its value is shown as the row says and written, and of a short one that it is sent
-/// into sinks that fail, that no beginning is accepted, and what changes of one byte come to.
-fn is_kept<T: DerDeserialize + SeenByText + Debug>(alloc: Global, row: &Row) -> Result<(), Fail> {
-    let value: T = is_written_anew(alloc, &row.input, &row.text)?;
+/// Asks of an accepted input that its value is shown as the row says, cloned and written, and of a short one that it is
+/// sent into sinks that fail, that no beginning is accepted, and what changes of one byte come to.
+fn is_kept<T: DerDeserialize + SeenByText + TryClone + Debug>(
+    alloc: Global,
+    row: &Row,
+) -> Result<(), Fail> {
+    let value: T = is_rewritten(alloc, &row.input, &row.text)?;
     is_shown(alloc, &value, row)?;
     if row.input.len() <= SHORT {
         is_sent(alloc, &value, &row.text, 1)?;
@@ -201,8 +204,8 @@ fn is_kept<T: DerDeserialize + SeenByText + Debug>(alloc: Global, row: &Row) -> 
     Ok(())
 }
 
-/// Asks what a row says of its input as a type without clones.
-pub fn is_so_without_clones<T: DerDeserialize + SeenByText + Debug>(
+/// Asks what a row says of its input as the type.
+pub fn is_so<T: DerDeserialize + SeenByText + TryClone + Debug>(
     alloc: Global,
     row: &Row,
 ) -> Result<(), Fail> {
@@ -222,26 +225,6 @@ pub fn is_so_without_clones<T: DerDeserialize + SeenByText + Debug>(
     }
     ends::<T>(alloc, &row.input, headers)?;
     is_kept::<T>(alloc, row)
-}
-
-/// Asks of an accepted input that its value is cloned.
-pub fn is_cloned<T: DerDeserialize + SeenByText + TryClone>(
-    alloc: Global,
-    row: &Row,
-) -> Result<(), Fail> {
-    if row.levels.is_none() && !row.said.starts_with(b"refused") {
-        let _value: T = is_rewritten(alloc, &row.input, &row.text)?;
-    }
-    Ok(())
-}
-
-/// Asks what a row says of its input as the type, and of an accepted one that its value is cloned.
-pub fn is_so<T: DerDeserialize + SeenByText + TryClone + Debug>(
-    alloc: Global,
-    row: &Row,
-) -> Result<(), Fail> {
-    is_so_without_clones::<T>(alloc, row)?;
-    is_cloned::<T>(alloc, row)
 }
 
 /// A tag that no type here begins with.

@@ -81,8 +81,6 @@ pub struct SpcPeImageData {
     pub file: ExplicitContextTag0<SpcLink>,
 }
 
-type PeImageRow = Maybe<SpcPeImageFlags, Part<ExplicitContextTag0<SpcLink>, End>>;
-
 impl DerSerialize for SpcPeImageData {
     ghost Value = { PeImageValue };
 
@@ -91,19 +89,18 @@ impl DerSerialize for SpcPeImageData {
     ghost format = { pe_image_data };
 
     fn put<W: Writer>(&self, w: &mut W) -> Result<(), WriteError> {
-        put_within(0x30, &Part(&self.flags, Part(&self.file, End)), w)
+        put_of!(self, w; flags, file)
     }
 
     fn well_formed_at(&self, limit: u8) -> bool {
-        Part(&self.flags, Part(&self.file, End)).row_well_formed_at(limit)
+        formed_of!(self, limit; flags, file)
     }
 }
 
 impl DerDeserialize for SpcPeImageData {
     fn read(alloc: Global, r: &mut Reader<'_>, nest: u8) -> Result<Self, Error> {
-        let row: PeImageRow = read_within(alloc, r, nest, 0x30)?;
-        let Maybe(spelled, Part(file, End)) = row;
-        match spelled {
+        let fields_of!(flags OPTIONAL, file) = read_within(alloc, r, nest, 0x30)?;
+        match flags {
             Some(flags) => Ok(SpcPeImageData { flags, file }),
             None => {
                 let flags = SpcPeImageFlags::default_in(alloc)?;

@@ -16,6 +16,8 @@ pub struct Extension {
     pub extn_value: OctetStringAsn1,
 }
 
+type ExtensionRow = Part<ObjectIdentifierAsn1, Omitted<DefaultFalse, Part<OctetStringAsn1, End>>>;
+
 impl DerSerialize for Extension {
     ghost Value = { ExtensionValue };
 
@@ -34,9 +36,8 @@ impl DerSerialize for Extension {
 
 impl DerDeserialize for Extension {
     fn read(alloc: Global, r: &mut Reader<'_>, nest: u8) -> Result<Self, Error> {
-        let fields_of!(
-            extn_id, (DefaultFalse(critical)) DEFAULT, extn_value
-        ) = read_within(alloc, r, nest, 0x30)?;
+        let row: ExtensionRow = read_within(alloc, r, nest, 0x30)?;
+        let fields_of!(extn_id, (DefaultFalse(critical)) DEFAULT, extn_value) = row;
         Ok(Extension {
             extn_id,
             critical,

@@ -64,3 +64,9 @@ impl DerDeserialize for ContentInfo {
 impl EqualByText for ContentInfo {
     ghost equal_by_text = { content_info_equal };
 }
+
+impl TryClone for ContentInfo {
+    fn try_clone(&self, alloc: Global) -> Result<Self, Error> {
+        clone_of!(self, alloc; ContentInfo { content_type, content })
+    }
+}
