@@ -26,6 +26,11 @@ CopiesOutOf text octets r = MatchResult r (λ found. copied found ≡ octets) (�
 abbrev pub Copies : Option (List ℕ) → Result (Option (Vec ℕ Global)) Error → Type 0
 Copies octets r = CopiesOutOf octets octets r
 
+-- what there is of an item, if there is the item
+abbrev pub of_some : {A B : Type 0} → (A → Option B) → Option A → Option B
+of_some f None = None
+of_some f (Some x) = f x
+
 -- an item by its index, as its value
 pub get_value : {A B : Type 0} (f : A → B) (xs : List A) (i : ℕ) → slice_get (map f xs) i ≡ option_value f (slice_get xs i)
 get_value f [] i = refl

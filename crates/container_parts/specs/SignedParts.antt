@@ -12,6 +12,7 @@ use Rattle.pkcs7_signed.specs.Parts.{SignerParts, behind_signed}
 use Rattle.pkcs7_signed.specs.Signers.{Value, signers, certificates, certificate, signer_out, certificate_out}
 use Rattle.x509_signers.specs.Hashed.{content_is_element}
 use Rattle.x509_signers.specs.Matches.{choice_octets}
+use Rattle.container_parts.specs.Copies.{of_some}
 use Rattle.container_parts.specs.Inputs.{Projection}
 use Rattle.container_parts.specs.declared.signed.SignedPart.{SignedPart}
 use Rattle.container_parts.specs.declared.signed.SignedPart.TheVariants.{HashedContent, Certificate, OfSigner}
@@ -40,11 +41,6 @@ of_signer KeyIdentifier s = key_identifier_of s.1.0
 of_signer DigestAlgorithm s = Some s.1.1.0.0
 of_signer SignatureAlgorithm s = Some (algorithm_identifier.text s.1.1.1.1.0)
 of_signer Signature s = Some s.1.1.1.1.1.0
-
--- what there is of an item, if there is the item
-abbrev pub of_some : {A B : Type 0} → (A → Option B) → Option A → Option B
-of_some f None = None
-of_some f (Some x) = f x
 
 abbrev pub signers_in : Value certificates → List (Value signers)
 signers_in v = behind_signed (certificate_out v).1

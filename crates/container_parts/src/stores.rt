@@ -5,9 +5,8 @@ ghost use Rattle.asn1_core.specs.Der.{option_value};
 ghost use Rattle.x509_pkcs12_parts.specs.Bags.{encrypted_key_value};
 ghost use Rattle.x509_pkcs12_bags.specs.BagValues.{bag_value};
 ghost use Rattle.x509_pkcs12_bags.specs.Bags.{bag_out};
-ghost use Rattle.container_parts.specs.Copies.{Copies};
+ghost use Rattle.container_parts.specs.Copies.{Copies, of_some};
 ghost use Rattle.container_parts.specs.Inputs.{GivesPart};
-ghost use Rattle.container_parts.specs.SignedParts.{of_some};
 ghost use Rattle.container_parts.specs.StoreParts.{all_in, encrypted_key_in, in_store, key_in, octets_in, store_part};
 
 use crate::copies::{copy, encoding};
