@@ -8,6 +8,8 @@ mod algorithms;
 #[cfg(test)]
 mod attributes;
 #[cfg(test)]
+mod authenticode;
+#[cfg(test)]
 mod contents;
 #[cfg(test)]
 mod key_stores;

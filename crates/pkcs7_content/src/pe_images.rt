@@ -81,6 +81,8 @@ pub struct SpcPeImageData {
     pub file: ExplicitContextTag0<SpcLink>,
 }
 
+type PeImageRow = Maybe<SpcPeImageFlags, Part<ExplicitContextTag0<SpcLink>, End>>;
+
 impl DerSerialize for SpcPeImageData {
     ghost Value = { PeImageValue };
 
@@ -99,8 +101,9 @@ impl DerSerialize for SpcPeImageData {
 
 impl DerDeserialize for SpcPeImageData {
     fn read(alloc: Global, r: &mut Reader<'_>, nest: u8) -> Result<Self, Error> {
-        let fields_of!(flags OPTIONAL, file) = read_within(alloc, r, nest, 0x30)?;
-        match flags {
+        let row: PeImageRow = read_within(alloc, r, nest, 0x30)?;
+        let fields_of!(spelled OPTIONAL, file) = row;
+        match spelled {
             Some(flags) => Ok(SpcPeImageData { flags, file }),
             None => {
                 let flags = SpcPeImageFlags::default_in(alloc)?;

@@ -3,3 +3,5 @@ pub mod KeyIdentifiers
 pub mod Matches
 pub mod Hashed
 pub mod TimeStamps
+pub mod Nested
+pub mod Pages

@@ -179,8 +179,6 @@ pub struct CertificateHead {
     pub signature: BitStringAsn1,
 }
 
-type CertificateRow = Part<TbsCertificateHead, Part<AlgorithmIdentifier, Part<BitStringAsn1, End>>>;
-
 impl DerSerialize for CertificateHead {
     ghost Value = { CertificateValue };
 
@@ -189,24 +187,18 @@ impl DerSerialize for CertificateHead {
     ghost format = { certificate };
 
     fn put<W: Writer>(&self, w: &mut W) -> Result<(), WriteError> {
-        let signature = Part(&self.signature_algorithm, Part(&self.signature, End));
-        put_within(0x30, &Part(&self.tbs_certificate, signature), w)
+        put_of!(self, w; tbs_certificate, signature_algorithm, signature)
     }
 
     fn well_formed_at(&self, limit: u8) -> bool {
-        let signature = Part(&self.signature_algorithm, Part(&self.signature, End));
-        Part(&self.tbs_certificate, signature).row_well_formed_at(limit)
+        formed_of!(self, limit; tbs_certificate, signature_algorithm, signature)
     }
 }
 
 impl DerDeserialize for CertificateHead {
     fn read(alloc: Global, r: &mut Reader<'_>, nest: u8) -> Result<Self, Error> {
-        let row: CertificateRow = read_within(alloc, r, nest, 0x30)?;
-        let Part(tbs_certificate, Part(signature_algorithm, Part(signature, End))) = row;
-        Ok(CertificateHead {
-            tbs_certificate,
-            signature_algorithm,
-            signature,
+        read_of!(alloc, r, nest; CertificateHead {
+            tbs_certificate, signature_algorithm, signature
         })
     }
 

@@ -301,9 +301,10 @@ impl DerSerialize for TstInfo {
 impl DerDeserialize for TstInfo {
     fn read(alloc: Global, r: &mut Reader<'_>, nest: u8) -> Result<Self, Error> {
         let row: TstInfoRow = read_within(alloc, r, nest, 0x30)?;
-        let Part(_, Part(policy, Part(message_imprint, Part(serial_number, time)))) = row;
-        let Part(gen_time, Maybe(accuracy, Omitted(DefaultFalse(ordering), nonce))) = time;
-        let Maybe(nonce, Maybe(tsa, Maybe(extensions, End))) = nonce;
+        let fields_of!(
+            (_), policy, message_imprint, serial_number, gen_time, accuracy OPTIONAL,
+            (DefaultFalse(ordering)) DEFAULT, nonce OPTIONAL, tsa OPTIONAL, extensions OPTIONAL
+        ) = row;
         Ok(TstInfo {
             policy,
             message_imprint,

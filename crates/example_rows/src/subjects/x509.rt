@@ -1,4 +1,4 @@
-//! The types of X.509, and what a time stamp signs. These are no kinds of `derbox`.
+//! The types of X.509, what a time stamp signs, and page hashes. These are no kinds of `derbox`.
 
 use crate::checks::{is_so as at, is_so_under_tags as under_tags};
 use crate::rows::Row;
@@ -6,7 +6,7 @@ use std::alloc::Global;
 use std::test::Fail;
 use x509_containers::{
     AlgorithmIdentifier, Attribute, CertificateHead, DigestInfo, Extension, Extensions, Name,
-    NameValue, RawAlgorithmIdentifier, SubjectKeyIdentifier, Time, TstInfo, Version,
+    NameValue, PageHashes, RawAlgorithmIdentifier, SubjectKeyIdentifier, Time, TstInfo, Version,
 };
 
 /// Asks what a row says, where the word names one of these types.
@@ -20,6 +20,7 @@ pub fn is_so(alloc: Global, word: &str, row: &Row) -> Result<bool, Fail> {
         "extensions" => at::<Extensions>(alloc, row)?,
         "name" => at::<Name>(alloc, row)?,
         "namevalue" => at::<NameValue>(alloc, row)?,
+        "pagehashes" => at::<PageHashes>(alloc, row)?,
         "rawalgorithmidentifier" => at::<RawAlgorithmIdentifier>(alloc, row)?,
         "subjectkeyidentifier" => under_tags::<SubjectKeyIdentifier>(alloc, row)?,
         "time" => at::<Time>(alloc, row)?,
