@@ -75,3 +75,11 @@ no_memory F k {old} {new} t m = record {
   counts = omega (arith, t.at_least);
   at_most = omega (arith, t.at_most, ap length t.split, length-append t.taken new.left);
 }
+
+pub no_memory_row : {V : Type 0} (R : Format V) (k : ℕ) {old new : Position} {v : V} {e : Error} → TookRow R k old new v → e ≡ Memory → GaveUpRow R k old new e
+no_memory_row R k {old} {new} t m = record {
+  kind = λ x. (let h = sym m ∙ x in cc);
+  none = λ x v r. x m;
+  counts = omega (arith, t.at_least);
+  at_most = omega (arith, t.at_most);
+}

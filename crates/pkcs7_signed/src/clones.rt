@@ -1,9 +1,11 @@
 //! `==` and clones of signers, what they hold and signed data.
 
-ghost use Rattle.std.specs.Prelude.{◌≡◌, map};
+ghost use Rattle.std.specs.Prelude.{◌≡◌, List, [], ◌∷◌, ◌++◌, map, MatchResult};
 ghost use Rattle.asn1_core.specs.Der.{Clones};
+ghost use Rattle.asn1_core_element.specs.declared.error.Error.TheVariants.{Memory};
 ghost use Rattle.pkcs7_signed.specs.SignerEqual.{signer_equal, signers_equal, attributes_equal, attribute_equal, values_equal, certificate_equal, signed_equal};
 ghost use Rattle.pkcs7_signed.specs.SignerValues.{signer_value, signers_value, attributes_value, certificate_value, signed_value};
+ghost use Rattle.pkcs7_signed.specs.declared.signers.Pkcs7Certificate.{out-Pkcs7Certificate};
 ghost use Rattle.pkcs7_signed.specs.declared.signers.SignedData.{out-SignedData};
 ghost use Rattle.pkcs7_signed.specs.declared.signers.SignerInfo.{out-SignerInfo};
 
@@ -19,7 +21,6 @@ impl EqualByText for SignerInfo {
 }
 
 impl TryClone for SignerInfo {
-    #[cycle(copy)]
     fn try_clone(&self, alloc: Global) -> Result<Self, Error> {
         let unsigned = self.unsigned_attrs.0.try_clone(alloc)?;
         signer_with(self, unsigned, alloc)
@@ -31,7 +32,6 @@ impl EqualByText for SignersInfos {
 }
 
 impl TryClone for SignersInfos {
-    #[cycle(copy)]
     fn try_clone(&self, alloc: Global) -> Result<Self, Error> {
         Ok(SignersInfos(cloned_signers(&self.0, alloc)?))
     }
@@ -83,7 +83,6 @@ impl EqualByText for Pkcs7Certificate {
 }
 
 impl TryClone for Pkcs7Certificate {
-    #[cycle(copy)]
     fn try_clone(&self, alloc: Global) -> Result<Self, Error> {
         Ok(Pkcs7Certificate {
             oid: self.oid.try_clone(alloc)?,
@@ -97,7 +96,6 @@ impl EqualByText for SignedData {
 }
 
 impl TryClone for SignedData {
-    #[cycle(copy)]
     fn try_clone(&self, alloc: Global) -> Result<Self, Error> {
         let signers = self.signers_infos.try_clone(alloc)?;
         signed_with(self, signers, alloc)
@@ -114,7 +112,8 @@ fn cloned_signers(
 {
     let mut signers = Vec::with_capacity(alloc, set.0.len())?;
     for signer in &set.0 {
-        signers.push(signer.try_clone(alloc)?)?;
+        let unsigned = signer.unsigned_attrs.0.try_clone(alloc)?;
+        push_signer(&mut signers, signer, unsigned, alloc)?;
     }
     Ok(Asn1SetOf(signers))
 }
@@ -129,9 +128,51 @@ fn cloned_certificates(
 {
     let mut certificates = Vec::with_capacity(alloc, set.0.len())?;
     for certificate in &set.0 {
-        certificates.push(certificate.try_clone(alloc)?)?;
+        let below = cloned_signers(&certificate.signed_data.0.signers_infos.0, alloc)?;
+        push_certificate(&mut certificates, certificate, SignersInfos(below), alloc)?;
     }
     Ok(Asn1SetOf(certificates))
+}
+
+/// Puts a clone of the signer, with unsigned attributes that are cloned, after the others. Refuses by `Memory` alone.
+#[inline(never)]
+fn push_signer(
+    signers: &mut Vec<SignerInfo>,
+    signer: &SignerInfo,
+    unsigned: UnsignedAttributes,
+    alloc: Global,
+) -> Result<(), Error>
+    requires { attributes_value unsigned ≡ attributes_value (out-SignerInfo signer.now).unsigned_attrs.0 }
+    ensures { MatchResult result
+        (λ _. map signer_value signers.new.items ≡ map signer_value signers.old.items ++ signer_value signer.now ∷ [])
+        (λ e. e ≡ Memory) }
+{
+    let signer = signer_with(signer, unsigned, alloc)?;
+    signers.push(signer)?;
+    Ok(())
+}
+
+/// Puts a clone of the signed data and their content type, with signers that are cloned, after the others. Refuses by
+/// `Memory` alone.
+#[inline(never)]
+fn push_certificate(
+    certificates: &mut Vec<Pkcs7Certificate>,
+    certificate: &Pkcs7Certificate,
+    below: SignersInfos,
+    alloc: Global,
+) -> Result<(), Error>
+    requires { signers_value below ≡ signers_value (out-SignedData (out-Pkcs7Certificate certificate.now).signed_data.0).signers_infos }
+    ensures { MatchResult result
+        (λ _. map certificate_value certificates.new.items ≡ map certificate_value certificates.old.items ++ certificate_value certificate.now ∷ [])
+        (λ e. e ≡ Memory) }
+{
+    let oid = certificate.oid.try_clone(alloc)?;
+    let signed_data = signed_with(&certificate.signed_data.0, below, alloc)?;
+    certificates.push(Pkcs7Certificate {
+        oid,
+        signed_data: ExplicitContextTag0(signed_data),
+    })?;
+    Ok(())
 }
 
 /// A clone of the signer, with unsigned attributes that are cloned. While these are, nothing else of it is held.

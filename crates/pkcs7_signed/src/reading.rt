@@ -11,9 +11,9 @@ ghost use Rattle.pkcs7_signed.specs.Oids.{signed_data_oid};
 ghost use Rattle.pkcs7_signed.specs.Rows.{kind_of, values_row};
 ghost use Rattle.pkcs7_signed.specs.SignerLaws.{lawful_signer, lawful_attribute, lawful_certificate, lawful_signed_data, lawful_signer_infos, lawful_unsigned_attributes};
 ghost use Rattle.pkcs7_signed.specs.SignerValues.{signer_value, attribute_value, values_value, certificate_value, signed_value};
-ghost use Rattle.pkcs7_signed.specs.Signers.{Value, signers, signer, attribute, certificate, signed_data};
+ghost use Rattle.pkcs7_signed.specs.Signers.{Value, signers, signer, attribute, certificate, certificate_out, signed_data};
 
-use crate::boxed::{Boxed, in_box};
+use crate::boxed::{Boxed, in_box, opened};
 use crate::oids::SIGNED_DATA;
 use crate::signers::{
     Kind, Pkcs7Certificate, SignedData, SignerInfo, SignersInfos, UnsignedAttribute,
@@ -124,8 +124,10 @@ type SignedParts = Part<
 
 type Held = Alone<ExplicitContextTag0<Boxed<SignedData>>>;
 
+type CertificateParts = Part<SignedDataType, Tail<Held>>;
+
 /// Reads a signer.
-fn read_signer_with<F: Fn(&mut Reader<'_>, u8) -> Result<SignerInfo, Error>>(
+fn read_signer_with<F: Fn(&mut Reader<'_>, u8) -> Result<Boxed<SignerInfo>, Error>>(
     alloc: Global,
     r: &mut Reader<'_>,
     nest: u8,
@@ -160,7 +162,7 @@ fn read_signer_with<F: Fn(&mut Reader<'_>, u8) -> Result<SignerInfo, Error>>(
 }
 
 /// Reads unsigned attributes, or none, at the end of a signer.
-fn read_unsigned_with<F: Fn(&mut Reader<'_>, u8) -> Result<SignerInfo, Error>>(
+fn read_unsigned_with<F: Fn(&mut Reader<'_>, u8) -> Result<Boxed<SignerInfo>, Error>>(
     alloc: Global,
     r: &mut Reader<'_>,
     nest: u8,
@@ -183,7 +185,7 @@ fn read_unsigned_with<F: Fn(&mut Reader<'_>, u8) -> Result<SignerInfo, Error>>(
 }
 
 /// Reads an unsigned attribute.
-fn read_attribute_with<F: Fn(&mut Reader<'_>, u8) -> Result<SignerInfo, Error>>(
+fn read_attribute_with<F: Fn(&mut Reader<'_>, u8) -> Result<Boxed<SignerInfo>, Error>>(
     alloc: Global,
     r: &mut Reader<'_>,
     nest: u8,
@@ -201,7 +203,7 @@ fn read_attribute_with<F: Fn(&mut Reader<'_>, u8) -> Result<SignerInfo, Error>>(
 }
 
 /// Reads the values of an unsigned attribute whose object identifier has these contents octets.
-fn read_values_with<F: Fn(&mut Reader<'_>, u8) -> Result<SignerInfo, Error>>(
+fn read_values_with<F: Fn(&mut Reader<'_>, u8) -> Result<Boxed<SignerInfo>, Error>>(
     oid: &[u8],
     alloc: Global,
     r: &mut Reader<'_>,
@@ -214,20 +216,11 @@ fn read_values_with<F: Fn(&mut Reader<'_>, u8) -> Result<SignerInfo, Error>>(
 {
     match Kind::with_oid(oid) {
         Kind::MsCounterSign => {
-            let certificates = read_set_with(
-                alloc,
-                r,
-                nest,
-                &|s: &mut Reader<'_>|
-                    requires sound { s.old.refused ≡ false }
-                    requires below { ReadsSigners (F.pre by.now) (F.post by.now) nest }
-                    ensures { Gives certificate_value certificate nest s.old s.new result }
-                { read_certificate_with(alloc, s, nest, by) },
-            )?;
+            let certificates = read_certificates_with(alloc, r, nest, by)?;
             Ok(UnsignedAttributeValue::MsCounterSign(Asn1SetOf(certificates)))
         }
         Kind::CounterSign => {
-            let signers = read_set_below_with(alloc, r, nest, by)?;
+            let signers = read_signers_below(alloc, r, nest, by)?;
             Ok(UnsignedAttributeValue::CounterSign(Asn1SetOf(signers)))
         }
         Kind::Foreign => {
@@ -237,19 +230,60 @@ fn read_values_with<F: Fn(&mut Reader<'_>, u8) -> Result<SignerInfo, Error>>(
     }
 }
 
-/// Reads signed data with its content type. It isn't inlined, so that a counter signature takes none of its stack.
-#[inline(never)]
-fn read_certificate_with<F: Fn(&mut Reader<'_>, u8) -> Result<SignerInfo, Error>>(
+/// Reads time stamps, to the end of the open contents.
+fn read_certificates_with<F: Fn(&mut Reader<'_>, u8) -> Result<Boxed<SignerInfo>, Error>>(
     alloc: Global,
     r: &mut Reader<'_>,
     nest: u8,
     by: &F,
-) -> Result<Pkcs7Certificate, Error>
+) -> Result<Vec<Pkcs7Certificate>, Error>
     requires sound { r.old.refused ≡ false }
     requires below { ReadsSigners (F.pre by.now) (F.post by.now) nest }
-    ensures { Gives certificate_value certificate nest r.old r.new result }
+    ensures { GivesRow (λ v. map certificate_value v.items) (set_of certificate) nest r.old r.new result }
 {
-    let row = read_row_within_with::<Part<SignedDataType, Tail<Held>>, _, _>(
+    let boxes = read_set_with(
+        alloc,
+        r,
+        nest,
+        &|s: &mut Reader<'_>|
+            requires sound { s.old.refused ≡ false }
+            requires below { ReadsSigners (F.pre by.now) (F.post by.now) nest }
+            ensures { Gives (λ b. certificate_value b.0.value) certificate nest s.old s.new result }
+        { read_certificate_with(alloc, s, nest, by) },
+    )?;
+    let certificates = opened(alloc, boxes)?;
+    Ok(certificates)
+}
+
+/// Reads signers a level down, to the end of the open contents.
+fn read_signers_below<F: Fn(&mut Reader<'_>, u8) -> Result<Boxed<SignerInfo>, Error>>(
+    alloc: Global,
+    r: &mut Reader<'_>,
+    nest: u8,
+    by: &F,
+) -> Result<Vec<SignerInfo>, Error>
+    requires sound { r.old.refused ≡ false }
+    requires below { ReadsSigners (F.pre by.now) (F.post by.now) nest }
+    ensures { GivesRow (λ v. map signer_value v.items) (set_of (less signer)) nest r.old r.new result }
+{
+    let boxes = read_set_below_with(alloc, r, nest, by)?;
+    let signers = opened(alloc, boxes)?;
+    Ok(signers)
+}
+
+/// Reads signed data with its content type. It isn't inlined, so that a counter signature takes none of its stack.
+#[inline(never)]
+fn read_certificate_with<F: Fn(&mut Reader<'_>, u8) -> Result<Boxed<SignerInfo>, Error>>(
+    alloc: Global,
+    r: &mut Reader<'_>,
+    nest: u8,
+    by: &F,
+) -> Result<Boxed<Pkcs7Certificate>, Error>
+    requires sound { r.old.refused ≡ false }
+    requires below { ReadsSigners (F.pre by.now) (F.post by.now) nest }
+    ensures { Gives (λ b. certificate_value b.0.value) certificate nest r.old r.new result }
+{
+    let row = read_row_within_with::<CertificateParts, _, _>(
         alloc,
         r,
         nest,
@@ -260,15 +294,28 @@ fn read_certificate_with<F: Fn(&mut Reader<'_>, u8) -> Result<SignerInfo, Error>
             ensures { GivesRow (λ x. signed_value x.0.0.0.value) (within 0xA0 signed_data) nest s.old s.new result }
         { read_held_with(alloc, s, nest, by) },
     )?;
+    let certificate = certificate_of(alloc, row)?;
+    Ok(certificate)
+}
+
+/// Signed data with their content type, of their parts, in memory of their own. Refuses by `Memory` alone.
+#[inline(never)]
+fn certificate_of(alloc: Global, row: CertificateParts) -> Result<Boxed<Pkcs7Certificate>, Error>
+    ensures { MatchResult result
+        (λ b. certificate_out (certificate_value b.0.value) ≡ (octets_of row.0.0.0, signed_value row.1.0.0.0.value))
+        (λ e. e ≡ Memory) }
+{
     let Part(SignedDataType(oid), Tail(Alone(ExplicitContextTag0(signed)))) = row;
-    Ok(Pkcs7Certificate {
+    let certificate = Pkcs7Certificate {
         oid,
         signed_data: ExplicitContextTag0(signed.open()),
-    })
+    };
+    let certificate = in_box(alloc, certificate)?;
+    Ok(certificate)
 }
 
 /// Reads signed data under their tag, to the end of the open contents.
-fn read_held_with<F: Fn(&mut Reader<'_>, u8) -> Result<SignerInfo, Error>>(
+fn read_held_with<F: Fn(&mut Reader<'_>, u8) -> Result<Boxed<SignerInfo>, Error>>(
     alloc: Global,
     r: &mut Reader<'_>,
     nest: u8,
@@ -291,7 +338,7 @@ fn read_held_with<F: Fn(&mut Reader<'_>, u8) -> Result<SignerInfo, Error>>(
 }
 
 /// Reads signed data.
-fn read_signed_with<F: Fn(&mut Reader<'_>, u8) -> Result<SignerInfo, Error>>(
+fn read_signed_with<F: Fn(&mut Reader<'_>, u8) -> Result<Boxed<SignerInfo>, Error>>(
     alloc: Global,
     r: &mut Reader<'_>,
     nest: u8,
@@ -341,7 +388,7 @@ fn signed_of(alloc: Global, row: SignedParts) -> Result<Boxed<SignedData>, Error
 }
 
 /// Reads the signers of signed data, to the end of the open contents.
-fn read_signers_with<F: Fn(&mut Reader<'_>, u8) -> Result<SignerInfo, Error>>(
+fn read_signers_with<F: Fn(&mut Reader<'_>, u8) -> Result<Boxed<SignerInfo>, Error>>(
     alloc: Global,
     r: &mut Reader<'_>,
     nest: u8,
@@ -351,12 +398,25 @@ fn read_signers_with<F: Fn(&mut Reader<'_>, u8) -> Result<SignerInfo, Error>>(
     requires below { ReadsSigners (F.pre by.now) (F.post by.now) nest }
     ensures { GivesRow (λ x. map signer_value x.0.0.items) (set_of (less signer)) nest r.old r.new result }
 {
-    let signers = read_set_below_with(alloc, r, nest, by)?;
+    let signers = read_signers_below(alloc, r, nest, by)?;
     Ok(SignersBelow(Asn1SetOf(signers)))
+}
+
+/// Reads a signer a level down, into memory of its own.
+#[cycle(read)]
+#[inline(never)]
+fn read_boxed(alloc: Global, r: &mut Reader<'_>, nest: u8) -> Result<Boxed<SignerInfo>, Error>
+    requires { r.old.refused ≡ false }
+    ensures { Gives (λ b. signer_value b.0.value) signer nest r.old r.new result }
+{
+    let value = SignerInfo::read(alloc, r, nest)?;
+    let kept = in_box(alloc, value)?;
+    Ok(kept)
 }
 
 impl DerDeserialize for SignerInfo {
     #[cycle(read)]
+    #[inline(never)]
     fn read(alloc: Global, r: &mut Reader<'_>, nest: u8) -> Result<Self, Error> {
         read_signer_with(
             alloc,
@@ -365,10 +425,10 @@ impl DerDeserialize for SignerInfo {
             &|s: &mut Reader<'_>, below: u8|
                 requires sound { s.old.refused ≡ false }
                 requires less { below < nest }
-                ensures { Gives signer_value signer below s.old s.new result }
+                ensures { Gives (λ b. signer_value b.0.value) signer below s.old s.new result }
             {
                 prove!(below < nest);
-                SignerInfo::read(alloc, s, below)
+                read_boxed(alloc, s, below)
             },
         )
     }
@@ -384,8 +444,8 @@ impl DerDeserialize for UnsignedAttribute {
             nest,
             &|s: &mut Reader<'_>, below: u8|
                 requires { s.old.refused ≡ false }
-                ensures { Gives signer_value signer below s.old s.new result }
-            { SignerInfo::read(alloc, s, below) },
+                ensures { Gives (λ b. signer_value b.0.value) signer below s.old s.new result }
+            { read_boxed(alloc, s, below) },
         )
     }
 
@@ -394,15 +454,16 @@ impl DerDeserialize for UnsignedAttribute {
 
 impl DerDeserialize for Pkcs7Certificate {
     fn read(alloc: Global, r: &mut Reader<'_>, nest: u8) -> Result<Self, Error> {
-        read_certificate_with(
+        let certificate = read_certificate_with(
             alloc,
             r,
             nest,
             &|s: &mut Reader<'_>, below: u8|
                 requires { s.old.refused ≡ false }
-                ensures { Gives signer_value signer below s.old s.new result }
-            { SignerInfo::read(alloc, s, below) },
-        )
+                ensures { Gives (λ b. signer_value b.0.value) signer below s.old s.new result }
+            { read_boxed(alloc, s, below) },
+        )?;
+        Ok(certificate.open())
     }
 
     ghost lawful = { lawful_certificate };
@@ -416,8 +477,8 @@ impl DerDeserialize for SignedData {
             nest,
             &|s: &mut Reader<'_>, below: u8|
                 requires { s.old.refused ≡ false }
-                ensures { Gives signer_value signer below s.old s.new result }
-            { SignerInfo::read(alloc, s, below) },
+                ensures { Gives (λ b. signer_value b.0.value) signer below s.old s.new result }
+            { read_boxed(alloc, s, below) },
         )?;
         Ok(signed.open())
     }

@@ -2,7 +2,10 @@ use Rattle.std.proofs.Common.{◌+◌, ◌*◌}
 use Rattle.pkcs7_signed.proofs.reading.+read.Given as goal
 
 abbrev pub decreases-SignerInfoDerDeserialize::read : goal.decreases-SignerInfoDerDeserialize::read
-decreases-SignerInfoDerDeserialize::read l = 2 * l.nest
+decreases-SignerInfoDerDeserialize::read l = 3 * l.nest
+
+abbrev pub decreases-read_boxed : goal.decreases-read_boxed
+decreases-read_boxed l = 3 * l.nest + 1
 
 abbrev pub decreases-read_signer_with : goal.decreases-read_signer_with
-decreases-read_signer_with l = 2 * l.below + 1
+decreases-read_signer_with l = 3 * l.below + 2

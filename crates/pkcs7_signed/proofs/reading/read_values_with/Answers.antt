@@ -6,16 +6,9 @@ use Rattle.asn1_choices.proofs.DefinedByReads.{arm_took, arm_refused, took_at, r
 use Rattle.asn1_choices.specs.DefinedByLaws.{itself}
 use Rattle.pkcs7_signed.specs.Rows.{kind_of, values_row}
 use Rattle.pkcs7_signed.specs.Signers.{signer, certificate, values}
-use Rattle.pkcs7_signed.specs.SignerLaws.{lawful_signer, lawful_certificate}
 use Rattle.pkcs7_signed.specs.SignerLevels.{value_ms_counter_sign, value_counter_sign, value_unknown}
 use Rattle.pkcs7_signed.specs.SignerValues.{values_value}
 use Rattle.pkcs7_signed.proofs.reading.read_values_with.Goals as goal
-
-pub read_set_with-requires-clause-lawful : goal.read_set_with-requires-clause-lawful
-read_set_with-requires-clause-lawful g c = lawful_certificate
-
-pub read_set_below_with-requires-clause-lawful : goal.read_set_below_with-requires-clause-lawful
-read_set_below_with-requires-clause-lawful g c = lawful_signer
 
 pub returns-in_err-certificates-in-MsCounterSign : goal.returns-in_err-certificates-in-MsCounterSign
 returns-in_err-certificates-in-MsCounterSign g c =
@@ -34,12 +27,12 @@ returns-in_err-elements-in-Foreign g c =
 
 pub returns-in_ok-certificates-in-MsCounterSign : goal.returns-in_ok-certificates-in-MsCounterSign
 returns-in_ok-certificates-in-MsCounterSign g c =
-    subst (TookRow (values_row certificate (less signer) (kind_of c.args.oid.now)) c.args.nest c.args.r.now c.read_set_with.new.r) (sym (value_ms_counter_sign _))
+    subst (TookRow (values_row certificate (less signer) (kind_of c.args.oid.now)) c.args.nest c.args.r.now c.read_certificates_with.new.r) (sym (value_ms_counter_sign _))
     (took_at (values_row certificate (less signer)) (sym c.in-MsCounterSign.is ∙ c.with_oid.ensures) (arm_took values _ (set_of certificate) (itself (λ a. refl) (λ a. refl) (λ a. refl)) c.in_ok-certificates-in-MsCounterSign.ensures))
 
 pub returns-in_ok-signers-in-CounterSign : goal.returns-in_ok-signers-in-CounterSign
 returns-in_ok-signers-in-CounterSign g c =
-    subst (TookRow (values_row certificate (less signer) (kind_of c.args.oid.now)) c.args.nest c.args.r.now c.read_set_below_with.new.r) (sym (value_counter_sign _))
+    subst (TookRow (values_row certificate (less signer) (kind_of c.args.oid.now)) c.args.nest c.args.r.now c.read_signers_below.new.r) (sym (value_counter_sign _))
     (took_at (values_row certificate (less signer)) (sym c.in-CounterSign.is ∙ c.with_oid.ensures) (arm_took values _ (set_of (less signer)) (itself (λ a. refl) (λ a. refl) (λ a. refl)) c.in_ok-signers-in-CounterSign.ensures))
 
 pub returns-in_ok-elements-in-Foreign : goal.returns-in_ok-elements-in-Foreign
