@@ -74,7 +74,10 @@ impl<T> Boxed<T> {
 
 /// The values of a list, out of their boxes. Refuses by `Memory` alone.
 #[inline(never)]
-pub(crate) fn opened<T: DerSerialize + Drop>(alloc: Global, boxes: Vec<Boxed<T>>) -> Result<Vec<T>, Error>
+pub(crate) fn opened<T: DerSerialize + Drop>(
+    alloc: Global,
+    boxes: Vec<Boxed<T>>,
+) -> Result<Vec<T>, Error>
     ensures { MatchResult result
         (λ v. map T.value v.items ≡ map (λ b. T.value b.0.value) boxes.items)
         (λ e. e ≡ Memory) }
