@@ -302,7 +302,7 @@ fn read_certificate_with<F: Fn(&mut Reader<'_>, u8) -> Result<Boxed<SignerInfo>,
 #[inline(never)]
 fn certificate_of(alloc: Global, row: CertificateParts) -> Result<Boxed<Pkcs7Certificate>, Error>
     ensures { MatchResult result
-        (λ b. certificate_out (certificate_value b.0.value) ≡ (octets_of row.0.0.0, signed_value row.1.0.0.0.value))
+        (λ b. certificate_out (certificate_value b.0.value) ≡ (octets_of row.0.0.0, signed_value row.1.0.0.0.0.value))
         (λ e. e ≡ Memory) }
 {
     let Part(SignedDataType(oid), Tail(Alone(ExplicitContextTag0(signed)))) = row;

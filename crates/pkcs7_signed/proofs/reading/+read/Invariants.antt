@@ -7,5 +7,5 @@ decreases-SignerInfoDerDeserialize::read l = 3 * l.nest
 abbrev pub decreases-read_boxed : goal.decreases-read_boxed
 decreases-read_boxed l = 3 * l.nest + 1
 
-abbrev pub decreases-read_signer_with : goal.decreases-read_signer_with
-decreases-read_signer_with l = 3 * l.below + 2
+abbrev pub decreases-SignerInfoDerDeserialize::read-read_signer_with : goal.decreases-SignerInfoDerDeserialize::read-read_signer_with
+decreases-SignerInfoDerDeserialize::read-read_signer_with l = 3 * l.below + 2
