@@ -1,6 +1,4 @@
-use Rattle.std.proofs.Common.{sym, subst}
 use Rattle.std.proofs.lemmas.Result.{err_from_is_err_and}
-use Rattle.asn1_core.specs.Der.{Took}
 use Rattle.asn1_core_format.proofs.LevelReads.{gave}
 use Rattle.pkcs7_signed.specs.Signers.{signer}
 use Rattle.pkcs7_signed.specs.SignerValues.{signer_value}
