@@ -1,5 +1,5 @@
 use Rattle.std.proofs.lemmas.Result.{err_from_is_err_and}
-use Rattle.container_parts.specs.Inputs.{refused}
+use Rattle.container_parts.specs.Inputs.{refused, gives}
 use Rattle.container_parts.specs.StoreParts.{in_store}
 use Rattle.container_parts.proofs.stores.store_part.Goals as goal
 
@@ -8,3 +8,6 @@ returns-in_err-file c =
     let r = refused (in_store c.args.part c.args.index) c.args.input.now _ c.in_err-file.ensures in
     let q = err_from_is_err_and c.from_residual.result c.from_residual.ensures.1 in
     rw (q.1, q.2) r
+
+pub returns : goal.returns
+returns c = gives (in_store c.args.part c.args.index) c.args.input.now _ c.in_ok-file.ensures _ c.part_of_store.ensures
