@@ -1,7 +1,7 @@
 -- Parts of signed data, as octets: projections of its value.
 use Rattle.std.specs.Prelude.{ℕ, List, Option, None, Some, slice_get}
 use Rattle.std.proofs.Common.{inl, inr}
-use Rattle.asn1_core.specs.Der.{option_value, ElementOctets}
+use Rattle.asn1_core.specs.Der.{option_value}
 use Rattle.x509_base.specs.Algorithms.{algorithm_identifier}
 use Rattle.x509_base.specs.Names.{name}
 use Rattle.pkcs7_content.specs.Contents.{ContentValues, content_values}
