@@ -37,9 +37,9 @@ extern "C" {
 #endif
 
 /* The most levels of nesting that an input may have: bags in bags, signed data in time stamps, counter signatures of
- * counter signatures. A level takes 1.3 to 2.8 KB of stack, and up to 4 KB where the compiler inlines otherwise, so 64
- * levels need some 180 KB, and up to 256. A caller on a smaller stack passes a lower limit to der_check_limited and
- * der_rewrite_limited. That is measured (by scripts/cost), not proved. */
+ * counter signatures. A level takes 1.3 to 2.8 KB of stack, so 64 levels take up to 180, and a program that checks them
+ * passes with 256 KB in all. A caller on a smaller stack passes a lower limit to der_check_limited and
+ * der_rewrite_limited. That is measured, not proved. */
 #define DER_MAX_NESTING 64
 
 typedef enum der_status {
