@@ -5,7 +5,7 @@
 use std::alloc::Global;
 use std::test::Fail;
 use x509_containers::{
-    Asn1SetOf, ContentValue, EncapsulatedContentInfo, PageHashes, Pkcs7Certificate, SignerInfo,
+    Asn1SetOf, ContentValue, EncapsulatedContentInfo, PageHashes, Pkcs7Certificate,
     SpcAttributeAndOptionalValueValue, SpcPeImageData, from_bytes, nested_signatures,
     page_hash_octets, signers,
 };
@@ -75,14 +75,6 @@ const SIGNED: &[u8] = b"\
     \x2E\x87\x71\xD9\xF8\xB4\x01\xAA\xA1\xEC\x8B\xC3\x02\x98\xAD\xC8\xD4\xAF\x7C\xAA\x0C\x12\x02\x20\x67\x33\
     \x29\x43\x11\x18\xFB\x7E\xD7\x64\xCB\x4D\x2E\xF0\xC4\x1F\x1B\xB7\x3B\xE6\x14\xF1\x38\x0F\xD2\x21\x1F\x80\
     \x3E\xB0\x40\xE4";
-
-/// A signer with the unsigned attributes `szOID_NESTED_SIGNATURE` of two values, another, and the first once more.
-const SIGNER: &[u8] = b"\
-    \x30\x6C\x02\x01\x01\x30\x11\x30\x0C\x31\x0A\x30\x08\x06\x03\x55\x04\x03\x0C\x01\x41\x02\x01\x01\x30\x09\
-    \x06\x05\x2B\x0E\x03\x02\x1A\x05\x00\x30\x09\x06\x07\x2A\x86\x48\xCE\x3D\x04\x01\x04\x01\x00\xA1\x3B\x30\
-    \x13\x06\x0A\x2B\x06\x01\x04\x01\x82\x37\x02\x04\x01\x31\x05\x05\x00\x02\x01\x05\x30\x11\x06\x0A\x2B\x06\
-    \x01\x04\x01\x82\x37\x02\x04\x02\x31\x03\x02\x01\x06\x30\x11\x06\x0A\x2B\x06\x01\x04\x01\x82\x37\x02\x04\
-    \x01\x31\x03\x02\x01\x07";
 
 /// The page hashes by SHA-1.
 const BY_SHA1: [(u32, &[u8]); 3] = [
@@ -171,20 +163,6 @@ fn has_entries(alloc: Global, octets: &[u8], entries: &[(u32, &[u8])]) -> Result
         if hashes.entry(entries.len()).is_some() {
             return Err(Fail::new(format_args!("an entry more")));
         }
-    }
-    Ok(())
-}
-
-/// Values of several attributes, and of no other.
-#[test]
-fn several(rt: HostRuntime) -> Result<(), Fail> {
-    let alloc = rt.alloc();
-    let signer: SignerInfo = from_bytes(alloc, SIGNER)?;
-    let found = nested_signatures(alloc, &signer)?;
-    let values = [b"\x05\x00".as_slice(), b"\x02\x01\x05", b"\x02\x01\x07"];
-    assert_eq!(rt; found.len(), values.len());
-    for (element, value) in found.iter().zip(values) {
-        assert_eq!(rt; element.0.as_slice(), value);
     }
     Ok(())
 }

@@ -3,9 +3,7 @@
 use asn1_core::{DerSerialize, Error, TryClone, from_bytes, to_vec};
 use std::alloc::Global;
 use std::test::Fail;
-use x509_containers::{
-    Kind, MAX_NESTING, SafeBag, SafeBagKind, SafeContents, check_limited, rewrite_limited,
-};
+use x509_containers::{SafeBag, SafeBagKind, SafeContents};
 
 /// Empty contents in that many bags of kind SafeContents.
 fn nested(alloc: Global, levels: u8) -> Result<SafeContents, Error> {
@@ -40,29 +38,6 @@ fn built_levels(rt: HostRuntime) -> Result<(), Fail> {
             Some(Error::TooDeep)
         };
         assert_eq!(rt; refused, wanted, "{levels}");
-    }
-    Ok(())
-}
-
-/// Whether a check and a rewriting refuse a text of so many levels at a limit that is one less, and accept it at its own.
-fn is_limit(alloc: Global, kind: Kind, levels: u8) -> Result<bool, Error> {
-    let text = to_vec(alloc, &nested(alloc, levels)?)?;
-    let mut out = Vec::new(alloc);
-    let limit = levels.min(MAX_NESTING);
-    let less = limit.saturating_sub(1);
-    let checked = check_limited(alloc, kind, less, &text);
-    let rewritten = rewrite_limited(alloc, kind, less, &text, &mut out);
-    let is_refused = checked == Err(Error::TooDeep) && rewritten == Err(Error::TooDeep);
-    let checked = check_limited(alloc, kind, limit, &text)?;
-    rewrite_limited(alloc, kind, limit, &text, &mut out)?;
-    Ok(is_refused && checked == (true, text.len()) && out == text)
-}
-
-#[test]
-fn limits(rt: HostRuntime) -> Result<(), Fail> {
-    let kind = Kind::from_word("safecontents").ok_or("no kind")?;
-    for levels in [1u8, 2, 64] {
-        assert!(rt; is_limit(rt.alloc(), kind, levels)?, "{levels}");
     }
     Ok(())
 }

@@ -10,20 +10,12 @@ mod attributes;
 #[cfg(test)]
 mod authenticode;
 #[cfg(test)]
-mod contents;
-#[cfg(test)]
 mod key_stores;
 #[cfg(test)]
 mod levels;
-#[cfg(test)]
-mod loose_ends;
 pub mod octets_repr;
 #[cfg(test)]
 mod program;
-#[cfg(test)]
-mod ranges;
-#[cfg(test)]
-mod refused_places;
 #[cfg(test)]
 mod representations;
 #[cfg(test)]

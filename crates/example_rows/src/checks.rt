@@ -4,15 +4,16 @@ use crate::rows::Row;
 use asn1_core::prelude::{FirstTags, read_retagged};
 use asn1_core::{
     DerDeserialize, DerTagged, Error, MAX_NESTING, Reader, SeenByText, StdSink, StdSource,
-    TryClone, from_bytes, from_bytes_counted, from_bytes_limited, to_vec,
+    TryClone, from_bytes, from_bytes_counted, from_bytes_limited, from_bytes_located, to_vec,
 };
 use std::alloc::Global;
 use std::fmt::Debug;
 use std::test::Fail;
 use vector_checks::checks::{is_rewritten, is_sent};
 use x509_containers::{
-    Kind, Mode, Outcome, check, check_as, check_as_limited, rewrite, rewrite_as,
-    rewrite_as_limited, run,
+    Kind, Mode, Outcome, Verdict, check, check_as, check_as_limited, check_limited, check_located,
+    check_located_as, loose_end, loose_end_as, rewrite, rewrite_as, rewrite_as_limited,
+    rewrite_limited, run,
 };
 
 /// Up to so many bytes, sinks that fail, beginnings and changes are tried of an input.
@@ -96,19 +97,65 @@ fn is_told(
     }
 }
 
+/// Asks that a check which says the place, and the loose end alone, say what a check without it does, and that the
+/// place is that of the row, where it says one.
+fn is_placed(
+    row: &Row,
+    checked: Result<(bool, usize), Error>,
+    located: Result<Verdict, (Error, usize)>,
+    end: Result<Option<usize>, Error>,
+) -> Result<(), Fail> {
+    let place = match located {
+        Ok(verdict) => {
+            let place = verdict.loose_end;
+            let is_normal = place.is_none();
+            expect(
+                checked == Ok((is_normal, verdict.encoding_len)),
+                "a verdict",
+            )?;
+            expect(end == Ok(place), "the loose end")?;
+            place
+        }
+        Err((error, place)) => {
+            expect(
+                checked == Err(error) && end == Err(error),
+                "a refusal at a place",
+            )?;
+            Some(place)
+        }
+    };
+    if row.place.is_some() && row.place != place {
+        return Err(Fail::new(format_args!("the place is {place:?}")));
+    }
+    Ok(())
+}
+
 /// Asks what a row says of its input as the kind, of runs and in memory.
 pub fn is_said_by_kind(alloc: Global, kind: Kind, row: &Row) -> Result<(), Fail> {
     let checked = ran_as(alloc, kind, &row.input, Mode::Check);
     is_said(row, checked, ran_as(alloc, kind, &row.input, Mode::Rewrite))?;
     let mut out = Vec::from_slice(alloc, &[BEFORE])?;
     let rewritten = rewrite(alloc, kind, &row.input, &mut out);
-    is_told(
-        alloc,
-        row,
-        check(alloc, kind, &row.input),
-        rewritten,
-        out.as_slice(),
-    )
+    let checked = check(alloc, kind, &row.input);
+    is_told(alloc, row, checked, rewritten, out.as_slice())?;
+    let located = check_located(alloc, kind, MAX_NESTING, &row.input);
+    is_placed(row, checked, located, loose_end(alloc, kind, &row.input))
+}
+
+/// Asks what a row says of its input as the kind, with fewer levels of nesting.
+pub fn is_said_by_kind_within(
+    alloc: Global,
+    kind: Kind,
+    levels: u8,
+    row: &Row,
+) -> Result<(), Fail> {
+    if levels > MAX_NESTING {
+        return Err(Fail::new("at most 64 levels"));
+    }
+    let mut out = Vec::from_slice(alloc, &[BEFORE])?;
+    let rewritten = rewrite_limited(alloc, kind, levels, &row.input, &mut out);
+    let checked = check_limited(alloc, kind, levels, &row.input);
+    is_told(alloc, row, checked, rewritten, out.as_slice())
 }
 
 /// Asks that each proper beginning of an accepted input is refused.
@@ -216,6 +263,10 @@ pub fn is_so<T: DerDeserialize + SeenByText + TryClone + Debug>(
     let rewritten = rewrite_as::<T>(alloc, &row.input, &mut out);
     let checked = check_as::<T>(alloc, &row.input);
     is_told(alloc, row, checked, rewritten, out.as_slice())?;
+    let located = check_located_as::<T>(alloc, MAX_NESTING, &row.input);
+    is_placed(row, checked, located, loose_end_as::<T>(alloc, &row.input))?;
+    let refused = from_bytes_located::<T>(alloc, &row.input).err();
+    expect(refused == located.err(), "the place of a refusal")?;
     let (outcome, headers) = from_bytes_counted::<T>(alloc, &row.input);
     if row.headers.is_some_and(|wanted| wanted != headers) {
         return Err(Fail::new(format_args!("it reads {headers} headers")));

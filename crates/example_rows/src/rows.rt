@@ -1,6 +1,6 @@
 //! What a row asks.
 
-use crate::checks::{is_said_by_kind, is_said_within};
+use crate::checks::{is_said_by_kind, is_said_by_kind_within, is_said_within};
 use crate::coverage::Said;
 use crate::subjects::{self, kinds};
 use std::alloc::Global;
@@ -13,6 +13,8 @@ pub struct Row {
     pub input: Vec<u8>,
     /// What a check says.
     pub said: Vec<u8>,
+    /// Where the input is refused or loose, where that is said.
+    pub place: Option<usize>,
     /// What is written of an accepted input.
     pub text: Vec<u8>,
     /// How many headers are read, where that is said.
@@ -67,9 +69,14 @@ fn row_of(
         [_, input, said, text] => (*input, *said, *text),
         _ => return Err(Fail::new("three or four columns, and a value")),
     };
+    let (said, place) = match said.split_once(" at ") {
+        Some((said, place)) => (said, Some(usize::from_str_radix(place, 10)?)),
+        None => (said, None),
+    };
     Ok(Row {
         input: octets(alloc, input)?,
         said: Vec::from_slice(alloc, said.as_bytes())?,
+        place,
         text: octets(alloc, text)?,
         headers,
         levels,
@@ -90,8 +97,9 @@ fn is_so(alloc: Global, word: &str, row: &Row) -> Result<(), Fail> {
     let Some(kind) = Kind::from_word(word) else {
         return subjects::is_so(alloc, word, row);
     };
-    if row.levels.is_none() {
-        is_said_by_kind(alloc, kind, row)?;
+    match row.levels {
+        Some(levels) => is_said_by_kind_within(alloc, kind, levels, row)?,
+        None => is_said_by_kind(alloc, kind, row)?,
     }
     kinds::is_so(alloc, kind, row)
 }

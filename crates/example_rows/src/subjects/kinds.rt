@@ -6,9 +6,9 @@ use std::alloc::Global;
 use std::test::Fail;
 use x509_containers::{
     AuthenticodeKind, CertificateSet, EnvelopedKind, KekRecipientInfo, Kind, OriginatorInfo,
-    OtherRevocationInfoFormat, RevocationInfoChoices, SignedPartKind, SpcSerializedObject,
-    algorithm_kinds, at_type, authenticode_kinds, content_kinds, enveloped_kinds,
-    signed_data_kinds, signed_part_kinds, store_kinds, trust_list_kinds,
+    OtherRevocationInfoFormat, RawPfx, RevocationInfoChoices, SignedPartKind, SpcSerializedObject,
+    StoreKind, algorithm_kinds, at_type, authenticode_kinds, content_kinds, enveloped_kinds,
+    from_bytes, mac_range, signed_data_kinds, signed_part_kinds, store_kinds, trust_list_kinds,
 };
 
 /// Asks what a row says of the type of a kind.
@@ -30,7 +30,16 @@ fn is_so_at_its_type(alloc: Global, kind: Kind, row: &Row) -> Result<(), Fail> {
     }
 }
 
-/// Asks what a row says under other tags, of the types that have a tag of their own.
+/// Asks that what a MAC covers is looked for in what is accepted alone, and the rest refused alike.
+fn has_mac_range(alloc: Global, row: &Row) -> Result<(), Fail> {
+    let refused = from_bytes::<RawPfx>(alloc, &row.input).err();
+    if mac_range(alloc, &row.input).err() == refused {
+        return Ok(());
+    }
+    Err(Fail::new("another refusal of the range of a MAC"))
+}
+
+/// Asks what a row says under other tags, of the types that have a tag of their own, and of what a MAC covers.
 fn is_so_besides(alloc: Global, kind: Kind, row: &Row) -> Result<(), Fail> {
     match kind {
         Kind::Authenticode(AuthenticodeKind::SpcSerializedObject) => {
@@ -49,6 +58,7 @@ fn is_so_besides(alloc: Global, kind: Kind, row: &Row) -> Result<(), Fail> {
             under_tags::<KekRecipientInfo>(alloc, row)
         }
         Kind::Enveloped(EnvelopedKind::OriginatorInfo) => under_tags::<OriginatorInfo>(alloc, row),
+        Kind::Store(StoreKind::RawPfx) => has_mac_range(alloc, row),
         _ => Ok(()),
     }
 }
