@@ -26,7 +26,9 @@ pub trait Named {
 pub(crate) fn is_named<N: Named>(octets: &[u8]) -> bool
     ensures { IsTrue result ↔ (octets.now ≡ N.OID) }
 {
-    octets == N::octets()
+    let name = N::octets();
+    // identifiers of one family differ in their last octet
+    octets.last() == name.last() && octets == name
 }
 
 /// The body that follows the object identifier `N`.
