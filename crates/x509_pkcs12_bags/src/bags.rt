@@ -1,8 +1,9 @@
 //! Bags, which may hold bags: their types, and how these are read, written, tested, compared and cloned.
 
-ghost use Rattle.std.specs.Prelude.{◌≡◌, ◌++◌, ◌<◌, ◌⊎◌, ◌↔◌, IsTrue, List, false};
+ghost use Rattle.std.specs.Prelude.{◌≡◌, ◌++◌, ◌<◌, ◌⊎◌, ◌↔◌, ◌∷◌, [], IsTrue, List, MatchResult, map, false};
 ghost use Rattle.std.proofs.Common.{inl, inr};
 ghost use Rattle.asn1_core.specs.Der.{Gives, less, element, octets_of};
+ghost use Rattle.asn1_core_element.specs.declared.error.Error.TheVariants.{Memory};
 ghost use Rattle.asn1_core_format.specs.declared.eithers.Either.TheVariants.{First, Second};
 ghost use Rattle.x509_pkcs12_parts.specs.Attributes.{attributes_value};
 ghost use Rattle.x509_pkcs12_parts.specs.Oids.{oid};
@@ -310,7 +311,6 @@ impl Viewed for SafeBagKind {
 }
 
 impl TryClone for SafeBag {
-    #[cycle(copy)]
     fn try_clone(&self, alloc: Global) -> Result<Self, Error> {
         clone_of!(self, alloc; SafeBag { kind, attributes })
     }
@@ -335,12 +335,43 @@ impl TryClone for SafeBagKind {
     }
 }
 
+/// Appends a bag that is equal to another one. It is made where it is kept.
+#[inline(always)]
+#[tactic(auto, using(crate::specs::BagLevels::same_bag))]
+fn push_like(
+    bag: &SafeBag,
+    kind: SafeBagKind,
+    attributes: Option<Vec<Pkcs12Attribute>>,
+    bags: &mut Vec<SafeBag>,
+) -> Result<(), Error>
+    requires kind { kind_value kind ≡ kind_value bag.now.kind }
+    requires attributes { attributes_value attributes ≡ attributes_value bag.now.attributes }
+    ensures { MatchResult result
+        (λ _. map bag_value bags.new.items ≡ map bag_value bags.old.items ++ bag_value bag.now ∷ [])
+        (λ e. e ≡ Memory) }
+{
+    bags.push(SafeBag { kind, attributes })?;
+    Ok(())
+}
+
 impl TryClone for SafeContents {
     #[cycle(copy)]
     fn try_clone(&self, alloc: Global) -> Result<Self, Error> {
         let mut bags = Vec::with_capacity(alloc, self.0.len())?;
         for bag in &self.0 {
-            bags.push(bag.try_clone(alloc)?)?;
+            let attributes = bag.attributes.try_clone(alloc)?;
+            match &bag.kind {
+                SafeBagKind::Key(key) => {
+                    let kind = SafeBagKind::Key(key.try_clone(alloc)?);
+                    push_like(bag, kind, attributes, &mut bags)?;
+                }
+                SafeBagKind::Certificate(CertificateBag::X509(octets)) => {
+                    let certificate = CertificateBag::X509(octets.try_clone(alloc)?);
+                    let kind = SafeBagKind::Certificate(certificate);
+                    push_like(bag, kind, attributes, &mut bags)?;
+                }
+                kind => push_like(bag, kind.try_clone(alloc)?, attributes, &mut bags)?,
+            }
         }
         Ok(SafeContents(bags))
     }
