@@ -72,6 +72,11 @@ pub fn of_contents(alloc: Global) -> Result<(), Stop> {
         EncapsulatedContentInfo::new_pkcs7_data(alloc, None),
         texts::NO_DATA,
     )?;
+    let octets = Vec::from_slice(alloc, b"\x30\x00")?;
+    is_made(
+        EncapsulatedContentInfo::new_pkcs7_data(alloc, Some(octets)),
+        texts::CONTENT,
+    )?;
     let info: ContentInfo = is_written(alloc, texts::CONTENT, texts::CONTENT)?;
     let outcome = info.content_typed::<OctetStringAsn1>(alloc);
     has_text(&info, texts::CONTENT)?;
