@@ -1,3 +1,4 @@
 pub mod OidReads
 pub mod NestedReads
 pub mod DefinedByReads
+pub mod ByTagReads

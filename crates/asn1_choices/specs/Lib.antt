@@ -2,3 +2,5 @@ pub mod Chosen
 pub mod Tables
 pub mod DefinedBy
 pub mod DefinedByLaws
+pub mod ByTag
+pub mod KnownOrRaw

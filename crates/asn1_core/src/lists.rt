@@ -1,10 +1,10 @@
 //! SEQUENCE OF and SET OF. Lists keep their order, both ways.
 
-ghost use Rattle.std.specs.Prelude.{List, map};
+ghost use Rattle.std.specs.Prelude.{◌≡◌, List, map, slice_get};
 ghost use Rattle.std.proofs.Common.{arith};
 ghost use Rattle.asn1_core_format.specs.Lists.{each};
 ghost use Rattle.asn1_core_format.specs.ListLaws.{lawful_each};
-ghost use Rattle.asn1_core_format.specs.Rows.{within};
+ghost use Rattle.asn1_core_format.specs.Rows.{option_value, within};
 ghost use Rattle.asn1_core_format.specs.RowLaws.{lawful_within};
 ghost use Rattle.asn1_core_format.specs.Sequences.{set_of, lawful_set};
 ghost use Rattle.asn1_core_format.specs.TaggedLaws.{within_tagged};
@@ -135,5 +135,15 @@ impl<T: Viewed> Viewed for Asn1SetOf<T> {
 impl<T: TryClone> TryClone for Asn1SetOf<T> {
     fn try_clone(&self, alloc: Global) -> Result<Self, Error> {
         Ok(Asn1SetOf(self.0.try_clone(alloc)?))
+    }
+}
+
+/// The item with that index, as `get` of a slice gives it, with a contract over the values of the items.
+pub fn item<T>(items: &[T], index: usize) -> Option<&T>
+    ensures { option_value (λ x. x.now) result ≡ slice_get items.now index }
+{
+    match items.get(index) {
+        Some(item) => Some(item),
+        None => None,
     }
 }

@@ -6,7 +6,7 @@ use Rattle.x509_base.specs.Algorithms.{algorithm_identifier}
 use Rattle.x509_base.specs.Names.{name}
 use Rattle.pkcs7_content.specs.Contents.{ContentValues, content_values}
 use Rattle.pkcs7_signed_parts.specs.Certificates.{CertificateValue}
-use Rattle.pkcs7_signed_parts.specs.SignedSets.{attributes_as_set, some_attributes}
+use Rattle.pkcs7_attributes.specs.SignedSets.{attributes_as_set, some_attributes}
 use Rattle.pkcs7_signed_parts.specs.Signers.{SignerIdValue}
 use Rattle.pkcs7_signed.specs.Parts.{SignerParts, behind_signed}
 use Rattle.pkcs7_signed.specs.Signers.{Value, signers, certificates, certificate, signer_out, certificate_out}

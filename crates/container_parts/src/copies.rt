@@ -1,7 +1,6 @@
 //! Octets that are copied out of a value.
 
-ghost use Rattle.std.specs.Prelude.{◌≡◌, Some, slice_get};
-ghost use Rattle.asn1_core.specs.Der.{option_value};
+ghost use Rattle.std.specs.Prelude.{Some};
 ghost use Rattle.container_parts.specs.Copies.{Copies};
 
 use asn1_core::{DerSerialize, Error, to_vec};
@@ -19,14 +18,4 @@ pub(crate) fn encoding<T: DerSerialize>(alloc: Global, value: &T) -> Result<Opti
     ensures { Copies (Some (T.format.text (T.value value.now))) result }
 {
     Ok(Some(to_vec(alloc, value)?))
-}
-
-/// The item with that index.
-pub(crate) fn item<T>(items: &[T], index: usize) -> Option<&T>
-    ensures { option_value (λ x. x.now) result ≡ slice_get items.now index }
-{
-    match items.get(index) {
-        Some(item) => Some(item),
-        None => None,
-    }
 }

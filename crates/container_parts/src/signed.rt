@@ -10,7 +10,8 @@ ghost use Rattle.container_parts.specs.Inputs.{GivesPart};
 ghost use Rattle.x509_signers.specs.Matches.{choice_octets};
 ghost use Rattle.container_parts.specs.SignedParts.{certificates_in, content_in, hashed_of, in_signed, of_signer, signed_part, signed_text, signers_in};
 
-use crate::copies::{copy, encoding, item};
+use crate::copies::{copy, encoding};
+use asn1_core::lists::item;
 use asn1_core::{Error, from_bytes};
 use pkcs7_signed::{Pkcs7Certificate, SignerIdentifier, SignerInfo};
 use std::alloc::Global;

@@ -213,12 +213,12 @@ fn ends<T: DerDeserialize>(alloc: Global, input: &[u8], headers: usize) -> Resul
     let _value = T::read(alloc, &mut r, MAX_NESTING)?;
     expect(
         r.headers_read() == headers && r.left() == 4,
-        "what stands behind the input",
+        "what comes after the input",
     )?;
     let (outcome, counted) = from_bytes_counted::<T>(alloc, &longer);
     expect(
         outcome.err() == Some(Error::Malformed) && counted == headers,
-        "the headers of an input with more behind it",
+        "the headers of an input with more after it",
     )
 }
 
@@ -287,11 +287,11 @@ pub fn is_so_under_tags<T: DerTagged + SeenByText + TryClone + Debug>(
     row: &Row,
 ) -> Result<(), Fail> {
     is_so::<T>(alloc, row)?;
-    stands_under_tags::<T>(alloc, row)
+    is_kept_under_tags::<T>(alloc, row)
 }
 
 /// Asks that under another tag an accepted input's encoding differs in its first byte alone, and has the same value.
-pub fn stands_under_tags<T: DerTagged + SeenByText>(alloc: Global, row: &Row) -> Result<(), Fail> {
+pub fn is_kept_under_tags<T: DerTagged + SeenByText>(alloc: Global, row: &Row) -> Result<(), Fail> {
     let Ok(value) = from_bytes::<T>(alloc, &row.input) else {
         return Ok(());
     };
@@ -303,7 +303,7 @@ pub fn stands_under_tags<T: DerTagged + SeenByText>(alloc: Global, row: &Row) ->
     value.emit_as(OTHER_TAG, &mut sink)?;
     let tagged = sink.into_inner();
     expect(tagged.first() == Some(&OTHER_TAG), "the other tag")?;
-    expect(tagged.get(1..) == row.text.get(1..), "the text behind it")?;
+    expect(tagged.get(1..) == row.text.get(1..), "the text after it")?;
     let mut r = Reader::new(&tagged);
     let again: T = read_retagged(alloc, &mut r, MAX_NESTING, OTHER_TAG)?;
     expect(again == value, "the value under the other tag")

@@ -8,7 +8,7 @@ use Rattle.asn1_core_format.proofs.LevelReads.{took_level, refused_level, took_r
 use Rattle.pkcs7_content.specs.declared.versions.CmsVersion.{CmsVersion}
 use Rattle.pkcs7_signed_parts.specs.declared.algorithms.DigestAlgorithmIdentifier.{DigestAlgorithmIdentifier}
 use Rattle.pkcs7_signed_parts.specs.declared.algorithms.SignatureAlgorithmIdentifier.{SignatureAlgorithmIdentifier}
-use Rattle.pkcs7_signed_parts.specs.declared.attributes.Attributes.{Attributes}
+use Rattle.pkcs7_attributes.specs.declared.attributes.Attributes.{Attributes}
 use Rattle.pkcs7_signed_parts.specs.declared.signers.SignatureValue.{SignatureValue}
 use Rattle.pkcs7_signed_parts.specs.declared.signers.SignerIdentifier.{SignerIdentifier}
 use Rattle.pkcs7_signed.specs.Rows.{signer_row, certificate_row, attribute_row, UnsignedValues, kind_of, values_row}

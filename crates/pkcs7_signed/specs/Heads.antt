@@ -10,14 +10,14 @@ use Rattle.pkcs7_content.specs.declared.versions.CmsVersion.{CmsVersion}
 use Rattle.x509_base.specs.Algorithms.{algorithm_identifier}
 use Rattle.x509_base.specs.AlgorithmParts.{algorithm_value}
 use Rattle.pkcs7_signed_parts.specs.Algorithms.{algorithms, algorithms_value}
-use Rattle.pkcs7_signed_parts.specs.Attributes.{attributes, attributes_value, no_attributes}
+use Rattle.pkcs7_attributes.specs.Attributes.{attributes, attributes_value, no_attributes}
 use Rattle.pkcs7_signed_parts.specs.Certificates.{certificate_set, certificates_value, no_certificates}
 use Rattle.pkcs7_signed_parts.specs.Revocations.{revocations, revocations_value}
 use Rattle.pkcs7_signed_parts.specs.Signers.{signer_id, signer_id_value}
 use Rattle.pkcs7_signed_parts.specs.declared.algorithms.DigestAlgorithmIdentifier.{DigestAlgorithmIdentifier}
 use Rattle.pkcs7_signed_parts.specs.declared.algorithms.DigestAlgorithmIdentifiers.{DigestAlgorithmIdentifiers}
 use Rattle.pkcs7_signed_parts.specs.declared.algorithms.SignatureAlgorithmIdentifier.{SignatureAlgorithmIdentifier}
-use Rattle.pkcs7_signed_parts.specs.declared.attributes.Attributes.{Attributes}
+use Rattle.pkcs7_attributes.specs.declared.attributes.Attributes.{Attributes}
 use Rattle.pkcs7_signed_parts.specs.declared.certificates.CertificateSet.{CertificateSet}
 use Rattle.pkcs7_signed_parts.specs.declared.revocations.RevocationInfoChoices.{RevocationInfoChoices}
 use Rattle.pkcs7_signed_parts.specs.declared.signers.SignatureValue.{SignatureValue}

@@ -5,7 +5,7 @@ use Rattle.asn1_core.specs.Der.{Format, IsLawfulRow, number_below, lawful_number
 use Rattle.pkcs7_content.specs.Contents.{EncapsulatedValue, encapsulated}
 use Rattle.pkcs7_content.specs.ContentLaws.{lawful_encapsulated}
 use Rattle.pkcs7_signed_parts.specs.Algorithms.{algorithms, lawful_algorithms}
-use Rattle.pkcs7_signed_parts.specs.Attributes.{attributes, lawful_attributes, no_attributes, no_attributes_left_out}
+use Rattle.pkcs7_attributes.specs.Attributes.{attributes, lawful_attributes, no_attributes, no_attributes_left_out}
 use Rattle.pkcs7_signed_parts.specs.Certificates.{CertificateValue, certificate_set, lawful_certificate_set, no_certificates, no_certificates_left_out}
 use Rattle.pkcs7_signed_parts.specs.Revocations.{RevocationValue, revocations, lawful_revocations}
 use Rattle.pkcs7_signed_parts.specs.Signers.{SignerIdValue, signer_id, lawful_signer_id}

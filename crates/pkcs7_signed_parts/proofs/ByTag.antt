@@ -1,45 +1,17 @@
 -- An element, told apart by its tag.
-use Rattle.std.proofs.Common.{◌≡◌, ◌≢◌, ◌↔◌, ℕ, List, [], ◌++◌, sym, subst, inl, inr}
-use Rattle.std.proofs.lemmas.List.{append-nil}
-use Rattle.asn1_core.specs.Der.{raw, IsElement, IsTagByte, Position, Took, GaveUp, NextIs, begins_next}
-use Rattle.asn1_core_element.specs.Element.{head}
+use Rattle.std.proofs.Common.{◌≡◌, ◌≢◌, ℕ, List, ◌++◌, sym, subst, inl, inr}
+use Rattle.asn1_choices.specs.ByTag.{any_tag, tagged_is, other_is}
+use Rattle.asn1_core.specs.Der.{raw, Position, Took, GaveUp, NextIs}
 use Rattle.asn1_core_element.specs.declared.error.Error.{Error}
 use Rattle.asn1_core_element.specs.declared.error.Error.TheVariants.{Memory}
-use Rattle.pkcs7_signed_parts.specs.Certificates.{CertificateValue, certificate_choice}
-
-abbrev any_tag : {S : ℕ → Type 0} {b : List ℕ} → IsElement S b → IsElement IsTagByte b
-any_tag e = record { tag = e.tag; contents = e.contents; is_tag = e.is_tag; is = e.is; allowed = e.is_tag }
-
-begins : {S : ℕ → Type 0} {b : List ℕ} → IsElement S b → NextIs S b
-begins {S} {b} e = begins_next S b [] b e (sym (append-nil b))
-
-tag_is : (S : ℕ → Type 0) {b : List ℕ} → (e : IsElement IsTagByte b) → NextIs S b → S e.tag
-unfolding head
-tag_is S {b} e n = subst (NextIs S) e.is n
-
-sequence_is : {b : List ℕ} → (e : IsElement IsTagByte b) → e.tag ≡ 0x30 → NextIs (λ t. t ≡ 0x30) b
-sequence_is {b} e i =
-    let own : IsElement (λ t. t ≡ 0x30) b = record { tag = e.tag; contents = e.contents; is_tag = e.is_tag; is = e.is; allowed = i } in
-    begins own
-
-pub certificate_is : (b : List ℕ) → (NextIs (λ t. t ≡ 0x30) b × IsElement IsTagByte b) ↔ IsElement (λ t. t ≡ 0x30) b
-certificate_is b = (
-  λ p. record { tag = p.1.tag; contents = p.1.contents; is_tag = p.1.is_tag; is = p.1.is; allowed = tag_is (λ t. t ≡ 0x30) p.1 p.0 },
-  λ e. (begins e, any_tag e),
-)
-
-pub other_is : (b : List ℕ) → ((NextIs (λ t. t ≡ 0x30) b → ⊥) × IsElement IsTagByte b) ↔ IsElement (λ t. t ≢ 0x30) b
-other_is b = (
-  λ p. record { tag = p.1.tag; contents = p.1.contents; is_tag = p.1.is_tag; is = p.1.is; allowed = λ i. p.0 (sequence_is p.1 i) },
-  λ e. (λ n. e.allowed (tag_is (λ t. t ≡ 0x30) (any_tag e) n), any_tag e),
-)
+use Rattle.pkcs7_signed_parts.specs.Certificates.{CertificateValue, IsSequenceTag, certificate_choice}
 
 module _ (k : ℕ) {old new : Position} where
-  pub certificate_took : {c : List ℕ} → Took raw k old new c → NextIs (λ t. t ≡ 0x30) c → Took certificate_choice k old new (inl c)
+  pub certificate_took : {c : List ℕ} → Took raw k old new c → NextIs IsSequenceTag c → Took certificate_choice k old new (inl c)
   certificate_took t n = record {
     taken = t.taken;
     split = t.split;
-    reads = (t.reads.0, (certificate_is _).0 (subst (NextIs (λ t. t ≡ 0x30)) (sym t.reads.0) n, t.reads.1));
+    reads = (t.reads.0, (tagged_is IsSequenceTag _).0 (subst (NextIs IsSequenceTag) (sym t.reads.0) n, t.reads.1));
     beyond = t.beyond;
     end = t.end;
     refused = t.refused;
@@ -47,11 +19,11 @@ module _ (k : ℕ) {old new : Position} where
     at_most = t.at_most;
   }
 
-  pub other_took : {c : List ℕ} → Took raw k old new c → (NextIs (λ t. t ≡ 0x30) c → ⊥) → Took certificate_choice k old new (inr c)
+  pub other_took : {c : List ℕ} → Took raw k old new c → (NextIs IsSequenceTag c → ⊥) → Took certificate_choice k old new (inr c)
   other_took t n = record {
     taken = t.taken;
     split = t.split;
-    reads = (t.reads.0, (other_is _).0 (λ m. n (subst (NextIs (λ t. t ≡ 0x30)) t.reads.0 m), t.reads.1));
+    reads = (t.reads.0, (other_is IsSequenceTag _).0 (λ m. n (subst (NextIs IsSequenceTag) t.reads.0 m), t.reads.1));
     beyond = t.beyond;
     end = t.end;
     refused = t.refused;

@@ -1,9 +1,10 @@
 -- CertificateChoices ::= CHOICE { certificate Certificate, extendedCertificate [0] .., v1AttrCert [1] ..,
 --   v2AttrCert [2] .., other [3] .. } (RFC 5652, 10.2.2), each as it is: only a certificate has the tag of a SEQUENCE
 -- CertificateSet ::= SET OF CertificateChoices, under its tag [0] IMPLICIT (RFC 5652, 5.1 and 10.2.3)
-use Rattle.std.specs.Prelude.{◌≡◌, ◌≢◌, ◌≤◌, ◌⊎◌, ℕ, List, [], map}
+use Rattle.std.specs.Prelude.{◌≡◌, ◌≤◌, ◌⊎◌, ℕ, List, [], map}
 use Rattle.std.proofs.Common.{inl, inr, arith}
-use Rattle.asn1_core.specs.Der.{Format, IsLawful, element_of, lawful_element_of, ElementOctets, implicit_set, element, either, lawful_either, empty_left_out, is_default, IsDefault, lawful_implicit_set}
+use Rattle.asn1_choices.specs.KnownOrRaw.{known_or_raw, lawful_known_or_raw}
+use Rattle.asn1_core.specs.Der.{Format, IsLawful, element_of, lawful_element_of, ElementOctets, implicit_set, element, empty_left_out, is_default, IsDefault, lawful_implicit_set}
 use Rattle.pkcs7_signed_parts.specs.declared.certificates.CertificateChoices.{CertificateChoices}
 use Rattle.pkcs7_signed_parts.specs.declared.certificates.CertificateChoices.TheVariants.{Certificate, Other}
 use Rattle.pkcs7_signed_parts.specs.declared.certificates.CertificateSet.{CertificateSet}
@@ -16,17 +17,14 @@ abbrev pub certificate_value : CertificateChoices → CertificateValue
 certificate_value (Certificate c) = inl c.0.items
 certificate_value (Other c) = inr c.0.items
 
-abbrev pub certificate : Format ElementOctets
-certificate = element_of (λ t. t ≡ 0x30)
-
-abbrev pub other_choice : Format ElementOctets
-other_choice = element_of (λ t. t ≢ 0x30)
+abbrev pub IsSequenceTag : ℕ → Type 0
+IsSequenceTag t = t ≡ 0x30
 
 abbrev pub certificate_choice : Format CertificateValue
-certificate_choice = either certificate other_choice
+certificate_choice = known_or_raw (element_of IsSequenceTag)
 
 pub lawful_certificate_choice : IsLawful certificate_choice
-lawful_certificate_choice = lawful_either certificate other_choice (lawful_element_of (λ t. t ≡ 0x30)) (lawful_element_of (λ t. t ≢ 0x30)) (λ t h e. e h)
+lawful_certificate_choice = lawful_known_or_raw (element_of IsSequenceTag) (lawful_element_of IsSequenceTag)
 
 abbrev pub certificates_value : CertificateSet → List CertificateValue
 certificates_value x = map certificate_value x.0.items

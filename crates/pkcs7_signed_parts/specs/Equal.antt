@@ -4,7 +4,6 @@ use Rattle.x509_base.specs.Equal.{x509_equal}
 use Rattle.std.proofs.Common.{rules}
 use Rattle.asn1_leaves_strings.specs.Octets.{contents_of}
 use Rattle.pkcs7_signed_parts.specs.Algorithms.{algorithms_value}
-use Rattle.pkcs7_signed_parts.specs.Attributes.{attributes_value}
 use Rattle.pkcs7_signed_parts.specs.Certificates.{certificate_value, certificates_value}
 use Rattle.pkcs7_signed_parts.specs.CertificateLists.{tbs_list_value, certificate_list_value}
 use Rattle.pkcs7_signed_parts.specs.Revocations.{other_format_value, revocation_value, revocations_value}
@@ -15,7 +14,6 @@ use Rattle.pkcs7_signed_parts.specs.declared.revocations.RevocationInfoChoice.Th
 use Rattle.pkcs7_signed_parts.specs.declared.signers.SignerIdentifier.TheVariants as By
 use Rattle.asn1_leaves.specs.contracts.bits.BitStringAsn1PartialEq.TheImpl as Bits
 use Rattle.pkcs7_signed_parts.specs.contracts.algorithms.DigestAlgorithmIdentifiersPartialEq.TheImpl as Algorithms
-use Rattle.pkcs7_signed_parts.specs.contracts.attributes.AttributesPartialEq.TheImpl as AllAttributes
 use Rattle.pkcs7_signed_parts.specs.contracts.certificates.CertificateChoicesPartialEq.TheImpl as Certificate
 use Rattle.pkcs7_signed_parts.specs.contracts.certificates.CertificateSetPartialEq.TheImpl as Certificates
 use Rattle.pkcs7_signed_parts.specs.contracts.certificate_lists.TbsCertListPartialEq.TheImpl as TbsList
@@ -31,9 +29,6 @@ use Rattle.pkcs7_signed_parts.specs.contracts.signers.SignerIdentifierPartialEq.
 
 pub algorithms_equal : SeesEqual Algorithms.ghosts.eq algorithms_value
 algorithms_equal x y = search x509_equal depth 20
-
-pub attributes_equal : SeesEqual AllAttributes.ghosts.eq attributes_value
-attributes_equal x y = search x509_equal depth 20
 
 pub serial_equal : SeesEqual Serial.ghosts.eq serial_number
 serial_equal x y = search der_equal depth 20

@@ -1,10 +1,7 @@
 pub mod Algorithms
-pub mod Attributes
 pub mod Signers
 pub mod Certificates
 pub mod Revoked
 pub mod CertificateLists
 pub mod Revocations
 pub mod Equal
-pub mod SignedSets
-pub mod NamedAttributes

@@ -1,6 +1,7 @@
 //! The algorithms of signers (RFC 5652, 10.1).
 
 ghost use Rattle.std.specs.Prelude.{List};
+ghost use Rattle.std.proofs.Common.{arith};
 ghost use Rattle.x509_base.specs.AlgorithmLaws.{lawful_algorithm_identifier};
 ghost use Rattle.x509_base.specs.AlgorithmParts.{algorithm_value};
 ghost use Rattle.x509_base.specs.Algorithms.{AlgorithmValue, algorithm_identifier};
@@ -9,6 +10,7 @@ ghost use Rattle.pkcs7_signed_parts.specs.Algorithms.{algorithms_value, algorith
 ghost use Rattle.pkcs7_signed_parts.specs.Equal.{algorithms_equal};
 
 use asn1_core::prelude::*;
+use pkcs7_attributes::Attributes;
 use std::alloc::Global;
 use x509_base::AlgorithmIdentifier;
 
@@ -114,6 +116,10 @@ impl DerDeserialize for SignatureAlgorithmIdentifier {
     }
 
     ghost lawful = { lawful_algorithm_identifier };
+}
+
+impl ApartFrom<SignatureAlgorithmIdentifier> for Attributes {
+    ghost no_common_tag = { λ t h e. Prim.omega arith };
 }
 
 impl EqualByText for SignatureAlgorithmIdentifier {

@@ -3,7 +3,7 @@
 ghost use Rattle.std.specs.Prelude.{◌≡◌, ◌↔◌, IsTrue, List, []};
 ghost use Rattle.std.proofs.Common.{arith};
 ghost use Rattle.asn1_core.specs.Der.{NextIs, each, within_tagged};
-ghost use Rattle.pkcs7_signed_parts.specs.Certificates.{CertificateValue, certificate_value, certificate_choice, lawful_certificate_choice, certificates_value, certificate_set, lawful_certificate_set, no_certificates, no_certificates_left_out};
+ghost use Rattle.pkcs7_signed_parts.specs.Certificates.{CertificateValue, IsSequenceTag, certificate_value, certificate_choice, lawful_certificate_choice, certificates_value, certificate_set, lawful_certificate_set, no_certificates, no_certificates_left_out};
 ghost use Rattle.pkcs7_signed_parts.specs.Equal.{certificate_equal, certificates_equal};
 
 use asn1_core::prelude::*;
@@ -21,7 +21,7 @@ pub enum CertificateChoices {
 
 /// Whether the tag is that of a SEQUENCE.
 fn is_sequence(element: &Asn1RawDer) -> bool
-    ensures { IsTrue result ↔ NextIs (λ t. t ≡ 0x30) element.now.0.items }
+    ensures { IsTrue result ↔ NextIs IsSequenceTag element.now.0.items }
 {
     match element.0.as_slice() {
         [tag, ..] => *tag == 0x30,

@@ -3,24 +3,20 @@
 #![tactic(auto)]
 
 pub mod algorithms;
-pub mod attributes;
 pub mod certificate_lists;
 pub mod certificates;
-pub mod named_attributes;
 pub mod revocations;
 pub mod revoked;
-pub mod signed_sets;
 pub mod signers;
 
 pub use algorithms::{
     DigestAlgorithmIdentifier, DigestAlgorithmIdentifiers, SignatureAlgorithmIdentifier,
 };
-pub use attributes::Attributes;
 pub use certificate_lists::{CertificateList, TbsCertList};
 pub use certificates::{CertificateChoices, CertificateSet};
+pub use pkcs7_attributes::Attributes;
 pub use revocations::{OtherRevocationInfoFormat, RevocationInfoChoice, RevocationInfoChoices};
 pub use revoked::{RevokedCertificate, RevokedCertificates};
-pub use signed_sets::{AttributesAsSet, set_has_the_same_contents};
 pub use signers::{
     CertificateSerialNumber, IssuerAndSerialNumber, SignatureValue, SignerIdentifier,
 };

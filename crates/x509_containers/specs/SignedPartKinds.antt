@@ -3,7 +3,7 @@ use Rattle.std.specs.Prelude.{List, [], ◌∷◌, codes}
 use Rattle.asn1_core.specs.Der.{octet_string}
 use Rattle.asn1_leaves.specs.Integers.{integer}
 use Rattle.pkcs7_signed_parts.specs.Algorithms.{algorithms}
-use Rattle.pkcs7_signed_parts.specs.Attributes.{attributes}
+use Rattle.pkcs7_attributes.specs.Attributes.{attributes}
 use Rattle.pkcs7_signed_parts.specs.CertificateLists.{certificate_list, tbs_list}
 use Rattle.pkcs7_signed_parts.specs.Certificates.{certificate_choice, certificate_set}
 use Rattle.pkcs7_signed_parts.specs.Revocations.{other_format, revocation, revocations}

@@ -6,7 +6,8 @@ use lib.Pointwise.{pointwise}
 use Rattle.asn1_core.specs.Der.{SeesEqual, der_equal, two_equal, with_end, list_equal, option_equal, octets_equal}
 use Rattle.pkcs7_content.specs.contracts.versions.CmsVersionPartialEq.TheImpl as Version
 use Rattle.pkcs7_content.specs.Versions.{number_of}
-use Rattle.pkcs7_signed_parts.specs.Equal.{algorithms_equal, attributes_equal, certificates_equal, signer_id_equal}
+use Rattle.pkcs7_attributes.specs.Equal.{attributes_equal}
+use Rattle.pkcs7_signed_parts.specs.Equal.{algorithms_equal, certificates_equal, signer_id_equal}
 use Rattle.x509_base.specs.Equal.{algorithm_equal, attribute_equal}
 use Rattle.x509_pkcs7_raw.specs.RawContents.{raw_encapsulated_value}
 use Rattle.x509_pkcs7_raw.specs.RawSigned.{raw_revocations_value, raw_signed_value}

@@ -1,4 +1,3 @@
-pub mod KnownOrRaw
 pub mod RawSigners
 pub mod RawContents
 pub mod RawSigned

@@ -3,13 +3,11 @@
 #![tactic(auto)]
 
 pub mod contents;
-pub mod known_or_raw;
 pub mod recipients;
 pub mod signed;
 pub mod signers;
 
 pub use contents::RawEncapsulatedContentInfo;
-pub use known_or_raw::KnownOrRaw;
 pub use recipients::{RawEnvelopedData, RawRecipientInfo};
 pub use signed::{RawPkcs7Certificate, RawRevocationInfoChoices, RawSignedData, RawSignersInfos};
 pub use signers::{RawSignerInfo, RawUnsignedAttributes};

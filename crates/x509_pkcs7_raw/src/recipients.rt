@@ -1,6 +1,6 @@
 //! Recipients of every kind (RFC 5652, 6.2).
 
-use crate::known_or_raw::KnownOrRaw;
+use asn1_choices::KnownOrRaw;
 use x509_pkcs7::{EnvelopedData, RecipientInfo};
 
 /// `RecipientInfo ::= CHOICE { ktri KeyTransRecipientInfo, kari [1] .., kekri [2] .., pwri [3] .., ori [4] .. }` (RFC

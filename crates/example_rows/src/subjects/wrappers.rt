@@ -19,57 +19,52 @@ type TaggedNumbers = Asn1SequenceOf<ExplicitContextTag1<u8>>;
 
 type HeldNumbers = OctetStringAsn1Container<Asn1SequenceOf<u8>>;
 
-/// Asks what a row says, where the word names one of these types.
-pub fn is_so(alloc: Global, word: &str, row: &Row) -> Result<bool, Fail> {
-    Ok(is_so_of_a_list(alloc, word, row)? || is_so_of_a_tag(alloc, word, row)?)
-}
-
-fn is_so_of_a_list(alloc: Global, word: &str, row: &Row) -> Result<bool, Fail> {
-    match word {
-        "asn1sequenceof-asn1rawder" => under_tags::<Asn1SequenceOf<Asn1RawDer>>(alloc, row)?,
+/// What comes of a row, where the word names one of the lists and containers.
+pub fn is_so_of_a_list(alloc: Global, word: &str, row: &Row) -> Option<Result<(), Fail>> {
+    Some(match word {
+        "asn1sequenceof-asn1rawder" => under_tags::<Asn1SequenceOf<Asn1RawDer>>(alloc, row),
         "asn1sequenceof-explicitcontexttag0-asn1setof-octetstringasn1" => {
-            under_tags::<TaggedSets>(alloc, row)?
+            under_tags::<TaggedSets>(alloc, row)
         }
-        "asn1sequenceof-explicitcontexttag1-u8" => under_tags::<TaggedNumbers>(alloc, row)?,
-        "asn1sequenceof-octetstringasn1" => at::<Asn1SequenceOf<OctetStringAsn1>>(alloc, row)?,
-        "asn1sequenceof-u8" => under_tags::<Asn1SequenceOf<u8>>(alloc, row)?,
-        "asn1setof-u8" => under_tags::<Asn1SetOf<u8>>(alloc, row)?,
-        "octetstringasn1container-asn1sequenceof-u8" => at::<HeldNumbers>(alloc, row)?,
+        "asn1sequenceof-explicitcontexttag1-u8" => under_tags::<TaggedNumbers>(alloc, row),
+        "asn1sequenceof-octetstringasn1" => at::<Asn1SequenceOf<OctetStringAsn1>>(alloc, row),
+        "asn1sequenceof-u8" => under_tags::<Asn1SequenceOf<u8>>(alloc, row),
+        "asn1setof-u8" => under_tags::<Asn1SetOf<u8>>(alloc, row),
+        "octetstringasn1container-asn1sequenceof-u8" => at::<HeldNumbers>(alloc, row),
         "octetstringasn1container-octetstringasn1" => {
-            at::<OctetStringAsn1Container<OctetStringAsn1>>(alloc, row)?
+            at::<OctetStringAsn1Container<OctetStringAsn1>>(alloc, row)
         }
-        "octetstringasn1container-u8" => at::<OctetStringAsn1Container<u8>>(alloc, row)?,
-        "holder" => at::<Holder>(alloc, row)?,
-        "stamp" => at::<Stamp>(alloc, row)?,
-        "ticket" => at::<Ticket>(alloc, row)?,
-        _ => return Ok(false),
-    }
-    Ok(true)
+        "octetstringasn1container-u8" => at::<OctetStringAsn1Container<u8>>(alloc, row),
+        "holder" => at::<Holder>(alloc, row),
+        "stamp" => at::<Stamp>(alloc, row),
+        "ticket" => at::<Ticket>(alloc, row),
+        _ => return None,
+    })
 }
 
-fn is_so_of_a_tag(alloc: Global, word: &str, row: &Row) -> Result<bool, Fail> {
-    match word {
-        "explicitcontexttag0-asn1rawder" => at::<ExplicitContextTag0<Asn1RawDer>>(alloc, row)?,
+/// What comes of a row, where the word names one of the tags.
+pub fn is_so_of_a_tag(alloc: Global, word: &str, row: &Row) -> Option<Result<(), Fail>> {
+    Some(match word {
+        "explicitcontexttag0-asn1rawder" => at::<ExplicitContextTag0<Asn1RawDer>>(alloc, row),
         "explicitcontexttag0-octetstringasn1" => {
-            at::<ExplicitContextTag0<OctetStringAsn1>>(alloc, row)?
+            at::<ExplicitContextTag0<OctetStringAsn1>>(alloc, row)
         }
-        "explicitcontexttag0-u8" => at::<ExplicitContextTag0<u8>>(alloc, row)?,
-        "explicitcontexttag1-u8" => at::<ExplicitContextTag1<u8>>(alloc, row)?,
-        "explicitcontexttag2-u8" => at::<ExplicitContextTag2<u8>>(alloc, row)?,
+        "explicitcontexttag0-u8" => at::<ExplicitContextTag0<u8>>(alloc, row),
+        "explicitcontexttag1-u8" => at::<ExplicitContextTag1<u8>>(alloc, row),
+        "explicitcontexttag2-u8" => at::<ExplicitContextTag2<u8>>(alloc, row),
         "implicitcontexttag0-asn1sequenceof-u8" => {
-            at::<ImplicitContextTag0<Asn1SequenceOf<u8>>>(alloc, row)?
+            at::<ImplicitContextTag0<Asn1SequenceOf<u8>>>(alloc, row)
         }
         "implicitcontexttag0-objectidentifierasn1" => {
-            at::<ImplicitContextTag0<ObjectIdentifierAsn1>>(alloc, row)?
+            at::<ImplicitContextTag0<ObjectIdentifierAsn1>>(alloc, row)
         }
-        "implicitcontexttag0-u32" => at::<ImplicitContextTag0<u32>>(alloc, row)?,
+        "implicitcontexttag0-u32" => at::<ImplicitContextTag0<u32>>(alloc, row),
         "implicitcontexttag1-asn1setof-u8" => {
-            at::<ImplicitContextTag1<Asn1SetOf<u8>>>(alloc, row)?
+            at::<ImplicitContextTag1<Asn1SetOf<u8>>>(alloc, row)
         }
         "implicitcontexttag1-octetstringasn1" => {
-            at::<ImplicitContextTag1<OctetStringAsn1>>(alloc, row)?
+            at::<ImplicitContextTag1<OctetStringAsn1>>(alloc, row)
         }
-        _ => return Ok(false),
-    }
-    Ok(true)
+        _ => return None,
+    })
 }

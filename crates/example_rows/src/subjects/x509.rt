@@ -9,24 +9,23 @@ use x509_containers::{
     NameValue, PageHashes, RawAlgorithmIdentifier, SubjectKeyIdentifier, Time, TstInfo, Version,
 };
 
-/// Asks what a row says, where the word names one of these types.
-pub fn is_so(alloc: Global, word: &str, row: &Row) -> Result<bool, Fail> {
-    match word {
-        "algorithmidentifier" => at::<AlgorithmIdentifier>(alloc, row)?,
-        "attribute" => at::<Attribute>(alloc, row)?,
-        "certificatehead" => at::<CertificateHead>(alloc, row)?,
-        "digestinfo" => at::<DigestInfo>(alloc, row)?,
-        "extension" => at::<Extension>(alloc, row)?,
-        "extensions" => at::<Extensions>(alloc, row)?,
-        "name" => at::<Name>(alloc, row)?,
-        "namevalue" => at::<NameValue>(alloc, row)?,
-        "pagehashes" => at::<PageHashes>(alloc, row)?,
-        "rawalgorithmidentifier" => at::<RawAlgorithmIdentifier>(alloc, row)?,
-        "subjectkeyidentifier" => under_tags::<SubjectKeyIdentifier>(alloc, row)?,
-        "time" => at::<Time>(alloc, row)?,
-        "tstinfo" => at::<TstInfo>(alloc, row)?,
-        "version" => at::<Version>(alloc, row)?,
-        _ => return Ok(false),
-    }
-    Ok(true)
+/// What comes of a row, where the word names one of these types.
+pub fn is_so(alloc: Global, word: &str, row: &Row) -> Option<Result<(), Fail>> {
+    Some(match word {
+        "algorithmidentifier" => at::<AlgorithmIdentifier>(alloc, row),
+        "attribute" => at::<Attribute>(alloc, row),
+        "certificatehead" => at::<CertificateHead>(alloc, row),
+        "digestinfo" => at::<DigestInfo>(alloc, row),
+        "extension" => at::<Extension>(alloc, row),
+        "extensions" => at::<Extensions>(alloc, row),
+        "name" => at::<Name>(alloc, row),
+        "namevalue" => at::<NameValue>(alloc, row),
+        "pagehashes" => at::<PageHashes>(alloc, row),
+        "rawalgorithmidentifier" => at::<RawAlgorithmIdentifier>(alloc, row),
+        "subjectkeyidentifier" => under_tags::<SubjectKeyIdentifier>(alloc, row),
+        "time" => at::<Time>(alloc, row),
+        "tstinfo" => at::<TstInfo>(alloc, row),
+        "version" => at::<Version>(alloc, row),
+        _ => return None,
+    })
 }

@@ -1,37 +1,11 @@
--- An element of a type, or any other, told apart by the next tag.
-use Rattle.std.proofs.Common.{◌≡◌, ◌≢◌, ◌↔◌, ℕ, List, [], ◌∷◌, ◌++◌, sym, subst, inl, inr, Result, Err}
-use Rattle.std.proofs.lemmas.List.{append-nil}
+-- What reading gives where the next tag says whether an element is of a type, or any other.
+use Rattle.std.proofs.Common.{◌≡◌, ◌≢◌, ℕ, List, ◌++◌, sym, subst, inl, inr, Result, Err}
 use Rattle.std.specs.Prelude.{◌⊎◌}
-use Rattle.asn1_core.specs.Der.{Format, IsLawful, raw, IsElement, IsTagByte, Position, Took, GaveUp, Gives, NextIs, begins_next, ElementOctets}
-use Rattle.asn1_core_element.specs.Element.{head}
+use Rattle.asn1_choices.specs.ByTag.{with_tag, any_tag, not_both}
+use Rattle.asn1_choices.specs.KnownOrRaw.{known_or_raw}
+use Rattle.asn1_core.specs.Der.{ElementOctets, Format, IsLawful, raw, Position, Took, GaveUp, Gives, NextIs, begins_next}
 use Rattle.asn1_core_element.specs.declared.error.Error.{Error}
 use Rattle.asn1_core_element.specs.declared.error.Error.TheVariants.{Memory}
-use Rattle.x509_pkcs7_raw.specs.KnownOrRaw.{known_or_raw}
-
--- the element has a tag of T too
-abbrev with_tag : {S : ℕ → Type 0} (T : ℕ → Type 0) {b : List ℕ} → (e : IsElement S b) → T e.tag → IsElement T b
-with_tag T e h = record { tag = e.tag; contents = e.contents; is_tag = e.is_tag; is = e.is; allowed = h }
-
-abbrev any_tag : {S : ℕ → Type 0} {b : List ℕ} → IsElement S b → IsElement IsTagByte b
-any_tag e = with_tag IsTagByte e e.is_tag
-
-not_both : (S : ℕ → Type 0) (b : List ℕ) → NextIs S b → NextIs (λ t. S t → ⊥) b → ⊥
-not_both S [] n m = n
-not_both S (t ∷ b) n m = m n
-
-begins : (S : ℕ → Type 0) {b : List ℕ} → IsElement S b → NextIs S b
-begins S {b} e = begins_next S b [] b e (sym (append-nil b))
-
-tag_is : (S : ℕ → Type 0) {b : List ℕ} → (e : IsElement IsTagByte b) → NextIs S b → S e.tag
-unfolding head
-tag_is S {b} e n = subst (NextIs S) e.is n
-
--- an element without a tag of S
-pub other_is : (S : ℕ → Type 0) (b : List ℕ) → ((NextIs S b → ⊥) × IsElement IsTagByte b) ↔ IsElement (λ t. S t → ⊥) b
-other_is S b = (
-  λ p. with_tag (λ t. S t → ⊥) p.1 (λ i. p.0 (begins S (with_tag S p.1 i))),
-  λ e. (λ n. e.allowed (tag_is S (any_tag e) n), any_tag e),
-)
 
 module _ {V : Type 0} (F : Format V) (f : IsLawful F) (k : ℕ) {old new : Position} {e : Error} where
   none_known : NextIs F.IsTag old.left → GaveUp F k old new e → e ≢ Memory → (taken rest : List ℕ) (v : V ⊎ ElementOctets) → old.left ≡ taken ++ rest → (known_or_raw F).Reads k taken v → ⊥

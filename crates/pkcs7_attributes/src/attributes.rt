@@ -3,10 +3,9 @@
 ghost use Rattle.std.specs.Prelude.{◌≡◌, List, []};
 ghost use Rattle.std.proofs.Common.{arith};
 ghost use Rattle.x509_base.specs.Names.{AttributeValue};
-ghost use Rattle.pkcs7_signed_parts.specs.Attributes.{attributes_value, attributes, lawful_attributes, no_attributes, no_attributes_left_out};
-ghost use Rattle.pkcs7_signed_parts.specs.Equal.{attributes_equal};
+ghost use Rattle.pkcs7_attributes.specs.Attributes.{attributes_value, attributes, lawful_attributes, no_attributes, no_attributes_left_out};
+ghost use Rattle.pkcs7_attributes.specs.Equal.{attributes_equal};
 
-use crate::algorithms::SignatureAlgorithmIdentifier;
 use asn1_core::prelude::*;
 use std::alloc::Global;
 use x509_base::Attribute;
@@ -67,10 +66,6 @@ impl HasDefault for Attributes {
     }
 
     ghost left_out = { no_attributes_left_out };
-}
-
-impl ApartFrom<SignatureAlgorithmIdentifier> for Attributes {
-    ghost no_common_tag = { λ t h e. Prim.omega arith };
 }
 
 impl EqualByText for Attributes {

@@ -1,8 +1,8 @@
 use Rattle.std.proofs.lemmas.Bool.{iff_false}
 use Rattle.std.proofs.lemmas.Result.{err_from_is_err_and}
-use Rattle.x509_pkcs7_raw.specs.KnownOrRaw.{known_or_raw}
-use Rattle.x509_pkcs7_raw.proofs.ByTag.{known_refused, raw_refused, raw_took, gave}
-use Rattle.x509_pkcs7_raw.proofs.known_or_raw.KnownOrRawDerDeserialize.read.Goals as goal
+use Rattle.asn1_choices.specs.KnownOrRaw.{known_or_raw}
+use Rattle.asn1_choices.proofs.ByTagReads.{known_refused, raw_refused, raw_took, gave}
+use Rattle.asn1_choices.proofs.known_or_raw.KnownOrRawDerDeserialize.read.Goals as goal
 
 pub returns-in_err-value : goal.returns-in_err-value
 returns-in_err-value g c =

@@ -3,7 +3,7 @@ use Rattle.std.specs.Prelude.{ℕ, List, [], map}
 use Rattle.std.proofs.Common.{arith}
 use Rattle.asn1_core.specs.Der.{Format, IsLawful, implicit_set, element, empty_left_out, is_default, IsDefault, lawful_implicit_set}
 use Rattle.x509_base.specs.Names.{AttributeValue, attribute_value, attribute, lawful_attribute}
-use Rattle.pkcs7_signed_parts.specs.declared.attributes.Attributes.{Attributes}
+use Rattle.pkcs7_attributes.specs.declared.attributes.Attributes.{Attributes}
 
 abbrev pub attributes_value : Attributes → List AttributeValue
 attributes_value x = map attribute_value x.0.0.items

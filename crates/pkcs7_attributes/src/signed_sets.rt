@@ -3,8 +3,8 @@
 ghost use Rattle.std.specs.Prelude.{◌≡◌, ◌↔◌, IsTrue, List, []};
 ghost use Rattle.asn1_core.specs.Der.{option_value};
 ghost use Rattle.x509_base.specs.Names.{AttributeValue};
-ghost use Rattle.pkcs7_signed_parts.specs.Attributes.{attributes, attributes_value};
-ghost use Rattle.pkcs7_signed_parts.specs.SignedSets.{attributes_as_set, some_attributes, IsRetagged};
+ghost use Rattle.pkcs7_attributes.specs.Attributes.{attributes, attributes_value};
+ghost use Rattle.pkcs7_attributes.specs.SignedSets.{attributes_as_set, some_attributes, IsRetagged};
 
 use crate::attributes::Attributes;
 use asn1_core::prelude::*;

@@ -2,8 +2,8 @@
 
 ghost use Rattle.std.specs.Prelude.{◌≡◌, [], MatchOption};
 ghost use Rattle.asn1_core.specs.Der.{object_identifier, octet_string, octets_of};
-ghost use Rattle.pkcs7_signed_parts.specs.Attributes.{attributes_value};
-ghost use Rattle.pkcs7_signed_parts.specs.NamedAttributes.{content_type_oid, message_digest_oid, signing_time_oid};
+ghost use Rattle.pkcs7_attributes.specs.Attributes.{attributes_value};
+ghost use Rattle.pkcs7_attributes.specs.NamedAttributes.{content_type_oid, message_digest_oid, signing_time_oid};
 ghost use Rattle.x509_base.specs.AttributesByOid.{with_oid, IsFirst, GivesOnly};
 ghost use Rattle.x509_base.specs.Names.{attribute_value};
 ghost use Rattle.x509_base.specs.Times.{time, time_of};

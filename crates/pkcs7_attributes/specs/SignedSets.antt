@@ -4,7 +4,7 @@ use Rattle.std.specs.Prelude.{◌≡◌, ℕ, List, [], ◌∷◌, Option, None,
 use Rattle.std.proofs.Common.{refl}
 use Rattle.asn1_core.specs.Der.{Format, each, element, set_of}
 use Rattle.x509_base.specs.Names.{AttributeValue, attribute}
-use Rattle.pkcs7_signed_parts.specs.Attributes.{attributes}
+use Rattle.pkcs7_attributes.specs.Attributes.{attributes}
 
 abbrev pub attributes_as_set : Format (List AttributeValue)
 attributes_as_set = set_of attribute

@@ -1,0 +1,4 @@
+pub mod Attributes
+pub mod NamedAttributes
+pub mod SignedSets
+pub mod Equal

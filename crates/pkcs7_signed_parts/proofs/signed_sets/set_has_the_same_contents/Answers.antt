@@ -1,5 +1,0 @@
-use Rattle.pkcs7_signed_parts.specs.SignedSets.{set_is_retagged}
-use Rattle.pkcs7_signed_parts.proofs.signed_sets.set_has_the_same_contents.Goals as goal
-
-pub returns : goal.returns
-returns c = set_is_retagged
