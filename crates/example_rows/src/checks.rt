@@ -10,6 +10,7 @@ use std::alloc::Global;
 use std::fmt::Debug;
 use std::test::Fail;
 use vector_checks::checks::{is_rewritten, is_sent};
+use vector_checks::fakes::Narrow;
 use x509_containers::{
     Kind, Mode, Outcome, Verdict, check, check_as, check_as_limited, check_limited, check_located,
     check_located_as, loose_end, loose_end_as, rewrite, rewrite_as, rewrite_as_limited,
@@ -299,12 +300,12 @@ pub fn is_kept_under_tags<T: DerTagged + SeenByText>(alloc: Global, row: &Row) -
         T::begins(T::TAG) && !T::begins(OTHER_TAG),
         "the first tags of the type",
     )?;
-    let mut sink = StdSink::new(Vec::new(alloc));
+    let mut sink = Narrow::new(alloc, usize::MAX, usize::MAX);
     value.emit_as(OTHER_TAG, &mut sink)?;
-    let tagged = sink.into_inner();
+    let tagged = sink.taken.as_slice();
     expect(tagged.first() == Some(&OTHER_TAG), "the other tag")?;
     expect(tagged.get(1..) == row.text.get(1..), "the text after it")?;
-    let mut r = Reader::new(&tagged);
+    let mut r = Reader::new(tagged);
     let again: T = read_retagged(alloc, &mut r, MAX_NESTING, OTHER_TAG)?;
     expect(again == value, "the value under the other tag")
 }

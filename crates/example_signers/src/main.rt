@@ -1,13 +1,15 @@
 //! Lists the signers of signed data with their content type on standard input: how each names its certificate, whether
-//! that is in the file, its digest algorithm, and the types of its signed attributes.
+//! that is in the file, its digest algorithm, the types of its signed attributes, and the octets that its signature is
+//! over, after those of the content.
 #![tactic(auto)]
 
 use std::io;
 use std::process::ExitCode;
 use thiserror::Error as ThisError;
 use x509_containers::{
-    CertificateChoices, Error, Name, Pkcs7Certificate, SignerIdentifier, SignerInfo, StdSource,
-    certificates, from_bytes, read_all, signer_certificate, signers,
+    CertificateChoices, Error, Name, Pkcs7Certificate, SignedData, SignerIdentifier, SignerInfo,
+    StdSource, certificates, from_bytes, hashed_octets, read_all, signer_certificate, signers,
+    to_vec,
 };
 
 /// Why a list ended.
@@ -73,7 +75,21 @@ fn list_signer(
         let ty = attribute.ty.0.to_text(rt.alloc())?;
         println!(rt; "  signed attribute: {ty}")?;
     }
-    Ok(())
+    // RFC 5652, 5.4: the attributes as a SET, or the content where there are none
+    print!(rt; "  signature over: ")?;
+    match signer.signed_attrs.0.as_set() {
+        Some(attributes) => print_hex(rt, &to_vec(rt.alloc(), &attributes)?),
+        None => Ok(println!(rt; "the content")?),
+    }
+}
+
+/// The octets of the content that are hashed.
+fn list_content(rt: &HostRuntime, signed: &SignedData) -> Result<(), ListError> {
+    print!(rt; "content: ")?;
+    match hashed_octets(rt.alloc(), &signed.content_info)? {
+        Some(octets) => print_hex(rt, &octets),
+        None => Ok(println!(rt; "not in the file")?),
+    }
 }
 
 fn list(rt: &HostRuntime) -> Result<(), ListError> {
@@ -82,6 +98,7 @@ fn list(rt: &HostRuntime) -> Result<(), ListError> {
     };
     let certificate: Pkcs7Certificate = from_bytes(rt.alloc(), &file)?;
     let signed = &certificate.signed_data.0;
+    list_content(rt, signed)?;
     for signer in signers(signed) {
         list_signer(rt, signer, certificates(signed))?;
     }

@@ -5,8 +5,8 @@ use crate::fakes::Narrow;
 use asn1_core::SeenByText;
 use asn1_core_element::Error;
 use asn1_core_format::{DerDeserialize, DerSerialize, TryClone, from_bytes, to_vec, write_to};
-use asn1_core_streams::{Sink, StdSink};
-use asn1_core_writers::{Backward, Compare, Measure, WriteError};
+use asn1_core_streams::Sink;
+use asn1_core_writers::WriteError;
 use std::alloc::Global;
 use std::test::Fail;
 
@@ -22,22 +22,13 @@ fn expect(holds: bool, what: &'static str, text: &[u8]) -> Result<(), Fail> {
 pub fn is_written<T: DerSerialize>(alloc: Global, value: &T, text: &[u8]) -> Result<(), Fail> {
     expect(value.encoded_len()? == text.len(), "encoded_len", text)?;
     expect(to_vec(alloc, value)?.as_slice() == text, "to_vec", text)?;
-    let mut behind = Vec::from_slice(alloc, b"ab")?;
-    value.write(alloc, &mut behind)?;
-    let added = behind.as_slice().strip_prefix(b"ab");
+    let mut after = Vec::from_slice(alloc, b"ab")?;
+    value.write(alloc, &mut after)?;
+    let added = after.as_slice().strip_prefix(b"ab");
     expect(added == Some(text), "write", text)?;
-    let mut measure = Measure::new();
-    value.put(&mut measure)?;
-    expect(measure.total() == text.len(), "Measure", text)?;
-    let mut compare = Compare::new(text);
-    value.put(&mut compare)?;
-    expect(compare.is_same(), "Compare", text)?;
-    let mut backward = Backward::new(vec![in alloc; 0; text.len()]?);
-    value.put(&mut backward)?;
-    expect(backward.into_inner().as_slice() == text, "Backward", text)?;
-    let mut sink = StdSink::new(Vec::new(alloc));
+    let mut sink = Narrow::new(alloc, usize::MAX, usize::MAX);
     write_to(value, &mut sink)?;
-    expect(sink.into_inner().as_slice() == text, "write_to", text)
+    expect(sink.taken.as_slice() == text, "write_to", text)
 }
 
 /// Sends the value through a sink that takes `width` bytes a call. The sink fails at each call in turn, after a

@@ -1,6 +1,5 @@
-//! What the tests of all layers use: checks of a type, fakes of sources and sinks, and octets from hexadecimal.
+//! What the tests of all layers use: checks of a type, and fakes of sources and sinks.
 #![tactic(auto)]
 
 pub mod checks;
 pub mod fakes;
-pub mod texts;

@@ -1,6 +1,6 @@
 //! The types of the kinds, by the tables of their layers.
 
-use crate::checks::{is_so as at, is_kept_under_tags as under_tags};
+use crate::checks::{is_kept_under_tags as under_tags, is_so as at};
 use crate::rows::Row;
 use std::alloc::Global;
 use std::test::Fail;

@@ -5,7 +5,8 @@ use std::test::Fail;
 use x509_containers::{ParsedAuthenticatedSafeDataRepr, Pfx, RawPfx, first_with_key_id};
 
 /// Of Python's cryptography 48, without encryption: an Ed25519 key named `one`, and its certificate of 198 octets.
-const STORE: &[u8] = b"\
+fn store() -> &'static [u8] {
+    b"\
     \x30\x82\x02\x28\x02\x01\x03\x30\x82\x01\xDE\x06\x09\x2A\x86\x48\x86\xF7\x0D\x01\x07\x01\xA0\x82\
     \x01\xCF\x04\x82\x01\xCB\x30\x82\x01\xC7\x30\x82\x01\xC3\x06\x09\x2A\x86\x48\x86\xF7\x0D\x01\x07\
     \x01\xA0\x82\x01\xB4\x04\x82\x01\xB0\x30\x82\x01\xAC\x30\x82\x01\x29\x06\x0B\x2A\x86\x48\x86\xF7\
@@ -29,7 +30,8 @@ const STORE: &[u8] = b"\
     \x28\x49\x24\x8D\xBA\x6C\xCA\x59\x6F\x30\x41\x30\x31\x30\x0D\x06\x09\x60\x86\x48\x01\x65\x03\x04\
     \x02\x01\x05\x00\x04\x20\x5F\xFB\x0D\xB5\xB6\x80\x37\xCF\x69\xC7\x7D\x4B\xA9\x33\x61\xE2\x62\x00\
     \x73\x8A\x89\xBC\xAD\x9A\xFA\xF5\xC4\x3F\xD7\xE2\xBB\x0A\x04\x08\xDC\xAC\xEC\xFF\x62\x42\xD5\x27\
-    \x02\x02\x08\x00";
+    \x02\x02\x08\x00"
+}
 
 /// The local key identifier of both, as `openssl pkcs12` prints it.
 const KEY_ID: &[u8] =
@@ -38,9 +40,9 @@ const KEY_ID: &[u8] =
 #[test]
 fn a_key_and_its_certificate(rt: HostRuntime) -> Result<(), Fail> {
     let alloc = rt.alloc();
-    let store: Pfx<ParsedAuthenticatedSafeDataRepr> = from_bytes(alloc, STORE)?;
-    let certificates = store.certificates(alloc)?;
-    assert_eq!(rt; (certificates.len(), store.keys(alloc)?.len()), (1, 1));
+    let read: Pfx<ParsedAuthenticatedSafeDataRepr> = from_bytes(alloc, store())?;
+    let certificates = read.certificates(alloc)?;
+    assert_eq!(rt; (certificates.len(), read.keys(alloc)?.len()), (1, 1));
     match first_with_key_id(certificates.as_slice(), KEY_ID) {
         Some(bag) => {
             let len = bag.x509_certificate().map(|der| der.len());
@@ -61,8 +63,8 @@ const SALT: &[u8] = b"\xDC\xAC\xEC\xFF\x62\x42\xD5\x27";
 
 #[test]
 fn what_its_mac_takes(rt: HostRuntime) -> Result<(), Fail> {
-    let store: RawPfx = from_bytes(rt.alloc(), STORE)?;
-    match store.mac_input() {
+    let read: RawPfx = from_bytes(rt.alloc(), store())?;
+    match read.mac_input() {
         Ok(mac) => {
             assert_eq!(rt; (mac.octets.len(), mac.iterations), (459, 2048));
             assert_eq!(rt; mac.digest, DIGEST);

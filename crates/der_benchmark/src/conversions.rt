@@ -23,7 +23,7 @@ pub fn of_objects(alloc: Global) -> Result<(), Stop> {
     let of_text = ObjectIdentifier::from_text(alloc, "1.2.3.4")?;
     expect(of_text == of_octets, "an object identifier of a text")?;
     let text = of_text.to_text(alloc);
-    expect(of_text == of_octets, "a lent object identifier")?;
+    expect(of_text == of_octets, "a borrowed object identifier")?;
     expect(
         text?.as_str() == "1.2.3.4",
         "the text of an object identifier",
@@ -110,6 +110,6 @@ pub fn of_bags(alloc: Global) -> Result<(), Stop> {
     let name = BmpString::from_text(alloc, "AB")?;
     expect(is_named(&bags, &name), "a file has other bags")?;
     let text = name.to_text(alloc);
-    expect(is_named(&bags, &name), "a lent name")?;
+    expect(is_named(&bags, &name), "a borrowed name")?;
     expect(text?.as_str() == "AB", "the text of a name")
 }

@@ -9,7 +9,8 @@ use x509_containers::{
 
 /// "hello, world", signed by the first of two certificates. That has the serial number 2 and 06 07 08 as its key's
 /// identifier, the other one 1 and 01 02 03 04 05.
-const SIGNED: &[u8] = b"\
+fn signed_file() -> &'static [u8] {
+    b"\
     \x30\x82\x03\x68\x06\x09\x2A\x86\x48\x86\xF7\x0D\x01\x07\x02\xA0\x82\x03\x59\x30\x82\x03\x55\x02\x01\
     \x01\x31\x0D\x30\x0B\x06\x09\x60\x86\x48\x01\x65\x03\x04\x02\x01\x30\x1B\x06\x09\x2A\x86\x48\x86\xF7\
     \x0D\x01\x07\x01\xA0\x0E\x04\x0C\x68\x65\x6C\x6C\x6F\x2C\x20\x77\x6F\x72\x6C\x64\xA0\x82\x02\x39\x30\
@@ -45,7 +46,8 @@ const SIGNED: &[u8] = b"\
     \x04\x03\x02\x04\x47\x30\x45\x02\x20\x32\x42\xAC\x7F\x86\x65\x1C\x91\xE9\x7D\x8F\xBB\x3F\x28\xA3\x9F\
     \xBB\x2A\xBA\x54\x6B\xBC\x47\xFE\xB7\xF9\x30\x1A\xB3\xCB\xE4\x8B\x02\x21\x00\xBB\xE8\xFB\x7D\x95\xA2\
     \x59\x49\x95\x4D\xBE\x6F\x4C\x9E\x69\xDE\xB5\xFB\x54\xD5\x73\xDD\xAB\xF4\xD8\xC5\x28\x2C\xE5\x7E\x79\
-    \xC2";
+    \xC2"
+}
 
 /// Asks that the certificate of the signer is this one.
 fn is_signed_by(
@@ -66,12 +68,12 @@ fn is_signed_by(
 #[test]
 fn a_signed_file(rt: HostRuntime) -> Result<(), Fail> {
     let alloc = rt.alloc();
-    let read: Pkcs7Certificate = from_bytes(alloc, SIGNED)?;
+    let read: Pkcs7Certificate = from_bytes(alloc, signed_file())?;
     let signed = &read.signed_data.0;
     let hashed = hashed_octets(alloc, &signed.content_info)?;
     assert!(rt; hashed.as_deref() == Some(b"hello, world".as_slice()));
     let all = certificates(signed);
-    let (first, second) = (SIGNED.get(74..357), SIGNED.get(357..643));
+    let (first, second) = (signed_file().get(74..357), signed_file().get(357..643));
     assert!(rt; all.first().map(|one| certificate_element(one).0.as_slice()) == first);
     for signer in signers(signed) {
         is_signed_by(alloc, all, &signer.sid, first)?;

@@ -11,7 +11,8 @@ use x509_containers::{
 };
 
 /// A signature by SHA-1, with one by SHA-256 nested in it.
-const SIGNED: &[u8] = b"\
+fn signed_twice() -> &'static [u8] {
+    b"\
     \x30\x82\x06\x4C\x06\x09\x2A\x86\x48\x86\xF7\x0D\x01\x07\x02\xA0\x82\x06\x3D\x30\x82\x06\x39\x02\x01\x01\
     \x31\x0B\x30\x09\x06\x05\x2B\x0E\x03\x02\x1A\x05\x00\x30\x81\xBE\x06\x0A\x2B\x06\x01\x04\x01\x82\x37\x02\
     \x01\x04\xA0\x81\xAF\x30\x81\xAC\x30\x81\x86\x06\x0A\x2B\x06\x01\x04\x01\x82\x37\x02\x01\x0F\x30\x78\x03\
@@ -74,7 +75,8 @@ const SIGNED: &[u8] = b"\
     \x06\x08\x2A\x86\x48\xCE\x3D\x04\x03\x02\x04\x46\x30\x44\x02\x20\x4F\x0D\x7F\x7F\x08\x9C\x95\x3D\x7F\xBE\
     \x2E\x87\x71\xD9\xF8\xB4\x01\xAA\xA1\xEC\x8B\xC3\x02\x98\xAD\xC8\xD4\xAF\x7C\xAA\x0C\x12\x02\x20\x67\x33\
     \x29\x43\x11\x18\xFB\x7E\xD7\x64\xCB\x4D\x2E\xF0\xC4\x1F\x1B\xB7\x3B\xE6\x14\xF1\x38\x0F\xD2\x21\x1F\x80\
-    \x3E\xB0\x40\xE4";
+    \x3E\xB0\x40\xE4"
+}
 
 /// The page hashes by SHA-1.
 const BY_SHA1: [(u32, &[u8]); 3] = [
@@ -117,10 +119,15 @@ const BY_SHA256: [(u32, &[u8]); 3] = [
 /// Of each signature its nested one, its page hashes, and their entries.
 #[test]
 fn signatures(rt: HostRuntime) -> Result<(), Fail> {
-    let nested = SIGNED.get(772..1616);
+    let nested = signed_twice().get(772..1616);
     for (signature, nested, octets, entries) in [
-        (Some(SIGNED), nested, SIGNED.get(105..197), BY_SHA1),
-        (nested, None, SIGNED.get(885..1013), BY_SHA256),
+        (
+            Some(signed_twice()),
+            nested,
+            signed_twice().get(105..197),
+            BY_SHA1,
+        ),
+        (nested, None, signed_twice().get(885..1013), BY_SHA256),
     ] {
         let (Some(signature), Some(octets)) = (signature, octets) else {
             return Err(Fail::new(format_args!("no octets")));

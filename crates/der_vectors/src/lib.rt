@@ -1,0 +1,40 @@
+//! Tests of the library and of the program by their public calls, of what neither a row nor a contract says: calls that
+//! take memory beside reading, writing and cloning, room and writes, places and kinds of refusal, words of errors,
+//! ill-formed and built values of many levels, failing streams, and a representation of a caller's own. Expected values
+//! are those of the standards, or of other tools.
+#![tactic(auto)]
+
+#[cfg(test)]
+mod algorithms;
+#[cfg(test)]
+mod attributes;
+#[cfg(test)]
+mod authenticode;
+#[cfg(test)]
+mod errors;
+#[cfg(test)]
+mod key_stores;
+#[cfg(test)]
+mod large;
+#[cfg(test)]
+mod levels;
+#[cfg(test)]
+mod objects;
+#[cfg(test)]
+mod octets_repr;
+#[cfg(test)]
+mod places;
+#[cfg(test)]
+mod program;
+#[cfg(test)]
+mod representations;
+#[cfg(test)]
+mod runs;
+#[cfg(test)]
+mod signers;
+#[cfg(test)]
+mod times;
+#[cfg(test)]
+mod utf16_names;
+#[cfg(test)]
+mod values;
