@@ -3,9 +3,9 @@ use Rattle.std.proofs.Common.{◌≡◌, ℕ, ◌≤◌, List, ap, arith, refl}
 use Rattle.std.specs.Prelude.{None}
 use Rattle.asn1_core_element.specs.declared.error.Error.{Error}
 use Rattle.asn1_core_element.specs.declared.error.Error.TheVariants.{Malformed, Missing, Invalid, TooDeep, TooLong, Memory}
-use Rattle.container_parts.specs.Inputs.{GivesNoPart, HasPart}
-use Rattle.container_parts.specs.Parts.{projection_of}
-use Rattle.container_parts.specs.declared.parts.ContainerPart.{ContainerPart}
+use Rattle.x509_containers.specs.Inputs.{GivesNoPart, HasPart}
+use Rattle.x509_containers.specs.Parts.{projection_of}
+use Rattle.x509_containers.specs.declared.parts.ContainerPart.{ContainerPart}
 use Rattle.der_c.specs.Calls.{status_of, CopiesPart, IsPartAt}
 
 bounds : (e : Error) → (3 ≤ status_of e) × (status_of e ≤ 8)

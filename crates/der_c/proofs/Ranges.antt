@@ -1,7 +1,7 @@
 -- From the range of a MAC to its status.
 use Rattle.std.proofs.Common.{◌≡◌, ◌≢◌, ℕ, ◌+◌, ◌-◌, ◌≤◌, List, ap, subst, sym, arith, inl, inr, refl}
 use Rattle.std.specs.Prelude.{◌⊎◌, None, Some}
-use Rattle.container_parts.specs.MacParts.{HasCount}
+use Rattle.x509_containers.specs.MacParts.{HasCount}
 use Rattle.asn1_core.specs.Der.{raw, HasNoValue}
 use Rattle.asn1_core_element.specs.declared.error.Error.{Error}
 use Rattle.asn1_core_element.specs.declared.error.Error.TheVariants.{Malformed, Missing, Invalid, TooDeep, TooLong, Memory}

@@ -4,11 +4,11 @@ use Rattle.asn1_core.specs.Der.{raw, IsValueOf}
 use Rattle.asn1_core_element.specs.declared.error.Error.{Error}
 use Rattle.asn1_core_element.specs.declared.error.Error.TheVariants.{Malformed, Missing, Invalid, TooDeep, TooLong, Memory}
 use Rattle.asn1_core_writers.specs.Comparing.{IsLongestEnd}
-use Rattle.container_parts.specs.Copies.{IsLong}
-use Rattle.container_parts.specs.Inputs.{Projection, HasPart}
-use Rattle.container_parts.specs.MacParts.{HasCount}
-use Rattle.container_parts.specs.Parts.{parts, projection_of}
-use Rattle.container_parts.specs.declared.parts.ContainerPart.{ContainerPart}
+use Rattle.x509_containers.specs.Copies.{IsLong}
+use Rattle.x509_containers.specs.Inputs.{Projection, HasPart}
+use Rattle.x509_containers.specs.MacParts.{HasCount}
+use Rattle.x509_containers.specs.Parts.{parts, projection_of}
+use Rattle.x509_containers.specs.declared.parts.ContainerPart.{ContainerPart}
 use Rattle.der_engine.specs.Engine.{Rewriting}
 use Rattle.x509_containers.specs.Kinds.{kinds, rewriting_at, word_of}
 use Rattle.x509_containers.specs.declared.kinds.Kind.{Kind}

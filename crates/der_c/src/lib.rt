@@ -4,13 +4,13 @@
 
 ghost use Rattle.std.specs.Prelude.{◌≡◌, ◌≤◌, length, MatchOption};
 ghost use Rattle.x509_containers.specs.Kinds.{kinds};
-ghost use Rattle.container_parts.specs.Parts.{parts};
+ghost use Rattle.x509_containers.specs.Parts.{parts};
 ghost use Rattle.der_c.specs.Calls.{status_of, ChecksWord, CopiesPart, FindsMac, FindsRange, IsKindAt, IsPartAt, NamesKind, RewritesWord};
 
-use container_parts::{ContainerPart, container_part, mac_iterations};
 use std::alloc::Global;
 use x509_containers::{
-    Error, Kind, KindOfInput, MAX_NESTING, check_located, mac_range, rewrite_limited,
+    ContainerPart, Error, Kind, KindOfInput, MAX_NESTING, check_located, container_part,
+    mac_iterations, mac_range, rewrite_limited,
 };
 
 /// The number that C sees of a refusal.

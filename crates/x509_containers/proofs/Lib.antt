@@ -1,1 +1,2 @@
 pub mod KindLists
+pub mod HeldMacs

@@ -3,3 +3,7 @@ pub mod Recipients
 pub mod Enveloped
 pub mod Descriptors
 pub mod Equal
+pub mod RawContents
+pub mod RawSigners
+pub mod RawSigned
+pub mod RawEqual

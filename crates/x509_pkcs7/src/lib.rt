@@ -1,10 +1,14 @@
-//! Content under its type, enveloped data and protection descriptors (RFC 5652, 3 and 6), and all of the contents and
-//! signed data of PKCS #7.
+//! Content under its type, enveloped data and protection descriptors (RFC 5652, 3 and 6), raw counterparts of recipients,
+//! signers and signed data of the forms that the typed ones refuse, and all of the contents and signed data of PKCS #7.
 #![tactic(auto)]
 
 pub mod contents;
 pub mod descriptors;
 pub mod enveloped;
+pub mod raw_contents;
+pub mod raw_recipients;
+pub mod raw_signed;
+pub mod raw_signers;
 pub mod recipients;
 
 pub use contents::{ContentInfo, ContentType};
@@ -28,6 +32,12 @@ pub use pkcs7_signed::{
     SignedData, SignerIdentifier, SignerInfo, SignersInfos, TbsCertList, UnsignedAttribute,
     UnsignedAttributeValue, UnsignedAttributes,
 };
+pub use raw_contents::RawEncapsulatedContentInfo;
+pub use raw_recipients::{RawEnvelopedData, RawRecipientInfo};
+pub use raw_signed::{
+    RawPkcs7Certificate, RawRevocationInfoChoices, RawSignedData, RawSignersInfos,
+};
+pub use raw_signers::{RawSignerInfo, RawUnsignedAttributes};
 pub use recipients::{
     EncryptedKey, KekIdentifier, KekRecipientInfo, KeyEncryptionAlgorithmIdentifier,
     OtherKeyAttribute, RecipientInfo,

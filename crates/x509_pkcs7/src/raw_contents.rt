@@ -1,0 +1,76 @@
+//! Content of any type, or none (RFC 2315, 7; RFC 5652, 5.2).
+
+ghost use Rattle.std.specs.Prelude.{◌≡◌};
+ghost use Rattle.asn1_core.specs.Der.{option_value};
+ghost use Rattle.x509_pkcs7.specs.RawContents.{RawEncapsulatedValue, raw_encapsulated_value, raw_encapsulated, lawful_raw_encapsulated, AnswersContent};
+ghost use Rattle.x509_pkcs7.specs.RawEqual.{raw_encapsulated_equal};
+
+use asn1_core::from_bytes;
+use asn1_core::prelude::*;
+use std::alloc::Global;
+
+/// `ContentInfo ::= SEQUENCE { contentType ContentType, content [0] EXPLICIT ANY DEFINED BY contentType OPTIONAL }`
+/// (RFC 2315, 7), of which `EncapsulatedContentInfo` (RFC 5652, 5.2) is one whose content is an OCTET STRING.
+#[derive(Debug, Drop, PartialEq, Eq)]
+pub struct RawEncapsulatedContentInfo {
+    pub content_type: ObjectIdentifierAsn1,
+    /// One element, octet for octet. Absent where the content is elsewhere.
+    pub content: Option<ExplicitContextTag0<Asn1RawDer>>,
+}
+
+impl RawEncapsulatedContentInfo {
+    /// The bytes of the content's element with its header, without the tag `[0]` around it.
+    pub fn content(&self) -> Option<&[u8]>
+        ensures { option_value (λ octets. octets.now) result ≡ option_value (λ c. c.0.0.items) self.now.content }
+    {
+        match &self.content {
+            Some(content) => Some(content.0.0.as_slice()),
+            None => None,
+        }
+    }
+
+    /// The content as a `T`, with the errors of `from_bytes` on the bytes that `content` gives. The content type is not
+    /// examined.
+    pub fn content_typed<T: DerDeserialize>(&self, alloc: Global) -> Option<Result<T, Error>>
+        ensures { AnswersContent T.value T.format self.now.content result }
+    {
+        match &self.content {
+            Some(content) => Some(from_bytes(alloc, content.0.0.as_slice())),
+            None => None,
+        }
+    }
+}
+
+impl DerSerialize for RawEncapsulatedContentInfo {
+    ghost Value = { RawEncapsulatedValue };
+
+    ghost value = { raw_encapsulated_value };
+
+    ghost format = { raw_encapsulated };
+
+    fn put<W: Writer>(&self, w: &mut W) -> Result<(), WriteError> {
+        put_of!(self, w; content_type, content OPTIONAL)
+    }
+
+    fn well_formed_at(&self, limit: u8) -> bool {
+        formed_of!(self, limit; content_type, content OPTIONAL)
+    }
+}
+
+impl DerDeserialize for RawEncapsulatedContentInfo {
+    fn read(alloc: Global, r: &mut Reader<'_>, nest: u8) -> Result<Self, Error> {
+        read_of!(alloc, r, nest; RawEncapsulatedContentInfo { content_type, content OPTIONAL })
+    }
+
+    ghost lawful = { lawful_raw_encapsulated };
+}
+
+impl EqualByText for RawEncapsulatedContentInfo {
+    ghost equal_by_text = { raw_encapsulated_equal };
+}
+
+impl TryClone for RawEncapsulatedContentInfo {
+    fn try_clone(&self, alloc: Global) -> Result<Self, Error> {
+        clone_of!(self, alloc; RawEncapsulatedContentInfo { content_type, content })
+    }
+}

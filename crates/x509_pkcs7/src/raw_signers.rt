@@ -1,0 +1,145 @@
+//! Signers of every version, whose unsigned attributes keep their values as they are (RFC 5652, 5.3).
+
+ghost use Rattle.std.specs.Prelude.{List};
+ghost use Rattle.x509_base.specs.Names.{AttributeValue};
+ghost use Rattle.x509_pkcs7.specs.RawSigners.{unsigned_attributes_value, unsigned_attributes, lawful_unsigned_attributes, no_unsigned_attributes, no_unsigned_attributes_left_out, RawSignerValue, raw_signer_value, raw_signer, lawful_raw_signer};
+ghost use Rattle.x509_pkcs7.specs.RawEqual.{unsigned_attributes_equal, raw_signer_equal};
+
+use asn1_core::prelude::*;
+use pkcs7_content::CmsVersion;
+use pkcs7_signed_parts::{
+    Attributes, DigestAlgorithmIdentifier, SignatureAlgorithmIdentifier, SignatureValue,
+    SignerIdentifier,
+};
+use std::alloc::Global;
+use x509_base::Attribute;
+
+/// `UnsignedAttributes ::= SET SIZE (1..MAX) OF Attribute`, under its tag `[1] IMPLICIT`, each with its values as they
+/// are: countersignatures and time stamps are values too. The empty set is left out.
+#[derive(Debug, Drop, PartialEq)]
+pub struct RawUnsignedAttributes(pub Vec<Attribute>);
+
+impl DerSerialize for RawUnsignedAttributes {
+    ghost Value = { List AttributeValue };
+
+    ghost value = { unsigned_attributes_value };
+
+    ghost format = { unsigned_attributes };
+
+    fn put<W: Writer>(&self, w: &mut W) -> Result<(), WriteError> {
+        put_within(0xA1, &self.0, w)
+    }
+
+    fn well_formed_at(&self, limit: u8) -> bool {
+        self.0.row_well_formed_at(limit)
+    }
+}
+
+impl DerDeserialize for RawUnsignedAttributes {
+    fn read(alloc: Global, r: &mut Reader<'_>, nest: u8) -> Result<Self, Error> {
+        Ok(RawUnsignedAttributes(read_within(alloc, r, nest, 0xA1)?))
+    }
+
+    ghost lawful = { lawful_unsigned_attributes };
+}
+
+impl FirstTags for RawUnsignedAttributes {
+    fn begins(tag: u8) -> bool {
+        tag == 0xA1
+    }
+}
+
+impl HasDefault for RawUnsignedAttributes {
+    ghost DEFAULT = { no_unsigned_attributes };
+
+    fn is_default(&self) -> bool {
+        is_left_out(0xA1, &self.0)
+    }
+
+    fn absent(alloc: Global) -> Result<Self, Error> {
+        Ok(RawUnsignedAttributes(Vec::new(alloc)))
+    }
+
+    ghost left_out = { no_unsigned_attributes_left_out };
+}
+
+impl EqualByText for RawUnsignedAttributes {
+    ghost equal_by_text = { unsigned_attributes_equal };
+}
+
+impl TryClone for RawUnsignedAttributes {
+    fn try_clone(&self, alloc: Global) -> Result<Self, Error> {
+        Ok(RawUnsignedAttributes(self.0.try_clone(alloc)?))
+    }
+}
+
+/// `SignerInfo ::= SEQUENCE { version CMSVersion, sid SignerIdentifier, digestAlgorithm DigestAlgorithmIdentifier,
+/// signedAttrs [0] IMPLICIT SignedAttributes OPTIONAL, signatureAlgorithm SignatureAlgorithmIdentifier, signature
+/// SignatureValue, unsignedAttrs [1] IMPLICIT UnsignedAttributes OPTIONAL }`. Absence is an empty set. It holds no
+/// further signers, and takes no nesting level.
+#[derive(Debug, Drop, PartialEq)]
+pub struct RawSignerInfo {
+    /// Any of the six. The standard has 1 with an issuer and serial number, 3 with a key identifier.
+    pub version: CmsVersion,
+    pub sid: SignerIdentifier,
+    pub digest_algorithm: DigestAlgorithmIdentifier,
+    pub signed_attrs: Optional<Attributes>,
+    pub signature_algorithm: SignatureAlgorithmIdentifier,
+    pub signature: SignatureValue,
+    pub unsigned_attrs: Optional<RawUnsignedAttributes>,
+}
+
+impl DerSerialize for RawSignerInfo {
+    ghost Value = { RawSignerValue };
+
+    ghost value = { raw_signer_value };
+
+    ghost format = { raw_signer };
+
+    fn put<W: Writer>(&self, w: &mut W) -> Result<(), WriteError> {
+        put_of!(self, w;
+            version, sid, digest_algorithm, (&self.signed_attrs.0) DEFAULT, signature_algorithm,
+            signature, (&self.unsigned_attrs.0) DEFAULT
+        )
+    }
+
+    fn well_formed_at(&self, limit: u8) -> bool {
+        formed_of!(self, limit;
+            version, sid, digest_algorithm, (&self.signed_attrs.0) DEFAULT, signature_algorithm,
+            signature, (&self.unsigned_attrs.0) DEFAULT
+        )
+    }
+}
+
+impl DerDeserialize for RawSignerInfo {
+    fn read(alloc: Global, r: &mut Reader<'_>, nest: u8) -> Result<Self, Error> {
+        let fields_of!(
+            version, sid, digest_algorithm, signed DEFAULT, signature_algorithm, signature,
+            unsigned DEFAULT
+        ) = read_within(alloc, r, nest, 0x30)?;
+        Ok(RawSignerInfo {
+            version,
+            sid,
+            digest_algorithm,
+            signed_attrs: Optional(signed),
+            signature_algorithm,
+            signature,
+            unsigned_attrs: Optional(unsigned),
+        })
+    }
+
+    ghost lawful = { lawful_raw_signer };
+}
+
+impl EqualByText for RawSignerInfo {
+    ghost equal_by_text = { raw_signer_equal };
+}
+
+impl TryClone for RawSignerInfo {
+    fn try_clone(&self, alloc: Global) -> Result<Self, Error> {
+        clone_of!(self, alloc; RawSignerInfo {
+            sid, digest_algorithm, signed_attrs, signature_algorithm, signature, unsigned_attrs;
+            version
+        })
+    }
+}

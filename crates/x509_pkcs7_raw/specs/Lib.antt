@@ -1,4 +1,0 @@
-pub mod RawSigners
-pub mod RawContents
-pub mod RawSigned
-pub mod Equal
