@@ -1,5 +1,5 @@
 //! Lists what a PKCS #12 file on standard input holds, without its password: each bag, those in bags too, the contents
-//! that are encrypted, and the MAC.
+//! that are encrypted, the MAC, and how many octets that covers. README.md quotes `covered`.
 #![tactic(auto)]
 
 use std::alloc::Global;
@@ -9,7 +9,7 @@ use thiserror::Error as ThisError;
 use x509_containers::{
     AuthenticatedSafeContentInfo, CertificateBag, CrlBag, Error, ParsedAuthenticatedSafeDataRepr,
     Pbes2EncryptionScheme, Pbes2KeyDerivationFunc, Pbes2Params, Pfx, Pkcs12EncryptionAlgorithm,
-    SafeBag, SafeBagKind, SafeContentsContentInfo, StdSource, from_bytes, read_all,
+    RawPfx, SafeBag, SafeBagKind, SafeContentsContentInfo, StdSource, from_bytes, read_all, to_vec,
 };
 
 /// Why a list ended.
@@ -85,6 +85,15 @@ fn list_bag(rt: &HostRuntime, bag: &SafeBag) -> Result<(), ListError> {
     Ok(())
 }
 
+/// How many octets the MAC of a file covers, where it covers any, and the file written again.
+fn covered(alloc: Global, file: &[u8]) -> Result<(Option<usize>, Vec<u8>), Error> {
+    let pfx: RawPfx = from_bytes(alloc, file)?;
+    let octets: Option<&[u8]> = pfx.mac_octets();
+    let count = octets.map(|octets| octets.len());
+    let text = to_vec(alloc, &pfx)?;
+    Ok((count, text))
+}
+
 fn list(rt: &HostRuntime) -> Result<(), ListError> {
     let Ok(file) = read_all(rt.alloc(), &mut StdSource::new(rt.stdin())) else {
         return Err(ListError::Read);
@@ -104,6 +113,10 @@ fn list(rt: &HostRuntime) -> Result<(), ListError> {
     if let Some(mac) = &pfx.mac_data {
         let (digest, count) = (&mac.mac.digest_algorithm, mac.effective_iterations());
         println!(rt; "MAC: {digest}, {count} iterations")?;
+        if let (Some(count), text) = covered(rt.alloc(), &file)? {
+            let same = text == file;
+            println!(rt; "the MAC covers {count} octets; written as it was: {same}")?;
+        }
     }
     Ok(())
 }

@@ -1,16 +1,47 @@
 //! The worked examples that are inputs: each row of standard input is a type, an input in hexadecimal, what a check
 //! says of it, its encoding where that is another, and the value where it is said. Prints each row that doesn't hold
-//! and each kind that lacks a row, and counts the others.
+//! and each kind that lacks a row, and counts the others. Then it does one round of the calls that take memory, over
+//! values of each shape, and says what went wrong, if anything.
+//!
+//! With the word `round` it does the round alone, and ends with status 3 where a request was refused with no other
+//! effect: `scripts/memory` refuses each in turn. With another word it prints how long the calls take.
 #![tactic(auto)]
 
 mod checks;
+mod conversions;
 mod coverage;
+mod rounds;
 mod rows;
+mod runs;
 mod subjects;
+mod texts;
+mod times;
 
-use std::process::Termination;
+use rounds::Stop;
+use std::alloc::Global;
+use std::env;
+use std::io::{self, ErrorKind};
+use std::process::{ExitCode, Termination};
 use std::test::Fail;
 use x509_containers::Kind;
+
+/// What the program is asked for.
+#[derive(Clone, Copy)]
+enum Task {
+    Rows,
+    Round,
+    Times,
+}
+
+fn task(rt: &HostRuntime) -> io::Result<Task> {
+    let mut words = env::args(rt)?;
+    words.next();
+    Ok(match words.next() {
+        None => Task::Rows,
+        Some(word) if word.as_str() == "round" => Task::Round,
+        Some(_) => Task::Times,
+    })
+}
 
 /// Writes why something doesn't hold to standard error, and answers whether it holds.
 fn holds(rt: &HostRuntime, outcome: Result<(), Fail>) -> bool {
@@ -19,7 +50,7 @@ fn holds(rt: &HostRuntime, outcome: Result<(), Fail>) -> bool {
     is_ok
 }
 
-fn main(rt: HostRuntime) -> Result<(), Fail> {
+fn all_rows_hold(rt: &HostRuntime) -> Result<(), Fail> {
     let alloc = rt.alloc();
     let mut seen = Vec::new(alloc);
     let mut held = 0u64;
@@ -29,7 +60,7 @@ fn main(rt: HostRuntime) -> Result<(), Fail> {
             continue;
         }
         seen.extend(rows::kind_of(line.as_str()))?;
-        if holds(&rt, rows::holds(alloc, line.as_str())) {
+        if holds(rt, rows::holds(alloc, line.as_str())) {
             held = held.saturating_add(1);
         } else {
             println!(rt; "doesn't hold: {line}")?;
@@ -37,11 +68,56 @@ fn main(rt: HostRuntime) -> Result<(), Fail> {
     }
     let mut known = 0u64;
     for kind in Kind::all() {
-        if holds(&rt, coverage::has_rows(*kind, &seen)) {
+        if holds(rt, coverage::has_rows(*kind, &seen)) {
             known = known.saturating_add(1);
         }
     }
     let all = Kind::all().len();
     println!(rt; "{held} rows hold, of {known} of {all} kinds")?;
     Ok(())
+}
+
+/// All calls that take memory, once.
+fn round(alloc: Global) -> Result<(), Stop> {
+    rounds::store_values(alloc)?;
+    rounds::content_values(alloc)?;
+    conversions::of_objects(alloc)?;
+    conversions::of_algorithms(alloc)?;
+    conversions::of_authenticode(alloc)?;
+    conversions::of_contents(alloc)?;
+    conversions::of_ranges(alloc)?;
+    conversions::of_bags(alloc)?;
+    runs::runs(alloc)
+}
+
+/// Does a round of the calls, and says how it ended.
+fn say_round(rt: &HostRuntime) -> ExitCode {
+    let said = match round(rt.alloc()) {
+        Ok(()) => "each call answers as it should",
+        Err(Stop::Memory) => return ExitCode::from(3),
+        Err(Stop::Other(what)) => what,
+    };
+    match println!(rt; "{said}") {
+        Ok(()) => ExitCode::SUCCESS,
+        Err(_) => ExitCode::from(2),
+    }
+}
+
+fn main(rt: HostRuntime) -> ExitCode {
+    match task(&rt) {
+        Ok(Task::Rows) => match all_rows_hold(&rt) {
+            Ok(()) => say_round(&rt),
+            Err(fail) => Err::<(), Fail>(fail).report(&rt),
+        },
+        Ok(Task::Round) => say_round(&rt),
+        Ok(Task::Times) => {
+            let Err(failure) = times::measure_all(&rt) else {
+                return ExitCode::SUCCESS;
+            };
+            let _ = eprintln!(rt; "example_rows: {failure}");
+            ExitCode::FAILURE
+        }
+        Err(error) if error.kind() == ErrorKind::OutOfMemory => ExitCode::from(3),
+        Err(_) => ExitCode::from(2),
+    }
 }

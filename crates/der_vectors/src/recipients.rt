@@ -1,0 +1,28 @@
+//! Enveloped data as content of its type: what docs/USING.md quotes.
+
+use std::alloc::Global;
+use std::test::Fail;
+use x509_containers::{ContentInfo, EnvelopedData, Error, from_bytes};
+
+/// For one recipient, by `openssl cms -encrypt` with a key that has the identifier C0 FF EE.
+const ENVELOPED: &[u8] = b"\
+    \x30\x81\x85\x06\x09\x2A\x86\x48\x86\xF7\x0D\x01\x07\x03\xA0\x78\x30\x76\x02\x01\x02\x31\x33\xA2\
+    \x31\x02\x01\x04\x30\x05\x04\x03\xC0\xFF\xEE\x30\x0B\x06\x09\x60\x86\x48\x01\x65\x03\x04\x01\x05\
+    \x04\x18\xAB\x89\xDD\x32\x66\xC0\xAC\x3E\x3C\x25\xC4\x86\xFA\xC9\x49\x66\xF3\x9A\x78\x08\xB9\x68\
+    \xE5\x44\x30\x3C\x06\x09\x2A\x86\x48\x86\xF7\x0D\x01\x07\x01\x30\x1D\x06\x09\x60\x86\x48\x01\x65\
+    \x03\x04\x01\x02\x04\x10\x33\x03\xA6\xAD\x43\xF7\xD0\xE7\x3E\xFF\xF6\xF9\xAA\xF3\x59\x74\x80\x10\
+    \x87\x7B\x3E\x91\x43\x02\xD7\x22\x8D\x20\xF6\x29\xFC\xD5\xB4\x07";
+
+/// To how many recipients the enveloped data of a file is.
+fn recipients(alloc: Global, file: &[u8]) -> Result<usize, Error> {
+    let info: ContentInfo = from_bytes(alloc, file)?;
+    let enveloped: EnvelopedData = info.content_typed(alloc)?;
+    let recipients = enveloped.recipient_infos.0.len();
+    Ok(recipients)
+}
+
+#[test]
+fn recipients_of_a_file(rt: HostRuntime) -> Result<(), Fail> {
+    assert_eq!(rt; recipients(rt.alloc(), ENVELOPED)?, 1);
+    Ok(())
+}
