@@ -2,8 +2,7 @@
 
 use std::test::Fail;
 use x509_containers::{
-    Attributes, Error, IntegerAsn1, OctetStringAsn1, first_attribute, from_bytes, only_value,
-    only_value_as, to_vec,
+    Attributes, IntegerAsn1, OctetStringAsn1, from_bytes, only_value_as, to_vec,
 };
 
 /// An INTEGER under 1.2.3.4; nothing, and then two INTEGERs under 1.2.3.5; an OCTET STRING under 1.2.3.6.
@@ -12,44 +11,6 @@ const ATTRIBUTES: &[u8] = b"\
     \x30\x07\x06\x03\x2A\x03\x05\x31\x00\
     \x30\x0D\x06\x03\x2A\x03\x05\x31\x06\x02\x01\x06\x02\x01\x07\
     \x30\x0B\x06\x03\x2A\x03\x06\x31\x04\x04\x02AB";
-
-/// Of each object identifier how many values the first attribute has and whether it is the only one, and its only value.
-#[test]
-fn by_object_identifier(rt: HostRuntime) -> Result<(), Fail> {
-    let attributes: Attributes = from_bytes(rt.alloc(), ATTRIBUTES)?;
-    let all = attributes.0.0.as_slice();
-    for (oid, first, value) in [
-        (
-            b"\x2A\x03\x04".as_slice(),
-            Some((1, true)),
-            Ok(Some(b"\x02\x01\x05".as_slice())),
-        ),
-        (
-            b"\x2A\x03\x05".as_slice(),
-            Some((0, false)),
-            Err(Error::Invalid),
-        ),
-        (
-            b"\x2A\x03\x06".as_slice(),
-            Some((1, true)),
-            Ok(Some(b"\x04\x02AB".as_slice())),
-        ),
-        (b"\x2A\x03\x07".as_slice(), None, Ok(None)),
-    ] {
-        let found = match first_attribute(all, oid) {
-            Some(found) => Some((found.attribute.value.0.len(), found.is_only)),
-            None => None,
-        };
-        assert_eq!(rt; found, first);
-        let only = match only_value(all, oid) {
-            Ok(Some(value)) => Ok(Some(value.0.as_slice())),
-            Ok(None) => Ok(None),
-            Err(error) => Err(error),
-        };
-        assert_eq!(rt; only, value);
-    }
-    Ok(())
-}
 
 #[test]
 fn read_as_a_type(rt: HostRuntime) -> Result<(), Fail> {

@@ -173,27 +173,3 @@ fn has_entries(alloc: Global, octets: &[u8], entries: &[(u32, &[u8])]) -> Result
     }
     Ok(())
 }
-
-/// Where there are no page hashes: a link of another kind, an object of another class. Entries of a table that ends
-/// early, of no table, and by another digest algorithm.
-#[test]
-fn without_page_hashes(rt: HostRuntime) -> Result<(), Fail> {
-    let alloc = rt.alloc();
-    for image in [
-        b"\x30\x05\xA0\x03\x80\x01\x41".as_slice(),
-        b"\x30\x08\xA0\x06\xA2\x04\x80\x02\x00\x41",
-        b"\x30\x0A\xA0\x08\xA1\x06\x04\x01\x05\x04\x01\x06",
-    ] {
-        let image: SpcPeImageData = from_bytes(alloc, image)?;
-        assert!(rt; page_hash_octets(&image).is_none());
-    }
-    for hashes in [
-        b"\x30\x13\x06\x0A\x2B\x06\x01\x04\x01\x82\x37\x02\x03\x01\x31\x05\x04\x03\x01\x02\x03".as_slice(),
-        b"\x30\x0E\x06\x0A\x2B\x06\x01\x04\x01\x82\x37\x02\x03\x02\x31\x00",
-        b"\x30\x13\x06\x0A\x2B\x06\x01\x04\x01\x82\x37\x02\x03\x03\x31\x05\x04\x03\x01\x02\x03",
-    ] {
-        let hashes: PageHashes = from_bytes(alloc, hashes)?;
-        assert!(rt; hashes.entry(0).is_none());
-    }
-    Ok(())
-}

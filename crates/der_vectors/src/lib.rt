@@ -19,13 +19,13 @@ mod large;
 #[cfg(test)]
 mod levels;
 #[cfg(test)]
-mod objects;
-#[cfg(test)]
 mod octets_repr;
 #[cfg(test)]
 mod places;
 #[cfg(test)]
 mod program;
+#[cfg(test)]
+mod recipients;
 #[cfg(test)]
 mod representations;
 #[cfg(test)]
