@@ -33,7 +33,7 @@ enum Task {
     Times,
 }
 
-fn task(rt: &HostRuntime) -> io::Result<Task> {
+fn asked_for(rt: &HostRuntime) -> io::Result<Task> {
     let mut words = env::args(rt)?;
     words.next();
     Ok(match words.next() {
@@ -104,7 +104,7 @@ fn say_round(rt: &HostRuntime) -> ExitCode {
 }
 
 fn main(rt: HostRuntime) -> ExitCode {
-    match task(&rt) {
+    match asked_for(&rt) {
         Ok(Task::Rows) => match all_rows_hold(&rt) {
             Ok(()) => say_round(&rt),
             Err(fail) => Err::<(), Fail>(fail).report(&rt),
