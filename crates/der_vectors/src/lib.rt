@@ -5,8 +5,6 @@
 #![tactic(auto)]
 
 #[cfg(test)]
-mod algorithms;
-#[cfg(test)]
 mod attributes;
 #[cfg(test)]
 mod authenticode;

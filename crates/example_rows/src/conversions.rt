@@ -7,7 +7,7 @@ use x509_containers::{
     BitString, BitStringAsn1, BmpString, ContentInfo, EncapsulatedContentInfo, ObjectIdentifier,
     OctetStringAsn1, ParsedAuthenticatedSafeDataRepr, Pbes1AlgorithmKind, Pbes2AesCbcEncryption,
     Pbkdf2Prf, Pfx, Pkcs12DigestAlgorithm, SafeBag, SpcLink, SpcPeImageFlags, SpcSerializedObject,
-    SpcString, from_bytes, mac_range,
+    SpcString, TryClone, from_bytes, mac_range,
 };
 
 /// The octets of 1.2.3.4.
@@ -30,26 +30,47 @@ pub fn of_objects(alloc: Global) -> Result<(), Stop> {
     )
 }
 
-/// Algorithms' own object identifiers and identifiers.
+/// Kinds of encryption as object identifiers, by their clones, which rows copy.
+pub fn of_encryptions(alloc: Global) -> Result<(), Stop> {
+    for (kind, octets) in [
+        (Pbes1AlgorithmKind::ShaAnd3Key3DesCbc, texts::TRIPLE_DES),
+        (Pbes1AlgorithmKind::ShaAnd40BitRc2Cbc, texts::RC2_40),
+    ] {
+        let oid = kind.try_clone(alloc)?.to_oid(alloc)?;
+        expect(oid.octets() == octets, "an object identifier of PBES1")?;
+    }
+    for (kind, octets) in [
+        (Pbes2AesCbcEncryption::Aes128, texts::AES_128),
+        (Pbes2AesCbcEncryption::Aes192, texts::AES_192),
+        (Pbes2AesCbcEncryption::Aes256, texts::AES_256),
+    ] {
+        let oid = kind.try_clone(alloc)?.to_oid(alloc)?;
+        expect(oid.octets() == octets, "an object identifier of PBES2")?;
+    }
+    Ok(())
+}
+
+/// Known digests and pseudorandom functions as algorithm identifiers.
 pub fn of_algorithms(alloc: Global) -> Result<(), Stop> {
-    let oid = Pbes1AlgorithmKind::ShaAnd3Key3DesCbc.to_oid(alloc)?;
-    expect(
-        oid.octets() == texts::TRIPLE_DES,
-        "an object identifier of PBES1",
-    )?;
-    let oid = Pbes2AesCbcEncryption::Aes256.to_oid(alloc)?;
-    expect(
-        oid.octets() == texts::AES_256,
-        "an object identifier of PBES2",
-    )?;
-    is_made(
-        Pkcs12DigestAlgorithm::Sha256.into_raw(alloc),
-        texts::SHA_256,
-    )?;
-    is_made(
-        Pbkdf2Prf::HmacWithSha256.into_raw(alloc),
-        texts::HMAC_WITH_SHA_256,
-    )
+    for (known, text) in [
+        (Pkcs12DigestAlgorithm::Sha1, texts::SHA_1),
+        (Pkcs12DigestAlgorithm::Sha224, texts::SHA_224),
+        (Pkcs12DigestAlgorithm::Sha256, texts::SHA_256),
+        (Pkcs12DigestAlgorithm::Sha384, texts::SHA_384),
+        (Pkcs12DigestAlgorithm::Sha512, texts::SHA_512),
+    ] {
+        is_made(known.into_raw(alloc), text)?;
+    }
+    for (known, text) in [
+        (Pbkdf2Prf::HmacWithSha1, texts::HMAC_WITH_SHA_1),
+        (Pbkdf2Prf::HmacWithSha224, texts::HMAC_WITH_SHA_224),
+        (Pbkdf2Prf::HmacWithSha256, texts::HMAC_WITH_SHA_256),
+        (Pbkdf2Prf::HmacWithSha384, texts::HMAC_WITH_SHA_384),
+        (Pbkdf2Prf::HmacWithSha512, texts::HMAC_WITH_SHA_512),
+    ] {
+        is_made(known.into_raw(alloc), text)?;
+    }
+    Ok(())
 }
 
 /// Defaults and strings of Authenticode.

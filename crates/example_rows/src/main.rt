@@ -82,6 +82,7 @@ fn round(alloc: Global) -> Result<(), Stop> {
     rounds::store_values(alloc)?;
     rounds::content_values(alloc)?;
     conversions::of_objects(alloc)?;
+    conversions::of_encryptions(alloc)?;
     conversions::of_algorithms(alloc)?;
     conversions::of_authenticode(alloc)?;
     conversions::of_contents(alloc)?;

@@ -71,17 +71,61 @@ pub const NO_DATA: &[u8] = b"\
 pub const TRIPLE_DES: &[u8] = b"\
     \x2A\x86\x48\x86\xF7\x0D\x01\x0C\x01\x03";
 
+/// The octets of `pbeWithSHAAnd40BitRC2-CBC`.
+pub const RC2_40: &[u8] = b"\
+    \x2A\x86\x48\x86\xF7\x0D\x01\x0C\x01\x06";
+
+/// The octets of `aes128-CBC-PAD`.
+pub const AES_128: &[u8] = b"\
+    \x60\x86\x48\x01\x65\x03\x04\x01\x02";
+
+/// The octets of `aes192-CBC-PAD`.
+pub const AES_192: &[u8] = b"\
+    \x60\x86\x48\x01\x65\x03\x04\x01\x16";
+
 /// The octets of `aes256-CBC-PAD`.
 pub const AES_256: &[u8] = b"\
     \x60\x86\x48\x01\x65\x03\x04\x01\x2A";
 
-/// `id-sha256`, whose absent parameters are written as NULL.
+/// `id-sha1`, whose absent parameters are written as NULL.
+pub const SHA_1: &[u8] = b"\
+    \x30\x09\x06\x05\x2B\x0E\x03\x02\x1A\x05\x00";
+
+/// `id-sha224`, the same.
+pub const SHA_224: &[u8] = b"\
+    \x30\x0D\x06\x09\x60\x86\x48\x01\x65\x03\x04\x02\x04\x05\x00";
+
+/// `id-sha256`, the same.
 pub const SHA_256: &[u8] = b"\
     \x30\x0D\x06\x09\x60\x86\x48\x01\x65\x03\x04\x02\x01\x05\x00";
+
+/// `id-sha384`, the same.
+pub const SHA_384: &[u8] = b"\
+    \x30\x0D\x06\x09\x60\x86\x48\x01\x65\x03\x04\x02\x02\x05\x00";
+
+/// `id-sha512`, the same.
+pub const SHA_512: &[u8] = b"\
+    \x30\x0D\x06\x09\x60\x86\x48\x01\x65\x03\x04\x02\x03\x05\x00";
+
+/// `id-hmacWithSHA1`, the same.
+pub const HMAC_WITH_SHA_1: &[u8] = b"\
+    \x30\x0C\x06\x08\x2A\x86\x48\x86\xF7\x0D\x02\x07\x05\x00";
+
+/// `id-hmacWithSHA224`, the same.
+pub const HMAC_WITH_SHA_224: &[u8] = b"\
+    \x30\x0C\x06\x08\x2A\x86\x48\x86\xF7\x0D\x02\x08\x05\x00";
 
 /// `id-hmacWithSHA256`, the same.
 pub const HMAC_WITH_SHA_256: &[u8] = b"\
     \x30\x0C\x06\x08\x2A\x86\x48\x86\xF7\x0D\x02\x09\x05\x00";
+
+/// `id-hmacWithSHA384`, the same.
+pub const HMAC_WITH_SHA_384: &[u8] = b"\
+    \x30\x0C\x06\x08\x2A\x86\x48\x86\xF7\x0D\x02\x0A\x05\x00";
+
+/// `id-hmacWithSHA512`, the same.
+pub const HMAC_WITH_SHA_512: &[u8] = b"\
+    \x30\x0C\x06\x08\x2A\x86\x48\x86\xF7\x0D\x02\x0B\x05\x00";
 
 /// The file `<<<Obsolete>>>`.
 pub const OBSOLETE_FILE: &[u8] = b"\
