@@ -4,7 +4,7 @@ use std::alloc::{AllocError, Global};
 use std::env::{self, Env, FillError};
 use std::io::{self, ErrorKind};
 use std::test::Fail;
-use x509_containers_program::{WordsError, words_of};
+use x509_containers::program::{WordsError, words_of};
 
 /// The words of a command line.
 #[derive(Drop)]

@@ -3,8 +3,8 @@
 
 use std::env;
 use std::process::ExitCode;
+use x509_containers::program::{answer_words, words_of};
 use x509_containers::{StdSink, StdSource};
-use x509_containers_program::{answer_words, words_of};
 
 fn main(rt: HostRuntime) -> ExitCode {
     let words = words_of(env::args(&rt), rt.alloc());

@@ -14,8 +14,8 @@ use std::io::{self, BufWriter, Write};
 use std::process::ExitCode;
 use tree::{Mark, write_tree};
 use verdict::judge;
+use x509_containers::program::{WordsError, words_of};
 use x509_containers::{Kind, StdSource, read_all};
-use x509_containers_program::{WordsError, words_of};
 
 /// What the words of a command line ask for.
 #[derive(Clone, Copy)]

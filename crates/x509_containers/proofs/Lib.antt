@@ -1,2 +1,3 @@
 pub mod KindLists
 pub mod HeldMacs
+pub mod Asking

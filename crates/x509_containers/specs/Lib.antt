@@ -16,3 +16,6 @@ pub mod SignedRows
 pub mod StoreParts
 pub mod StoreRows
 pub mod Parts
+pub mod Words
+pub mod Answers
+pub mod Program

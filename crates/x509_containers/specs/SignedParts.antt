@@ -10,8 +10,8 @@ use Rattle.pkcs7_attributes.specs.SignedSets.{attributes_as_set, some_attributes
 use Rattle.pkcs7_signed_parts.specs.Signers.{SignerIdValue}
 use Rattle.pkcs7_signed.specs.Parts.{SignerParts, behind_signed}
 use Rattle.pkcs7_signed.specs.Signers.{Value, signers, certificates, certificate, signer_out, certificate_out}
-use Rattle.x509_signers.specs.Hashed.{content_is_element}
-use Rattle.x509_signers.specs.Matches.{choice_octets}
+use Rattle.x509_pkcs7.specs.Hashed.{content_is_element}
+use Rattle.x509_pkcs7.specs.Matches.{choice_octets}
 use Rattle.x509_containers.specs.Copies.{of_some}
 use Rattle.x509_containers.specs.Inputs.{Projection}
 use Rattle.x509_containers.specs.declared.parts.signed.SignedPart.{SignedPart}

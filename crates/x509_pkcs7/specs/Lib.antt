@@ -7,3 +7,10 @@ pub mod RawContents
 pub mod RawSigners
 pub mod RawSigned
 pub mod RawEqual
+pub mod Heads
+pub mod KeyIdentifiers
+pub mod Matches
+pub mod Hashed
+pub mod TimeStamps
+pub mod Nested
+pub mod Pages

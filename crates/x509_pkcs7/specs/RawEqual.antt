@@ -1,7 +1,7 @@
 -- `==` is equality of what the values contain.
 use Rattle.std.specs.Prelude.{◌≡◌, ◌↔◌, ◌&&◌, Bool, true}
 use Rattle.std.specs.Option.{option_eq}
-use Rattle.std.proofs.Common.{ap, rules}
+use Rattle.std.proofs.Common.{ap}
 use lib.Pointwise.{pointwise}
 use Rattle.asn1_core.specs.Der.{SeesEqual, der_equal, two_equal, with_end, list_equal, option_equal, octets_equal}
 use Rattle.pkcs7_content.specs.contracts.versions.CmsVersionPartialEq.TheImpl as Version

@@ -1,5 +1,6 @@
 //! Content under its type, enveloped data and protection descriptors (RFC 5652, 3 and 6), raw counterparts of recipients,
-//! signers and signed data of the forms that the typed ones refuse, and all of the contents and signed data of PKCS #7.
+//! signers and signed data of the forms that the typed ones refuse, what a verifier needs of signed data beside its types, and
+//! all of the contents and signed data of PKCS #7.
 #![tactic(auto)]
 
 pub mod contents;
@@ -10,6 +11,7 @@ pub mod raw_recipients;
 pub mod raw_signed;
 pub mod raw_signers;
 pub mod recipients;
+pub mod verifier;
 
 pub use contents::{ContentInfo, ContentType};
 pub use descriptors::{GeneralProtectionDescriptor, ProtectionDescriptor};
@@ -41,4 +43,9 @@ pub use raw_signers::{RawSignerInfo, RawUnsignedAttributes};
 pub use recipients::{
     EncryptedKey, KekIdentifier, KekRecipientInfo, KeyEncryptionAlgorithmIdentifier,
     OtherKeyAttribute, RecipientInfo,
+};
+pub use verifier::{
+    Accuracy, CertificateHead, GenTime, PageHashes, TbsCertificateHead, TimeStampAuthority,
+    TimeStampExtensions, TstInfo, certificate_element, certificates, first_extension,
+    hashed_octets, nested_signatures, page_hash_octets, signer_certificate, signers,
 };

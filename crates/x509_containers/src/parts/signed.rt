@@ -7,7 +7,7 @@ ghost use Rattle.pkcs7_signed.specs.Signers.{signer_out};
 ghost use Rattle.pkcs7_signed.specs.SignerValues.{certificate_value, signer_value};
 ghost use Rattle.x509_containers.specs.Copies.{Copies, CopiesOutOf};
 ghost use Rattle.x509_containers.specs.Inputs.{GivesPart};
-ghost use Rattle.x509_signers.specs.Matches.{choice_octets};
+ghost use Rattle.x509_pkcs7.specs.Matches.{choice_octets};
 ghost use Rattle.x509_containers.specs.SignedParts.{certificates_in, content_in, hashed_of, in_signed, of_signer, signed_part, signed_text, signers_in};
 
 use crate::parts::copies::{copy, encoding};
@@ -15,12 +15,12 @@ use asn1_core::lists::item;
 use asn1_core::{Error, from_bytes};
 use pkcs7_signed::{Pkcs7Certificate, SignerIdentifier, SignerInfo};
 use std::alloc::Global;
-use x509_signers::{certificate_element, hashed_octets};
+use x509_pkcs7::{certificate_element, hashed_octets};
 
 /// A part of signed data.
 #[derive(Clone, Copy, Debug, PartialEq, Eq)]
 pub enum SignedPart {
-    /// The octets of the content that are hashed, as `hashed_octets` of `x509_signers` gives them (RFC 5652, 5.4). There
+    /// The octets of the content that are hashed, as `hashed_octets` gives them (RFC 5652, 5.4). There
     /// is one content, whatever the index is, and none where the signature is detached.
     HashedContent,
     /// An element of `certificates`, as it is (RFC 5652, 5.1).

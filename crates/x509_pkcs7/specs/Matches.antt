@@ -1,0 +1,27 @@
+-- Which certificate is a signer's (RFC 5652, 5.3).
+use Rattle.std.specs.Prelude.{◌≡◌, ◌⊎◌, List, [], ◌∷◌, Option, None, Some}
+use Rattle.std.proofs.Common.{inl, inr}
+use Rattle.asn1_core.specs.Der.{ElementOctets}
+use Rattle.pkcs7_signed_parts.specs.Certificates.{CertificateValue as ChoiceValue}
+use Rattle.pkcs7_signed_parts.specs.Signers.{SignerIdValue}
+use Rattle.x509_pkcs7.specs.Heads.{CertificateValue, certificate}
+use Rattle.x509_pkcs7.specs.KeyIdentifiers.{rest_of, IsKeyIdOf}
+
+-- the certificate has that issuer and that serial number, or that identifier of its key
+abbrev pub IsNamedBy : SignerIdValue → CertificateValue → Type 0
+IsNamedBy (inl i) v = (v.0.1.1.1.0 ≡ i.0) × (v.0.1.0 ≡ i.1.0)
+IsNamedBy (inr key) v = IsKeyIdOf (rest_of v) (Some key)
+
+-- the element is a certificate of which that is true
+abbrev pub IsSigners : SignerIdValue → ElementOctets → Type 0
+IsSigners id b = (v : CertificateValue) × certificate.Reads 64 b v × IsNamedBy id v
+
+-- the octets of a certificate, or of another choice
+abbrev pub choice_octets : ChoiceValue → ElementOctets
+choice_octets (inl b) = b
+choice_octets (inr b) = b
+
+-- the first of which P is true, or none where it is true of none
+abbrev pub IsFirst : {X : Type 0} → (X → Type 0) → List X → Option X → Type 0
+IsFirst P [] found = found ≡ None
+IsFirst P (x ∷ xs) found = (P x × (found ≡ Some x)) ⊎ ((P x → ⊥) × IsFirst P xs found)

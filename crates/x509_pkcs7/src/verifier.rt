@@ -1,0 +1,21 @@
+//! What a verifier or an inspector of signed data needs beside its types: the octets that are hashed, certificates as far
+//! as they name a signer, and which certificate is a signer's (RFC 5652, 5.3 and 5.4; RFC 5280, 4.1); of Authenticode,
+//! nested signatures and page hashes.
+
+pub mod hashed;
+pub mod heads;
+pub mod key_identifiers;
+pub mod matches;
+pub mod nested;
+pub mod pages;
+pub mod parts;
+pub mod time_stamps;
+
+pub use hashed::hashed_octets;
+pub use heads::{CertificateHead, TbsCertificateHead};
+pub use key_identifiers::first_extension;
+pub use matches::{certificate_element, signer_certificate};
+pub use nested::nested_signatures;
+pub use pages::{PageHashes, page_hash_octets};
+pub use parts::{certificates, signers};
+pub use time_stamps::{Accuracy, GenTime, TimeStampAuthority, TimeStampExtensions, TstInfo};

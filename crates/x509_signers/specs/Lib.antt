@@ -1,7 +1,0 @@
-pub mod Heads
-pub mod KeyIdentifiers
-pub mod Matches
-pub mod Hashed
-pub mod TimeStamps
-pub mod Nested
-pub mod Pages
