@@ -5,7 +5,7 @@ use Rattle.pkcs7_content.specs.Contents.{ContentValues, ContentRow, IsPlain, con
 use Rattle.pkcs7_content.specs.IndirectData.{IndirectDataValue, indirect_data}
 use Rattle.pkcs7_content.specs.declared.contents.Kind.{Kind}
 use Rattle.pkcs7_content.specs.declared.contents.Kind.TheVariants.{IndirectData, TrustList, PlainData, Foreign}
-use Rattle.pkcs7_content_ctl.specs.TrustLists.{CtlValue, ctl}
+use Rattle.pkcs7_content.specs.TrustLists.{CtlValue, ctl}
 
 -- contents that are the same
 content_same : {a b : ContentValues} {u w : Unit {0}} → ◌≡◌ {A = ContentRow} (Some a, u) (Some b, w) → a ≡ b

@@ -9,7 +9,7 @@ use Rattle.pkcs7_content.specs.IndirectData.{indirect_data, lawful_indirect_data
 use Rattle.pkcs7_content.specs.Oids.{data_oid}
 use Rattle.pkcs7_content.specs.declared.contents.Kind.{Kind}
 use Rattle.pkcs7_content.specs.declared.contents.Kind.TheVariants.{IndirectData, TrustList, PlainData, Foreign}
-use Rattle.pkcs7_content_ctl.specs.TrustLists.{ctl, lawful_ctl}
+use Rattle.pkcs7_content.specs.TrustLists.{ctl, lawful_ctl}
 
 pub data_oid_is : (octets : List ℕ) → octets ≡ data_oid → IsOid octets
 data_oid_is octets e = subst IsOid (sym e) (oid_from_test data_oid refl)

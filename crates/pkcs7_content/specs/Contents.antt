@@ -10,7 +10,7 @@ use Rattle.pkcs7_content.specs.IndirectData.{IndirectDataValue, indirect_data, i
 use Rattle.pkcs7_content.specs.Oids.{data_oid, indirect_data_oid, trust_list_oid}
 use Rattle.pkcs7_content.specs.declared.contents.Kind.{Kind}
 use Rattle.pkcs7_content.specs.declared.contents.Kind.TheVariants.{IndirectData, TrustList, PlainData, Foreign}
-use Rattle.pkcs7_content_ctl.specs.TrustLists.{CtlValue, ctl, ctl_value}
+use Rattle.pkcs7_content.specs.TrustLists.{CtlValue, ctl, ctl_value}
 use Rattle.pkcs7_content.specs.declared.contents.ContentValue.{ContentValue}
 use Rattle.pkcs7_content.specs.declared.contents.ContentValue.TheVariants as Content
 use Rattle.pkcs7_content.specs.declared.indirect_data.SpcIndirectDataContent.{SpcIndirectDataContent}

@@ -3,8 +3,8 @@ use Rattle.asn1_core.specs.Der.{SeesEqual, der_equal, octets_equal, same_first, 
 use Rattle.std.proofs.Common.{rules}
 use Rattle.asn1_leaves_strings.specs.Octets.{contents_of}
 use Rattle.x509_base.specs.contracts.digests.DigestInfoPartialEq.TheImpl as Digest
-use Rattle.x509_base_spc.specs.Links.{link_value}
-use Rattle.x509_base_spc.specs.contracts.links.SpcLinkPartialEq.TheImpl as Link
+use Rattle.x509_base.specs.SpcLinks.{link_value}
+use Rattle.x509_base.specs.contracts.spc.links.SpcLinkPartialEq.TheImpl as Link
 use Rattle.pkcs7_content.specs.PeImages.{pe_image_value}
 use Rattle.pkcs7_content.specs.SipInfos.{sip_info_value}
 use Rattle.pkcs7_content.specs.IndirectData.{spc_value, spc_attribute_value, indirect_data_value}
@@ -20,7 +20,7 @@ use Rattle.pkcs7_content.specs.contracts.contents.ContentValuePartialEq.TheImpl 
 use Rattle.pkcs7_content.specs.contracts.contents.EncapsulatedContentInfoPartialEq.TheImpl as Encapsulated
 use Rattle.pkcs7_content.specs.declared.indirect_data.SpcAttributeAndOptionalValueValue.TheVariants.{SpcPeImageData, SpcSipInfo}
 use Rattle.pkcs7_content.specs.declared.contents.ContentValue.TheVariants.{SpcIndirectDataContent, OctetString, Data, CertificateTrustList}
-use Rattle.pkcs7_content_ctl.specs.Equal.{integer_equal, ctl_equal}
+use Rattle.pkcs7_content.specs.TrustListsEqual.{integer_equal, ctl_equal}
 
 flags_equal : SeesEqual Flags.ghosts.eq (λ x. contents_of x.0.0)
 flags_equal x y = search rules

@@ -7,3 +7,9 @@ pub mod IndirectData
 pub mod Contents
 pub mod ContentLaws
 pub mod Equal
+pub mod Policies
+pub mod Properties
+pub mod AttributeValues
+pub mod TrustLists
+pub mod TrustListsEqual
+pub mod Borrowed

@@ -6,7 +6,7 @@ use Rattle.std.specs.Str.{bytes_eq}
 use Rattle.std.proofs.lemmas.Slice.Eq.{bytes_eq-Decides}
 use Rattle.asn1_leaves.specs.Strings.{lawful_bit_string}
 use Rattle.asn1_leaves_strings.specs.Bits.{IsBits}
-use Rattle.x509_base_spc.specs.Links.{LinkValue, lawful_spc_link}
+use Rattle.x509_base.specs.SpcLinks.{LinkValue, lawful_spc_link}
 use Rattle.pkcs7_content.specs.PeImages.{default_flags, PeImageValue, file_row, pe_image_spelled, HasFlags, flags_written, pe_image_data}
 
 lawful_file_row : IsLawfulRow file_row

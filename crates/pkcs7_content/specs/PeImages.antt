@@ -6,7 +6,7 @@ use Rattle.std.specs.Prelude.{◌≡◌, ℕ, ◌+◌, List, [], ◌∷◌, Opti
 use Rattle.asn1_core.specs.Der.{Format, sequence, part, optional, nothing, BitStringOctets, explicit, element, NextIs, Loosening, loosened, least_unless}
 use Rattle.std.specs.Str.{bytes_eq}
 use Rattle.asn1_leaves.specs.Strings.{bit_string}
-use Rattle.x509_base_spc.specs.Links.{LinkValue, spc_link, link_value}
+use Rattle.x509_base.specs.SpcLinks.{LinkValue, spc_link, link_value}
 use Rattle.asn1_leaves_strings.specs.Octets.{contents_of}
 use Rattle.pkcs7_content.specs.declared.pe_images.SpcPeImageData.{SpcPeImageData}
 

@@ -11,9 +11,9 @@ ghost use Rattle.pkcs7_content.specs.Oids.{data_oid};
 
 use crate::indirect_data::SpcIndirectDataContent;
 use crate::oids::{DATA, INDIRECT_DATA, TRUST_LIST};
+use crate::trust_lists::Ctl;
 use asn1_choices::{AnyDefinedBy, OidAnd, read_sequence_defined_by};
 use asn1_core::prelude::*;
-use pkcs7_content_ctl::Ctl;
 use std::alloc::Global;
 
 /// What a content type says the content is.

@@ -6,6 +6,7 @@ pub mod indirect_data;
 mod oids;
 pub mod pe_images;
 pub mod sip_infos;
+pub mod trust_lists;
 pub mod versions;
 
 pub use contents::{ContentValue, EncapsulatedContentInfo};
@@ -13,11 +14,11 @@ pub use indirect_data::{
     SpcAttributeAndOptionalValue, SpcAttributeAndOptionalValueValue, SpcIndirectDataContent,
 };
 pub use pe_images::{SpcPeImageData, SpcPeImageFlags};
-pub use pkcs7_content_ctl::{
+pub use sip_infos::SpcSipInfo;
+pub use trust_lists::{
     CTLEntry, CTLEntryAttribute, CTLEntryAttributeValues, CertPolicy, Ctl, PolicyQualifier,
     RootProgramChainPolicy,
 };
-pub use sip_infos::SpcSipInfo;
 pub use versions::CmsVersion;
 pub use x509_base::spc::{
     File, Moniker, SpcLink, SpcSerializedObject, SpcSpOpusInfo, SpcString, SpcUuid, StringError,

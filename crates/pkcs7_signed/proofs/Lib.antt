@@ -1,2 +1,3 @@
 pub mod SignerTests
 pub mod SignerReads
+pub mod ByTag

@@ -6,11 +6,11 @@ use Rattle.asn1_core_element.specs.declared.error.Error.{Error}
 use Rattle.asn1_core_element.specs.declared.error.Error.TheVariants.{Memory}
 use Rattle.asn1_core_format.proofs.LevelReads.{took_level, refused_level, took_rolled, refused_rolled}
 use Rattle.pkcs7_content.specs.declared.versions.CmsVersion.{CmsVersion}
-use Rattle.pkcs7_signed_parts.specs.declared.algorithms.DigestAlgorithmIdentifier.{DigestAlgorithmIdentifier}
-use Rattle.pkcs7_signed_parts.specs.declared.algorithms.SignatureAlgorithmIdentifier.{SignatureAlgorithmIdentifier}
+use Rattle.pkcs7_signed.specs.declared.parts.algorithms.DigestAlgorithmIdentifier.{DigestAlgorithmIdentifier}
+use Rattle.pkcs7_signed.specs.declared.parts.algorithms.SignatureAlgorithmIdentifier.{SignatureAlgorithmIdentifier}
 use Rattle.pkcs7_attributes.specs.declared.attributes.Attributes.{Attributes}
-use Rattle.pkcs7_signed_parts.specs.declared.signers.SignatureValue.{SignatureValue}
-use Rattle.pkcs7_signed_parts.specs.declared.signers.SignerIdentifier.{SignerIdentifier}
+use Rattle.pkcs7_signed.specs.declared.parts.signers.SignatureValue.{SignatureValue}
+use Rattle.pkcs7_signed.specs.declared.parts.signers.SignerIdentifier.{SignerIdentifier}
 use Rattle.pkcs7_signed.specs.Rows.{signer_row, certificate_row, attribute_row, UnsignedValues, kind_of, values_row}
 use Rattle.pkcs7_signed.specs.Signers.{Value, signers, attributes, certificates, signer_out, signer_into, certificate_out, certificate_into, attribute_out, attribute_into, still, step, signer, attribute, certificate}
 use Rattle.pkcs7_signed.specs.SignerLaws.{signer_there, certificate_there, attribute_there, signer_step}

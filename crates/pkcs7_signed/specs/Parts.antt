@@ -4,11 +4,11 @@ use Rattle.std.proofs.Common.{arith, ⊎_elim}
 use Rattle.asn1_core.specs.Der.{Format, IsLawfulRow, number_below, lawful_number, version, lawful_version_1, part, optional, followed_by, perhaps, octet_string, lawful_octet_string, Octets, no_grammar, always, omitted, is_default, lawful_omitted}
 use Rattle.pkcs7_content.specs.Contents.{EncapsulatedValue, encapsulated}
 use Rattle.pkcs7_content.specs.ContentLaws.{lawful_encapsulated}
-use Rattle.pkcs7_signed_parts.specs.Algorithms.{algorithms, lawful_algorithms}
+use Rattle.pkcs7_signed.specs.Algorithms.{algorithms, lawful_algorithms}
 use Rattle.pkcs7_attributes.specs.Attributes.{attributes, lawful_attributes, no_attributes, no_attributes_left_out}
-use Rattle.pkcs7_signed_parts.specs.Certificates.{CertificateValue, certificate_set, lawful_certificate_set, no_certificates, no_certificates_left_out}
-use Rattle.pkcs7_signed_parts.specs.Revocations.{RevocationValue, revocations, lawful_revocations}
-use Rattle.pkcs7_signed_parts.specs.Signers.{SignerIdValue, signer_id, lawful_signer_id}
+use Rattle.pkcs7_signed.specs.Certificates.{CertificateValue, certificate_set, lawful_certificate_set, no_certificates, no_certificates_left_out}
+use Rattle.pkcs7_signed.specs.Revocations.{RevocationValue, revocations, lawful_revocations}
+use Rattle.pkcs7_signed.specs.SignerParts.{SignerIdValue, signer_id, lawful_signer_id}
 use Rattle.x509_base.specs.Algorithms.{AlgorithmValue, algorithm_identifier}
 use Rattle.x509_base.specs.AlgorithmLaws.{lawful_algorithm_identifier}
 use Rattle.x509_base.specs.Names.{AttributeValue}

@@ -8,7 +8,7 @@ use Rattle.pkcs7_content.specs.Equal.{encapsulated_equal}
 use Rattle.pkcs7_content.specs.Versions.{number_of}
 use Rattle.pkcs7_content.specs.contracts.versions.CmsVersionPartialEq.TheImpl as Version
 use Rattle.pkcs7_attributes.specs.Equal.{attributes_equal as signed_attributes_equal}
-use Rattle.pkcs7_signed_parts.specs.Equal.{algorithms_equal, certificates_equal, revocations_equal, signer_id_equal}
+use Rattle.pkcs7_signed.specs.PartsEqual.{algorithms_equal, certificates_equal, revocations_equal, signer_id_equal}
 use Rattle.pkcs7_signed.specs.Heads.{elements}
 use Rattle.pkcs7_signed.specs.Rows.{UnsignedValues}
 use Rattle.pkcs7_signed.specs.Signers.{Value, signers, certificates, signer_out, signer_into, certificate_out, certificate_into, attribute_out, attribute_into}

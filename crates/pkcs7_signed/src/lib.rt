@@ -5,10 +5,11 @@ mod boxed;
 mod clones;
 mod heads;
 mod oids;
+pub mod parts;
 mod reading;
 pub mod signers;
 
-pub use pkcs7_signed_parts::{
+pub use parts::{
     Attributes, CertificateChoices, CertificateList, CertificateSerialNumber, CertificateSet,
     DigestAlgorithmIdentifier, DigestAlgorithmIdentifiers, IssuerAndSerialNumber,
     OtherRevocationInfoFormat, RevocationInfoChoice, RevocationInfoChoices, RevokedCertificate,

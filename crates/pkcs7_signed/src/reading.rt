@@ -15,6 +15,10 @@ ghost use Rattle.pkcs7_signed.specs.Signers.{Value, signers, signer, attribute, 
 
 use crate::boxed::{Boxed, in_box, opened};
 use crate::oids::SIGNED_DATA;
+use crate::parts::{
+    Attributes, CertificateSet, DigestAlgorithmIdentifier, DigestAlgorithmIdentifiers,
+    RevocationInfoChoices, SignatureAlgorithmIdentifier, SignatureValue, SignerIdentifier,
+};
 use crate::signers::{
     Kind, Pkcs7Certificate, SignedData, SignerInfo, SignersInfos, UnsignedAttribute,
     UnsignedAttributeValue, UnsignedAttributes, signers_formed_below,
@@ -26,10 +30,6 @@ use asn1_core_format::{
     read_set_with,
 };
 use pkcs7_content::{CmsVersion, EncapsulatedContentInfo};
-use pkcs7_signed_parts::{
-    Attributes, CertificateSet, DigestAlgorithmIdentifier, DigestAlgorithmIdentifiers,
-    RevocationInfoChoices, SignatureAlgorithmIdentifier, SignatureValue, SignerIdentifier,
-};
 use std::alloc::Global;
 
 /// `id-signedData` as the only object identifier.

@@ -11,13 +11,13 @@ ghost use Rattle.pkcs7_signed.specs.declared.signers.UnsignedAttributes.{out-Uns
 
 use crate::heads::{SignedHead, SignerHead};
 use crate::oids::{COUNTERSIGNATURE, MS_COUNTER_SIGN, SIGNED_DATA};
-use asn1_core::prelude::*;
-use asn1_core_oid::is_oid_of;
-use pkcs7_content::{CmsVersion, EncapsulatedContentInfo};
-use pkcs7_signed_parts::{
+use crate::parts::{
     Attributes, CertificateSet, DigestAlgorithmIdentifier, DigestAlgorithmIdentifiers,
     RevocationInfoChoices, SignatureAlgorithmIdentifier, SignatureValue, SignerIdentifier,
 };
+use asn1_core::prelude::*;
+use asn1_core_oid::is_oid_of;
+use pkcs7_content::{CmsVersion, EncapsulatedContentInfo};
 use std::alloc::Global;
 
 /// `SignerInfo ::= SEQUENCE { version CMSVersion, sid SignerIdentifier, digestAlgorithm DigestAlgorithmIdentifier,

@@ -1,2 +1,3 @@
 pub mod AlgorithmReads
 pub mod AttributesByOid
+pub mod Units

@@ -12,3 +12,6 @@ pub mod Versions
 pub mod Equal
 pub mod Times
 pub mod AttributesByOid
+pub mod SpcObjects
+pub mod SpcLinks
+pub mod SpcTexts

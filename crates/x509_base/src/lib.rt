@@ -1,5 +1,5 @@
-//! The layer below PKCS #7 and PKCS #12: algorithm identifiers, digests, names, times and extensions. The types of
-//! Authenticode are its module `spc`, a crate of its own.
+//! The layer below PKCS #7 and PKCS #12: algorithm identifiers, digests, names, times and extensions; in `spc`, the
+//! small types of Authenticode.
 #![tactic(auto)]
 
 pub mod algorithms;
@@ -8,6 +8,7 @@ pub mod booleans;
 pub mod digests;
 pub mod extensions;
 pub mod names;
+pub mod spc;
 pub mod times;
 pub mod versions;
 
@@ -19,4 +20,3 @@ pub use extensions::{Extension, Extensions};
 pub use names::{Attribute, Name, NameValue};
 pub use times::Time;
 pub use versions::Version;
-pub use x509_base_spc as spc;

@@ -5,8 +5,8 @@ use Rattle.asn1_leaves.specs.Strings.{bit_string}
 use Rattle.pkcs7_content.specs.IndirectData.{indirect_data, spc_attribute}
 use Rattle.pkcs7_content.specs.PeImages.{pe_image_data}
 use Rattle.pkcs7_content.specs.SipInfos.{sip_info}
-use Rattle.x509_base_spc.specs.Links.{file, moniker, opus_info, spc_link, spc_string, url}
-use Rattle.x509_base_spc.specs.Objects.{serialized_object}
+use Rattle.x509_base.specs.SpcLinks.{file, moniker, opus_info, spc_link, spc_string, url}
+use Rattle.x509_base.specs.SpcObjects.{serialized_object}
 use Rattle.x509_containers.specs.Entries.{Entry, entry}
 use Rattle.x509_containers.specs.declared.kinds.authenticode.AuthenticodeKind.{AuthenticodeKind}
 use Rattle.x509_containers.specs.declared.kinds.authenticode.AuthenticodeKind.TheVariants as Kind

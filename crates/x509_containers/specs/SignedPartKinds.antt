@@ -2,13 +2,13 @@
 use Rattle.std.specs.Prelude.{List, [], ◌∷◌, codes}
 use Rattle.asn1_core.specs.Der.{octet_string}
 use Rattle.asn1_leaves.specs.Integers.{integer}
-use Rattle.pkcs7_signed_parts.specs.Algorithms.{algorithms}
+use Rattle.pkcs7_signed.specs.Algorithms.{algorithms}
 use Rattle.pkcs7_attributes.specs.Attributes.{attributes}
-use Rattle.pkcs7_signed_parts.specs.CertificateLists.{certificate_list, tbs_list}
-use Rattle.pkcs7_signed_parts.specs.Certificates.{certificate_choice, certificate_set}
-use Rattle.pkcs7_signed_parts.specs.Revocations.{other_format, revocation, revocations}
-use Rattle.pkcs7_signed_parts.specs.Revoked.{all_revoked, revoked}
-use Rattle.pkcs7_signed_parts.specs.Signers.{issuer_serial, signer_id}
+use Rattle.pkcs7_signed.specs.CertificateLists.{certificate_list, tbs_list}
+use Rattle.pkcs7_signed.specs.Certificates.{certificate_choice, certificate_set}
+use Rattle.pkcs7_signed.specs.Revocations.{other_format, revocation, revocations}
+use Rattle.pkcs7_signed.specs.Revoked.{all_revoked, revoked}
+use Rattle.pkcs7_signed.specs.SignerParts.{issuer_serial, signer_id}
 use Rattle.x509_base.specs.Algorithms.{algorithm_identifier}
 use Rattle.x509_containers.specs.Entries.{Entry, entry}
 use Rattle.x509_containers.specs.declared.kinds.signed_parts.SignedPartKind.{SignedPartKind}

@@ -5,10 +5,10 @@ use Rattle.x509_pkcs12.specs.AuthSafes.{auth_safe}
 use Rattle.x509_pkcs12.specs.Contents.{content_info}
 use Rattle.x509_pkcs12.specs.Parsed.{parsed}
 use Rattle.x509_pkcs12.specs.Pfxs.{pfx}
-use Rattle.x509_pkcs12_bags.specs.Bags.{safe_bag, safe_contents}
-use Rattle.x509_pkcs12_parts.specs.Attributes.{pkcs12_attribute}
-use Rattle.x509_pkcs12_parts.specs.Bags.{certificate_bag, crl_bag, encrypted_key_bag, secret_bag}
-use Rattle.x509_pkcs12_parts.specs.Contents.{encrypted_contents}
+use Rattle.x509_pkcs12.specs.Bags.{safe_bag, safe_contents}
+use Rattle.x509_pkcs12.specs.Attributes.{pkcs12_attribute}
+use Rattle.x509_pkcs12.specs.BagParts.{certificate_bag, crl_bag, encrypted_key_bag, secret_bag}
+use Rattle.x509_pkcs12.specs.EncryptedContents.{encrypted_contents}
 use Rattle.x509_containers.specs.Entries.{Entry, entry}
 use Rattle.x509_containers.specs.declared.kinds.stores.StoreKind.{StoreKind}
 use Rattle.x509_containers.specs.declared.kinds.stores.StoreKind.TheVariants as Kind

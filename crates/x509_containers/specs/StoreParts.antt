@@ -3,9 +3,9 @@ use Rattle.std.specs.Prelude.{ℕ, List, [], ◌∷◌, Option, None, Some, slic
 use Rattle.std.specs.List.{flat_map}
 use Rattle.std.proofs.Common.{inl, inr}
 use Rattle.asn1_core.specs.Der.{option_value, Octets, ElementOctets}
-use Rattle.x509_pkcs12_parts.specs.Bags.{EncryptedKeyValue, encrypted_key_bag}
-use Rattle.x509_pkcs12_bags.specs.Bags.{Bag, BagRow, bag_out, safe_bag}
-use Rattle.x509_pkcs12_bags.specs.Selections.{certificate_of, x509_octets}
+use Rattle.x509_pkcs12.specs.BagParts.{EncryptedKeyValue, encrypted_key_bag}
+use Rattle.x509_pkcs12.specs.Bags.{Bag, BagRow, bag_out, safe_bag}
+use Rattle.x509_pkcs12.specs.Selections.{certificate_of, x509_octets}
 use Rattle.x509_pkcs12.specs.Contents.{ContentInfoValue}
 use Rattle.x509_pkcs12.specs.Parsed.{parsed}
 use Rattle.x509_pkcs12.specs.Pfxs.{PfxValue, pfx}

@@ -2,14 +2,14 @@
 use Rattle.std.specs.Prelude.{◌≡◌, Option, Some, None}
 use Rattle.std.proofs.Common.{refl, ap, ◌∙◌}
 use Rattle.asn1_core.specs.Der.{ElementOctets}
-use Rattle.x509_pkcs12_parts.specs.Attributes.{AttributesValue, attributes_value}
-use Rattle.x509_pkcs12_parts.specs.Bags.{EncryptedKeyValue, encrypted_key_value}
-use Rattle.x509_pkcs12_bags.specs.BagLevels.{value_row}
-use Rattle.x509_pkcs12_bags.specs.BagValues.{with_attributes, bag_value, kind_value}
-use Rattle.x509_pkcs12_bags.specs.Bags.{bag_out}
-use Rattle.x509_pkcs12_bags.specs.declared.bags.SafeBag.{SafeBag}
-use Rattle.x509_pkcs12_bags.specs.declared.bags.SafeBagKind as K
-use Rattle.x509_pkcs12_bags.specs.declared.bags.SafeBagKind.{SafeBagKind}
+use Rattle.x509_pkcs12.specs.Attributes.{AttributesValue, attributes_value}
+use Rattle.x509_pkcs12.specs.BagParts.{EncryptedKeyValue, encrypted_key_value}
+use Rattle.x509_pkcs12.specs.BagLevels.{value_row}
+use Rattle.x509_pkcs12.specs.BagValues.{with_attributes, bag_value, kind_value}
+use Rattle.x509_pkcs12.specs.Bags.{bag_out}
+use Rattle.x509_pkcs12.specs.declared.safe_bags.bags.SafeBag.{SafeBag}
+use Rattle.x509_pkcs12.specs.declared.safe_bags.bags.SafeBagKind as K
+use Rattle.x509_pkcs12.specs.declared.safe_bags.bags.SafeBagKind.{SafeBagKind}
 use Rattle.x509_containers.specs.StoreParts.{key_in, encrypted_key_in}
 
 abbrev pub key_of_kind : SafeBagKind → Option ElementOctets

@@ -1,7 +1,7 @@
 -- Trust lists and their parts, as kinds of input: their words, and what inputs are written as.
 use Rattle.std.specs.Prelude.{List, [], ◌∷◌, codes}
-use Rattle.pkcs7_content_ctl.specs.Policies.{cert_policy, chain_policy, policy_qualifier}
-use Rattle.pkcs7_content_ctl.specs.TrustLists.{ctl, entry as ctl_entry, entry_attribute}
+use Rattle.pkcs7_content.specs.Policies.{cert_policy, chain_policy, policy_qualifier}
+use Rattle.pkcs7_content.specs.TrustLists.{ctl, entry as ctl_entry, entry_attribute}
 use Rattle.x509_containers.specs.Entries.{Entry, entry}
 use Rattle.x509_containers.specs.declared.kinds.trust_lists.TrustListKind.{TrustListKind}
 use Rattle.x509_containers.specs.declared.kinds.trust_lists.TrustListKind.TheVariants as Kind

@@ -1,2 +1,5 @@
 pub mod MacPlaces
 mod Utf16Units
+pub mod ContentsReads
+mod Walked
+mod Kept

@@ -5,7 +5,7 @@ use Rattle.std.proofs.lemmas.List.{take_at, drop_at}
 use Rattle.std.specs.Int.Digits.{digits_of}
 use Rattle.asn1_core.specs.Der.{raw, element, octets_short, octets_long, IsValueOf, integer_octets}
 use Rattle.asn1_core_element.specs.Element.{head, length_octets}
-use Rattle.x509_pkcs12_parts.specs.Oids.{data_oid}
+use Rattle.x509_pkcs12.specs.Oids.{data_oid}
 use Rattle.x509_pkcs12.specs.AuthSafes.{auth_safe}
 use Rattle.x509_pkcs12.specs.MacOctets.{mac_octets, auth_safe_of, Covers, input_is, same_some}
 use Rattle.x509_pkcs12.specs.MacRanges.{IsMacRange}

@@ -2,7 +2,7 @@
 -- (RFC 2315, 7) of pkcs7-data, an OCTET STRING around an encoding of F
 use Rattle.std.specs.Prelude.{◌⊎◌}
 use Rattle.asn1_core.specs.Der.{Format, IsLawful, sequence, lawful_sequence, OidOctets, Choice, known, IsLawfulChoice, lawful_known}
-use Rattle.x509_pkcs12_parts.specs.Oids.{data_oid}
+use Rattle.x509_pkcs12.specs.Oids.{data_oid}
 use Rattle.x509_pkcs12.specs.Contents.{data_content, AnyContentValue, unknown_content, lawful_data_content, lawful_unknown_content}
 
 -- the value of the data, or an object identifier and its content

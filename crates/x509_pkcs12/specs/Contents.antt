@@ -4,14 +4,14 @@
 use Rattle.std.specs.Prelude.{◌⊎◌, ℕ, List, Option}
 use Rattle.asn1_core.specs.Der.{Format, within, sequence, part, optional, nothing, raw, octets_of, option_value, OidOctets, ElementOctets, IsLawful, IsLawfulRow, version, lawful_within, lawful_raw, perhaps, lawful_nothing, explicit, der_laws, Choice, known, otherwise, IsLawfulChoice, lawful_known, lawful_otherwise, IsOid, lawful_explicit, lawful_sequence, followed_by, lawful_version_0}
 use Rattle.std.proofs.Common.{inl, inr, arith}
-use Rattle.x509_pkcs12_bags.specs.Bags.{Bag, safe_contents}
-use Rattle.x509_pkcs12_bags.specs.BagValues.{contents_value}
-use Rattle.x509_pkcs12_parts.specs.Contents.{EncryptedContentsValue, encrypted_contents_value, encrypted_contents, lawful_encrypted_contents}
-use Rattle.x509_pkcs12_parts.specs.Oids.{data_oid, oid}
-use Rattle.x509_pkcs12_parts.specs.declared.oids.TheConstants.{ENCRYPTED_DATA}
+use Rattle.x509_pkcs12.specs.Bags.{Bag, safe_contents}
+use Rattle.x509_pkcs12.specs.BagValues.{contents_value}
+use Rattle.x509_pkcs12.specs.EncryptedContents.{EncryptedContentsValue, encrypted_contents_value, encrypted_contents, lawful_encrypted_contents}
+use Rattle.x509_pkcs12.specs.Oids.{data_oid, oid}
+use Rattle.x509_pkcs12.specs.declared.parts.oids.TheConstants.{ENCRYPTED_DATA}
 use Rattle.x509_pkcs12.specs.declared.contents.SafeContentsContentInfo.{SafeContentsContentInfo}
 use Rattle.x509_pkcs12.specs.declared.contents.SafeContentsContentInfo.TheVariants.{Data, EncryptedData, Unknown}
-use Rattle.x509_pkcs12_bags.specs.BagsLaws.{lawful_safe_contents}
+use Rattle.x509_pkcs12.specs.BagsLaws.{lawful_safe_contents}
 
 -- an encoding of F in the OCTET STRING of pkcs7-data
 abbrev pub data_content : {V : Type 0} → Format V → Format V

@@ -1,8 +1,8 @@
 -- `==` of contents is equality of what they contain.
 use Rattle.asn1_core.specs.Der.{SeesEqual}
 use Rattle.std.proofs.Common.{rules}
-use Rattle.x509_pkcs12_bags.specs.BagEqual.{contents_equal}
-use Rattle.x509_pkcs12_parts.specs.ContentsEqual.{encrypted_contents_equal}
+use Rattle.x509_pkcs12.specs.BagEqual.{contents_equal}
+use Rattle.x509_pkcs12.specs.EncryptedContentsEqual.{encrypted_contents_equal}
 use Rattle.x509_pkcs12.specs.Contents.{content_info_value}
 use Rattle.x509_pkcs12.specs.contracts.contents.SafeContentsContentInfoPartialEq.TheImpl as Info
 use Rattle.x509_pkcs12.specs.declared.contents.SafeContentsContentInfo.TheVariants.{Data, EncryptedData, Unknown}

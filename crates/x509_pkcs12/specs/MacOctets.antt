@@ -3,7 +3,7 @@ use Rattle.std.specs.Prelude.{◌≡◌, ◌↔◌, ℕ, List, ◌++◌, Option,
 use Rattle.asn1_core.specs.Der.{Format, optional, nothing, raw, element, integer_octets}
 use Rattle.std.proofs.Common.{refl, ap, subst, inl, inr, ◌∙◌}
 use Rattle.pkcs12_algs.specs.Digests.{MacValue, mac_data}
-use Rattle.x509_pkcs12_parts.specs.Oids.{data_oid}
+use Rattle.x509_pkcs12.specs.Oids.{data_oid}
 use Rattle.x509_pkcs12.specs.Pfxs.{PfxValue, pfx}
 
 -- None where authSafe isn't data

@@ -3,7 +3,7 @@
 use Rattle.std.specs.Prelude.{List, [], Option, Some, None, map}
 use Rattle.asn1_core.specs.Der.{Format, IsLawful, sequence, sequence_of, set_of, part, optional, nothing, object_identifier, raw, octets_of, option_value, OidOctets, ElementOctets, explicit, der_laws}
 use Rattle.x509_base.specs.Names.{AttributeValue, attribute_value, attribute, lawful_attribute}
-use Rattle.x509_pkcs12_parts.specs.Bags.{lawful_any}
+use Rattle.x509_pkcs12.specs.BagParts.{lawful_any}
 use Rattle.x509_pkcs12.specs.declared.raw_bags.RawSafeBag.{RawSafeBag}
 use Rattle.x509_pkcs12.specs.declared.raw_bags.RawSafeContents.{RawSafeContents}
 

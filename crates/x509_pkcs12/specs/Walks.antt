@@ -2,8 +2,8 @@
 use Rattle.std.specs.Prelude.{List, []}
 use Rattle.std.specs.List.{flat_map}
 use Rattle.std.proofs.Common.{inl, inr}
-use Rattle.x509_pkcs12_bags.specs.Bags.{Bag}
-use Rattle.x509_pkcs12_bags.specs.Walks.{walk}
+use Rattle.x509_pkcs12.specs.Bags.{Bag}
+use Rattle.x509_pkcs12.specs.BagWalks.{walk}
 use Rattle.x509_pkcs12.specs.AuthSafes.{AuthSafeValue}
 use Rattle.x509_pkcs12.specs.Contents.{ContentInfoValue}
 use Rattle.x509_pkcs12.specs.Pfxs.{PfxValue}

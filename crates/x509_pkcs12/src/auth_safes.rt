@@ -8,11 +8,11 @@ ghost use Rattle.x509_pkcs12.specs.AuthSafes.{AuthSafeValue, auth_safe, lawful_a
 ghost use Rattle.x509_pkcs12.specs.declared.auth_safes.AuthenticatedSafeContentInfo.TheVariants.{Data, Unknown};
 
 use crate::contents::{AnyContent, AnyContentRef};
+use crate::parts::oids::{Known, PKCS7_DATA};
 use crate::representations::{AuthenticatedSafeDataRepr, ReprRef};
 use asn1_choices::{AnyOid, AnyOidRef, Arm, Chosen, WriteChoice};
 use asn1_core::prelude::*;
 use std::alloc::Global;
-use x509_pkcs12_parts::oids::{Known, PKCS7_DATA};
 
 /// The `authSafe` of a PFX, a `ContentInfo ::= SEQUENCE { contentType ContentType, content [0] EXPLICIT ANY DEFINED BY
 /// contentType OPTIONAL }` (RFC 2315, 7; RFC 7292, 4).

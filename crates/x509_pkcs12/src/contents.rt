@@ -5,12 +5,12 @@ ghost use Rattle.asn1_core.specs.Der.{option_value, sequence, lawful_sequence};
 ghost use Rattle.x509_pkcs12.specs.Contents.{AnyContentValue, any_content, ContentInfoValue, content_info_value, content_info, lawful_any_content, lawful_content_info};
 ghost use Rattle.x509_pkcs12.specs.ContentsEqual.{content_info_equal};
 
+use crate::parts::EncryptedSafeContents;
+use crate::parts::oids::{ENCRYPTED_DATA, Known, PKCS7_DATA};
+use crate::safe_bags::SafeContents;
 use asn1_choices::{AnyOid, AnyOidRef, Arm, Chosen, WriteChoice};
 use asn1_core::prelude::*;
 use std::alloc::Global;
-use x509_pkcs12_bags::SafeContents;
-use x509_pkcs12_parts::EncryptedSafeContents;
-use x509_pkcs12_parts::oids::{ENCRYPTED_DATA, Known, PKCS7_DATA};
 
 /// An item of `AuthenticatedSafe`, a `ContentInfo ::= SEQUENCE { contentType ContentType, content [0] EXPLICIT ANY
 /// DEFINED BY contentType OPTIONAL }` (RFC 2315, 7; RFC 7292, 4.1).

@@ -7,11 +7,13 @@ pub mod laws;
 pub mod mac_inputs;
 pub mod mac_ranges;
 pub mod parsed;
+pub mod parts;
 pub mod pfxs;
 pub mod raw;
 pub mod raw_bags;
 pub mod raw_bags_repr;
 pub mod representations;
+pub mod safe_bags;
 mod selections;
 pub mod utf16_strings;
 mod walks;
@@ -25,6 +27,10 @@ pub use laws::{
 pub use mac_inputs::{MacInput, NoMac};
 pub use mac_ranges::mac_range;
 pub use parsed::ParsedAuthenticatedSafeDataRepr;
+pub use parts::{
+    CertificateBag, CrlBag, EncryptedKeyBag, EncryptedSafeContents, KeyBag, Pkcs12Attribute,
+    SecretBag, X509Bag,
+};
 pub use pfxs::Pfx;
 pub use pkcs12_algs::{
     MacData, Pbes1AlgorithmKind, Pbes1Params, Pbes2AesCbcEncryption, Pbes2EncryptionScheme,
@@ -35,9 +41,5 @@ pub use raw::{RawAuthenticatedSafeContentInfo, RawAuthenticatedSafeDataRepr, Raw
 pub use raw_bags::{RawSafeBag, RawSafeContents};
 pub use raw_bags_repr::{RawBagsAuthenticatedSafeDataRepr, RawBagsContentInfo, RawBagsPfx};
 pub use representations::AuthenticatedSafeDataRepr;
+pub use safe_bags::{SafeBag, SafeBagKind, SafeContents, first_with_key_id};
 pub use utf16_strings::Utf16String;
-pub use x509_pkcs12_bags::{SafeBag, SafeBagKind, SafeContents, first_with_key_id};
-pub use x509_pkcs12_parts::{
-    CertificateBag, CrlBag, EncryptedKeyBag, EncryptedSafeContents, KeyBag, Pkcs12Attribute,
-    SecretBag, X509Bag,
-};

@@ -9,16 +9,16 @@ ghost use Rattle.x509_pkcs12.specs.RawBags.{RawBagValue, raw_bag_value, raw_bag,
 ghost use Rattle.x509_pkcs12.specs.RawBagsEqual.{raw_bag_equal, raw_contents_equal};
 ghost use Rattle.x509_pkcs12.specs.Utf16.{utf16_string};
 ghost use Rattle.x509_pkcs12.specs.Utf16Octets.{octets_of_utf16};
-ghost use Rattle.x509_pkcs12_parts.specs.Oids.{oid};
-ghost use Rattle.x509_pkcs12_parts.specs.declared.oids.TheConstants.{FRIENDLY_NAME, LOCAL_KEY_ID};
+ghost use Rattle.x509_pkcs12.specs.Oids.{oid};
+ghost use Rattle.x509_pkcs12.specs.declared.parts.oids.TheConstants.{FRIENDLY_NAME, LOCAL_KEY_ID};
 
+use crate::parts::oids::{FRIENDLY_NAME, LOCAL_KEY_ID, octets_of_known};
 use crate::representations::AuthenticatedSafeDataRepr;
 use crate::utf16_strings::Utf16String;
 use asn1_core::from_bytes;
 use asn1_core::prelude::*;
 use std::alloc::Global;
 use x509_base::{Attribute, FirstAttribute, first_attribute, only_value_as};
-use x509_pkcs12_parts::oids::{FRIENDLY_NAME, LOCAL_KEY_ID, octets_of_known};
 
 /// `SafeBag ::= SEQUENCE { bagId BAG-TYPE.&id, bagValue [0] EXPLICIT BAG-TYPE.&Type, bagAttributes SET OF
 /// PKCS12Attribute OPTIONAL }` (RFC 7292, 4.2), of any kind, with any attributes. A friendly name may have characters

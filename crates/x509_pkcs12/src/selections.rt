@@ -3,15 +3,15 @@
 ghost use Rattle.std.specs.Prelude.{◌≡◌, MatchResult, map};
 ghost use Rattle.std.specs.List.{filter};
 ghost use Rattle.asn1_core_element.specs.declared.error.Error.TheVariants.{Memory};
-ghost use Rattle.x509_pkcs12_bags.specs.BagValues.{bag_value};
-ghost use Rattle.x509_pkcs12_bags.specs.Selections.{is_certificate, is_key};
+ghost use Rattle.x509_pkcs12.specs.BagValues.{bag_value};
+ghost use Rattle.x509_pkcs12.specs.Selections.{is_certificate, is_key};
 ghost use Rattle.x509_pkcs12.specs.Walks.{pfx_walk};
 
 use crate::parsed::ParsedAuthenticatedSafeDataRepr;
 use crate::pfxs::Pfx;
+use crate::safe_bags::{SafeBag, certificates_among, keys_among};
 use asn1_core::{DerSerialize, Error};
 use std::alloc::Global;
-use x509_pkcs12_bags::{SafeBag, certificates_among, keys_among};
 
 impl Pfx<ParsedAuthenticatedSafeDataRepr> {
     /// The bags that hold certificates, of those that `all_bags` gives, in its order. Refuses by `Memory` alone.

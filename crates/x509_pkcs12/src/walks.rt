@@ -3,7 +3,7 @@
 ghost use Rattle.std.specs.Prelude.{◌≡◌, MatchResult, map};
 ghost use Rattle.std.specs.List.{flat_map};
 ghost use Rattle.asn1_core_element.specs.declared.error.Error.TheVariants.{Memory};
-ghost use Rattle.x509_pkcs12_bags.specs.BagValues.{bag_value};
+ghost use Rattle.x509_pkcs12.specs.BagValues.{bag_value};
 ghost use Rattle.x509_pkcs12.specs.Contents.{content_info_value};
 ghost use Rattle.x509_pkcs12.specs.Walks.{content_walk, pfx_walk};
 
@@ -11,9 +11,9 @@ use crate::auth_safes::AuthenticatedSafeContentInfo;
 use crate::contents::SafeContentsContentInfo;
 use crate::parsed::ParsedAuthenticatedSafeDataRepr;
 use crate::pfxs::Pfx;
+use crate::safe_bags::SafeBag;
 use asn1_core::{DerSerialize, Error};
 use std::alloc::Global;
-use x509_pkcs12_bags::SafeBag;
 
 impl Pfx<ParsedAuthenticatedSafeDataRepr> {
     /// All bags of its contents in order, those in bags too, a bag before the bags in it. Encrypted contents, and

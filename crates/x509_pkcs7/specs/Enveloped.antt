@@ -9,8 +9,8 @@ use Rattle.std.specs.Prelude.{◌≡◌, ℕ, List, Option, map}
 use Rattle.std.proofs.Common.{arith, ⊎_elim}
 use Rattle.asn1_core.specs.Der.{Format, IsLawful, sequence, part, optional, nothing, each, set_of, number_below, object_identifier, octet_string, octets_of, option_value, lawful_sequence, followed_by, perhaps, lawful_nothing, lawful_set, lawful_number, Octets, OidOctets, der_laws, implicit, lawful_implicit, within_tagged}
 use Rattle.pkcs7_content.specs.Versions.{number_of}
-use Rattle.pkcs7_signed_parts.specs.Certificates.{CertificateValue, certificates_value, certificate_choice, certificate_set, lawful_certificate_set}
-use Rattle.pkcs7_signed_parts.specs.Revocations.{RevocationValue, revocations_value, revocation, revocations, lawful_revocations}
+use Rattle.pkcs7_signed.specs.Certificates.{CertificateValue, certificates_value, certificate_choice, certificate_set, lawful_certificate_set}
+use Rattle.pkcs7_signed.specs.Revocations.{RevocationValue, revocations_value, revocation, revocations, lawful_revocations}
 use Rattle.x509_base.specs.Algorithms.{AlgorithmValue, algorithm_identifier}
 use Rattle.x509_base.specs.AlgorithmLaws.{lawful_algorithm_identifier}
 use Rattle.x509_base.specs.AlgorithmParts.{algorithm_value}

@@ -5,7 +5,7 @@ use Rattle.std.proofs.Common.{rules}
 use Rattle.asn1_leaves_times.specs.TimesLaws.{equal_generalized}
 use Rattle.pkcs7_content.specs.contracts.versions.CmsVersionPartialEq.TheImpl as Version
 use Rattle.pkcs7_content.specs.Versions.{number_of}
-use Rattle.pkcs7_signed_parts.specs.Equal.{certificates_equal, revocations_equal}
+use Rattle.pkcs7_signed.specs.PartsEqual.{certificates_equal, revocations_equal}
 use Rattle.x509_pkcs7.specs.ContentInfos.{content_info_value}
 use Rattle.x509_pkcs7.specs.Descriptors.{descriptor_value, general_descriptor_value}
 use Rattle.x509_pkcs7.specs.Enveloped.{encrypted_content_value, originator_value}

@@ -12,7 +12,7 @@ use Rattle.asn1_leaves.specs.Integers.{integer, lawful_integer}
 use Rattle.asn1_leaves.specs.Strings.{bit_string, lawful_bit_string}
 use Rattle.asn1_leaves.specs.contracts.bits.BitStringAsn1PartialEq.TheImpl as Bits
 use Rattle.asn1_leaves_strings.specs.Octets.{contents_of}
-use Rattle.pkcs7_signed_parts.specs.Signers.{serial_number}
+use Rattle.pkcs7_signed.specs.SignerParts.{serial_number}
 use Rattle.x509_base.specs.Algorithms.{AlgorithmValue, algorithm_identifier}
 use Rattle.x509_base.specs.AlgorithmLaws.{lawful_algorithm_identifier}
 use Rattle.x509_base.specs.AlgorithmParts.{algorithm_value}

@@ -2,8 +2,8 @@
 use Rattle.std.specs.Prelude.{◌≡◌, ◌⊎◌, List, [], ◌∷◌, Option, None, Some}
 use Rattle.std.proofs.Common.{inl, inr}
 use Rattle.asn1_core.specs.Der.{ElementOctets}
-use Rattle.pkcs7_signed_parts.specs.Certificates.{CertificateValue as ChoiceValue}
-use Rattle.pkcs7_signed_parts.specs.Signers.{SignerIdValue}
+use Rattle.pkcs7_signed.specs.Certificates.{CertificateValue as ChoiceValue}
+use Rattle.pkcs7_signed.specs.SignerParts.{SignerIdValue}
 use Rattle.x509_pkcs7.specs.Heads.{CertificateValue, certificate}
 use Rattle.x509_pkcs7.specs.KeyIdentifiers.{rest_of, IsKeyIdOf}
 

@@ -5,8 +5,8 @@ use Rattle.std.proofs.Common.{inl, inr, eqb}
 use Rattle.std.specs.Int.{from_le_bytes, w32}
 use Rattle.std.specs.Str.{bytes_eq}
 use Rattle.asn1_core.specs.Der.{Format, IsLawful, sequence, part, nothing, set_of, object_identifier, octet_string, octets_of, arcs, der_laws, der_equal, SeesEqual, Octets, OidOctets}
-use Rattle.x509_base_spc.specs.Links.{LinkValue}
-use Rattle.x509_base_spc.specs.Objects.{page_hash_class}
+use Rattle.x509_base.specs.SpcLinks.{LinkValue}
+use Rattle.x509_base.specs.SpcObjects.{page_hash_class}
 use Rattle.x509_pkcs7.specs.declared.verifier.pages.PageHashes.{PageHashes}
 use Rattle.x509_pkcs7.specs.contracts.verifier.pages.PageHashesPartialEq.TheImpl as PagesEq
 

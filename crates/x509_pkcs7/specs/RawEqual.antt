@@ -6,7 +6,7 @@ use lib.Pointwise.{pointwise}
 use Rattle.asn1_core.specs.Der.{SeesEqual, der_equal, two_equal, with_end, list_equal, option_equal, octets_equal}
 use Rattle.pkcs7_content.specs.contracts.versions.CmsVersionPartialEq.TheImpl as Version
 use Rattle.pkcs7_attributes.specs.Equal.{attributes_equal}
-use Rattle.pkcs7_signed_parts.specs.Equal.{algorithms_equal, certificates_equal, signer_id_equal}
+use Rattle.pkcs7_signed.specs.PartsEqual.{algorithms_equal, certificates_equal, signer_id_equal}
 use Rattle.x509_base.specs.Equal.{algorithm_equal, attribute_equal}
 use Rattle.x509_pkcs7.specs.Equal.{version_equal}
 use Rattle.x509_pkcs7.specs.RawContents.{raw_encapsulated_value}
@@ -17,8 +17,8 @@ use Rattle.x509_pkcs7.specs.contracts.raw_contents.RawEncapsulatedContentInfoPar
 use Rattle.x509_pkcs7.specs.contracts.raw_signed.RawRevocationInfoChoicesPartialEq.TheImpl as Revocations
 use Rattle.x509_pkcs7.specs.contracts.raw_signers.RawSignerInfoPartialEq.TheImpl as Signer
 use Rattle.x509_pkcs7.specs.contracts.raw_signers.RawUnsignedAttributesPartialEq.TheImpl as Unsigned
-use Rattle.pkcs7_signed_parts.specs.contracts.algorithms.DigestAlgorithmIdentifiersPartialEq.TheImpl as Algorithms
-use Rattle.pkcs7_signed_parts.specs.contracts.certificates.CertificateSetPartialEq.TheImpl as Certificates
+use Rattle.pkcs7_signed.specs.contracts.parts.algorithms.DigestAlgorithmIdentifiersPartialEq.TheImpl as Algorithms
+use Rattle.pkcs7_signed.specs.contracts.parts.certificates.CertificateSetPartialEq.TheImpl as Certificates
 
 pub raw_encapsulated_equal : SeesEqual Encapsulated.ghosts.eq raw_encapsulated_value
 raw_encapsulated_equal x y = search der_equal depth 20

@@ -7,8 +7,8 @@ use Rattle.std.specs.Prelude.{◌≡◌, ℕ, List, [], ◌∷◌, Option, map}
 use Rattle.std.proofs.Common.{arith, ⊎_elim}
 use Rattle.asn1_core.specs.Der.{Format, IsLawful, IsLawfulRow, sequence, part, optional, nothing, number_below, set_of, explicit, implicit_set, raw, only_oid, arcs, option_value, ElementOctets, omitted, is_default, lawful_omitted, lawful_sequence, followed_by, perhaps, lawful_number, lawful_nothing, lawful_set, lawful_explicit, lawful_implicit_set, lawful_only_oid, lawful_raw}
 use Rattle.pkcs7_content.specs.Versions.{number_of}
-use Rattle.pkcs7_signed_parts.specs.Algorithms.{algorithms_value, algorithms, lawful_algorithms}
-use Rattle.pkcs7_signed_parts.specs.Certificates.{CertificateValue, certificates_value, certificate_set, lawful_certificate_set, no_certificates, no_certificates_left_out}
+use Rattle.pkcs7_signed.specs.Algorithms.{algorithms_value, algorithms, lawful_algorithms}
+use Rattle.pkcs7_signed.specs.Certificates.{CertificateValue, certificates_value, certificate_set, lawful_certificate_set, no_certificates, no_certificates_left_out}
 use Rattle.x509_base.specs.Algorithms.{AlgorithmValue}
 use Rattle.x509_pkcs7.specs.RawContents.{RawEncapsulatedValue, raw_encapsulated_value, raw_encapsulated, lawful_raw_encapsulated}
 use Rattle.x509_pkcs7.specs.declared.raw_signed.RawSignedData.{RawSignedData}

@@ -7,7 +7,7 @@ use Rattle.std.proofs.Common.{arith}
 use Rattle.asn1_core.specs.Der.{Format, IsLawful, IsLawfulRow, sequence, part, nothing, number_below, octet_string, Octets, omitted, is_default, IsDefault, element, empty_left_out, implicit_set, lawful_implicit_set, lawful_omitted, lawful_sequence, followed_by, lawful_number, lawful_octet_string, lawful_nothing}
 use Rattle.pkcs7_content.specs.Versions.{number_of}
 use Rattle.pkcs7_attributes.specs.Attributes.{attributes_value, attributes, lawful_attributes, no_attributes, no_attributes_left_out}
-use Rattle.pkcs7_signed_parts.specs.Signers.{SignerIdValue, signer_id_value, signer_id, lawful_signer_id}
+use Rattle.pkcs7_signed.specs.SignerParts.{SignerIdValue, signer_id_value, signer_id, lawful_signer_id}
 use Rattle.x509_base.specs.Algorithms.{AlgorithmValue, algorithm_identifier}
 use Rattle.x509_base.specs.AlgorithmLaws.{lawful_algorithm_identifier}
 use Rattle.x509_base.specs.AlgorithmParts.{algorithm_value}

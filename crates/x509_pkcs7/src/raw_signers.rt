@@ -7,7 +7,7 @@ ghost use Rattle.x509_pkcs7.specs.RawEqual.{unsigned_attributes_equal, raw_signe
 
 use asn1_core::prelude::*;
 use pkcs7_content::CmsVersion;
-use pkcs7_signed_parts::{
+use pkcs7_signed::parts::{
     Attributes, DigestAlgorithmIdentifier, SignatureAlgorithmIdentifier, SignatureValue,
     SignerIdentifier,
 };

@@ -8,7 +8,7 @@ ghost use Rattle.x509_pkcs7.specs.Heads.{explicit_version, lawful_explicit_versi
 
 use asn1_core::prelude::*;
 use asn1_leaves::BitStringAsn1;
-use pkcs7_signed_parts::CertificateSerialNumber;
+use pkcs7_signed::parts::CertificateSerialNumber;
 use std::alloc::Global;
 use x509_base::{AlgorithmIdentifier, Name, Version};
 

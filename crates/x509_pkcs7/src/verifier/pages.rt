@@ -2,13 +2,13 @@
 
 ghost use Rattle.std.specs.Prelude.{◌≡◌};
 ghost use Rattle.asn1_core.specs.Der.{option_value};
-ghost use Rattle.x509_base_spc.specs.Links.{link_value};
+ghost use Rattle.x509_base.specs.SpcLinks.{link_value};
 ghost use Rattle.x509_pkcs7.specs.Pages.{PageHashesValue, page_hashes_value, page_hashes, lawful_page_hashes, page_hashes_equal, page_hashes_in, page_hashes_linked, digest_len_of, entry_in, entry_of};
 
 use asn1_core::prelude::*;
 use pkcs7_content::SpcPeImageData;
 use std::alloc::Global;
-use x509_base_spc::{SpcLink, SpcSerializedObject};
+use x509_base::spc::{SpcLink, SpcSerializedObject};
 
 /// The class of page hashes.
 const PAGE_HASH_CLASS: [u8; 16] = [

@@ -2,7 +2,7 @@ use Rattle.std.proofs.Common.{◌++◌, map, sym, ap, ◌∙◌}
 use Rattle.std.specs.List.{flat_map}
 use Rattle.std.proofs.Math.ListN.{drop_of_length-le}
 use Rattle.std.proofs.lemmas.List.{append-nil}
-use Rattle.x509_pkcs12_bags.specs.BagValues.{bag_value}
+use Rattle.x509_pkcs12.specs.BagValues.{bag_value}
 use Rattle.x509_pkcs12.specs.Contents.{content_info_value}
 use Rattle.x509_pkcs12.specs.Walks.{content_walk}
 use Rattle.x509_pkcs12.proofs.walks.bags_of_contents.Goals as goal

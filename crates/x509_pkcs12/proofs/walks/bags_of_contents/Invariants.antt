@@ -1,6 +1,6 @@
 use Rattle.std.proofs.Common.{◌≡◌, ◌++◌, map, drop}
 use Rattle.std.specs.List.{flat_map}
-use Rattle.x509_pkcs12_bags.specs.BagValues.{bag_value}
+use Rattle.x509_pkcs12.specs.BagValues.{bag_value}
 use Rattle.x509_pkcs12.specs.Contents.{content_info_value}
 use Rattle.x509_pkcs12.specs.Walks.{content_walk}
 use Rattle.x509_pkcs12.proofs.walks.bags_of_contents.Given as goal

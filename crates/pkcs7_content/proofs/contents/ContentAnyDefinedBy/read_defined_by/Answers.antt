@@ -5,7 +5,7 @@ use Rattle.asn1_choices.proofs.DefinedByReads.{arm_took, arm_refused, took_at, r
 use Rattle.pkcs7_content.specs.Contents.{written_content, octets_row, data_arm, octets_arm, content_row}
 use Rattle.pkcs7_content.specs.ContentLaws.{data_is_arm, octets_is_arm}
 use Rattle.pkcs7_content.specs.IndirectData.{indirect_data}
-use Rattle.pkcs7_content_ctl.specs.TrustLists.{ctl}
+use Rattle.pkcs7_content.specs.TrustLists.{ctl}
 use Rattle.pkcs7_content.proofs.contents.ContentAnyDefinedBy.read_defined_by.Goals as goal
 
 pub returns-in_err-content-in-IndirectData : goal.returns-in_err-content-in-IndirectData

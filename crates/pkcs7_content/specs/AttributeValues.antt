@@ -1,0 +1,128 @@
+-- The values of an attribute, a SET OF what its object identifier says:
+-- octets OCTET STRING
+-- usages OCTET STRING (CONTAINING SEQUENCE OF OBJECT IDENTIFIER)
+-- chain policies OCTET STRING (CONTAINING RootProgramChainPolicy)
+-- certificate policies OCTET STRING (CONTAINING SEQUENCE OF CertPolicy)
+-- any others ANY
+use Rattle.std.specs.Prelude.{◌⊎◌, ℕ, List, ◌≡◌, map}
+use Rattle.asn1_core.specs.Der.{Format, within, set_of, object_identifier, octet_string, raw, OidOctets, ElementOctets, IsLawful, IsLawfulRow, lawful_within, lawful_set, lawful_each, lawful_sequence, lawful_object_identifier, lawful_octet_string, lawful_raw, octets_of, sequence_of, either}
+use Rattle.asn1_core.specs.Words as Words
+use Rattle.std.proofs.Common.{inl, inr, arith, refl}
+use Rattle.asn1_choices.specs.DefinedBy.{DefinedBy, arm, by_itself, only_written}
+use Rattle.pkcs7_content.specs.Policies.{ChainPolicyValue, chain_policy, CertPolicyValue, cert_policy, lawful_chain_policy, lawful_cert_policy, chain_policy_value, cert_policy_value}
+use Rattle.pkcs7_content.specs.Properties.{property_of, shape_of}
+use Rattle.pkcs7_content.specs.declared.trust_lists.properties.Shape.{Shape}
+use Rattle.pkcs7_content.specs.declared.trust_lists.properties.Shape.TheVariants.{Octets, Usages, ChainPolicies, CertPolicies, Raws}
+use Rattle.asn1_choices.specs.DefinedByLaws.{IsDefinedBy, itself, lawful_arm}
+use Rattle.asn1_core.specs.declared.lists.Asn1SetOf.{Asn1SetOf}
+use Rattle.asn1_core.specs.declared.octets.OctetStringAsn1.{OctetStringAsn1}
+use Rattle.asn1_core.specs.declared.containers.OctetStringAsn1Container.{OctetStringAsn1Container}
+use Rattle.asn1_core.specs.declared.lists.Asn1SequenceOf.{Asn1SequenceOf}
+use Rattle.asn1_core.specs.declared.objects.ObjectIdentifierAsn1.{ObjectIdentifierAsn1}
+use Rattle.pkcs7_content.specs.declared.trust_lists.policies.RootProgramChainPolicy.{RootProgramChainPolicy}
+use Rattle.pkcs7_content.specs.declared.trust_lists.policies.CertPolicy.{CertPolicy}
+use Rattle.asn1_core.specs.declared.raw.Asn1RawDer.{Asn1RawDer}
+use Rattle.pkcs7_content.specs.declared.trust_lists.values.CTLEntryAttributeValues.{CTLEntryAttributeValues}
+use Rattle.pkcs7_content.specs.declared.trust_lists.values.CTLEntryAttributeValues.TheVariants.{CertAuthRootSha256HashPropId, CertDisallowedFileTimePropId, CertFriendlyName, CertKeyIdentifierPropId, CertSubjectNameMd5HashPropId, UnknownReservedPropId126, DisallowedEnhkeyUsage, CertEnhkeyUsagePropId, UnknownReservedPropId127, CertRootProgramChainPolicy, CertRootProgramCertPoliciesPropId, Unknown}
+
+abbrev pub octets_set : Format (List Words.Octets)
+octets_set = set_of octet_string
+
+abbrev pub UsageValue : Type 0
+UsageValue = List OidOctets
+
+abbrev pub usages_set : Format (List UsageValue)
+usages_set = set_of (within 0x04 (sequence_of object_identifier))
+
+abbrev pub chain_policies_set : Format (List ChainPolicyValue)
+chain_policies_set = set_of (within 0x04 chain_policy)
+
+abbrev pub cert_policies_set : Format (List (List CertPolicyValue))
+cert_policies_set = set_of (within 0x04 (sequence_of cert_policy))
+
+abbrev pub raws_set : Format (List ElementOctets)
+raws_set = set_of raw
+
+-- octets and usages come with the number of their property, since several properties have such values
+abbrev pub AttributeValues : Type 0
+AttributeValues = (ℕ × List Words.Octets) ⊎ ((ℕ × List UsageValue) ⊎ (List ChainPolicyValue ⊎ (List (List CertPolicyValue) ⊎ List ElementOctets)))
+
+abbrev pub octets_in : Asn1SetOf OctetStringAsn1 → List Words.Octets
+octets_in s = map (λ x. x.0.items) s.0.items
+
+abbrev pub usages_in : Asn1SetOf (OctetStringAsn1Container (Asn1SequenceOf ObjectIdentifierAsn1)) → List UsageValue
+usages_in s = map (λ x. map (λ o. octets_of o.0) x.0.0.items) s.0.items
+
+abbrev pub chain_policies_in : Asn1SetOf (OctetStringAsn1Container RootProgramChainPolicy) → List ChainPolicyValue
+chain_policies_in s = map (λ x. chain_policy_value x.0) s.0.items
+
+abbrev pub cert_policies_in : Asn1SetOf (OctetStringAsn1Container (Asn1SequenceOf CertPolicy)) → List (List CertPolicyValue)
+cert_policies_in s = map (λ x. map cert_policy_value x.0.0.items) s.0.items
+
+abbrev pub raws_in : Asn1SetOf Asn1RawDer → List ElementOctets
+raws_in s = map (λ x. x.0.items) s.0.items
+
+-- each alternative by the number of its property
+abbrev pub attribute_values_value : CTLEntryAttributeValues → AttributeValues
+attribute_values_value (CertAuthRootSha256HashPropId s) = inl (98, octets_in s)
+attribute_values_value (CertDisallowedFileTimePropId s) = inl (104, octets_in s)
+attribute_values_value (CertFriendlyName s) = inl (11, octets_in s)
+attribute_values_value (CertKeyIdentifierPropId s) = inl (20, octets_in s)
+attribute_values_value (CertSubjectNameMd5HashPropId s) = inl (29, octets_in s)
+attribute_values_value (UnknownReservedPropId126 s) = inl (126, octets_in s)
+attribute_values_value (DisallowedEnhkeyUsage s) = inr (inl (122, usages_in s))
+attribute_values_value (CertEnhkeyUsagePropId s) = inr (inl (9, usages_in s))
+attribute_values_value (UnknownReservedPropId127 s) = inr (inl (127, usages_in s))
+attribute_values_value (CertRootProgramChainPolicy s) = inr (inr (inl (chain_policies_in s)))
+attribute_values_value (CertRootProgramCertPoliciesPropId s) = inr (inr (inr (inl (cert_policies_in s))))
+attribute_values_value (Unknown s) = inr (inr (inr (inr (raws_in s))))
+
+-- the number isn't written with the values
+abbrev pub numbered : {V : Type 0} → Format V → Format (ℕ × V)
+numbered F = record {
+  text = λ p. F.text p.1;
+  IsWellFormed = λ k p. F.IsWellFormed k p.1;
+  Reads = λ _ _ _. ⊥;
+  IsNormal = λ _ _. ⊥;
+  normal = λ p. (p.0, F.normal p.1);
+  IsTag = λ _. ⊥;
+  least = λ p. F.least p.1;
+}
+
+abbrev pub attribute_values : Format AttributeValues
+attribute_values = only_written (either (numbered octets_set) (either (numbered usages_set) (either chain_policies_set (either cert_policies_set raws_set))))
+
+-- the values of the property with that number, which are of that shape
+abbrev pub values_row : Shape → ℕ → Format AttributeValues
+values_row Octets n = arm attribute_values (by_itself (λ v. inl (n, v))) octets_set
+values_row Usages n = arm attribute_values (by_itself (λ v. inr (inl (n, v)))) usages_set
+values_row ChainPolicies n = arm attribute_values (by_itself (λ v. inr (inr (inl v)))) chain_policies_set
+values_row CertPolicies n = arm attribute_values (by_itself (λ v. inr (inr (inr (inl v))))) cert_policies_set
+values_row Raws n = arm attribute_values (by_itself (λ v. inr (inr (inr (inr v))))) raws_set
+
+-- the object identifier says which property it is, and so which values follow it
+abbrev pub values_defined_by : DefinedBy AttributeValues
+values_defined_by = record { text = attribute_values.text; row = λ o. values_row (shape_of (property_of o)) (property_of o) }
+
+lawful_held : {V : Type 0} (F : Format V) → IsLawful F → IsLawful (within 0x04 F)
+lawful_held F f = lawful_within F f.row 0x04 (omega arith)
+
+lawful_values_row : (s : Shape) (n : ℕ) → IsLawfulRow (values_row s n)
+lawful_values_row Octets n = lawful_arm attribute_values _ octets_set (itself (λ a. refl) (λ a. refl) (λ a. refl)) (lawful_set _ lawful_octet_string).row
+lawful_values_row Usages n = lawful_arm attribute_values _ usages_set (itself (λ a. refl) (λ a. refl) (λ a. refl)) (lawful_set _ (lawful_held _ (lawful_sequence (lawful_each _ lawful_object_identifier)))).row
+lawful_values_row ChainPolicies n = lawful_arm attribute_values _ chain_policies_set (itself (λ a. refl) (λ a. refl) (λ a. refl)) (lawful_set _ (lawful_held _ lawful_chain_policy)).row
+lawful_values_row CertPolicies n = lawful_arm attribute_values _ cert_policies_set (itself (λ a. refl) (λ a. refl) (λ a. refl)) (lawful_set _ (lawful_held _ (lawful_sequence (lawful_each _ lawful_cert_policy)))).row
+lawful_values_row Raws n = lawful_arm attribute_values _ raws_set (itself (λ a. refl) (λ a. refl) (λ a. refl)) (lawful_set _ lawful_raw).row
+
+written_alike : (s : Shape) (n : ℕ) (v : AttributeValues) → (values_row s n).text v ≡ attribute_values.text v
+written_alike Octets n v = refl
+written_alike Usages n v = refl
+written_alike ChainPolicies n v = refl
+written_alike CertPolicies n v = refl
+written_alike Raws n v = refl
+
+pub values_are_defined_by : IsDefinedBy values_defined_by
+values_are_defined_by = record {
+  lawful = λ o. lawful_values_row (shape_of (property_of o)) (property_of o);
+  alike = λ o v. written_alike (shape_of (property_of o)) (property_of o) v;
+}

@@ -1,6 +1,0 @@
-pub mod Policies
-pub mod Properties
-pub mod AttributeValues
-pub mod TrustLists
-pub mod Equal
-pub mod Lent

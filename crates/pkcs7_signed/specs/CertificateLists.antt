@@ -1,0 +1,78 @@
+-- TBSCertList ::= SEQUENCE { version Version OPTIONAL, signature AlgorithmIdentifier, issuer Name, thisUpdate Time,
+--   nextUpdate Time OPTIONAL, revokedCertificates SEQUENCE OF .. OPTIONAL, crlExtensions [0] EXPLICIT Extensions
+--   OPTIONAL }, with v2 as its version where it has one (RFC 5280, 5.1)
+-- CertificateList ::= SEQUENCE { tbsCertList TBSCertList, signatureAlgorithm AlgorithmIdentifier, signatureValue BIT
+--   STRING }
+use Rattle.std.specs.Prelude.{◌≡◌, ◌⊎◌, ℕ, List, Option}
+use Rattle.std.proofs.Common.{arith, inl, inr, ⊎_elim}
+use Rattle.asn1_core.specs.Der.{Format, IsLawful, IsLawfulRow, sequence, part, optional, nothing, version, option_value, lawful_sequence, lawful_within, followed_by, perhaps, lawful_nothing, lawful_version_1, BitStringOctets, explicit, der_laws}
+use Rattle.asn1_leaves.specs.Strings.{bit_string, lawful_bit_string}
+use Rattle.asn1_leaves_strings.specs.Octets.{contents_of}
+use Rattle.x509_base.specs.Algorithms.{AlgorithmValue, algorithm_identifier}
+use Rattle.x509_base.specs.AlgorithmLaws.{lawful_algorithm_identifier}
+use Rattle.x509_base.specs.AlgorithmParts.{algorithm_value}
+use Rattle.x509_base.specs.Extensions.{ExtensionValue, extensions_value, extensions, lawful_extensions}
+use Rattle.x509_base.specs.Names.{NameParts, name_parts, name, lawful_name}
+use Rattle.x509_base.specs.Times.{TimeValue, time_of, time, lawful_time}
+use Rattle.x509_base.specs.Versions.{number_of}
+use Rattle.pkcs7_signed.specs.Revoked.{RevokedValue, all_revoked_value, all_revoked, lawful_all_revoked}
+use Rattle.pkcs7_signed.specs.declared.parts.certificate_lists.TbsCertList.{TbsCertList}
+use Rattle.pkcs7_signed.specs.declared.parts.certificate_lists.CertificateList.{CertificateList}
+
+-- what follows thisUpdate
+abbrev pub UpdatesValue : Type 0
+UpdatesValue = Option TimeValue × (Option (List RevokedValue) × (Option (List ExtensionValue) × Unit {0}))
+
+abbrev pub updates : Format UpdatesValue
+updates = optional time (optional all_revoked (optional (explicit 0 extensions) nothing))
+
+-- what follows the version
+abbrev pub ListValue : Type 0
+ListValue = AlgorithmValue × (NameParts × (TimeValue × UpdatesValue))
+
+abbrev pub list_value : TbsCertList → ListValue
+list_value x = (algorithm_value x.signature, (name_parts x.issuer, (time_of x.this_update, (option_value time_of x.next_update, (option_value all_revoked_value x.revoked_certificates, (option_value extensions_value x.crl_extension.0, tt))))))
+
+abbrev pub list_row : Format ListValue
+list_row = part algorithm_identifier (part name (part time updates))
+
+abbrev pub TbsListValue : Type 0
+TbsListValue = Option ℕ × ListValue
+
+abbrev pub tbs_list_value : TbsCertList → TbsListValue
+tbs_list_value x = (option_value number_of x.version, list_value x)
+
+abbrev pub tbs_list : Format TbsListValue
+tbs_list = sequence (optional (version 1) list_row)
+
+-- the tags that may follow nextUpdate are none of a time
+no_time : (t : ℕ) → time.IsTag t → (t ≡ 0x30) ⊎ ((t ≡ 0xA0) ⊎ ⊥) → ⊥
+no_time t (inl u) (inl r) = omega (arith, u, r)
+no_time t (inl u) (inr (inl x)) = omega (arith, u, x)
+no_time t (inl u) (inr (inr n)) = n
+no_time t (inr g) (inl r) = omega (arith, g, r)
+no_time t (inr g) (inr (inl x)) = omega (arith, g, x)
+no_time t (inr g) (inr (inr n)) = n
+
+lawful_updates : IsLawfulRow updates
+lawful_updates =
+    perhaps lawful_time no_time
+    (perhaps lawful_all_revoked (λ t h e. ⊎_elim (λ (x : t ≡ 0xA0). omega arith) (λ (n : ⊥). n) e)
+    (perhaps (lawful_within extensions lawful_extensions.row 0xA0 (omega arith)) (λ t h e. e) lawful_nothing))
+
+pub lawful_tbs_list : IsLawful tbs_list
+lawful_tbs_list =
+    lawful_sequence (perhaps lawful_version_1 (λ t h e. omega arith)
+    (followed_by lawful_algorithm_identifier (followed_by lawful_name (followed_by lawful_time lawful_updates))))
+
+abbrev pub CertificateListValue : Type 0
+CertificateListValue = TbsListValue × (AlgorithmValue × (BitStringOctets × Unit {0}))
+
+abbrev pub certificate_list_value : CertificateList → CertificateListValue
+certificate_list_value x = (tbs_list_value x.tbs_cert_list, (algorithm_value x.signature_algorithm, (contents_of x.signature_value.0, tt)))
+
+abbrev pub certificate_list : Format CertificateListValue
+certificate_list = sequence (part tbs_list (part algorithm_identifier (part bit_string nothing)))
+
+pub lawful_certificate_list : IsLawful certificate_list
+lawful_certificate_list = search (der_laws, lawful_tbs_list, lawful_algorithm_identifier, lawful_bit_string) depth 20

@@ -1,0 +1,56 @@
+-- OtherRevocationInfoFormat ::= SEQUENCE { otherRevInfoFormat OBJECT IDENTIFIER, otherRevInfo ANY DEFINED BY
+--   otherRevInfoFormat } (RFC 5652, 10.2.1), with NULL as otherRevInfo
+-- RevocationInfoChoice ::= CHOICE { crl CertificateList, other [1] IMPLICIT OtherRevocationInfoFormat }
+-- RevocationInfoChoices ::= SET OF RevocationInfoChoice, under its tag [1] IMPLICIT (RFC 5652, 5.1)
+use Rattle.std.specs.Prelude.{◌⊎◌, List, map}
+use Rattle.std.proofs.Common.{inl, inr, arith}
+use Rattle.asn1_core.specs.Der.{Format, IsLawful, sequence, part, nothing, object_identifier, null_element, octets_of, OidOctets, implicit_set, der_laws, either, lawful_either, implicit, lawful_implicit, within_tagged, lawful_implicit_set}
+use Rattle.pkcs7_signed.specs.CertificateLists.{CertificateListValue, certificate_list_value, certificate_list, lawful_certificate_list}
+use Rattle.pkcs7_signed.specs.declared.parts.revocations.OtherRevocationInfoFormat.{OtherRevocationInfoFormat}
+use Rattle.pkcs7_signed.specs.declared.parts.revocations.RevocationInfoChoice.{RevocationInfoChoice}
+use Rattle.pkcs7_signed.specs.declared.parts.revocations.RevocationInfoChoice.TheVariants.{Crl, Other}
+use Rattle.pkcs7_signed.specs.declared.parts.revocations.RevocationInfoChoices.{RevocationInfoChoices}
+
+abbrev pub OtherFormatValue : Type 0
+OtherFormatValue = OidOctets × (Unit {0} × Unit {0})
+
+abbrev pub other_format_value : OtherRevocationInfoFormat → OtherFormatValue
+other_format_value x = (octets_of x.other_rev_info_format.0, (tt, tt))
+
+abbrev pub other_format_row : Format OtherFormatValue
+other_format_row = part object_identifier (part null_element nothing)
+
+abbrev pub other_format : Format OtherFormatValue
+other_format = sequence other_format_row
+
+pub lawful_other_format : IsLawful other_format
+lawful_other_format = search der_laws depth 20
+
+-- a revocation list, or the name of another format
+abbrev pub RevocationValue : Type 0
+RevocationValue = CertificateListValue ⊎ OtherFormatValue
+
+abbrev pub revocation_value : RevocationInfoChoice → RevocationValue
+revocation_value (Crl c) = inl (certificate_list_value c)
+revocation_value (Other o) = inr (other_format_value o.0)
+
+abbrev pub other_revocation : Format OtherFormatValue
+other_revocation = implicit 0xA1 0x30 other_format
+
+abbrev pub revocation : Format RevocationValue
+revocation = either certificate_list other_revocation
+
+lawful_other_revocation : IsLawful other_revocation
+lawful_other_revocation = lawful_implicit 0xA1 0x30 other_format lawful_other_format (within_tagged 0x30 (omega arith) other_format_row) (omega arith)
+
+pub lawful_revocation : IsLawful revocation
+lawful_revocation = lawful_either certificate_list other_revocation lawful_certificate_list lawful_other_revocation (λ t h e. omega arith)
+
+abbrev pub revocations_value : RevocationInfoChoices → List RevocationValue
+revocations_value x = map revocation_value x.0.items
+
+abbrev pub revocations : Format (List RevocationValue)
+revocations = implicit_set 1 revocation
+
+pub lawful_revocations : IsLawful revocations
+lawful_revocations = lawful_implicit_set (omega arith) lawful_revocation

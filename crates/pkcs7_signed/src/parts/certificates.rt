@@ -1,0 +1,164 @@
+//! Certificates, each kept as it is (RFC 5652, 10.2.2 and 10.2.3).
+
+ghost use Rattle.std.specs.Prelude.{◌≡◌, ◌↔◌, IsTrue, List, []};
+ghost use Rattle.std.proofs.Common.{arith};
+ghost use Rattle.asn1_core.specs.Der.{NextIs, each, within_tagged};
+ghost use Rattle.pkcs7_signed.specs.Certificates.{CertificateValue, IsSequenceTag, certificate_value, certificate_choice, lawful_certificate_choice, certificates_value, certificate_set, lawful_certificate_set, no_certificates, no_certificates_left_out};
+ghost use Rattle.pkcs7_signed.specs.PartsEqual.{certificate_equal, certificates_equal};
+
+use asn1_core::prelude::*;
+use std::alloc::Global;
+
+/// `CertificateChoices ::= CHOICE { certificate Certificate, extendedCertificate [0] .., v1AttrCert [1] .., v2AttrCert
+/// [2] .., other [3] .. }`, kept as it is. An alternative whose element hasn't its tag isn't well-formed.
+#[derive(Debug, Drop, PartialEq, Eq)]
+pub enum CertificateChoices {
+    /// A SEQUENCE, by its tag alone.
+    Certificate(Asn1RawDer),
+    /// An element with any other tag.
+    Other(Asn1RawDer),
+}
+
+/// Whether the tag is that of a SEQUENCE.
+fn is_sequence(element: &Asn1RawDer) -> bool
+    ensures { IsTrue result ↔ NextIs IsSequenceTag element.now.0.items }
+{
+    match element.0.as_slice() {
+        [tag, ..] => *tag == 0x30,
+        [] => false,
+    }
+}
+
+impl DerSerialize for CertificateChoices {
+    ghost Value = { CertificateValue };
+
+    ghost value = { certificate_value };
+
+    ghost format = { certificate_choice };
+
+    fn put<W: Writer>(&self, w: &mut W) -> Result<(), WriteError> {
+        match self {
+            CertificateChoices::Certificate(element) => element.put(w),
+            CertificateChoices::Other(element) => element.put(w),
+        }
+    }
+
+    fn well_formed_at(&self, limit: u8) -> bool {
+        match self {
+            CertificateChoices::Certificate(element) => {
+                is_sequence(element) && element.well_formed_at(limit)
+            }
+            CertificateChoices::Other(element) => {
+                !is_sequence(element) && element.well_formed_at(limit)
+            }
+        }
+    }
+}
+
+impl DerDeserialize for CertificateChoices {
+    fn read(alloc: Global, r: &mut Reader<'_>, nest: u8) -> Result<Self, Error> {
+        let element = Asn1RawDer::read(alloc, r, nest)?;
+        if is_sequence(&element) {
+            Ok(CertificateChoices::Certificate(element))
+        } else {
+            Ok(CertificateChoices::Other(element))
+        }
+    }
+
+    ghost lawful = { lawful_certificate_choice };
+}
+
+impl EqualByText for CertificateChoices {
+    ghost equal_by_text = { certificate_equal };
+}
+
+impl TryClone for CertificateChoices {
+    fn try_clone(&self, alloc: Global) -> Result<Self, Error> {
+        match self {
+            CertificateChoices::Certificate(element) => {
+                Ok(CertificateChoices::Certificate(element.try_clone(alloc)?))
+            }
+            CertificateChoices::Other(element) => {
+                Ok(CertificateChoices::Other(element.try_clone(alloc)?))
+            }
+        }
+    }
+}
+
+/// `CertificateSet ::= SET OF CertificateChoices`, under its tag `[0] IMPLICIT`.
+#[derive(Debug, Drop, PartialEq, Eq)]
+pub struct CertificateSet(pub Vec<CertificateChoices>);
+
+impl CertificateSet {
+    /// The empty set. Takes no memory.
+    pub fn empty(alloc: Global) -> Self
+        ensures { result.0.items ≡ [] }
+    {
+        CertificateSet(Vec::new(alloc))
+    }
+}
+
+impl DerSerialize for CertificateSet {
+    ghost Value = { List CertificateValue };
+
+    ghost value = { certificates_value };
+
+    ghost format = { certificate_set };
+
+    fn put<W: Writer>(&self, w: &mut W) -> Result<(), WriteError> {
+        put_within(0xA0, &self.0, w)
+    }
+
+    fn well_formed_at(&self, limit: u8) -> bool {
+        self.0.row_well_formed_at(limit)
+    }
+}
+
+impl DerDeserialize for CertificateSet {
+    fn read(alloc: Global, r: &mut Reader<'_>, nest: u8) -> Result<Self, Error> {
+        Ok(CertificateSet(read_within(alloc, r, nest, 0xA0)?))
+    }
+
+    ghost lawful = { lawful_certificate_set };
+}
+
+impl DerTagged for CertificateSet {
+    ghost TAG = { 0xA0 };
+
+    const TAG: u8 = 0xA0;
+
+    fn put_as<W: Writer>(&self, tag: u8, w: &mut W) -> Result<(), WriteError> {
+        put_within(tag, &self.0, w)
+    }
+
+    fn read_contents(alloc: Global, r: &mut Reader<'_>, nest: u8) -> Result<Self, Error> {
+        Ok(CertificateSet(read_row_contents(alloc, r, nest, 0xA0)?))
+    }
+
+    ghost tagged = { within_tagged 0xA0 (Prim.omega arith) (each certificate_choice) };
+}
+
+impl HasDefault for CertificateSet {
+    ghost DEFAULT = { no_certificates };
+
+    #[tactic(auto, using(crate::specs::Certificates::some_certificate))]
+    fn is_default(&self) -> bool {
+        is_left_out(0xA0, &self.0)
+    }
+
+    fn absent(alloc: Global) -> Result<Self, Error> {
+        Ok(CertificateSet::empty(alloc))
+    }
+
+    ghost left_out = { no_certificates_left_out };
+}
+
+impl EqualByText for CertificateSet {
+    ghost equal_by_text = { certificates_equal };
+}
+
+impl TryClone for CertificateSet {
+    fn try_clone(&self, alloc: Global) -> Result<Self, Error> {
+        Ok(CertificateSet(self.0.try_clone(alloc)?))
+    }
+}

@@ -1,0 +1,211 @@
+//! Information about revoked certificates (RFC 5652, 10.2.1).
+
+ghost use Rattle.std.specs.Prelude.{◌≡◌, List, []};
+ghost use Rattle.std.proofs.Common.{arith};
+ghost use Rattle.asn1_core.specs.Der.{each, within_tagged};
+ghost use Rattle.pkcs7_signed.specs.PartsEqual.{other_format_equal, revocation_equal, revocations_equal};
+ghost use Rattle.pkcs7_signed.specs.Revocations.{OtherFormatValue, other_format_value, other_format_row, other_format, lawful_other_format, RevocationValue, revocation_value, revocation, lawful_revocation, revocations_value, revocations, lawful_revocations};
+
+use crate::parts::certificate_lists::CertificateList;
+use crate::parts::certificates::CertificateSet;
+use asn1_core::prelude::*;
+use std::alloc::Global;
+
+/// `OtherRevocationInfoFormat ::= SEQUENCE { otherRevInfoFormat OBJECT IDENTIFIER, otherRevInfo ANY DEFINED BY
+/// otherRevInfoFormat }`, of which those are read whose `otherRevInfo` is NULL.
+#[derive(Debug, Drop, PartialEq, Eq)]
+pub struct OtherRevocationInfoFormat {
+    other_rev_info_format: ObjectIdentifierAsn1,
+    other_rev_info: (),
+}
+
+impl DerSerialize for OtherRevocationInfoFormat {
+    ghost Value = { OtherFormatValue };
+
+    ghost value = { other_format_value };
+
+    ghost format = { other_format };
+
+    fn put<W: Writer>(&self, w: &mut W) -> Result<(), WriteError> {
+        put_of!(self, w; other_rev_info_format, (Null))
+    }
+
+    fn well_formed_at(&self, limit: u8) -> bool {
+        self.other_rev_info_format.well_formed_at(limit)
+    }
+}
+
+impl DerDeserialize for OtherRevocationInfoFormat {
+    fn read(alloc: Global, r: &mut Reader<'_>, nest: u8) -> Result<Self, Error> {
+        let fields_of!(other_rev_info_format, (Null)) = read_within(alloc, r, nest, 0x30)?;
+        Ok(OtherRevocationInfoFormat {
+            other_rev_info_format,
+            other_rev_info: (),
+        })
+    }
+
+    ghost lawful = { lawful_other_format };
+}
+
+impl DerTagged for OtherRevocationInfoFormat {
+    ghost TAG = { 0x30 };
+
+    const TAG: u8 = 0x30;
+
+    fn put_as<W: Writer>(&self, tag: u8, w: &mut W) -> Result<(), WriteError> {
+        put_within(tag, &body_of!(self; other_rev_info_format, (Null)), w)
+    }
+
+    fn read_contents(alloc: Global, r: &mut Reader<'_>, nest: u8) -> Result<Self, Error> {
+        let fields_of!(other_rev_info_format, (Null)) = read_row_contents(alloc, r, nest, 0x30)?;
+        Ok(OtherRevocationInfoFormat {
+            other_rev_info_format,
+            other_rev_info: (),
+        })
+    }
+
+    ghost tagged = { within_tagged 0x30 (Prim.omega arith) other_format_row };
+}
+
+impl EqualByText for OtherRevocationInfoFormat {
+    ghost equal_by_text = { other_format_equal };
+}
+
+impl TryClone for OtherRevocationInfoFormat {
+    fn try_clone(&self, alloc: Global) -> Result<Self, Error> {
+        Ok(OtherRevocationInfoFormat {
+            other_rev_info_format: self.other_rev_info_format.try_clone(alloc)?,
+            other_rev_info: (),
+        })
+    }
+}
+
+/// `RevocationInfoChoice ::= CHOICE { crl CertificateList, other [1] IMPLICIT OtherRevocationInfoFormat }`
+#[derive(Debug, Drop, PartialEq)]
+pub enum RevocationInfoChoice {
+    Crl(CertificateList),
+    Other(ImplicitContextTag1<OtherRevocationInfoFormat>),
+}
+
+impl DerSerialize for RevocationInfoChoice {
+    ghost Value = { RevocationValue };
+
+    ghost value = { revocation_value };
+
+    ghost format = { revocation };
+
+    fn put<W: Writer>(&self, w: &mut W) -> Result<(), WriteError> {
+        match self {
+            RevocationInfoChoice::Crl(list) => list.put(w),
+            RevocationInfoChoice::Other(other) => other.put(w),
+        }
+    }
+
+    fn well_formed_at(&self, limit: u8) -> bool {
+        match self {
+            RevocationInfoChoice::Crl(list) => list.well_formed_at(limit),
+            RevocationInfoChoice::Other(other) => other.well_formed_at(limit),
+        }
+    }
+}
+
+impl<T: DerTagged> ApartFrom<ImplicitContextTag1<T>> for CertificateList {
+    ghost no_common_tag = { λ t h e. Prim.omega arith };
+}
+
+impl DerDeserialize for RevocationInfoChoice {
+    fn read(alloc: Global, r: &mut Reader<'_>, nest: u8) -> Result<Self, Error> {
+        match Either::read(alloc, r, nest)? {
+            Either::First(list) => Ok(RevocationInfoChoice::Crl(list)),
+            Either::Second(other) => Ok(RevocationInfoChoice::Other(other)),
+        }
+    }
+
+    ghost lawful = { lawful_revocation };
+}
+
+impl EqualByText for RevocationInfoChoice {
+    ghost equal_by_text = { revocation_equal };
+}
+
+impl TryClone for RevocationInfoChoice {
+    fn try_clone(&self, alloc: Global) -> Result<Self, Error> {
+        match self {
+            RevocationInfoChoice::Crl(list) => {
+                Ok(RevocationInfoChoice::Crl(list.try_clone(alloc)?))
+            }
+            RevocationInfoChoice::Other(other) => {
+                Ok(RevocationInfoChoice::Other(other.try_clone(alloc)?))
+            }
+        }
+    }
+}
+
+/// `RevocationInfoChoices ::= SET OF RevocationInfoChoice`, under its tag `[1] IMPLICIT`.
+#[derive(Debug, Drop, PartialEq)]
+pub struct RevocationInfoChoices(pub Vec<RevocationInfoChoice>);
+
+impl RevocationInfoChoices {
+    /// The empty set. Takes no memory.
+    pub fn empty(alloc: Global) -> Self
+        ensures { result.0.items ≡ [] }
+    {
+        RevocationInfoChoices(Vec::new(alloc))
+    }
+}
+
+impl DerSerialize for RevocationInfoChoices {
+    ghost Value = { List RevocationValue };
+
+    ghost value = { revocations_value };
+
+    ghost format = { revocations };
+
+    fn put<W: Writer>(&self, w: &mut W) -> Result<(), WriteError> {
+        put_within(0xA1, &self.0, w)
+    }
+
+    fn well_formed_at(&self, limit: u8) -> bool {
+        self.0.row_well_formed_at(limit)
+    }
+}
+
+impl DerDeserialize for RevocationInfoChoices {
+    // so that it takes none of the stack that signed data takes at each level
+    #[inline(never)]
+    fn read(alloc: Global, r: &mut Reader<'_>, nest: u8) -> Result<Self, Error> {
+        Ok(RevocationInfoChoices(read_within(alloc, r, nest, 0xA1)?))
+    }
+
+    ghost lawful = { lawful_revocations };
+}
+
+impl DerTagged for RevocationInfoChoices {
+    ghost TAG = { 0xA1 };
+
+    const TAG: u8 = 0xA1;
+
+    fn put_as<W: Writer>(&self, tag: u8, w: &mut W) -> Result<(), WriteError> {
+        put_within(tag, &self.0, w)
+    }
+
+    fn read_contents(alloc: Global, r: &mut Reader<'_>, nest: u8) -> Result<Self, Error> {
+        Ok(RevocationInfoChoices(read_row_contents(alloc, r, nest, 0xA1)?))
+    }
+
+    ghost tagged = { within_tagged 0xA1 (Prim.omega arith) (each revocation) };
+}
+
+impl ApartFrom<RevocationInfoChoices> for CertificateSet {
+    ghost no_common_tag = { λ t h e. Prim.omega arith };
+}
+
+impl EqualByText for RevocationInfoChoices {
+    ghost equal_by_text = { revocations_equal };
+}
+
+impl TryClone for RevocationInfoChoices {
+    fn try_clone(&self, alloc: Global) -> Result<Self, Error> {
+        Ok(RevocationInfoChoices(self.0.try_clone(alloc)?))
+    }
+}

@@ -1,0 +1,16 @@
+use Rattle.std.proofs.Common.{inl, sym, subst, rules}
+use Rattle.x509_pkcs12.specs.Attributes.{attributes_value}
+use Rattle.x509_pkcs12.specs.Bags.{held_choice}
+use Rattle.x509_pkcs12.specs.BagLevels.{row_holder, contents_text}
+use Rattle.x509_pkcs12.specs.BagValues.{contents_value}
+use Rattle.x509_pkcs12.proofs.safe_bags.bags.+put.Goals as goal
+
+pub SafeBagWriteRow::put_row-returns-in-SafeContents : goal.SafeBagWriteRow::put_row-returns-in-SafeContents
+SafeBagWriteRow::put_row-returns-in-SafeContents g m c =
+    let v = row_holder c.args.self.now c.in-SafeContents.is in
+    let t : g.W.Writer.Takes (held_choice.row.text (inl (contents_value c.in-SafeContents.bags, attributes_value c.args.self.now.attributes))) c.args.w.now c.put_bag-in-SafeContents.new.w c.put_bag-in-SafeContents.result = search rules in
+    subst (λ x. g.W.Writer.Takes (held_choice.row.text x) c.args.w.now c.put_bag-in-SafeContents.new.w c.put_bag-in-SafeContents.result) (sym v) t
+
+pub SafeContentsDerSerialize::put-returns : goal.SafeContentsDerSerialize::put-returns
+SafeContentsDerSerialize::put-returns g m c =
+    subst (λ x. g.W.Writer.Takes x c.args.w.now c.put_within.new.w c.put_within.result) (contents_text c.args.self.now) c.put_within.ensures.text

@@ -1,0 +1,196 @@
+//! Certificates, revocation lists, secrets and encrypted keys, as bags hold them.
+
+ghost use Rattle.std.specs.Prelude.{◌≡◌};
+ghost use Rattle.std.proofs.Common.{rules};
+ghost use Rattle.x509_pkcs12.specs.BagParts.{OctetsOrAny, x509_value, x509_bag, SecretValue, secret_value, secret_bag, EncryptedKeyValue, encrypted_key_value, encrypted_key_bag, lawful_x509_bag, lawful_secret_bag, lawful_encrypted_key_bag};
+ghost use Rattle.x509_pkcs12.specs.BagPartsEqual.{secret_equal, encrypted_key_equal};
+
+use crate::parts::oids::{Known, X509_CERTIFICATE, X509_CRL};
+use asn1_choices::{AnyOid, AnyOidRef, Arm, Chosen, WriteChoice};
+use asn1_core::OidRef;
+use asn1_core::prelude::*;
+use pkcs12_algs::Pkcs12EncryptionAlgorithm;
+use std::alloc::Global;
+
+/// `KeyBag ::= PrivateKeyInfo`, which is not parsed (RFC 7292, 4.2.1).
+pub type KeyBag = Asn1RawDer;
+
+/// The octets of the type that `N` names, or an element of any other.
+type OctetsOrAny<N> = Either<
+    Arm<N, Alone<ExplicitContextTag0<OctetStringAsn1>>>,
+    AnyOid<Alone<ExplicitContextTag0<Asn1RawDer>>>,
+>;
+
+type OctetsOrAnyRef<'a, N> = Either<
+    Arm<N, Alone<ExplicitContextTag0<&'a OctetStringAsn1>>>,
+    AnyOidRef<'a, Alone<ExplicitContextTag0<&'a Asn1RawDer>>>,
+>;
+
+/// `CertBag ::= SEQUENCE { certId BAG-TYPE.&id, certValue [0] EXPLICIT BAG-TYPE.&Type }` (RFC 7292, 4.2.3).
+pub type CertificateBag = X509Bag<X509_CERTIFICATE>;
+
+/// `CRLBag ::= SEQUENCE { crlId BAG-TYPE.&id, crlValue [0] EXPLICIT BAG-TYPE.&Type }` (RFC 7292, 4.2.4).
+pub type CrlBag = X509Bag<X509_CRL>;
+
+/// A certificate or a revocation list as a bag holds it: `CertificateBag` or `CrlBag`, by the number of the object
+/// identifier that an X.509 one has.
+#[derive(Debug, Drop, PartialEq, Eq)]
+pub enum X509Bag<const KNOWN: usize> {
+    /// The DER of an X.509 certificate or revocation list, which is not parsed.
+    X509(OctetStringAsn1),
+    /// Any other.
+    Unknown {
+        type_id: ObjectIdentifier,
+        value: Asn1RawDer,
+    },
+}
+
+impl<const KNOWN: usize> X509Bag<KNOWN> {
+    fn choice(&self) -> OctetsOrAnyRef<'_, Known<KNOWN>>
+        ensures { ⟦<OctetsOrAnyRef<'static, Known<KNOWN>> as WriteChoice>⟧.value result ≡ x509_value self.now }
+    {
+        match self {
+            Self::X509(octets) => Either::First(Arm::new(Alone(ExplicitContextTag0(octets)))),
+            Self::Unknown { type_id, value } => {
+                Either::Second(AnyOidRef(type_id, Alone(ExplicitContextTag0(value))))
+            }
+        }
+    }
+}
+
+impl<const KNOWN: usize> DerSerialize for X509Bag<KNOWN> {
+    ghost Value = { OctetsOrAny };
+
+    ghost value = { x509_value };
+
+    ghost format = { x509_bag KNOWN };
+
+    fn put<W: Writer>(&self, w: &mut W) -> Result<(), WriteError> {
+        put_within(0x30, &Chosen(self.choice()), w)
+    }
+
+    fn well_formed_at(&self, limit: u8) -> bool {
+        self.choice().choice_well_formed_at(limit)
+    }
+}
+
+impl<const KNOWN: usize> DerDeserialize for X509Bag<KNOWN> {
+    fn read(alloc: Global, r: &mut Reader<'_>, nest: u8) -> Result<Self, Error> {
+        let Chosen(choice) = read_within::<Chosen<OctetsOrAny<Known<KNOWN>>>>(
+            alloc, r, nest, 0x30,
+        )?;
+        match choice {
+            Either::First(arm) => Ok(Self::X509(arm.into_row().0.0)),
+            Either::Second(other) => {
+                let AnyOid(type_id, Alone(ExplicitContextTag0(value))) = other;
+                Ok(Self::Unknown { type_id, value })
+            }
+        }
+    }
+
+    ghost lawful = { lawful_x509_bag KNOWN };
+}
+
+impl<const KNOWN: usize> EqualByText for X509Bag<KNOWN> {
+    ghost equal_by_text = { Prim.search rules };
+}
+
+impl<const KNOWN: usize> TryClone for X509Bag<KNOWN> {
+    fn try_clone(&self, alloc: Global) -> Result<Self, Error> {
+        match self {
+            Self::X509(octets) => Ok(Self::X509(octets.try_clone(alloc)?)),
+            Self::Unknown { type_id, value } => {
+                let type_id = type_id.try_clone(alloc)?;
+                let value = value.try_clone(alloc)?;
+                Ok(Self::Unknown { type_id, value })
+            }
+        }
+    }
+}
+
+/// `SecretBag ::= SEQUENCE { secretTypeId BAG-TYPE.&id, secretValue [0] EXPLICIT BAG-TYPE.&Type }` (RFC 7292, 4.2.5).
+#[derive(Debug, Drop, PartialEq, Eq)]
+pub struct SecretBag {
+    pub type_id: ObjectIdentifier,
+    pub value: Asn1RawDer,
+}
+
+impl DerSerialize for SecretBag {
+    ghost Value = { SecretValue };
+
+    ghost value = { secret_value };
+
+    ghost format = { secret_bag };
+
+    fn put<W: Writer>(&self, w: &mut W) -> Result<(), WriteError> {
+        put_of!(self, w; (OidRef(&self.type_id)), (ExplicitContextTag0(&self.value)))
+    }
+
+    fn well_formed_at(&self, limit: u8) -> bool {
+        formed_of!(self, limit; (OidRef(&self.type_id)), (ExplicitContextTag0(&self.value)))
+    }
+}
+
+impl DerDeserialize for SecretBag {
+    fn read(alloc: Global, r: &mut Reader<'_>, nest: u8) -> Result<Self, Error> {
+        let fields_of!(
+            (ObjectIdentifierAsn1(type_id)),
+            (ExplicitContextTag0(value))
+        ) = read_within(alloc, r, nest, 0x30)?;
+        Ok(SecretBag { type_id, value })
+    }
+
+    ghost lawful = { lawful_secret_bag };
+}
+
+impl EqualByText for SecretBag {
+    ghost equal_by_text = { secret_equal };
+}
+
+impl TryClone for SecretBag {
+    fn try_clone(&self, alloc: Global) -> Result<Self, Error> {
+        clone_of!(self, alloc; SecretBag { type_id, value })
+    }
+}
+
+/// `PKCS8ShroudedKeyBag ::= EncryptedPrivateKeyInfo`, `EncryptedPrivateKeyInfo ::= SEQUENCE { encryptionAlgorithm
+/// AlgorithmIdentifier, encryptedData OCTET STRING }` (RFC 7292, 4.2.2; RFC 5958, 3).
+#[derive(Debug, Drop, PartialEq, Eq)]
+pub struct EncryptedKeyBag {
+    pub algorithm: Pkcs12EncryptionAlgorithm,
+    pub encrypted_data: OctetStringAsn1,
+}
+
+impl DerSerialize for EncryptedKeyBag {
+    ghost Value = { EncryptedKeyValue };
+
+    ghost value = { encrypted_key_value };
+
+    ghost format = { encrypted_key_bag };
+
+    fn put<W: Writer>(&self, w: &mut W) -> Result<(), WriteError> {
+        put_of!(self, w; algorithm, encrypted_data)
+    }
+
+    fn well_formed_at(&self, limit: u8) -> bool {
+        formed_of!(self, limit; algorithm, encrypted_data)
+    }
+}
+
+impl DerDeserialize for EncryptedKeyBag {
+    fn read(alloc: Global, r: &mut Reader<'_>, nest: u8) -> Result<Self, Error> {
+        read_of!(alloc, r, nest; EncryptedKeyBag { algorithm, encrypted_data })
+    }
+
+    ghost lawful = { lawful_encrypted_key_bag };
+}
+
+impl EqualByText for EncryptedKeyBag {
+    ghost equal_by_text = { encrypted_key_equal };
+}
+
+impl TryClone for EncryptedKeyBag {
+    fn try_clone(&self, alloc: Global) -> Result<Self, Error> {
+        clone_of!(self, alloc; EncryptedKeyBag { algorithm, encrypted_data })
+    }
+}
