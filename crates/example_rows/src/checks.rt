@@ -20,11 +20,13 @@ use x509_containers::{
 /// Up to so many bytes, sinks that fail, beginnings and changes are tried of an input.
 const SHORT: usize = 100;
 
+#[inline(never)]
 fn expect(holds: bool, what: &'static str) -> Result<(), Fail> {
     if holds { Ok(()) } else { Err(Fail::new(what)) }
 }
 
 /// Asks that a check said the line and that a rewriting wrote the encoding, or nothing of what is refused.
+#[inline(never)]
 fn is_said(
     row: &Row,
     checked: (Outcome, Vec<u8>),
@@ -77,6 +79,7 @@ const BEFORE: u8 = 0x5A;
 
 /// Asks that a check and a rewriting over the input in memory say what the row does, and that the rewriting comes after
 /// the octet that was there.
+#[inline(never)]
 fn is_told(
     alloc: Global,
     row: &Row,
@@ -100,6 +103,7 @@ fn is_told(
 
 /// Asks that a check which says the place, and the loose end alone, say what a check without it does, and that the
 /// place is that of the row, where it says one.
+#[inline(never)]
 fn is_placed(
     row: &Row,
     checked: Result<(bool, usize), Error>,
@@ -159,10 +163,34 @@ pub fn is_said_by_kind_within(
     is_told(alloc, row, checked, rewritten, out.as_slice())
 }
 
+/// What a check of a type says of an input in memory.
+type Check = fn(Global, &[u8]) -> Result<(bool, usize), Error>;
+
+/// What is written of an input's value, which is nothing where it isn't well-formed, and how many headers are read.
+type Rewrite = fn(Global, &[u8]) -> (Result<Option<Vec<u8>>, Error>, usize);
+
+fn rewritten<T: DerDeserialize>(
+    alloc: Global,
+    input: &[u8],
+) -> (Result<Option<Vec<u8>>, Error>, usize) {
+    let (outcome, headers) = from_bytes_counted::<T>(alloc, input);
+    match outcome {
+        Ok(value) => {
+            let text = if value.well_formed() {
+                to_vec(alloc, &value).ok()
+            } else {
+                None
+            };
+            (Ok(text), headers)
+        }
+        Err(error) => (Err(error), headers),
+    }
+}
+
 /// Asks that each proper beginning of an accepted input is refused.
-fn is_whole<T: DerDeserialize>(alloc: Global, input: &[u8]) -> Result<(), Fail> {
+fn is_whole(alloc: Global, rewrite: Rewrite, input: &[u8]) -> Result<(), Fail> {
     for size in 0..input.len() {
-        let (outcome, headers) = from_bytes_counted::<T>(alloc, &input[..size]);
+        let (outcome, headers) = rewrite(alloc, &input[..size]);
         expect(outcome.is_err(), "a beginning")?;
         expect(headers <= size / 2 + 1, "the headers of a beginning")?;
     }
@@ -170,22 +198,23 @@ fn is_whole<T: DerDeserialize>(alloc: Global, input: &[u8]) -> Result<(), Fail> 
 }
 
 /// Asks of an accepted input that the encoding of its value is normal, and of a refused one that few headers are read.
-fn reaches_an_end<T: DerDeserialize>(alloc: Global, input: &[u8]) -> Result<(), Fail> {
-    let (outcome, headers) = from_bytes_counted::<T>(alloc, input);
+fn reaches_an_end(alloc: Global, check: Check, rewrite: Rewrite, input: &[u8]) -> Result<(), Fail> {
+    let (outcome, headers) = rewrite(alloc, input);
     expect(headers <= input.len() / 2 + 1, "the headers of a change")?;
-    let value = match outcome {
-        Ok(value) => value,
+    let text = match outcome {
+        Ok(text) => text,
         Err(error) => return expect(error != Error::Memory, "memory"),
     };
     expect(
         headers <= input.len() / 2,
         "the headers of an accepted change",
     )?;
-    expect(value.well_formed(), "a well-formed change")?;
-    let text = to_vec(alloc, &value)?;
-    let again = check_as::<T>(alloc, &text)?;
+    let Some(text) = text else {
+        return Err(Fail::new("a well-formed change"));
+    };
+    let again = check(alloc, &text)?;
     expect(again == (true, text.len()), "a fixed point")?;
-    let checked = check_as::<T>(alloc, input)?;
+    let checked = check(alloc, input)?;
     expect(
         checked == (text.as_slice() == input, text.len()),
         "a normal change",
@@ -193,12 +222,12 @@ fn reaches_an_end<T: DerDeserialize>(alloc: Global, input: &[u8]) -> Result<(), 
 }
 
 /// Asks of each change of one byte what `reaches_an_end` does.
-fn is_changed<T: DerDeserialize>(alloc: Global, input: &[u8]) -> Result<(), Fail> {
+fn is_changed(alloc: Global, check: Check, rewrite: Rewrite, input: &[u8]) -> Result<(), Fail> {
     let mut changed = Vec::from_slice(alloc, input)?;
     for at in 0..changed.len() {
         for _ in 1..=255u8 {
             changed[at] = changed[at].wrapping_add(1);
-            reaches_an_end::<T>(alloc, &changed)?;
+            reaches_an_end(alloc, check, rewrite, &changed)?;
         }
         changed[at] = changed[at].wrapping_add(1);
     }
@@ -244,10 +273,11 @@ fn is_kept<T: DerDeserialize + SeenByText + TryClone + Debug>(
     let value: T = is_rewritten(alloc, &row.input, &row.text)?;
     is_shown(alloc, &value, row)?;
     if row.input.len() <= SHORT {
-        is_sent(alloc, &value, &row.text, 1)?;
-        is_sent(alloc, &value, &row.text, usize::MAX)?;
-        is_whole::<T>(alloc, &row.input)?;
-        is_changed::<T>(alloc, &row.input)?;
+        for width in [1, usize::MAX] {
+            is_sent(alloc, &value, &row.text, width)?;
+        }
+        is_whole(alloc, rewritten::<T>, &row.input)?;
+        is_changed(alloc, check_as::<T>, rewritten::<T>, &row.input)?;
     }
     Ok(())
 }

@@ -3,31 +3,42 @@
 use crate::rounds::{Stop, expect, has_text, is_made, is_written};
 use crate::texts;
 use std::alloc::Global;
+use x509_containers::prelude::ReadRow;
 use x509_containers::{
-    BitString, BitStringAsn1, BmpString, ContentInfo, EncapsulatedContentInfo, ObjectIdentifier,
-    OctetStringAsn1, ParsedAuthenticatedSafeDataRepr, Pbes1AlgorithmKind, Pbes2AesCbcEncryption,
-    Pbkdf2Prf, Pfx, Pkcs12DigestAlgorithm, SafeBag, SpcLink, SpcPeImageFlags, SpcSerializedObject,
-    SpcString, TryClone, from_bytes, mac_range,
+    Asn1SetOf, BitString, BitStringAsn1, BmpString, CertificateSet, CmsVersion, ContentInfo,
+    DigestAlgorithmIdentifiers, EncapsulatedContentInfo, Error, ExplicitContextTag0, MAX_NESTING,
+    ObjectIdentifier, ObjectIdentifierAsn1, OctetStringAsn1, Optional,
+    ParsedAuthenticatedSafeDataRepr, Pbes1AlgorithmKind, Pbes2AesCbcEncryption, Pbkdf2Prf, Pfx,
+    Pkcs7Certificate, Pkcs12DigestAlgorithm, Reader, SafeBag, SignedData, SignersInfos, SpcLink,
+    SpcPeImageFlags, SpcSerializedObject, SpcString, TryClone, from_bytes, mac_range,
 };
 
-/// The octets of 1.2.3.4.
-const OID: &[u8] = b"\x2A\x03\x04";
+/// Dotted texts and the contents octets of their object identifiers (X.660; X.690, 8.19).
+const OBJECTS: [(&str, &[u8]); 4] = [
+    ("1.2.3.4", b"\x2A\x03\x04"),
+    ("0.39", b"\x27"),
+    ("2.999.3", b"\x88\x37\x03"),
+    (
+        "1.2.18446744073709551615",
+        b"\x2A\x81\xFF\xFF\xFF\xFF\xFF\xFF\xFF\xFF\x7F",
+    ),
+];
 
 /// Object identifiers, from octets and text, and to text.
 pub fn of_objects(alloc: Global) -> Result<(), Stop> {
-    let of_octets = ObjectIdentifier::from_octets(alloc, OID)?;
-    expect(
-        of_octets.octets() == OID,
-        "the octets of an object identifier",
-    )?;
-    let of_text = ObjectIdentifier::from_text(alloc, "1.2.3.4")?;
-    expect(of_text == of_octets, "an object identifier of a text")?;
-    let text = of_text.to_text(alloc);
-    expect(of_text == of_octets, "a borrowed object identifier")?;
-    expect(
-        text?.as_str() == "1.2.3.4",
-        "the text of an object identifier",
-    )
+    for (dotted, octets) in OBJECTS {
+        let of_octets = ObjectIdentifier::from_octets(alloc, octets)?;
+        expect(
+            of_octets.octets() == octets,
+            "the octets of an object identifier",
+        )?;
+        let of_text = ObjectIdentifier::from_text(alloc, dotted)?;
+        expect(of_text == of_octets, "an object identifier of a text")?;
+        let text = of_text.to_text(alloc);
+        expect(of_text == of_octets, "a borrowed object identifier")?;
+        expect(text?.as_str() == dotted, "the text of an object identifier")?;
+    }
+    Ok(())
 }
 
 /// Kinds of encryption as object identifiers, by their clones, which rows copy.
@@ -102,6 +113,27 @@ pub fn of_contents(alloc: Global) -> Result<(), Stop> {
     let outcome = info.content_typed::<OctetStringAsn1>(alloc);
     has_text(&info, texts::CONTENT)?;
     has_text(&outcome?, b"\x04\x02\x30\x00")
+}
+
+/// The certificates, one after another, as signed data that hold them alone.
+fn bundle_of(alloc: Global, certificates: &[u8]) -> Result<Pkcs7Certificate, Error> {
+    let certificates = Vec::read_row(alloc, &mut Reader::new(certificates), MAX_NESTING)?;
+    Ok(Pkcs7Certificate {
+        oid: ObjectIdentifierAsn1(ObjectIdentifier::from_text(alloc, "1.2.840.113549.1.7.2")?),
+        signed_data: ExplicitContextTag0(SignedData {
+            version: CmsVersion::V1,
+            digest_algorithms: DigestAlgorithmIdentifiers(Asn1SetOf(Vec::new(alloc))),
+            content_info: EncapsulatedContentInfo::new_pkcs7_data(alloc, None)?,
+            certificates: Optional(CertificateSet(certificates)),
+            crls: None,
+            signers_infos: SignersInfos(Asn1SetOf(Vec::new(alloc))),
+        }),
+    })
+}
+
+/// Signed data made by fields: what docs/USING.md quotes.
+pub fn of_certificates(alloc: Global) -> Result<(), Stop> {
+    is_made(bundle_of(alloc, texts::CERTIFICATES), texts::BUNDLE)
 }
 
 /// Which octets of a file its MAC covers.

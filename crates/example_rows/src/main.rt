@@ -86,6 +86,7 @@ fn round(alloc: Global) -> Result<(), Stop> {
     conversions::of_algorithms(alloc)?;
     conversions::of_authenticode(alloc)?;
     conversions::of_contents(alloc)?;
+    conversions::of_certificates(alloc)?;
     conversions::of_ranges(alloc)?;
     conversions::of_bags(alloc)?;
     runs::runs(alloc)

@@ -10,6 +10,7 @@ use asn1_core_writers::WriteError;
 use std::alloc::Global;
 use std::test::Fail;
 
+#[inline(never)]
 fn expect(holds: bool, what: &'static str, text: &[u8]) -> Result<(), Fail> {
     if holds {
         Ok(())
