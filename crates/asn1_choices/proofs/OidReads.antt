@@ -1,5 +1,5 @@
 -- Reading a choice by object identifier: the object identifier, and then the body of the alternative that it picks.
-use Rattle.std.proofs.Common.{◌≡◌, ◌≢◌, ◌⊎◌, ℕ, List, ◌++◌, length, Option, Some, None, refl, sym, ap, ◌∙◌, subst, inl, inr, arith, length-append}
+use Rattle.std.proofs.Common.{◌≡◌, ◌≢◌, ◌⊎◌, ℕ, List, ◌++◌, length, Some, None, refl, sym, ap, ◌∙◌, subst, inl, inr, arith, length-append}
 use Rattle.asn1_core.specs.Der.{element, element_cut, element_long, Position, TookElement, RefusedElement, Choice, IsLawfulChoice, known, otherwise, same_head, Format, TookRow, GaveUpRow, IsOid, IsRefusal}
 use Rattle.asn1_core_element.specs.declared.error.Error.{Error}
 use Rattle.asn1_core_element.specs.declared.error.Error.TheVariants.{Memory, Invalid}

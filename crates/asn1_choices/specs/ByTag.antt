@@ -1,5 +1,5 @@
 -- An element with a tag of some kind, or without one, told apart by its first byte.
-use Rattle.std.proofs.Common.{◌≡◌, ◌↔◌, ℕ, List, [], ◌∷◌, sym, subst}
+use Rattle.std.proofs.Common.{◌↔◌, ℕ, List, [], ◌∷◌, sym, subst}
 use Rattle.std.proofs.lemmas.List.{append-nil}
 use Rattle.asn1_core.specs.Der.{IsElement, IsTagByte, NextIs, begins_next}
 use Rattle.asn1_core_element.specs.Element.{head}

@@ -1,6 +1,6 @@
 -- What the octets of a number are.
-use Rattle.std.proofs.Common.{◌≡◌, ℕ, zero, suc, ◌+◌, ◌/◌, ◌%◌, ◌^◌, ◌<◌, ◌≤◌, List, [], ◌∷◌, ◌++◌, length, get_or, refl, sym, ap, subst, ◌∙◌, arith, ⊎_elim, length-append, append_assoc}
-use Rattle.std.specs.Int.Digits.{digits_of, number_from_digits}
+use Rattle.std.proofs.Common.{◌≡◌, ℕ, ◌+◌, ◌^◌, ◌<◌, ◌≤◌, List, [], length, get_or, sym, ap, subst, ◌∙◌, arith, ⊎_elim}
+use Rattle.std.specs.Int.Digits.{number_from_digits}
 use Rattle.asn1_core_element.specs.Digits.{all_bytes}
 use Rattle.asn1_core_element.specs.Numbers.{integer_octets, IsNumeral}
 use Rattle.asn1_core_element.specs.NumberLaws.{number_integer_octets, is_numeral, has_number, few_octets}

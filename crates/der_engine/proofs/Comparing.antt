@@ -1,6 +1,6 @@
 -- What a comparison tells.
-use Rattle.std.proofs.Common.{◌≡◌, ◌≢◌, ◌↔◌, ◌+◌, List, [], ◌++◌, ℕ, length, refl, ap, ◌∙◌, arith}
-use Rattle.std.specs.Prelude.{Option, None, Some, Ok}
+use Rattle.std.proofs.Common.{◌≡◌, ◌≢◌, ◌↔◌, ◌+◌, List, [], ◌++◌, ℕ, refl, ap, ◌∙◌, arith}
+use Rattle.std.specs.Prelude.{None, Some, Ok}
 use Rattle.asn1_core_format.specs.Format.{Format, IsLawful}
 use Rattle.asn1_core_format.specs.Whole.{IsValueOf}
 use Rattle.asn1_core_writers.specs.Comparing.{Comparison, Compared, before_of, place_of}

@@ -1,8 +1,10 @@
 //! Attributes by their object identifier, with ample memory.
 
+use std::alloc::Global;
 use std::test::Fail;
+use vector_checks::checks::expect;
 use x509_containers::{
-    Attributes, IntegerAsn1, OctetStringAsn1, from_bytes, only_value_as, to_vec,
+    Attributes, DerSerialize, IntegerAsn1, OctetStringAsn1, from_bytes, only_value_as, to_vec,
 };
 
 /// An INTEGER under 1.2.3.4; nothing, and then two INTEGERs under 1.2.3.5; an OCTET STRING under 1.2.3.6.
@@ -44,29 +46,36 @@ const MESSAGE_DIGEST: &[u8] = b"\x2A\x86\x48\x86\xF7\x0D\x01\x09\x04";
 
 const TIME: &[u8] = b"\x17\x0D210420065224Z";
 
+/// Asks that a value is found, with this encoding.
+fn is_found<T: DerSerialize + Drop>(
+    alloc: Global,
+    found: Option<T>,
+    text: &[u8],
+) -> Result<(), Fail> {
+    let Some(value) = found else {
+        return Err(Fail::new("nothing is found"));
+    };
+    let octets = to_vec(alloc, &value)?;
+    expect(octets.as_slice() == text, "another encoding")
+}
+
 /// Each by its name, and all as the signature covers them.
 #[test]
 fn of_a_signer(rt: HostRuntime) -> Result<(), Fail> {
     let alloc = rt.alloc();
     let attributes: Attributes = from_bytes(alloc, SIGNED)?;
-    match (
-        attributes.content_type(alloc)?,
-        attributes.message_digest(alloc)?,
-        attributes.signing_time(alloc)?,
-        attributes.attribute(MESSAGE_DIGEST),
-        attributes.as_set(),
-    ) {
-        (Some(content_type), Some(digest), Some(time), Some(first), Some(set)) => {
-            assert_eq!(rt; to_vec(alloc, &content_type)?.as_slice(), ID_DATA);
-            assert_eq!(rt; digest.0.as_slice(), b"AB".as_slice());
-            assert_eq!(rt; to_vec(alloc, &time)?.as_slice(), TIME);
-            assert!(rt; first.is_only);
-            assert_eq!(rt; to_vec(alloc, &set)?.as_slice(), COVERED);
-        }
-        _ => return Err(Fail::new(format_args!("something isn't found"))),
-    }
-    let none: Attributes = from_bytes(alloc, b"\xA0\x00")?;
-    assert!(rt; none.as_set().is_none());
-    assert!(rt; none.content_type(alloc)?.is_none());
-    Ok(())
+    is_found(alloc, attributes.content_type(alloc)?, ID_DATA)?;
+    is_found(alloc, attributes.message_digest(alloc)?, b"\x04\x02AB")?;
+    is_found(alloc, attributes.signing_time(alloc)?, TIME)?;
+    is_found(alloc, attributes.as_set(), COVERED)?;
+    let first = attributes.attribute(MESSAGE_DIGEST);
+    expect(first.is_some_and(|first| first.is_only), "another digest")
+}
+
+#[test]
+fn of_a_signer_without_any(rt: HostRuntime) -> Result<(), Fail> {
+    let none: Attributes = from_bytes(rt.alloc(), b"\xA0\x00")?;
+    expect(none.as_set().is_none(), "a set")?;
+    let content_type = none.content_type(rt.alloc())?;
+    expect(content_type.is_none(), "a content type")
 }

@@ -4,8 +4,9 @@
 
 use std::alloc::Global;
 use std::test::Fail;
+use vector_checks::checks::expect;
 use x509_containers::{
-    Asn1SetOf, ContentValue, EncapsulatedContentInfo, PageHashes, Pkcs7Certificate,
+    Asn1SetOf, ContentValue, EncapsulatedContentInfo, PageHashes, Pkcs7Certificate, SignerInfo,
     SpcAttributeAndOptionalValueValue, SpcPeImageData, from_bytes, nested_signatures,
     page_hash_octets, signers,
 };
@@ -116,35 +117,45 @@ const BY_SHA256: [(u32, &[u8]); 3] = [
     ),
 ];
 
+fn is_nested(alloc: Global, signer: &SignerInfo, wanted: Option<&[u8]>) -> Result<(), Fail> {
+    let found = nested_signatures(alloc, signer)?;
+    let octets = found.first().map(|element| element.0.as_slice());
+    expect(
+        octets == wanted && found.len() < 2,
+        "other nested signatures",
+    )
+}
+
+/// Asks which signature is nested in that of each signer, and for the page hashes.
+fn is_signature(
+    alloc: Global,
+    signature: &[u8],
+    nested: Option<&[u8]>,
+    hashes: &[u8],
+) -> Result<(), Fail> {
+    let read: Pkcs7Certificate = from_bytes(alloc, signature)?;
+    for signer in signers(&read.signed_data.0) {
+        is_nested(alloc, signer, nested)?;
+    }
+    let image = image_in(&read.signed_data.0.content_info);
+    expect(
+        image.and_then(page_hash_octets) == Some(hashes),
+        "other page hashes",
+    )
+}
+
 /// Of each signature its nested one, its page hashes, and their entries.
 #[test]
 fn signatures(rt: HostRuntime) -> Result<(), Fail> {
-    let nested = signed_twice().get(772..1616);
-    for (signature, nested, octets, entries) in [
-        (
-            Some(signed_twice()),
-            nested,
-            signed_twice().get(105..197),
-            BY_SHA1,
-        ),
-        (nested, None, signed_twice().get(885..1013), BY_SHA256),
-    ] {
-        let (Some(signature), Some(octets)) = (signature, octets) else {
-            return Err(Fail::new(format_args!("no octets")));
-        };
-        let alloc = rt.alloc();
-        let read: Pkcs7Certificate = from_bytes(alloc, signature)?;
-        let signed = &read.signed_data.0;
-        for signer in signers(signed) {
-            let found = nested_signatures(alloc, signer)?;
-            assert!(rt; found.first().map(|element| element.0.as_slice()) == nested);
-            assert!(rt; found.len() < 2);
-        }
-        let image = image_in(&signed.content_info);
-        assert!(rt; image.and_then(page_hash_octets) == Some(octets));
-        has_entries(alloc, octets, &entries)?;
-    }
-    Ok(())
+    let alloc = rt.alloc();
+    let file = signed_twice();
+    let nested = file.get(772..1616).ok_or("no octets")?;
+    let hashes = file.get(105..197).ok_or("no octets")?;
+    is_signature(alloc, file, Some(nested), hashes)?;
+    has_entries(alloc, hashes, &BY_SHA1)?;
+    let hashes = file.get(885..1013).ok_or("no octets")?;
+    is_signature(alloc, nested, None, hashes)?;
+    has_entries(alloc, hashes, &BY_SHA256)
 }
 
 /// What indirect data say of an image.

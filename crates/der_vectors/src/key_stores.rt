@@ -2,7 +2,10 @@
 
 use asn1_core::from_bytes;
 use std::test::Fail;
-use x509_containers::{ParsedAuthenticatedSafeDataRepr, Pfx, RawPfx, first_with_key_id};
+use vector_checks::checks::expect;
+use x509_containers::{
+    MacInput, ParsedAuthenticatedSafeDataRepr, Pfx, RawPfx, SafeBag, first_with_key_id,
+};
 
 /// Of Python's cryptography 48, without encryption: an Ed25519 key named `one`, and its certificate of 198 octets.
 fn store() -> &'static [u8] {
@@ -37,21 +40,24 @@ fn store() -> &'static [u8] {
 const KEY_ID: &[u8] =
     b"\x82\x59\x11\x51\x93\xE2\xDD\xA6\x16\x8B\x8E\x28\x49\x24\x8D\xBA\x6C\xCA\x59\x6F";
 
+fn is_certificate(bags: &[&SafeBag]) -> Result<(), Fail> {
+    expect(bags.len() == 1, "other certificates")?;
+    let bag = first_with_key_id(bags, KEY_ID);
+    let len = bag
+        .and_then(|bag| bag.x509_certificate())
+        .map(|der| der.len());
+    expect(len == Some(198), "another certificate")?;
+    let none = first_with_key_id(bags, b"");
+    expect(none.is_none(), "a certificate of no key")
+}
+
 #[test]
 fn a_key_and_its_certificate(rt: HostRuntime) -> Result<(), Fail> {
-    let alloc = rt.alloc();
-    let read: Pfx<ParsedAuthenticatedSafeDataRepr> = from_bytes(alloc, store())?;
-    let certificates = read.certificates(alloc)?;
-    assert_eq!(rt; (certificates.len(), read.keys(alloc)?.len()), (1, 1));
-    match first_with_key_id(certificates.as_slice(), KEY_ID) {
-        Some(bag) => {
-            let len = bag.x509_certificate().map(|der| der.len());
-            assert_eq!(rt; len, Some(198));
-        }
-        None => return Err(Fail::new("no certificate has the key's identifier")),
-    }
-    assert!(rt; first_with_key_id(certificates.as_slice(), b"").is_none());
-    Ok(())
+    let read: Pfx<ParsedAuthenticatedSafeDataRepr> = from_bytes(rt.alloc(), store())?;
+    let keys = read.keys(rt.alloc())?.len();
+    expect(keys == 1, "other keys")?;
+    let certificates = read.certificates(rt.alloc())?;
+    is_certificate(certificates.as_slice())
 }
 
 /// The MAC that it has and the salt, as `openssl asn1parse` shows them.
@@ -61,17 +67,18 @@ const DIGEST: &[u8] = b"\
 
 const SALT: &[u8] = b"\xDC\xAC\xEC\xFF\x62\x42\xD5\x27";
 
+fn is_mac(mac: &MacInput<'_>) -> Result<(), Fail> {
+    expect(mac.octets.len() == 459, "other octets")?;
+    expect(mac.iterations == 2048, "another count")?;
+    expect(mac.digest == DIGEST && mac.salt == SALT, "another MAC")?;
+    expect(mac.digest_algorithm.name() == "SHA256", "another digest")
+}
+
 #[test]
 fn what_its_mac_takes(rt: HostRuntime) -> Result<(), Fail> {
     let read: RawPfx = from_bytes(rt.alloc(), store())?;
     match read.mac_input() {
-        Ok(mac) => {
-            assert_eq!(rt; (mac.octets.len(), mac.iterations), (459, 2048));
-            assert_eq!(rt; mac.digest, DIGEST);
-            assert_eq!(rt; mac.salt, SALT);
-            assert_eq!(rt; mac.digest_algorithm.name(), "SHA256");
-        }
-        Err(_) => return Err(Fail::new("no MAC is found")),
+        Ok(mac) => is_mac(&mac),
+        Err(_) => Err(Fail::new("no MAC is found")),
     }
-    Ok(())
 }

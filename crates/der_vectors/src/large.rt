@@ -1,9 +1,10 @@
 //! The room that an encoding takes, and the writes that send it.
 
-use asn1_core::{Asn1SequenceOf, OctetStringAsn1};
+use asn1_core::{Asn1SequenceOf, Error, OctetStringAsn1};
 use asn1_core_format::{DerSerialize, to_vec, write_to};
+use std::alloc::Global;
 use std::test::Fail;
-use vector_checks::checks::is_sent;
+use vector_checks::checks::{expect, is_sent};
 use vector_checks::fakes::Narrow;
 
 /// Lengths of octet strings, and in how many writes a sink gets the list of them: an encoding of up to 16,384 bytes is
@@ -21,38 +22,55 @@ const WRITES: [(&[usize], usize); 8] = [
 
 /// Where there is room, the buffer isn't grown; a new one has exactly the room of the encoding. How often memory is
 /// asked for is shown by `rt try --fail-alloc` (docs/PROVING.md).
+fn has_room(alloc: Global, list: &Asn1SequenceOf<u8>, text: &[u8]) -> Result<(), Fail> {
+    let mut enough = Vec::with_capacity(alloc, text.len())?;
+    let capacity = enough.capacity();
+    list.write(alloc, &mut enough)?;
+    expect(enough.capacity() == capacity, "the buffer is grown")?;
+    expect(enough.as_slice() == text, "another encoding")
+}
+
+fn has_no_room(alloc: Global, list: &Asn1SequenceOf<u8>, text: &[u8]) -> Result<(), Fail> {
+    let mut short = Vec::with_capacity(alloc, text.len().saturating_sub(1))?;
+    list.write(alloc, &mut short)?;
+    expect(short.as_slice() == text, "another encoding")
+}
+
 #[test]
 fn room_is_used(rt: HostRuntime) -> Result<(), Fail> {
     let list = Asn1SequenceOf(vec![in rt.alloc(); 7u8; 100]?);
-    let size = list.encoded_len()?;
-    let mut enough = Vec::with_capacity(rt.alloc(), size)?;
-    let capacity = enough.capacity();
-    list.write(rt.alloc(), &mut enough)?;
-    assert_eq!(rt; enough.capacity(), capacity);
     let text = to_vec(rt.alloc(), &list)?;
-    assert_eq!(rt; text.as_slice(), enough.as_slice());
-    assert_eq!(rt; text.capacity(), size);
-    let mut short = Vec::with_capacity(rt.alloc(), size.saturating_sub(1))?;
-    list.write(rt.alloc(), &mut short)?;
-    assert_eq!(rt; short.as_slice(), text.as_slice());
-    Ok(())
+    expect(text.capacity() == list.encoded_len()?, "other room")?;
+    has_room(rt.alloc(), &list, &text)?;
+    has_no_room(rt.alloc(), &list, &text)
+}
+
+type Strings = Asn1SequenceOf<OctetStringAsn1>;
+
+fn strings(alloc: Global, lengths: &[usize]) -> Result<Strings, Error> {
+    let mut items = Vec::new(alloc);
+    for length in lengths {
+        items.push(OctetStringAsn1(vec![in alloc; 7; *length]?))?;
+    }
+    Ok(Asn1SequenceOf(items))
+}
+
+/// Asks that the list is sent in so many writes, and that each of them may fail.
+fn takes_writes(alloc: Global, list: &Strings, writes: usize) -> Result<(), Fail> {
+    let text = to_vec(alloc, list)?;
+    let mut sink = Narrow::new(alloc, usize::MAX, writes);
+    write_to(list, &mut sink)?;
+    expect(sink.writes_left == 0, "fewer writes")?;
+    expect(sink.taken.as_slice() == text.as_slice(), "another encoding")?;
+    is_sent(alloc, list, &text, usize::MAX)
 }
 
 /// Octet strings that wait, that fill what may wait and that don't fit it: each write fails in turn.
 #[test]
 fn few_writes_send_a_text(rt: HostRuntime) -> Result<(), Fail> {
     for (lengths, writes) in WRITES {
-        let mut items = Vec::new(rt.alloc());
-        for length in lengths {
-            items.push(OctetStringAsn1(vec![in rt.alloc(); 7; *length]?))?;
-        }
-        let list = Asn1SequenceOf(items);
-        let text = to_vec(rt.alloc(), &list)?;
-        let mut sink = Narrow::new(rt.alloc(), usize::MAX, writes);
-        write_to(&list, &mut sink)?;
-        assert_eq!(rt; sink.writes_left, 0, "{lengths:?}");
-        assert_eq!(rt; sink.taken.as_slice(), text.as_slice(), "{lengths:?}");
-        is_sent(rt.alloc(), &list, &text, usize::MAX)?;
+        let list = strings(rt.alloc(), lengths)?;
+        takes_writes(rt.alloc(), &list, writes)?;
     }
     Ok(())
 }

@@ -3,6 +3,7 @@
 use asn1_core::{DerSerialize, Error, TryClone, from_bytes, to_vec};
 use std::alloc::Global;
 use std::test::Fail;
+use vector_checks::checks::expect;
 use x509_containers::{SafeBag, SafeBagKind, SafeContents};
 
 /// Empty contents in that many bags of kind SafeContents.
@@ -19,25 +20,44 @@ fn nested(alloc: Global, levels: u8) -> Result<SafeContents, Error> {
     Ok(contents)
 }
 
+/// Asks that it is cloned, and holds so many bags.
+fn is_kept(alloc: Global, contents: &SafeContents, levels: u8) -> Result<(), Fail> {
+    let clone = contents.try_clone(alloc)?;
+    expect(clone == *contents, "another clone")?;
+    let bags = clone.all_bags(alloc)?;
+    expect(bags.len() == usize::from(levels), "other bags")
+}
+
+/// Asks for a size of the encoding, and which refusal it meets.
+fn is_read(
+    alloc: Global,
+    contents: &SafeContents,
+    size: usize,
+    refused: Option<Error>,
+) -> Result<(), Fail> {
+    let text = to_vec(alloc, contents)?;
+    expect(text.len() == size, "another size")?;
+    let again = from_bytes::<SafeContents>(alloc, &text).err();
+    expect(again == refused, "another refusal")
+}
+
 /// Values of any number of levels are written and cloned, and up to 64 levels are read.
 #[test]
 fn built_levels(rt: HostRuntime) -> Result<(), Fail> {
-    let alloc = rt.alloc();
-    for (levels, size) in [(1u8, 21), (64, 1546), (65, 1571), (200, 4946)] {
-        let contents = nested(alloc, levels)?;
-        assert_eq!(rt; contents.well_formed(), levels <= 64, "{levels}");
-        assert!(rt; contents.try_clone(alloc)? == contents, "{levels}");
-        let bags = contents.all_bags(alloc)?;
-        assert_eq!(rt; bags.len(), usize::from(levels), "{levels}");
-        let text = to_vec(alloc, &contents)?;
-        assert_eq!(rt; text.len(), size, "{levels}");
-        let refused = from_bytes::<SafeContents>(alloc, &text).err();
-        let wanted = if levels <= 64 {
-            None
-        } else {
-            Some(Error::TooDeep)
-        };
-        assert_eq!(rt; refused, wanted, "{levels}");
+    let deep = Some(Error::TooDeep);
+    for (levels, size, refused) in [
+        (1u8, 21, None),
+        (64, 1546, None),
+        (65, 1571, deep),
+        (200, 4946, deep),
+    ] {
+        let contents = nested(rt.alloc(), levels)?;
+        expect(
+            contents.well_formed() == refused.is_none(),
+            "what is well-formed",
+        )?;
+        is_kept(rt.alloc(), &contents, levels)?;
+        is_read(rt.alloc(), &contents, size, refused)?;
     }
     Ok(())
 }

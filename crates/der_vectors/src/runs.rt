@@ -1,7 +1,9 @@
 //! Runs from sources and into sinks that fail.
 
 use asn1_core::{Sink, Source, StdSink, StdSource};
+use std::alloc::Global;
 use std::test::Fail;
+use vector_checks::checks::expect;
 use vector_checks::fakes::{Full, Narrow, Trickle};
 use x509_containers::{Kind, Mode, Outcome, run};
 
@@ -21,27 +23,64 @@ const ANSWERS: [(Mode, Outcome, &[u8]); 2] = [
     ),
 ];
 
+/// Asks for an outcome where the source fails after so many reads of a byte, and what is written.
+fn is_read(
+    alloc: Global,
+    (mode, kind): (Mode, Kind),
+    reads_left: usize,
+    outcome: Outcome,
+    written: &[u8],
+) -> Result<(), Fail> {
+    let mut source = Trickle::new(WITHOUT_NULL, reads_left);
+    let mut sink = StdSink::new(Vec::new(alloc));
+    let ran = run(alloc, &mut source, &mut sink, mode, kind);
+    expect(ran == outcome, "another outcome")?;
+    let failures = u64::from(outcome == Outcome::ReadFailed);
+    expect(source.failures() == failures, "other failures")?;
+    expect(
+        sink.into_inner().as_slice() == written,
+        "something else is written",
+    )
+}
+
 /// Each read fails in turn, and nothing is written; a source that gives a byte a read makes no difference.
 #[test]
 fn each_read_fails_in_turn(rt: HostRuntime) -> Result<(), Fail> {
     let kind = Kind::from_word("pkcs12digestinfo").ok_or("no kind")?;
     for (mode, outcome, written) in ANSWERS {
         // one read more than there are bytes says that no more are to come
-        for reads_left in 0..=WITHOUT_NULL.len() {
-            let mut source = Trickle::new(WITHOUT_NULL, reads_left);
-            let mut sink = StdSink::new(Vec::new(rt.alloc()));
-            let ran = run(rt.alloc(), &mut source, &mut sink, mode, kind);
-            assert_eq!(rt; ran, Outcome::ReadFailed, "at {reads_left}");
-            assert_eq!(rt; source.failures(), 1);
-            assert!(rt; sink.into_inner().is_empty(), "at {reads_left}");
+        let reads = WITHOUT_NULL.len() + 1;
+        for reads_left in 0..reads {
+            is_read(
+                rt.alloc(),
+                (mode, kind),
+                reads_left,
+                Outcome::ReadFailed,
+                b"",
+            )?;
         }
-        let mut source = Trickle::new(WITHOUT_NULL, WITHOUT_NULL.len() + 1);
-        let mut sink = StdSink::new(Vec::new(rt.alloc()));
-        let ran = run(rt.alloc(), &mut source, &mut sink, mode, kind);
-        assert_eq!(rt; ran, outcome);
-        assert_eq!(rt; sink.into_inner().as_slice(), written);
+        is_read(rt.alloc(), (mode, kind), reads, outcome, written)?;
     }
     Ok(())
+}
+
+/// Asks that nothing more is written where the sink takes so many bytes alone.
+fn is_written_in_part(
+    alloc: Global,
+    (mode, kind): (Mode, Kind),
+    full: Full,
+    written: &[u8],
+) -> Result<(), Fail> {
+    let mut source = StdSource::new(WITHOUT_NULL);
+    let mut sink = Narrow::new(alloc, 1, written.len());
+    sink.full = full;
+    let ran = run(alloc, &mut source, &mut sink, mode, kind);
+    expect(ran == Outcome::WriteFailed, "another outcome")?;
+    expect(sink.failures() == 1, "other failures")?;
+    expect(
+        sink.taken.as_slice() == written,
+        "something else is written",
+    )
 }
 
 /// Each write of one byte fails in turn, or takes nothing, after a beginning of what is written.
@@ -49,16 +88,10 @@ fn each_read_fails_in_turn(rt: HostRuntime) -> Result<(), Fail> {
 fn each_write_fails_in_turn(rt: HostRuntime) -> Result<(), Fail> {
     let kind = Kind::from_word("pkcs12digestinfo").ok_or("no kind")?;
     for (mode, _, written) in ANSWERS {
-        for full in [Full::Fails, Full::TakesNone] {
-            for writes_left in 0..written.len() {
-                let mut source = StdSource::new(WITHOUT_NULL);
-                let mut sink = Narrow::new(rt.alloc(), 1, writes_left);
-                sink.full = full;
-                let ran = run(rt.alloc(), &mut source, &mut sink, mode, kind);
-                assert_eq!(rt; ran, Outcome::WriteFailed, "at {writes_left}");
-                assert_eq!(rt; sink.failures(), 1);
-                assert_eq!(rt; sink.taken.as_slice(), &written[..writes_left]);
-            }
+        for writes_left in 0..written.len() {
+            let part = &written[..writes_left];
+            is_written_in_part(rt.alloc(), (mode, kind), Full::Fails, part)?;
+            is_written_in_part(rt.alloc(), (mode, kind), Full::TakesNone, part)?;
         }
     }
     Ok(())

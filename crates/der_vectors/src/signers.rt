@@ -2,9 +2,10 @@
 
 use std::alloc::Global;
 use std::test::Fail;
+use vector_checks::checks::expect;
 use x509_containers::{
-    CertificateChoices, Pkcs7Certificate, SignerIdentifier, certificate_element, certificates,
-    from_bytes, hashed_octets, signer_certificate, signers,
+    CertificateChoices, EncapsulatedContentInfo, Pkcs7Certificate, SignedData, SignerIdentifier,
+    certificate_element, certificates, from_bytes, hashed_octets, signer_certificate, signers,
 };
 
 /// "hello, world", signed by the first of two certificates. That has the serial number 2 and 06 07 08 as its key's
@@ -57,33 +58,43 @@ fn is_signed_by(
     wanted: Option<&[u8]>,
 ) -> Result<(), Fail> {
     let found = signer_certificate(alloc, all, signer)?;
-    if found.map(|element| element.0.as_slice()) == wanted {
-        Ok(())
-    } else {
-        Err(Fail::new("another certificate"))
-    }
+    let octets = found.map(|element| element.0.as_slice());
+    expect(octets == wanted, "another certificate")
 }
 
-/// The hashed octets, and the certificates of its signer and of keys by their identifiers.
-#[test]
-fn a_signed_file(rt: HostRuntime) -> Result<(), Fail> {
-    let alloc = rt.alloc();
-    let read: Pkcs7Certificate = from_bytes(alloc, signed_file())?;
-    let signed = &read.signed_data.0;
-    let hashed = hashed_octets(alloc, &signed.content_info)?;
-    assert!(rt; hashed.as_deref() == Some(b"hello, world".as_slice()));
+/// Asks that the certificate of whoever has this identifier is this one.
+fn is_named_by(
+    alloc: Global,
+    all: &[CertificateChoices],
+    identifier: &[u8],
+    wanted: Option<&[u8]>,
+) -> Result<(), Fail> {
+    let signer: SignerIdentifier = from_bytes(alloc, identifier)?;
+    is_signed_by(alloc, all, &signer, wanted)
+}
+
+fn is_hashed(alloc: Global, info: &EncapsulatedContentInfo, wanted: &[u8]) -> Result<(), Fail> {
+    let hashed = hashed_octets(alloc, info)?;
+    expect(hashed.as_deref() == Some(wanted), "other hashed octets")
+}
+
+/// Asks of the hashed octets, and of the certificates of its signer and of keys by their identifiers.
+fn is_verified(alloc: Global, signed: &SignedData) -> Result<(), Fail> {
+    is_hashed(alloc, &signed.content_info, b"hello, world")?;
     let all = certificates(signed);
     let (first, second) = (signed_file().get(74..357), signed_file().get(357..643));
-    assert!(rt; all.first().map(|one| certificate_element(one).0.as_slice()) == first);
+    let kept = all.first().map(|one| certificate_element(one).0.as_slice());
+    expect(kept == first, "another first certificate")?;
     for signer in signers(signed) {
         is_signed_by(alloc, all, &signer.sid, first)?;
     }
-    for (identifier, wanted) in [
-        (b"\x80\x03\x06\x07\x08".as_slice(), first),
-        (b"\x80\x05\x01\x02\x03\x04\x05", second),
-        (b"\x80\x02\x06\x07", None),
-    ] {
-        is_signed_by(alloc, all, &from_bytes(alloc, identifier)?, wanted)?;
-    }
-    Ok(())
+    is_named_by(alloc, all, b"\x80\x03\x06\x07\x08", first)?;
+    is_named_by(alloc, all, b"\x80\x05\x01\x02\x03\x04\x05", second)?;
+    is_named_by(alloc, all, b"\x80\x02\x06\x07", None)
+}
+
+#[test]
+fn a_signed_file(rt: HostRuntime) -> Result<(), Fail> {
+    let read: Pkcs7Certificate = from_bytes(rt.alloc(), signed_file())?;
+    is_verified(rt.alloc(), &read.signed_data.0)
 }

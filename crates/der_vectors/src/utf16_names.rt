@@ -1,7 +1,9 @@
 //! A bag whose friendly name has a character past U+FFFF, as tools write it: in UTF-16.
 
 use asn1_core::from_bytes;
+use std::alloc::Global;
 use std::test::Fail;
+use vector_checks::checks::expect;
 use x509_containers::{CertificateBag, RawSafeBag};
 
 /// Of Python's cryptography 48 (`serialize_key_and_certificates`, without encryption), whose name is 😀. The certificate
@@ -26,21 +28,29 @@ fn bag() -> &'static [u8] {
 const KEY_ID: &[u8] =
     b"\x5F\xCA\x13\xDA\x92\x3E\x58\x7E\x6F\x1F\xF2\xD5\x22\x22\xDE\x51\xF1\x40\xCF\xD6";
 
+fn is_named(alloc: Global, bag: &RawSafeBag) -> Result<(), Fail> {
+    let name = bag.friendly_name(alloc)?.ok_or("no name")?;
+    expect(name.to_text(alloc)?.as_str() == "😀", "another name")
+}
+
+fn has_key_id(alloc: Global, bag: &RawSafeBag) -> Result<(), Fail> {
+    let id = bag.local_key_id(alloc)?.ok_or("no identifier")?;
+    expect(id.0.as_slice() == KEY_ID, "another identifier")
+}
+
+fn holds_certificate(alloc: Global, bag: &RawSafeBag) -> Result<(), Fail> {
+    match bag.value_typed(alloc)? {
+        CertificateBag::X509(certificate) => {
+            expect(certificate.0.len() == 198, "another certificate")
+        }
+        CertificateBag::Unknown { .. } => Err(Fail::new("no certificate")),
+    }
+}
+
 #[test]
 fn names_past_the_bmp(rt: HostRuntime) -> Result<(), Fail> {
-    let alloc = rt.alloc();
-    let read: RawSafeBag = from_bytes(alloc, bag())?;
-    match (
-        read.friendly_name(alloc)?,
-        read.local_key_id(alloc)?,
-        read.value_typed(alloc)?,
-    ) {
-        (Some(name), Some(id), CertificateBag::X509(certificate)) => {
-            assert_eq!(rt; name.to_text(alloc)?.as_str(), "😀");
-            assert_eq!(rt; id.0.as_slice(), KEY_ID);
-            assert_eq!(rt; certificate.0.len(), 198);
-        }
-        _ => return Err(Fail::new("something isn't found")),
-    }
-    Ok(())
+    let read: RawSafeBag = from_bytes(rt.alloc(), bag())?;
+    is_named(rt.alloc(), &read)?;
+    has_key_id(rt.alloc(), &read)?;
+    holds_certificate(rt.alloc(), &read)
 }

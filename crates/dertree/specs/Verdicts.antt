@@ -1,5 +1,5 @@
 -- What verdicts say of an input, and of a place in it.
-use Rattle.std.specs.Prelude.{◌≡◌, ◌≤◌, ℕ, List, length, Option, None, Some, IfSome}
+use Rattle.std.specs.Prelude.{◌≡◌, ◌≤◌, ℕ, List, length, Option, None, IfSome}
 use Rattle.der_engine.specs.Engine.{Rewriting, IsRefusal}
 use Rattle.der_engine.specs.Verdicts.{IsLocated}
 use Rattle.dertree.specs.declared.verdict.Verdict.{Verdict}

@@ -9,7 +9,7 @@ use asn1_core::{
 use std::alloc::Global;
 use std::fmt::Debug;
 use std::test::Fail;
-use vector_checks::checks::{is_rewritten, is_sent};
+use vector_checks::checks::{expect, is_rewritten, is_sent, is_written};
 use vector_checks::fakes::Narrow;
 use x509_containers::{
     Kind, Mode, Outcome, Verdict, check, check_as, check_as_limited, check_limited, check_located,
@@ -17,13 +17,8 @@ use x509_containers::{
     rewrite_limited, run,
 };
 
-/// Up to so many bytes, sinks that fail, beginnings and changes are tried of an input.
+/// Up to so many bytes, beginnings, changes and sinks that fail are tried of an input.
 const SHORT: usize = 100;
-
-#[inline(never)]
-fn expect(holds: bool, what: &'static str) -> Result<(), Fail> {
-    if holds { Ok(()) } else { Err(Fail::new(what)) }
-}
 
 /// Asks that a check said the line and that a rewriting wrote the encoding, or nothing of what is refused.
 #[inline(never)]
@@ -188,7 +183,9 @@ fn rewritten<T: DerDeserialize>(
 }
 
 /// Asks that each proper beginning of an accepted input is refused.
-fn is_whole(alloc: Global, rewrite: Rewrite, input: &[u8]) -> Result<(), Fail> {
+fn is_whole(alloc: Global, rewrite: Rewrite, input: &[u8]) -> Result<(), Fail>
+    requires { IsAlwaysCallable rewrite }
+{
     for size in 0..input.len() {
         let (outcome, headers) = rewrite(alloc, &input[..size]);
         expect(outcome.is_err(), "a beginning")?;
@@ -198,7 +195,10 @@ fn is_whole(alloc: Global, rewrite: Rewrite, input: &[u8]) -> Result<(), Fail> {
 }
 
 /// Asks of an accepted input that the encoding of its value is normal, and of a refused one that few headers are read.
-fn reaches_an_end(alloc: Global, check: Check, rewrite: Rewrite, input: &[u8]) -> Result<(), Fail> {
+fn reaches_an_end(alloc: Global, check: Check, rewrite: Rewrite, input: &[u8]) -> Result<(), Fail>
+    requires check { Check.IsAlwaysCallable check }
+    requires rewrite { Rewrite.IsAlwaysCallable rewrite }
+{
     let (outcome, headers) = rewrite(alloc, input);
     expect(headers <= input.len() / 2 + 1, "the headers of a change")?;
     let text = match outcome {
@@ -222,7 +222,10 @@ fn reaches_an_end(alloc: Global, check: Check, rewrite: Rewrite, input: &[u8]) -
 }
 
 /// Asks of each change of one byte what `reaches_an_end` does.
-fn is_changed(alloc: Global, check: Check, rewrite: Rewrite, input: &[u8]) -> Result<(), Fail> {
+fn is_changed(alloc: Global, check: Check, rewrite: Rewrite, input: &[u8]) -> Result<(), Fail>
+    requires check { Check.IsAlwaysCallable check }
+    requires rewrite { Rewrite.IsAlwaysCallable rewrite }
+{
     let mut changed = Vec::from_slice(alloc, input)?;
     for at in 0..changed.len() {
         for _ in 1..=255u8 {
@@ -264,8 +267,8 @@ fn is_shown<T: Debug>(alloc: Global, value: &T, row: &Row) -> Result<(), Fail> {
     Err(Fail::new(format_args!("its value is {shown}")))
 }
 
-/// Asks of an accepted input that its value is shown as the row says, cloned and written, and of a short one that it is
-/// sent into sinks that fail, that no beginning is accepted, and what changes of one byte come to.
+/// Asks of an accepted input that its value is shown as the row says, cloned and written, and of a short one that no
+/// beginning is accepted, and what changes of one byte come to.
 fn is_kept<T: DerDeserialize + SeenByText + TryClone + Debug>(
     alloc: Global,
     row: &Row,
@@ -273,9 +276,6 @@ fn is_kept<T: DerDeserialize + SeenByText + TryClone + Debug>(
     let value: T = is_rewritten(alloc, &row.input, &row.text)?;
     is_shown(alloc, &value, row)?;
     if row.input.len() <= SHORT {
-        for width in [1, usize::MAX] {
-            is_sent(alloc, &value, &row.text, width)?;
-        }
         is_whole(alloc, rewritten::<T>, &row.input)?;
         is_changed(alloc, check_as::<T>, rewritten::<T>, &row.input)?;
     }
@@ -307,6 +307,25 @@ pub fn is_so<T: DerDeserialize + SeenByText + TryClone + Debug>(
     }
     ends::<T>(alloc, &row.input, headers)?;
     is_kept::<T>(alloc, row)
+}
+
+/// Asks besides that the value of an accepted input is written in each way, and of a short one that it is sent into sinks
+/// that fail.
+pub fn is_so_in_each_way<T: DerDeserialize + SeenByText + TryClone + Debug>(
+    alloc: Global,
+    row: &Row,
+) -> Result<(), Fail> {
+    is_so::<T>(alloc, row)?;
+    let Ok(value) = from_bytes::<T>(alloc, &row.input) else {
+        return Ok(());
+    };
+    is_written(alloc, &value, &row.text)?;
+    if row.input.len() <= SHORT {
+        for width in [1, usize::MAX] {
+            is_sent(alloc, &value, &row.text, width)?;
+        }
+    }
+    Ok(())
 }
 
 /// A tag that no type here begins with.

@@ -27,18 +27,28 @@ const OBJECTS: [(&str, &[u8]); 4] = [
 /// Object identifiers, from octets and text, and to text.
 pub fn of_objects(alloc: Global) -> Result<(), Stop> {
     for (dotted, octets) in OBJECTS {
-        let of_octets = ObjectIdentifier::from_octets(alloc, octets)?;
-        expect(
-            of_octets.octets() == octets,
-            "the octets of an object identifier",
-        )?;
-        let of_text = ObjectIdentifier::from_text(alloc, dotted)?;
-        expect(of_text == of_octets, "an object identifier of a text")?;
-        let text = of_text.to_text(alloc);
-        expect(of_text == of_octets, "a borrowed object identifier")?;
-        expect(text?.as_str() == dotted, "the text of an object identifier")?;
+        has_octets(&ObjectIdentifier::from_octets(alloc, octets)?, octets)?;
+        let oid = ObjectIdentifier::from_text(alloc, dotted)?;
+        has_octets(&oid, octets)?;
+        is_dotted(alloc, &oid, dotted, octets)?;
     }
     Ok(())
+}
+
+fn has_octets(oid: &ObjectIdentifier, octets: &[u8]) -> Result<(), Stop> {
+    expect(oid.octets() == octets, "an object identifier")
+}
+
+/// Asks for the text of the object identifier, which stays as it was where memory is refused.
+fn is_dotted(
+    alloc: Global,
+    oid: &ObjectIdentifier,
+    dotted: &str,
+    octets: &[u8],
+) -> Result<(), Stop> {
+    let text = oid.to_text(alloc);
+    has_octets(oid, octets)?;
+    expect(text?.as_str() == dotted, "the text of an object identifier")
 }
 
 /// Kinds of encryption as object identifiers, by their clones, which rows copy.
@@ -154,15 +164,29 @@ fn is_named(bags: &[&SafeBag], name: &BmpString) -> bool {
     }
 }
 
+/// The text of a name, which stays as it was where memory is refused.
+fn is_text_of(alloc: Global, name: &BmpString, bags: &[&SafeBag]) -> Result<(), Stop> {
+    let text = name.to_text(alloc);
+    expect(is_named(bags, name), "a borrowed name")?;
+    expect(text?.as_str() == "AB", "the text of a name")
+}
+
+/// Asks for all bags of the file, which stays as it was where memory is refused, and for their names.
+fn has_bags(
+    alloc: Global,
+    pfx: &Pfx<ParsedAuthenticatedSafeDataRepr>,
+    name: &BmpString,
+) -> Result<(), Stop> {
+    let outcome = pfx.all_bags(alloc);
+    has_text(pfx, texts::NAMED_KEY)?;
+    let bags = outcome?;
+    expect(is_named(&bags, name), "a file has other bags")?;
+    is_text_of(alloc, name, &bags)
+}
+
 /// All bags of a file, and their names, from text and to text.
 pub fn of_bags(alloc: Global) -> Result<(), Stop> {
-    let pfx: Pfx<ParsedAuthenticatedSafeDataRepr> = from_bytes(alloc, texts::NAMED_KEY)?;
-    let outcome = pfx.all_bags(alloc);
-    has_text(&pfx, texts::NAMED_KEY)?;
-    let bags = outcome?;
     let name = BmpString::from_text(alloc, "AB")?;
-    expect(is_named(&bags, &name), "a file has other bags")?;
-    let text = name.to_text(alloc);
-    expect(is_named(&bags, &name), "a borrowed name")?;
-    expect(text?.as_str() == "AB", "the text of a name")
+    let pfx: Pfx<ParsedAuthenticatedSafeDataRepr> = from_bytes(alloc, texts::NAMED_KEY)?;
+    has_bags(alloc, &pfx, &name)
 }

@@ -332,35 +332,50 @@ fn measure_writing<T: DerDeserialize>(
     Ok(())
 }
 
-/// Many small items under no tag, under four and under eight, and then four times as many.
+/// Many small items under no tag and under four, and then four times as many.
 fn measure_numbers(rt: &HostRuntime) -> Result<(), Failure> {
-    let text = numbers(rt.alloc(), 10_000, 0)?;
-    let few: Numbers = from_bytes(rt.alloc(), &text)?;
+    let few: Numbers = from_bytes(rt.alloc(), &numbers(rt.alloc(), 10_000, 0)?)?;
     let written = write_time(rt, &few)?;
-    let (sent, _) = send_time(rt, &few, text.len())?;
+    let (sent, _) = send_time(rt, &few, few.encoded_len()?)?;
     for count in [10_000, 40_000] {
         measure_writing::<Numbers>(rt, count, 0, &written, &sent)?;
         measure_writing::<Four<Numbers>>(rt, count, 4, &written, &sent)?;
-        measure_writing::<Four<Four<Numbers>>>(rt, count, 8, &written, &sent)?;
     }
     Ok(())
 }
 
-/// Prints a line for each value that is measured.
-pub fn measure_all(rt: &HostRuntime) -> Result<(), Failure> {
+fn measure_lists(rt: &HostRuntime) -> Result<(), Failure> {
     let alloc = rt.alloc();
     measure::<Extensions>(rt, "extensions, 20000", &extensions(alloc, 20_000)?)?;
-    let list = revocation_list(alloc, 20_000)?;
-    measure::<CertificateList>(rt, "revocation list, 20000", &list)?;
+    measure::<CertificateList>(
+        rt,
+        "revocation list, 20000",
+        &revocation_list(alloc, 20_000)?,
+    )?;
     measure::<SignedData>(rt, "signed data, 100", &signed_data(alloc, 100)?)?;
-    measure::<Name>(rt, "name, 2000 parts", &name(alloc, 2_000)?)?;
+    measure::<Name>(rt, "name, 2000 parts", &name(alloc, 2_000)?)
+}
+
+fn measure_stores(rt: &HostRuntime) -> Result<(), Failure> {
+    let alloc = rt.alloc();
     let data = octets(alloc, 0x04, 1_000_000)?;
     measure::<RawPfx>(rt, "raw pfx, 1 MB", &pfx(alloc, &data)?)?;
     let few = store(alloc, CERTIFICATE_BAG, &certificate(alloc, 1_200)?, 100)?;
     measure::<Store>(rt, "pfx, 100 certificates", &few)?;
     let many = store(alloc, KEY_BAG, &octets(alloc, 0x04, 40)?, 10_000)?;
-    measure::<Store>(rt, "pfx, 10000 bags", &many)?;
+    measure::<Store>(rt, "pfx, 10000 bags", &many)
+}
+
+fn measure_strings(rt: &HostRuntime) -> Result<(), Failure> {
+    let alloc = rt.alloc();
     measure::<IA5StringAsn1>(rt, "IA5 string, 100000", &octets(alloc, 0x16, 100_000)?)?;
-    measure::<BmpStringAsn1>(rt, "BMP string, 100000", &octets(alloc, 0x1E, 100_000)?)?;
+    measure::<BmpStringAsn1>(rt, "BMP string, 100000", &octets(alloc, 0x1E, 100_000)?)
+}
+
+/// Prints a line for each value that is measured.
+pub fn measure_all(rt: &HostRuntime) -> Result<(), Failure> {
+    measure_lists(rt)?;
+    measure_stores(rt)?;
+    measure_strings(rt)?;
     measure_numbers(rt)
 }

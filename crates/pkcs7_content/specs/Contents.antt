@@ -13,7 +13,6 @@ use Rattle.pkcs7_content.specs.declared.contents.Kind.TheVariants.{IndirectData,
 use Rattle.pkcs7_content.specs.TrustLists.{CtlValue, ctl, ctl_value}
 use Rattle.pkcs7_content.specs.declared.contents.ContentValue.{ContentValue}
 use Rattle.pkcs7_content.specs.declared.contents.ContentValue.TheVariants as Content
-use Rattle.pkcs7_content.specs.declared.indirect_data.SpcIndirectDataContent.{SpcIndirectDataContent}
 use Rattle.asn1_core.specs.declared.explicit.ExplicitContextTag0.{ExplicitContextTag0}
 use Rattle.pkcs7_content.specs.declared.contents.EncapsulatedContentInfo.{EncapsulatedContentInfo}
 

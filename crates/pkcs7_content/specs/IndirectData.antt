@@ -17,8 +17,6 @@ use Rattle.asn1_choices.specs.DefinedByLaws.{IsDefinedBy, itself, lawful_arm, la
 use Rattle.pkcs7_content.specs.PeImageLaws.{lawful_pe_image_data}
 use Rattle.pkcs7_content.specs.declared.indirect_data.SpcAttributeAndOptionalValueValue.{SpcAttributeAndOptionalValueValue}
 use Rattle.pkcs7_content.specs.declared.indirect_data.SpcAttributeAndOptionalValueValue.TheVariants as Spc
-use Rattle.pkcs7_content.specs.declared.pe_images.SpcPeImageData.{SpcPeImageData}
-use Rattle.pkcs7_content.specs.declared.sip_infos.SpcSipInfo.{SpcSipInfo}
 use Rattle.pkcs7_content.specs.declared.indirect_data.SpcAttributeAndOptionalValue.{SpcAttributeAndOptionalValue}
 use Rattle.pkcs7_content.specs.declared.indirect_data.SpcIndirectDataContent.{SpcIndirectDataContent}
 

@@ -1,7 +1,6 @@
 -- What Authenticode says of a file that a subject interface package signs.
 -- SpcSipInfo ::= SEQUENCE { version INTEGER, uuid OCTET STRING, reserved1 INTEGER, reserved2 INTEGER,
 --   reserved3 INTEGER, reserved4 INTEGER, reserved5 INTEGER }
-use Rattle.std.specs.Prelude.{ℕ}
 use Rattle.asn1_core.specs.Der.{Format, IsLawful, sequence, part, nothing, octet_string, Octets, IntegerOctets, der_laws}
 use Rattle.asn1_leaves.specs.Integers.{integer, lawful_integer}
 use Rattle.pkcs7_content.specs.declared.sip_infos.SpcSipInfo.{SpcSipInfo}

@@ -2,7 +2,7 @@
 -- SpcLink ::= CHOICE { url [0] IMPLICIT IA5String, moniker [1] IMPLICIT SpcSerializedObject, file [2] EXPLICIT
 --   SpcString }
 -- SpcSpOpusInfo ::= SEQUENCE { programName [0] EXPLICIT SpcString OPTIONAL, moreInfo [1] EXPLICIT SpcLink OPTIONAL }
-use Rattle.std.specs.Prelude.{◌≡◌, ◌⊎◌, ℕ, Option}
+use Rattle.std.specs.Prelude.{◌≡◌, ◌⊎◌, Option}
 use Rattle.asn1_core.specs.Der.{StringOctets, Format, IsLawful, nothing, optional, within, lawful_nothing, lawful_optional, lawful_within, either, lawful_either, implicit, lawful_implicit, leaf_tagged, within_tagged, kept, sequence, explicit, der_laws}
 use Rattle.std.proofs.Common.{arith, ⊎_elim, inl, inr}
 use Rattle.asn1_leaves.specs.Strings.{bmp_string, lawful_bmp_string, ia5_string, lawful_ia5_string}

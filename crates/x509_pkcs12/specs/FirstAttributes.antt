@@ -1,5 +1,5 @@
 -- What a bag is called, and what ties it to others: the first attribute of each kind.
-use Rattle.std.specs.Prelude.{ℕ, List, [], ◌∷◌, Option, Some, None}
+use Rattle.std.specs.Prelude.{List, [], ◌∷◌, Option, Some, None}
 use Rattle.std.proofs.Common.{inl, inr}
 use Rattle.asn1_core.specs.Der.{Octets, StringOctets}
 use Rattle.x509_pkcs12.specs.Attributes.{AttributeValue, AttributesValue}

@@ -1,7 +1,7 @@
 -- SafeBag ::= SEQUENCE { bagId OBJECT IDENTIFIER, bagValue [0] EXPLICIT ANY DEFINED BY bagId, bagAttributes SET OF
 -- PKCS12Attribute OPTIONAL } with a value that holds no bags
 use Rattle.std.proofs.Common.{arith}
-use Rattle.std.specs.Prelude.{◌⊎◌, ℕ}
+use Rattle.std.specs.Prelude.{◌⊎◌}
 use Rattle.asn1_core.specs.Der.{Format, IsLawful, IsLawfulRow, part, raw, lawful_raw, OidOctets, ElementOctets, explicit, Choice, IsLawfulChoice, known, lawful_known, otherwise, lawful_otherwise, IsOid, followed_by, lawful_explicit}
 use Rattle.x509_pkcs12.specs.Attributes.{AttributesValue, attributes, lawful_attributes}
 use Rattle.x509_pkcs12.specs.BagParts.{OctetsOrAny, certificate_bag, crl_bag, SecretValue, secret_bag, EncryptedKeyValue, encrypted_key_bag, lawful_x509_bag, lawful_secret_bag, lawful_encrypted_key_bag}

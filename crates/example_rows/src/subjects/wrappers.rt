@@ -1,7 +1,9 @@
-//! Lists, tags and containers, whose words name what is in them too, and a type of a caller's own. These are no kinds
-//! of `derbox`.
+//! Lists, tags and containers, whose words name what is in them too, and types of a caller's own, written in each way.
+//! These are no kinds of `derbox`.
 
-use crate::checks::{is_so as at, is_so_under_tags as under_tags};
+use crate::checks::{
+    is_so as at, is_so_in_each_way as in_each_way, is_so_under_tags as under_tags,
+};
 use crate::rows::Row;
 use example_stamp::Stamp;
 use example_ticket::{Holder, Ticket};
@@ -27,17 +29,19 @@ pub fn is_so_of_a_list(alloc: Global, word: &str, row: &Row) -> Option<Result<()
             under_tags::<TaggedSets>(alloc, row)
         }
         "asn1sequenceof-explicitcontexttag1-u8" => under_tags::<TaggedNumbers>(alloc, row),
-        "asn1sequenceof-octetstringasn1" => at::<Asn1SequenceOf<OctetStringAsn1>>(alloc, row),
+        "asn1sequenceof-octetstringasn1" => in_each_way::<Asn1SequenceOf<OctetStringAsn1>>(
+            alloc, row,
+        ),
         "asn1sequenceof-u8" => under_tags::<Asn1SequenceOf<u8>>(alloc, row),
         "asn1setof-u8" => under_tags::<Asn1SetOf<u8>>(alloc, row),
-        "octetstringasn1container-asn1sequenceof-u8" => at::<HeldNumbers>(alloc, row),
+        "octetstringasn1container-asn1sequenceof-u8" => in_each_way::<HeldNumbers>(alloc, row),
         "octetstringasn1container-octetstringasn1" => {
-            at::<OctetStringAsn1Container<OctetStringAsn1>>(alloc, row)
+            in_each_way::<OctetStringAsn1Container<OctetStringAsn1>>(alloc, row)
         }
-        "octetstringasn1container-u8" => at::<OctetStringAsn1Container<u8>>(alloc, row),
-        "holder" => at::<Holder>(alloc, row),
-        "stamp" => at::<Stamp>(alloc, row),
-        "ticket" => at::<Ticket>(alloc, row),
+        "octetstringasn1container-u8" => in_each_way::<OctetStringAsn1Container<u8>>(alloc, row),
+        "holder" => in_each_way::<Holder>(alloc, row),
+        "stamp" => in_each_way::<Stamp>(alloc, row),
+        "ticket" => in_each_way::<Ticket>(alloc, row),
         _ => return None,
     })
 }
