@@ -7,9 +7,10 @@ use std::io;
 use std::process::ExitCode;
 use thiserror::Error as ThisError;
 use x509_containers::{
-    AuthenticatedSafeContentInfo, CertificateBag, CrlBag, Error, ParsedAuthenticatedSafeDataRepr,
-    Pbes2EncryptionScheme, Pbes2KeyDerivationFunc, Pbes2Params, Pfx, Pkcs12EncryptionAlgorithm,
-    RawPfx, SafeBag, SafeBagKind, SafeContentsContentInfo, StdSource, from_bytes, read_all, to_vec,
+    AuthenticatedSafeContentInfo, BmpString, CertificateBag, CrlBag, Error,
+    ParsedAuthenticatedSafeDataRepr, Pbes2EncryptionScheme, Pbes2KeyDerivationFunc, Pbes2Params,
+    Pfx, Pkcs12EncryptionAlgorithm, RawPfx, SafeBag, SafeBagKind, SafeContentsContentInfo,
+    StdSource, from_bytes, read_all, to_vec,
 };
 
 /// Why a list ended.
@@ -68,19 +69,29 @@ fn kind_text(alloc: Global, kind: &SafeBagKind) -> Result<String, Error> {
     Ok(format!(in alloc; "{word}: {count} octets")?)
 }
 
+fn list_name(rt: &HostRuntime, name: &BmpString) -> Result<(), ListError> {
+    let text = name.to_text(rt.alloc())?;
+    println!(rt; "  friendly name: {text}")?;
+    Ok(())
+}
+
+fn list_key_id(rt: &HostRuntime, octets: &[u8]) -> Result<(), ListError> {
+    print!(rt; "  key identifier: ")?;
+    for octet in octets {
+        print!(rt; "{octet:02x}")?;
+    }
+    println!(rt)?;
+    Ok(())
+}
+
 fn list_bag(rt: &HostRuntime, bag: &SafeBag) -> Result<(), ListError> {
     let kind = kind_text(rt.alloc(), &bag.kind)?;
     println!(rt; "{kind}")?;
     if let Some(name) = bag.friendly_name() {
-        let text = name.to_text(rt.alloc())?;
-        println!(rt; "  friendly name: {text}")?;
+        list_name(rt, name)?;
     }
     if let Some(octets) = bag.local_key_id() {
-        print!(rt; "  key identifier: ")?;
-        for octet in octets {
-            print!(rt; "{octet:02x}")?;
-        }
-        println!(rt)?;
+        list_key_id(rt, octets)?;
     }
     Ok(())
 }

@@ -158,12 +158,17 @@ pub fn is_said_by_kind_within(
     is_told(alloc, row, checked, rewritten, out.as_slice())
 }
 
-/// What a check of a type says of an input in memory.
-type Check = fn(Global, &[u8]) -> Result<(bool, usize), Error>;
+/// Asks that each proper beginning of an accepted input is refused.
+fn is_whole<T: DerDeserialize>(alloc: Global, input: &[u8]) -> Result<(), Fail> {
+    for size in 0..input.len() {
+        let (outcome, headers) = from_bytes_counted::<T>(alloc, &input[..size]);
+        expect(outcome.is_err(), "a beginning")?;
+        expect(headers <= size / 2 + 1, "the headers of a beginning")?;
+    }
+    Ok(())
+}
 
 /// What is written of an input's value, which is nothing where it isn't well-formed, and how many headers are read.
-type Rewrite = fn(Global, &[u8]) -> (Result<Option<Vec<u8>>, Error>, usize);
-
 fn rewritten<T: DerDeserialize>(
     alloc: Global,
     input: &[u8],
@@ -182,39 +187,34 @@ fn rewritten<T: DerDeserialize>(
     }
 }
 
-/// Asks that each proper beginning of an accepted input is refused.
-fn is_whole(alloc: Global, rewrite: Rewrite, input: &[u8]) -> Result<(), Fail>
-    requires { IsAlwaysCallable rewrite }
-{
-    for size in 0..input.len() {
-        let (outcome, headers) = rewrite(alloc, &input[..size]);
-        expect(outcome.is_err(), "a beginning")?;
-        expect(headers <= size / 2 + 1, "the headers of a beginning")?;
+/// The encoding of a change of so many bytes, where it is accepted. Few headers are read of any.
+#[inline(never)]
+fn text_of(
+    outcome: Result<Option<Vec<u8>>, Error>,
+    headers: usize,
+    size: usize,
+) -> Result<Option<Vec<u8>>, Fail> {
+    expect(headers <= size / 2 + 1, "the headers of a change")?;
+    match outcome {
+        Ok(Some(text)) => {
+            expect(headers <= size / 2, "the headers of an accepted change")?;
+            Ok(Some(text))
+        }
+        Ok(None) => Err(Fail::new("a well-formed change")),
+        Err(Error::Memory) => Err(Fail::new("memory")),
+        Err(_) => Ok(None),
     }
-    Ok(())
 }
 
 /// Asks of an accepted input that the encoding of its value is normal, and of a refused one that few headers are read.
-fn reaches_an_end(alloc: Global, check: Check, rewrite: Rewrite, input: &[u8]) -> Result<(), Fail>
-    requires check { Check.IsAlwaysCallable check }
-    requires rewrite { Rewrite.IsAlwaysCallable rewrite }
-{
-    let (outcome, headers) = rewrite(alloc, input);
-    expect(headers <= input.len() / 2 + 1, "the headers of a change")?;
-    let text = match outcome {
-        Ok(text) => text,
-        Err(error) => return expect(error != Error::Memory, "memory"),
+fn reaches_an_end<T: DerDeserialize>(alloc: Global, input: &[u8]) -> Result<(), Fail> {
+    let (outcome, headers) = rewritten::<T>(alloc, input);
+    let Some(text) = text_of(outcome, headers, input.len())? else {
+        return Ok(());
     };
-    expect(
-        headers <= input.len() / 2,
-        "the headers of an accepted change",
-    )?;
-    let Some(text) = text else {
-        return Err(Fail::new("a well-formed change"));
-    };
-    let again = check(alloc, &text)?;
+    let again = check_as::<T>(alloc, &text)?;
     expect(again == (true, text.len()), "a fixed point")?;
-    let checked = check(alloc, input)?;
+    let checked = check_as::<T>(alloc, input)?;
     expect(
         checked == (text.as_slice() == input, text.len()),
         "a normal change",
@@ -222,15 +222,12 @@ fn reaches_an_end(alloc: Global, check: Check, rewrite: Rewrite, input: &[u8]) -
 }
 
 /// Asks of each change of one byte what `reaches_an_end` does.
-fn is_changed(alloc: Global, check: Check, rewrite: Rewrite, input: &[u8]) -> Result<(), Fail>
-    requires check { Check.IsAlwaysCallable check }
-    requires rewrite { Rewrite.IsAlwaysCallable rewrite }
-{
+fn is_changed<T: DerDeserialize>(alloc: Global, input: &[u8]) -> Result<(), Fail> {
     let mut changed = Vec::from_slice(alloc, input)?;
     for at in 0..changed.len() {
         for _ in 1..=255u8 {
             changed[at] = changed[at].wrapping_add(1);
-            reaches_an_end(alloc, check, rewrite, &changed)?;
+            reaches_an_end::<T>(alloc, &changed)?;
         }
         changed[at] = changed[at].wrapping_add(1);
     }
@@ -276,8 +273,8 @@ fn is_kept<T: DerDeserialize + SeenByText + TryClone + Debug>(
     let value: T = is_rewritten(alloc, &row.input, &row.text)?;
     is_shown(alloc, &value, row)?;
     if row.input.len() <= SHORT {
-        is_whole(alloc, rewritten::<T>, &row.input)?;
-        is_changed(alloc, check_as::<T>, rewritten::<T>, &row.input)?;
+        is_whole::<T>(alloc, &row.input)?;
+        is_changed::<T>(alloc, &row.input)?;
     }
     Ok(())
 }
