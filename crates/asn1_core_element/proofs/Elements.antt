@@ -43,6 +43,7 @@ module _ {old mid new : Position} {tag n : ℕ} {c : List ℕ} (h : TookHeader o
         beyond = t.beyond ∙ h.beyond;
         end = t.end ∙ h.end;
         headers = t.headers ∙ h.headers;
+        from_header = t.from_header ∙ h.from_header;
         refused = t.refused ∙ h.refused;
       }
 
@@ -58,5 +59,6 @@ opened tag {old} {mid} {new} {found} {n} {outer} h o e =
       outer_is = o.outer_is ∙ h.end;
       end = omega (arith, o.end, h.end, length-drop n mid.left, h.fits);
       headers = o.headers ∙ h.headers;
+      from_header = o.from_header ∙ h.from_header;
       refused = o.refused ∙ h.refused;
     }

@@ -4,6 +4,9 @@ use Rattle.std.proofs.lemmas.List.{drop-take, take_rest, drop-drop}
 use Rattle.asn1_core_element.specs.Element.{head, IsFront}
 use Rattle.asn1_core_element.specs.ElementLaws.{head_long}
 
+pub unread : (rest : List ℕ) (room : ℕ) → room ≤ length rest → length rest ≡ length (take room rest) + length (drop room rest)
+unread rest room within = omega (arith, within, length-take room rest, length-drop room rest)
+
 module _ (rest : List ℕ) (room tag n size : ℕ) (within : room ≤ length rest) (f : IsFront (take room rest) tag n size) where
   pub sizes : (2 ≤ size) × (size + n ≤ room)
   sizes = (omega (arith, f.size, head_long tag n), omega (arith, f.fits, length-take room rest))

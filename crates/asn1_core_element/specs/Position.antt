@@ -10,5 +10,7 @@ pub record Position : Type 0 where
   pub end : ℕ
   -- how many headers were read
   pub headers : ℕ
+  -- how many bytes of the input there are from the last header on, which was read or refused; before the first, all
+  pub from_header : ℕ
   -- a header, or the end of some contents, was refused
   pub refused : Bool

@@ -13,6 +13,7 @@ pub record TookHeader (old new : Position) (tag n : ℕ) : Type 0 where
   pub beyond : new.beyond ≡ old.beyond
   pub end : new.end ≡ old.end
   pub headers : new.headers ≡ old.headers + 1
+  pub from_header : new.from_header ≡ length old.left + length old.beyond
   pub refused : new.refused ≡ false
 
 -- no element begins the bytes that are left
@@ -21,6 +22,7 @@ pub record RefusedHeader (old new : Position) (e : Error) : Type 0 where
   pub memory : e ≢ Memory
   pub none : HasNoFront old.left
   pub headers : new.headers ≡ old.headers + 1
+  pub from_header : new.from_header ≡ length old.left + length old.beyond
   pub refused : new.refused ≡ true
 
 abbrev pub HeaderGives : Position → Position → Result (ℕ × ℕ) Error → Type 0
@@ -33,6 +35,7 @@ pub record TookContents (old new : Position) (n : ℕ) (contents : List ℕ) : T
   pub beyond : new.beyond ≡ old.beyond
   pub end : new.end ≡ old.end
   pub headers : new.headers ≡ old.headers
+  pub from_header : new.from_header ≡ old.from_header
   pub refused : new.refused ≡ old.refused
 
 -- an element was taken off the front, and these are its bytes
@@ -42,6 +45,7 @@ pub record TookWholeElement (old new : Position) (bytes : List ℕ) : Type 0 whe
   pub beyond : new.beyond ≡ old.beyond
   pub end : new.end ≡ old.end
   pub headers : new.headers ≡ old.headers + 1
+  pub from_header : new.from_header ≡ length old.left + length old.beyond
   pub refused : new.refused ≡ false
 
 abbrev pub WholeElementGives : {T : Type 0} → (T → List ℕ) → Position → Position → Result T Error → Type 0
@@ -54,6 +58,7 @@ pub record Opened (old new : Position) (n outer : ℕ) : Type 0 where
   pub beyond : new.beyond ≡ drop n old.left ++ old.beyond
   pub end : new.end + length old.left ≡ old.end + n
   pub headers : new.headers ≡ old.headers
+  pub from_header : new.from_header ≡ old.from_header
   pub refused : new.refused ≡ old.refused
 
 -- the open contents were read to their end, and those that end at outer are open
@@ -63,6 +68,7 @@ pub record Closed (old new : Position) (outer : ℕ) : Type 0 where
   pub beyond : new.beyond ≡ drop (outer - old.end) old.beyond
   pub end : new.end ≡ outer
   pub headers : new.headers ≡ old.headers
+  pub from_header : new.from_header ≡ old.from_header
   pub refused : new.refused ≡ false
 
 -- bytes are left in the open contents
@@ -71,6 +77,7 @@ pub record RefusedEnd (old new : Position) (e : Error) : Type 0 where
   pub memory : e ≢ Memory
   pub more : old.left ≢ []
   pub headers : new.headers ≡ old.headers
+  pub from_header : new.from_header ≡ old.from_header
   pub refused : new.refused ≡ true
 
 abbrev pub EndGives : Position → Position → ℕ → Result (Unit {0}) Error → Type 0
@@ -82,6 +89,7 @@ pub record TookElement (tag : ℕ) (old new : Position) (contents : List ℕ) : 
   pub beyond : new.beyond ≡ old.beyond
   pub end : new.end ≡ old.end
   pub headers : new.headers ≡ old.headers + 1
+  pub from_header : new.from_header ≡ length old.left + length old.beyond
   pub refused : new.refused ≡ false
 
 -- no element with that tag begins the bytes that are left
@@ -102,6 +110,7 @@ pub record OpenedElement (tag : ℕ) (old new : Position) (outer : ℕ) : Type 0
   pub outer_is : outer ≡ old.end
   pub end : new.end + length rest ≡ old.end
   pub headers : new.headers ≡ old.headers + 1
+  pub from_header : new.from_header ≡ length old.left + length old.beyond
   pub refused : new.refused ≡ false
 
 abbrev pub OpenGives : ℕ → Position → Position → Result ℕ Error → Type 0

@@ -28,14 +28,14 @@ impl<'a> Model for Reader<'a> {
 
     ghost Value = { Position };
 
-    ghost view = { λ r. record { left = take r.room r.rest.now; beyond = drop r.room r.rest.now; end = r.end; headers = r.headers; refused = r.refused } };
+    ghost view = { λ r. record { left = take r.room r.rest.now; beyond = drop r.room r.rest.now; end = r.end; headers = r.headers; from_header = r.from_header; refused = r.refused } };
 
     ghost invariant = { λ r. (r.room ≤ length r.rest.now) × (length r.rest.now ≤ r.from_header) × (2 * r.headers + r.room ≤ r.end + (if r.refused then 2 else 0)) };
 }
 
 impl<'a> Reader<'a> {
     pub fn new(input: &'a [u8]) -> Self
-        ensures { result ≡ record { left = input.now; beyond = []; end = length input.now; headers = 0; refused = false } }
+        ensures { result ≡ record { left = input.now; beyond = []; end = length input.now; headers = 0; from_header = length input.now; refused = false } }
     {
         Reader {
             rest: input,
@@ -156,7 +156,7 @@ impl<'a> Reader<'a> {
 
     /// How many bytes of the input there are from the header on that was read last, or refused; all before the first.
     pub fn from_header(&self) -> usize
-        ensures { length self.now.left + length self.now.beyond ≤ result }
+        ensures { result ≡ self.now.from_header }
     {
         self.from_header
     }

@@ -49,8 +49,9 @@ pub fn from_bytes_counted<T: DerDeserialize>(
 ///
 /// - `Malformed`: where an element should begin and none does, or where the bytes begin that are left over.
 /// - `Missing`: the end of the contents, or of the input, in which an element is missing.
-/// - `Invalid`: where the header begins that was read last: that of the element whose tag or contents are refused; of an
-///   element that holds too few or too many others, that of the last in it.
+/// - `Invalid`: where the header begins that was read last: that of the element whose tag or contents are refused. Of an
+///   element that holds too few or too many others, as a set of one value that has two, it is the header of the last of
+///   them that was read, which may be right itself.
 /// - `TooDeep`: where the element begins that is nested too deep.
 /// - `Memory`: how far the input was read.
 ///
@@ -80,7 +81,8 @@ pub fn from_bytes_located_limited<T: DerDeserialize>(
     }
 }
 
-/// Where in an input its reader was when it refused. No clause says that of readers, so the difference ends at 0.
+/// Where in an input its reader was when it refused. Readers promise nothing of their position then, so the difference
+/// ends at 0.
 fn place_of(input: &[u8], r: &Reader<'_>, error: Error) -> usize
     ensures { result ≤ length input.now }
 {

@@ -3,6 +3,7 @@ use Rattle.std.specs.Prelude.{◌≡◌, ◌↔◌, ◌≤◌, ℕ, Bool, List, 
 use Rattle.std.specs.Option.{is_none}
 use Rattle.std.proofs.Common.{refl}
 use Rattle.asn1_core_element.specs.declared.error.Error.{Error}
+use Rattle.asn1_core_element.specs.declared.error.Error.TheVariants.{TooLong}
 use Rattle.asn1_core_writers.specs.Comparing.{IsLongestEnd}
 use Rattle.der_engine.specs.Engine.{Rewriting, IsRefusal}
 use Rattle.der_engine.specs.Steps.{IsChecked, Checks}
@@ -19,8 +20,14 @@ pub record IsLocated (K : Rewriting) (b : List ℕ) (loose_end : Option ℕ) (si
   pub normal : (loose_end ≡ None) ↔ K.IsNormal b
   pub end : IfSome loose_end (λ n. IsLongestEnd text b n)
 
+-- why b has no verdict, and at which place; an encoding that is too long has none in the input
+pub record IsRefusedAt (K : Rewriting) (b : List ℕ) (e : Error) (place : ℕ) : Type 0 where
+  pub why : IsRefusal K b e
+  pub inside : place ≤ length b
+  pub too_long : e ≡ TooLong → place ≡ 0
+
 abbrev pub Locates : Rewriting → List ℕ → Result Verdict (Error × ℕ) → Type 0
-Locates K b r = MatchResult r (λ v. IsLocated K b v.loose_end v.encoding_len) (λ e. IsRefusal K b e.0 × (e.1 ≤ length b))
+Locates K b r = MatchResult r (λ v. IsLocated K b v.loose_end v.encoding_len) (λ e. IsRefusedAt K b e.0 e.1)
 
 -- without the places
 abbrev pub check_of : Result Verdict (Error × ℕ) → Result (Bool × ℕ) Error
@@ -53,8 +60,8 @@ located_checked K b v j =
 
 pub located_checks : (K : Rewriting) (b : List ℕ) (r : Result Verdict (Error × ℕ)) → Locates K b r → Checks K b (check_of r)
 located_checks K b (Ok v) j = located_checked K b v j
-located_checks K b (Err e) j = j.0
+located_checks K b (Err e) j = j.why
 
 pub located_ends : (K : Rewriting) (b : List ℕ) (r : Result Verdict (Error × ℕ)) → Locates K b r → FindsEnd K b (end_of r)
 located_ends K b (Ok v) j = (v.encoding_len, j)
-located_ends K b (Err e) j = j.0
+located_ends K b (Err e) j = j.why

@@ -40,8 +40,8 @@ impl RawSafeBag {
         self.bag_value.0.0.as_slice()
     }
 
-    /// The value as a `T`, with the errors of `from_bytes` on the bytes that `value` gives. The kind of the bag is not
-    /// examined.
+    /// The value as a `T`: what `from_bytes` gives of the bytes that `value` gives. Refused is what that refuses; which
+    /// error it is, is not proved, as of `from_bytes`. The kind of the bag is not examined.
     pub fn value_typed<T: DerDeserialize>(&self, alloc: Global) -> Result<T, Error>
         ensures { AnswersInput T.value T.format 64 self.now.bag_value.0.0.items result }
     {

@@ -1,5 +1,5 @@
 use Rattle.std.proofs.Common.{◌∙◌, ap, refl, arith, length-take, length-drop}
-use Rattle.asn1_core_element.proofs.Headers.{sizes, split_at_header, contents_fit, beyond_stays}
+use Rattle.asn1_core_element.proofs.Headers.{unread, sizes, split_at_header, contents_fit, beyond_stays}
 use Rattle.asn1_core_element.proofs.reader.Reader.header.Goals as goal
 
 pub invariant_of-self : goal.invariant_of-self
@@ -18,5 +18,6 @@ returns-in-Some c =
       beyond = beyond_stays i.rest.now i.room c.in-Some.tag c.in-Some.n c.in-Some.size c.self.invariant.0 c.in-Some.ensures.found;
       end = refl;
       headers = refl;
+      from_header = unread i.rest.now i.room c.self.invariant.0;
       refused = ap (λ p. p.refused) c.self.view_is ∙ c.requires;
     })
