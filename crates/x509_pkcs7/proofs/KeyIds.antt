@@ -18,12 +18,12 @@ use Rattle.x509_base.specs.declared.extensions.Extension.{Extension}
 use Rattle.x509_base.specs.declared.extensions.Extensions.{Extensions}
 use Rattle.x509_base.specs.declared.digests.SubjectKeyIdentifier.{SubjectKeyIdentifier}
 use Rattle.x509_pkcs7.specs.Heads.{CertificateValue, certificate}
-use Rattle.x509_pkcs7.specs.Matches.{IsNamedBy, IsSigners}
-use Rattle.x509_pkcs7.specs.KeyIdentifiers.{explicit_extensions, lawful_explicit_extensions, has_tag, subject_key_identifier_oid, rest_of, AreExtensionsOf, extension_with, IsKeyIdOf, HasNone, Answers}
+use Rattle.x509_pkcs7.specs.Matches.{IsNamedBy, NeedsExtensions, IsSigners}
+use Rattle.x509_pkcs7.specs.KeyIdentifiers.{explicit_extensions, lawful_explicit_extensions, has_tag, subject_key_identifier_oid, rest_of, AreExtensionsOf, extension_with, IsKeyIdOf, HasExtensions, HasNone, Answers}
 
 -- a `?` passes on why there is no answer
-pub gave_none : {T V : Type 0} (value : T → V) (P : V → Type 0) {r : Result T Error} {e : Error} → ((x : Error) × (r ≡ Err x) × (x ≡ e)) → HasNone P e → Answers value P r
-gave_none value P {r} {e} p h = subst (Answers value P) (sym p.1) (subst (HasNone P) (sym p.2) h)
+pub gave_none : {T V : Type 0} (value : T → V) (P : List ElementOctets → V → Type 0) (rest : List ElementOctets) {r : Result T Error} {e : Error} → ((x : Error) × (r ≡ Err x) × (x ≡ e)) → HasNone P rest e → Answers value P rest r
+gave_none value P rest {r} {e} p h = subst (Answers value P rest) (sym p.1) (subst (HasNone P rest) (sym p.2) h)
 
 some_same : {X : Type 0} {o : Option X} {a b : X} → o ≡ Some a → o ≡ Some b → a ≡ b
 some_same {X} {o} {a} {b} p q = let e : Some a ≡ Some b = sym p ∙ q in cc
@@ -43,8 +43,8 @@ module _ (rest : List ElementOctets) where
   none_read b c e f g h m None a = some_none f a
   none_read b c e f g h m (Some es) a = h.none m es (subst (λ x. explicit_extensions.Reads 64 x es) (some_same a.1 f ∙ sym g) a.2)
 
-  pub no_extensions : (b c : ElementOctets) (e : Error) → find (has_tag 0xA3) rest ≡ Some b → c ≡ b → HasNoValue explicit_extensions 64 c e → HasNone (AreExtensionsOf rest) e
-  no_extensions b c e f g h = record { kind = h.kind; none = none_read b c e f g h }
+  pub no_extensions : (b c : ElementOctets) (e : Error) → find (has_tag 0xA3) rest ≡ Some b → c ≡ b → HasNoValue explicit_extensions 64 c e → HasNone AreExtensionsOf rest e
+  no_extensions b c e f g h = record { there = some_none f; kind = h.kind; none = none_read b c e f g h }
 
   one_list : (xs ys : List ExtensionValue) → AreExtensionsOf rest (Some xs) → AreExtensionsOf rest (Some ys) → xs ≡ ys
   one_list xs ys p q = lawful_explicit_extensions.row.one_value 64 q.0 xs ys (subst (λ b. explicit_extensions.Reads 64 b xs) (some_same p.1 q.1) p.2) q.2
@@ -52,13 +52,13 @@ module _ (rest : List ElementOctets) where
   not_absent : (xs : List ExtensionValue) → AreExtensionsOf rest (Some xs) → AreExtensionsOf rest None → ⊥
   not_absent xs p n = some_none p.1 n
 
-  no_key_of_none : (e : Error) → HasNone (AreExtensionsOf rest) e → e ≢ Memory → (v : Option Octets) → IsKeyIdOf rest v → ⊥
+  no_key_of_none : (e : Error) → HasNone AreExtensionsOf rest e → e ≢ Memory → (v : Option Octets) → IsKeyIdOf rest v → ⊥
   no_key_of_none e h m None (inl a) = h.none m None a
   no_key_of_none e h m None (inr a) = h.none m (Some a.0) a.1
   no_key_of_none e h m (Some key) a = h.none m (Some a.0) a.1
 
-  pub no_key_without : (e : Error) → HasNone (AreExtensionsOf rest) e → HasNone (IsKeyIdOf rest) e
-  no_key_without e h = record { kind = h.kind; none = no_key_of_none e h }
+  pub no_key_without : (e : Error) → HasNone AreExtensionsOf rest e → HasNone IsKeyIdOf rest e
+  no_key_without e h = record { there = h.there; kind = h.kind; none = no_key_of_none e h }
 
   -- the extension with the key's identifier
   pub record IsKeyExtension (x : ExtensionValue) : Type 0 where
@@ -82,8 +82,8 @@ module _ (rest : List ElementOctets) where
     no_key_read e h m None (inr b) = some_none (same_first_one x k b.0 b.1) b.2
     no_key_read e h m (Some key) b = h.none m key (subst (λ y. octet_string.Reads 64 y key) (ap (λ y. y.1.1.0) (some_same b.3 (same_first_one x k b.0 b.1)) ∙ sym g) b.4)
 
-    pub no_key_in : (e : Error) → HasNoValue octet_string 64 c e → HasNone (IsKeyIdOf rest) e
-    no_key_in e h = record { kind = h.kind; none = no_key_read e h }
+    pub no_key_in : (e : Error) → HasNoValue octet_string 64 c e → HasNone IsKeyIdOf rest e
+    no_key_in e h = record { there = not_absent k.es k.are; kind = h.kind; none = no_key_read e h }
 
     pub key_in : (key : List ℕ) → octet_string.Reads 64 c key → IsKeyIdOf rest (Some key)
     key_in key r = (k.es, k.are, x, k.first, subst (λ y. octet_string.Reads 64 y key) g r)
@@ -105,21 +105,21 @@ module _ (rest : List ElementOctets) where
   no_own_key key n = (λ t. absurd (true≢false (sym t)), λ q. absurd (not_none key n q))
 
 -- nothing is the answer, or memory was refused
-pub not_it : (P : Type 0) (r : Result Bool Error) (e : Error) → (e ≢ Memory → P → ⊥) → MatchResult r (λ b. (b ≡ false) × (e ≢ Memory)) (λ x. x ≡ Memory) → MatchResult r (λ b. IsTrue b ↔ P) (λ x. x ≡ Memory)
-not_it P (Ok b) e n m = (λ t. absurd (true≢false (sym t ∙ m.0)), λ p. absurd (n m.1 p))
-not_it P (Err x) e n m = m
+not_it : (P : Type 0) (Q : Error → Type 0) (r : Result Bool Error) (e : Error) → (e ≢ Memory → P → ⊥) → Q Memory → MatchResult r (λ b. (b ≡ false) × (e ≢ Memory)) (λ x. (x ≡ Memory) × (e ≡ Memory)) → MatchResult r (λ b. IsTrue b ↔ P) Q
+not_it P Q (Ok b) e n q m = (λ t. absurd (true≢false (sym t ∙ m.0)), λ p. absurd (n m.1 p))
+not_it P Q (Err x) e n q m = subst Q (sym m.0) q
 
 -- a signer that names the identifier of a key
-pub named_by_key : (s : SignerIdentifier) (k : ImplicitContextTag0 SubjectKeyIdentifier) (v : CertificateValue) (r : Result Bool Error) → s ≡ By.SubjectKeyIdentifier k → MatchResult r (λ b. IsTrue b ↔ IsKeyIdOf (rest_of v) (Some k.0.0.0.items)) (λ e. e ≡ Memory) → MatchResult r (λ b. IsTrue b ↔ IsNamedBy (signer_id_value s) v) (λ e. e ≡ Memory)
-named_by_key s k v r e m = subst (λ x. MatchResult r (λ b. IsTrue b ↔ IsNamedBy (signer_id_value x) v) (λ y. y ≡ Memory)) (sym e) m
+pub named_by_key : (s : SignerIdentifier) (k : ImplicitContextTag0 SubjectKeyIdentifier) (v : CertificateValue) (r : Result Bool Error) → s ≡ By.SubjectKeyIdentifier k → MatchResult r (λ b. IsTrue b ↔ IsKeyIdOf (rest_of v) (Some k.0.0.0.items)) (λ e. (e ≡ Memory) × HasExtensions (rest_of v)) → MatchResult r (λ b. IsTrue b ↔ IsNamedBy (signer_id_value s) v) (λ e. (e ≡ Memory) × NeedsExtensions (signer_id_value s) v)
+named_by_key s k v r e m = subst (λ x. MatchResult r (λ b. IsTrue b ↔ IsNamedBy (signer_id_value x) v) (λ y. (y ≡ Memory) × NeedsExtensions (signer_id_value x) v)) (sym e) m
 
 -- an element that was read is a signer's where what was read is
-pub signers_if_named : (id : SignerIdValue) (b : List ℕ) (v : CertificateValue) (r : Result Bool Error) → IsValueOf certificate 64 b v → MatchResult r (λ t. IsTrue t ↔ IsNamedBy id v) (λ e. e ≡ Memory) → MatchResult r (λ t. IsTrue t ↔ IsSigners id b) (λ e. e ≡ Memory)
+pub signers_if_named : (id : SignerIdValue) (b : List ℕ) (v : CertificateValue) (r : Result Bool Error) → IsValueOf certificate 64 b v → MatchResult r (λ t. IsTrue t ↔ IsNamedBy id v) (λ e. (e ≡ Memory) × NeedsExtensions id v) → MatchResult r (λ t. IsTrue t ↔ IsSigners id b) (λ e. e ≡ Memory)
 signers_if_named id b v (Ok t) o m = (λ h. (v, o.reads, m.0 h), λ s. m.1 (subst (IsNamedBy id) (o.only s.0 s.1) s.2))
-signers_if_named id b v (Err e) o m = m
+signers_if_named id b v (Err e) o m = m.0
 
-pub not_signers : (id : SignerIdValue) (b : List ℕ) (r : Result Bool Error) (e : Error) → HasNoValue certificate 64 b e → MatchResult r (λ t. (t ≡ false) × (e ≢ Memory)) (λ x. x ≡ Memory) → MatchResult r (λ t. IsTrue t ↔ IsSigners id b) (λ x. x ≡ Memory)
-not_signers id b r e h m = not_it (IsSigners id b) r e (λ n s. h.none n s.0 s.1) m
+pub not_signers : (id : SignerIdValue) (b : List ℕ) (r : Result Bool Error) (e : Error) → HasNoValue certificate 64 b e → MatchResult r (λ t. (t ≡ false) × (e ≢ Memory)) (λ x. (x ≡ Memory) × (e ≡ Memory)) → MatchResult r (λ t. IsTrue t ↔ IsSigners id b) (λ x. x ≡ Memory)
+not_signers id b r e h m = not_it (IsSigners id b) (λ x. x ≡ Memory) r e (λ n s. h.none n s.0 s.1) refl m
 
-pub not_key : (rest : List ElementOctets) (key : Octets) (r : Result Bool Error) (e : Error) → HasNone (IsKeyIdOf rest) e → MatchResult r (λ t. (t ≡ false) × (e ≢ Memory)) (λ x. x ≡ Memory) → MatchResult r (λ t. IsTrue t ↔ IsKeyIdOf rest (Some key)) (λ x. x ≡ Memory)
-not_key rest key r e h m = not_it (IsKeyIdOf rest (Some key)) r e (λ n k. h.none n (Some key) k) m
+pub not_key : (rest : List ElementOctets) (key : Octets) (r : Result Bool Error) (e : Error) → HasNone IsKeyIdOf rest e → MatchResult r (λ t. (t ≡ false) × (e ≢ Memory)) (λ x. (x ≡ Memory) × (e ≡ Memory)) → MatchResult r (λ t. IsTrue t ↔ IsKeyIdOf rest (Some key)) (λ x. (x ≡ Memory) × HasExtensions rest)
+not_key rest key r e h m = not_it (IsKeyIdOf rest (Some key)) (λ x. (x ≡ Memory) × HasExtensions rest) r e (λ n k. h.none n (Some key) k) (refl, h.there) m

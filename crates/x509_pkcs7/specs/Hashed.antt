@@ -6,7 +6,6 @@ use Rattle.asn1_core.specs.Der.{element, head, IsElement, IsTagByte, Octets}
 use Rattle.asn1_core_element.specs.Element.{IsFront, HasNoFront}
 use Rattle.asn1_core_element.specs.ElementLaws.{head_cut}
 use Rattle.asn1_core_element.specs.declared.error.Error.{Error}
-use Rattle.asn1_core_element.specs.declared.error.Error.TheVariants.{Memory}
 use Rattle.asn1_core_writers.specs.Texts.{IsWriteError}
 use Rattle.pkcs7_content.specs.Contents.{ContentValues, content_values}
 
@@ -22,9 +21,10 @@ IsHashed None octets = octets ≡ None
 IsHashed (Some content) None = ⊥
 IsHashed (Some content) (Some octets) = AreContentsOf octets (content_values.text content)
 
--- why they aren't given: memory was refused, or the encoding of the content is too long
+-- why they aren't given: memory was refused, or the encoding of the content is too long. Of absent content no memory is
+-- asked for
 abbrev pub IsNotHashed : Option ContentValues → Error → Type 0
-IsNotHashed None e = e ≡ Memory
+IsNotHashed None e = ⊥
 IsNotHashed (Some content) e = IsWriteError (content_values.text content) e
 
 pub content_is_element : (content : ContentValues) → IsElement IsTagByte (content_values.text content)

@@ -43,10 +43,15 @@ abbrev pub IsKeyIdOf : List ElementOctets → Option Octets → Type 0
 IsKeyIdOf rest None = AreExtensionsOf rest None ⊎ ((es : List ExtensionValue) × AreExtensionsOf rest (Some es) × (extension_with subject_key_identifier_oid es ≡ None))
 IsKeyIdOf rest (Some key) = (es : List ExtensionValue) × AreExtensionsOf rest (Some es) × (e : ExtensionValue) × (extension_with subject_key_identifier_oid es ≡ Some e) × octet_string.Reads 64 e.1.1.0 key
 
--- why there is no answer: nothing is one, or memory was refused
-pub record HasNone {V : Type 0} (IsIt : V → Type 0) (e : Error) : Type 0 where
-  pub kind : e ≢ TooLong
-  pub none : e ≢ Memory → (v : V) → IsIt v → ⊥
+-- there is an element under [3]: without one there is nothing to read, and no memory is asked for
+abbrev pub HasExtensions : List ElementOctets → Type 0
+HasExtensions rest = find (has_tag 0xA3) rest ≢ None
 
-abbrev pub Answers : {T V : Type 0} → (T → V) → (V → Type 0) → Result T Error → Type 0
-Answers value IsIt r = MatchResult r (λ x. IsIt (value x)) (λ e. HasNone IsIt e)
+-- why there is no answer: nothing is one, or memory was refused; and only where there are extensions
+pub record HasNone {V : Type 0} (IsIt : List ElementOctets → V → Type 0) (rest : List ElementOctets) (e : Error) : Type 0 where
+  pub there : HasExtensions rest
+  pub kind : e ≢ TooLong
+  pub none : e ≢ Memory → (v : V) → IsIt rest v → ⊥
+
+abbrev pub Answers : {T V : Type 0} → (T → V) → (List ElementOctets → V → Type 0) → List ElementOctets → Result T Error → Type 0
+Answers value IsIt rest r = MatchResult r (λ x. IsIt rest (value x)) (λ e. HasNone IsIt rest e)

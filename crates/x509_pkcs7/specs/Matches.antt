@@ -5,12 +5,17 @@ use Rattle.asn1_core.specs.Der.{ElementOctets}
 use Rattle.pkcs7_signed.specs.Certificates.{CertificateValue as ChoiceValue}
 use Rattle.pkcs7_signed.specs.SignerParts.{SignerIdValue}
 use Rattle.x509_pkcs7.specs.Heads.{CertificateValue, certificate}
-use Rattle.x509_pkcs7.specs.KeyIdentifiers.{rest_of, IsKeyIdOf}
+use Rattle.x509_pkcs7.specs.KeyIdentifiers.{rest_of, IsKeyIdOf, HasExtensions}
 
 -- the certificate has that issuer and that serial number, or that identifier of its key
 abbrev pub IsNamedBy : SignerIdValue → CertificateValue → Type 0
 IsNamedBy (inl i) v = (v.0.1.1.1.0 ≡ i.0) × (v.0.1.0 ≡ i.1.0)
 IsNamedBy (inr key) v = IsKeyIdOf (rest_of v) (Some key)
+
+-- extensions have to be read to tell this, which takes memory: the signer names a key, and the certificate has them
+abbrev pub NeedsExtensions : SignerIdValue → CertificateValue → Type 0
+NeedsExtensions (inl i) v = ⊥
+NeedsExtensions (inr key) v = HasExtensions (rest_of v)
 
 -- the element is a certificate of which that is true
 abbrev pub IsSigners : SignerIdValue → ElementOctets → Type 0

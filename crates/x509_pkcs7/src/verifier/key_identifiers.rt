@@ -81,10 +81,10 @@ pub fn first_extension<'a>(extensions: &'a [Extension], oid: &[u8]) -> Option<&'
 }
 
 impl CertificateHead {
-    /// The extensions: those of the first element under `[3]`. `None` where there is no such element; one that holds
-    /// something else is refused, as `from_bytes` refuses it. Takes memory.
+    /// The extensions: those of the first element under `[3]`. `None` where there is no such element, which takes no
+    /// memory and is never refused; one that holds something else is refused, as `from_bytes` refuses it.
     pub fn extensions(&self, alloc: Global) -> Result<Option<Extensions>, Error>
-        ensures { Answers (option_value extensions_value) (AreExtensionsOf (rest_of (certificate_value self.now))) result }
+        ensures { Answers (option_value extensions_value) AreExtensionsOf (rest_of (certificate_value self.now)) result }
     {
         match first_tagged(&self.tbs_certificate.rest, 0xA3) {
             Some(element) => {
@@ -96,12 +96,13 @@ impl CertificateHead {
     }
 
     /// The identifier of the key, by which a signer may name its certificate: the value of the first extension
-    /// `subjectKeyIdentifier`. `None` where there is no such extension; a value that is no OCTET STRING is refused.
+    /// `subjectKeyIdentifier`. `None` where there is no such extension; a value that is no OCTET STRING is refused. A
+    /// certificate without extensions takes no memory and is never refused.
     pub fn subject_key_identifier(
         &self,
         alloc: Global,
     ) -> Result<Option<SubjectKeyIdentifier>, Error>
-        ensures { Answers (option_value (λ k. k.0.0.items)) (IsKeyIdOf (rest_of (certificate_value self.now))) result }
+        ensures { Answers (option_value (λ k. k.0.0.items)) IsKeyIdOf (rest_of (certificate_value self.now)) result }
     {
         let Some(extensions) = self.extensions(alloc)? else {
             return Ok(None);

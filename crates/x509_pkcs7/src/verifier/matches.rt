@@ -1,14 +1,14 @@
 //! Which certificate is a signer's (RFC 5652, 5.3).
 
-ghost use Rattle.std.specs.Prelude.{◌≡◌, ◌≢◌, ◌↔◌, IsTrue, Some, false, MatchResult, map};
+ghost use Rattle.std.specs.Prelude.{◌≡◌, ◌≢◌, ◌↔◌, IsTrue, Some, [], false, MatchResult, map};
 ghost use Rattle.std.proofs.Common.{inl};
 ghost use Rattle.asn1_core.specs.Der.{option_value};
 ghost use Rattle.asn1_core_element.specs.declared.error.Error.TheVariants.{Memory};
 ghost use Rattle.pkcs7_signed.specs.Certificates.{certificate_value as choice_value};
 ghost use Rattle.pkcs7_signed.specs.SignerParts.{issuer_serial_value, signer_id_value};
 ghost use Rattle.x509_pkcs7.specs.Heads.{certificate_value};
-ghost use Rattle.x509_pkcs7.specs.KeyIdentifiers.{rest_of, IsKeyIdOf};
-ghost use Rattle.x509_pkcs7.specs.Matches.{IsNamedBy, IsSigners, choice_octets, IsFirst};
+ghost use Rattle.x509_pkcs7.specs.KeyIdentifiers.{rest_of, IsKeyIdOf, HasExtensions};
+ghost use Rattle.x509_pkcs7.specs.Matches.{IsNamedBy, NeedsExtensions, IsSigners, choice_octets, IsFirst};
 
 use crate::verifier::heads::CertificateHead;
 use asn1_core::from_bytes;
@@ -34,9 +34,11 @@ fn is_same<T: EqualByText>(a: &T, b: &T) -> bool
     a == b
 }
 
-/// What is refused isn't what is looked for, unless memory was refused.
+/// What is refused isn't what is looked for, unless memory was refused: then, and only then, this refuses too.
 fn without_answer(error: Error) -> Result<bool, Error>
-    ensures { MatchResult result (λ b. (b ≡ false) × (error ≢ Memory)) (λ e. e ≡ Memory) }
+    ensures { MatchResult result
+        (λ b. (b ≡ false) × (error ≢ Memory))
+        (λ e. (e ≡ Memory) × (error ≡ Memory)) }
 {
     match error {
         Error::Memory => Err(Error::Memory),
@@ -46,11 +48,12 @@ fn without_answer(error: Error) -> Result<bool, Error>
 
 impl CertificateHead {
     /// Whether this is the certificate that a signer names: by issuer and serial number, or by the identifier of its key.
-    /// A certificate whose extensions aren't read has no such identifier. Refuses by `Memory` alone.
+    /// A certificate whose extensions aren't read has no such identifier. Refuses by `Memory` alone, and only where the
+    /// signer names a key and the certificate has extensions: all else takes no memory.
     pub fn is_named_by(&self, alloc: Global, signer: &SignerIdentifier) -> Result<bool, Error>
         ensures { MatchResult result
             (λ b. IsTrue b ↔ IsNamedBy (signer_id_value signer.now) (certificate_value self.now))
-            (λ e. e ≡ Memory) }
+            (λ e. (e ≡ Memory) × NeedsExtensions (signer_id_value signer.now) (certificate_value self.now)) }
     {
         match signer {
             SignerIdentifier::IssuerAndSerialNumber(named) => Ok(self.is_issued_as(named)),
@@ -66,11 +69,11 @@ impl CertificateHead {
         is_same(&tbs.issuer, &named.issuer) && is_same(&tbs.serial_number, &named.serial_number)
     }
 
-    /// Whether this is the identifier of the key.
+    /// Whether this is the identifier of the key. Without extensions it is none, and no memory is taken.
     fn has_key(&self, alloc: Global, key: &SubjectKeyIdentifier) -> Result<bool, Error>
         ensures { MatchResult result
             (λ b. IsTrue b ↔ IsKeyIdOf (rest_of (certificate_value self.now)) (Some key.now.0.0.items))
-            (λ e. e ≡ Memory) }
+            (λ e. (e ≡ Memory) × HasExtensions (rest_of (certificate_value self.now))) }
     {
         match self.subject_key_identifier(alloc) {
             Ok(Some(own)) => Ok(is_same(&own, key)),
@@ -93,7 +96,8 @@ fn is_signers(alloc: Global, element: &[u8], signer: &SignerIdentifier) -> Resul
 }
 
 /// The first of some certificates that a signer names, as an element. `None` where it names none of them. What isn't read
-/// as a certificate is passed over. Refuses by `Memory` alone.
+/// as a certificate is passed over. Refuses by `Memory` alone, and never where there are no certificates.
+#[tactic(auto, using(crate::proofs::NotEmpty::has_item))]
 pub fn signer_certificate<'a>(
     alloc: Global,
     certificates: &'a [CertificateChoices],
@@ -101,7 +105,7 @@ pub fn signer_certificate<'a>(
 ) -> Result<Option<&'a Asn1RawDer>, Error>
     ensures { MatchResult result
         (λ found. IsFirst (IsSigners (signer_id_value signer.now)) (map (λ c. choice_octets (choice_value c)) certificates.now) (option_value (λ e. e.now.0.items) found))
-        (λ e. e ≡ Memory) }
+        (λ e. (e ≡ Memory) × (certificates.now ≢ [])) }
 {
     for certificate in certificates {
         let element = certificate_element(certificate);

@@ -10,5 +10,5 @@ use Rattle.x509_pkcs7.proofs.verifier.heads.CertificateHead.extensions.Goals as 
 
 pub returns-in_err-found-in-Some : goal.returns-in_err-found-in-Some
 returns-in_err-found-in-Some c =
-    gave_none (option_value extensions_value) (AreExtensionsOf (rest_of (certificate_value c.args.self.now))) (err_from_is_err_and c.from_residual.result c.from_residual.ensures.1)
+    gave_none (option_value extensions_value) AreExtensionsOf (rest_of (certificate_value c.args.self.now)) (err_from_is_err_and c.from_residual.result c.from_residual.ensures.1)
     (no_extensions (rest_of (certificate_value c.args.self.now)) c.in-Some.element.now.0.items c.as_slice.result.now _ (ap (λ xs. find (has_tag 0xA3) (map (λ e. e.0.items) xs)) (sym c.deref.ensures.value) ∙ sym c.in-Some.ensures) c.as_slice.ensures.value c.in_err-found-in-Some.ensures)
