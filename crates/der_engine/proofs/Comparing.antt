@@ -1,5 +1,5 @@
 -- What a comparison tells.
-use Rattle.std.proofs.Common.{◌≡◌, ◌≢◌, ◌↔◌, ◌+◌, List, [], ◌++◌, ℕ, refl, ap, ◌∙◌, arith}
+use Rattle.std.proofs.Common.{◌≡◌, ◌≢◌, ◌↔◌, List, [], ◌++◌, ℕ, refl, ap, ◌∙◌, arith}
 use Rattle.std.specs.Prelude.{None, Some, Ok}
 use Rattle.asn1_core_format.specs.Format.{Format, IsLawful}
 use Rattle.asn1_core_format.specs.Whole.{IsValueOf}
