@@ -1,6 +1,7 @@
 //! One line of a tree: what begins some bytes, and whether what it holds has lines of its own.
 
-ghost use Rattle.std.specs.Prelude.{◌≡◌, ◌<◌, ◌≤◌, ◌+◌, length, IsSome, IsTrue};
+ghost use Rattle.std.specs.Prelude.{◌≡◌, ◌<◌, ◌≤◌, ◌+◌, ◌↔◌, length, IsSome, IsTrue};
+ghost use Rattle.std.specs.Option.{IsSomeAnd};
 ghost use Rattle.dertree.specs.Lines.{IsItem};
 
 use crate::tags::Tag;
@@ -47,25 +48,36 @@ pub struct Opening {
 }
 
 impl Opening {
+    ghost use Rattle.dertree.specs.Lines.{Opens, OpensOctets};
+
     /// Whether contents that begin at `start` have lines of their own.
     pub fn opens(self, tag: Option<u8>, contents: &[u8], start: usize) -> bool
-        ensures { IsTrue result → IsSome tag }
+        ensures some { IsTrue result → IsSome tag }
+        ensures opens { IsTrue result ↔ Opens self tag contents.now start }
     {
         match tag {
             None => false,
-            Some(OCTET_STRING) => match front(contents) {
-                Some((_, len, size)) => {
-                    self.opens_all && size + len == contents.len()
-                        || self.leads_into(contents, start)
-                }
-                None => false,
-            },
+            Some(OCTET_STRING) => self.opens_octets(contents, start),
             Some(tag) => Tag(tag).is_constructed() && !contents.is_empty(),
         }
     }
 
+    /// Whether contents of an octet string that begin at `start` have.
+    fn opens_octets(self, contents: &[u8], start: usize) -> bool
+        ensures { IsTrue result ↔ OpensOctets self contents.now start }
+    {
+        match front(contents) {
+            Some((_, len, size)) => {
+                self.opens_all && size + len == contents.len() || self.leads_into(contents, start)
+            }
+            None => false,
+        }
+    }
+
     /// Whether the place is in contents that begin at `start`, or at their end.
-    fn leads_into(self, contents: &[u8], start: usize) -> bool {
+    fn leads_into(self, contents: &[u8], start: usize) -> bool
+        ensures { IsTrue result ↔ IsSomeAnd self.place (λ p. (start ≤ p) × (p ≤ start + length contents.now)) }
+    {
         match self.place {
             Some(place) => start <= place && place - start <= contents.len(),
             None => false,

@@ -75,9 +75,12 @@ fn main(rt: HostRuntime) -> ExitCode {
         let _ = eprintln!(rt; "usage: dertree [--open] [KIND]");
         return ExitCode::from(2);
     };
-    let Ok(input) = read_all(rt.alloc(), &mut StdSource::new(rt.stdin())) else {
-        let _ = eprintln!(rt; "dertree: read failed");
-        return ExitCode::FAILURE;
+    let input = match read_all(rt.alloc(), &mut StdSource::new(rt.stdin())) {
+        Ok(input) => input,
+        Err(error) => {
+            let _ = eprintln!(rt; "dertree: {error}");
+            return ExitCode::FAILURE;
+        }
     };
     match show(&rt, asked, &input) {
         Ok(status) => ExitCode::from(status),

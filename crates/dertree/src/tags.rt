@@ -1,5 +1,7 @@
 //! Tags in the words of ASN.1 (ITU-T X.680, table 1).
 
+ghost use Rattle.std.specs.Prelude.{◌≡◌, ◌↔◌, ◌/◌, ◌%◌, IsTrue};
+
 use std::fmt;
 
 /// The type whose number this is in the universal class.
@@ -43,7 +45,9 @@ fn type_word(number: u8) -> Option<&'static str> {
 pub struct Tag(pub u8);
 
 impl Tag {
-    pub fn is_constructed(self) -> bool {
+    pub fn is_constructed(self) -> bool
+        ensures { IsTrue result ↔ (self.0 / 32 % 2 ≡ 1) }
+    {
         self.0 / 32 % 2 == 1
     }
 

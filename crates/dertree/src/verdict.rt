@@ -1,5 +1,7 @@
 //! What is said of an input of a kind.
 
+ghost use Rattle.std.specs.Prelude.{◌≡◌, ◌≢◌, ◌↔◌, IfSome, IsSome};
+ghost use Rattle.asn1_core_element.specs.declared.error.Error.TheVariants.{Memory, TooLong};
 ghost use Rattle.x509_containers.specs.Kinds.{rewriting_as};
 ghost use Rattle.dertree.specs.Verdicts.{Says};
 
@@ -64,6 +66,17 @@ pub fn judge(alloc: Global, kind: Kind, input: &[u8]) -> (Verdict, Option<usize>
                 Some(end),
             ),
         },
-        Err((error, place)) => (Verdict::Refused(error), Some(place)),
+        Err((error, place)) => (Verdict::Refused(error), place_of(error, place)),
+    }
+}
+
+/// Where a refusal is. An encoding that is too long and memory that was refused have no place in the input.
+fn place_of(error: Error, place: usize) -> Option<usize>
+    ensures somewhere { IsSome result ↔ (error ≢ TooLong) × (error ≢ Memory) }
+    ensures there { IfSome result (λ n. n ≡ place) }
+{
+    match error {
+        Error::TooLong | Error::Memory => None,
+        _ => Some(place),
     }
 }

@@ -1,6 +1,6 @@
 //! From an input to the lines of its tree, by a list of the contents that are open.
 
-ghost use Rattle.std.specs.Prelude.{◌≡◌, ◌<◌, ◌≤◌, length, IfOk, MatchOption};
+ghost use Rattle.std.specs.Prelude.{◌≡◌, ◌<◌, ◌≤◌, [], length, IfOk, MatchOption};
 ghost use Rattle.dertree.specs.Within.{IsWithin};
 
 use crate::lines::{Line, Opening, first_item};
@@ -21,11 +21,12 @@ pub struct Walk<'a> {
 }
 
 impl<'a> Walk<'a> {
-    ghost use Rattle.dertree.specs.Lines.{IsLine};
+    ghost use Rattle.dertree.specs.Lines.{IsLine, LeavesEnded, innermost};
 
     pub fn new(alloc: Global, input: &'a [u8], opening: Opening) -> Self
         ensures input { result.input.now ≡ input.now }
-        ensures start { result.at ≡ 0 }
+        ensures opening { result.opening ≡ opening }
+        ensures start { (result.at ≡ 0) × (result.ends.items ≡ []) }
     {
         Walk {
             input,
@@ -51,7 +52,10 @@ impl<'a> Walk<'a> {
     /// Goes out of all contents that end here, and answers where those end that are open then.
     fn innermost_end(&mut self) -> usize
         ensures input { self.new.input.now ≡ self.old.input.now }
+        ensures opening { self.new.opening ≡ self.old.opening }
         ensures at { self.new.at ≡ self.old.at }
+        ensures leaves { LeavesEnded self.old.ends.items self.old.at self.new.ends.items }
+        ensures end { result ≡ innermost self.old.input.now self.new.ends.items }
         ensures fits { result ≤ length self.old.input.now }
         ensures later { self.old.at < length self.old.input.now → self.old.at < result }
     {
@@ -69,8 +73,10 @@ impl<'a> Walk<'a> {
     /// The next line. `None` at the end of the input.
     pub fn next(&mut self) -> Result<Option<Line<'a>>, AllocError>
         ensures input { self.new.input.now ≡ self.old.input.now }
+        ensures opening { self.new.opening ≡ self.old.opening }
         ensures line { IfOk result (λ o. MatchOption o (self.old.at ≡ length self.old.input.now)
-            (λ line. IsLine self.old.input.now self.old.at self.new.at line)) }
+            (λ line. IsLine self.old.input.now self.old.opening
+            self.old.ends.items self.old.at self.new.ends.items self.new.at line)) }
     {
         if self.at == self.input.len() {
             return Ok(None);
