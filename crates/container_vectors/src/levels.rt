@@ -1,10 +1,45 @@
-//! Bags in bags that are built: their encodings and levels.
+//! Values inside one another that are built: their encodings and levels.
 
-use asn1_core::{DerSerialize, Error, TryClone, from_bytes, to_vec};
+use asn1_core::{
+    Asn1SetOf, DerDeserialize, Error, ObjectIdentifier, ObjectIdentifierAsn1, Optional, SeenByText,
+    TryClone, from_bytes, to_vec,
+};
 use std::alloc::Global;
 use std::test::Fail;
 use vector_checks::checks::expect;
-use x509_containers::{SafeBag, SafeBagKind, SafeContents};
+use x509_containers::{
+    SafeBag, SafeBagKind, SafeContents, SignerInfo, UnsignedAttribute, UnsignedAttributeValue,
+    UnsignedAttributes,
+};
+
+/// Asks of a value of so many levels that it is well-formed at these and at no fewer.
+fn is_well_formed<T: DerDeserialize>(value: &T, levels: u8) -> Result<(), Fail> {
+    expect(value.well_formed() == (levels <= 64), "what is well-formed")?;
+    expect(value.well_formed_at(levels), "it has more levels")?;
+    match levels.checked_sub(1) {
+        Some(fewer) => expect(!value.well_formed_at(fewer), "it has fewer levels"),
+        None => Ok(()),
+    }
+}
+
+/// Asks besides for the size of its encoding, that it is cloned, and that up to 64 levels are read.
+fn has_levels<T: DerDeserialize + SeenByText + TryClone>(
+    alloc: Global,
+    value: &T,
+    levels: u8,
+    size: usize,
+) -> Result<(), Fail> {
+    is_well_formed(value, levels)?;
+    expect(value.encoded_len()? == size, "another length")?;
+    expect(value.try_clone(alloc)? == *value, "another clone")?;
+    let text = to_vec(alloc, value)?;
+    expect(text.len() == size, "another size")?;
+    let outcome: Result<T, Error> = from_bytes(alloc, &text);
+    if levels <= 64 {
+        return expect(outcome? == *value, "another value is read");
+    }
+    expect(outcome.err() == Some(Error::TooDeep), "another refusal")
+}
 
 /// Empty contents in that many bags of kind SafeContents.
 fn nested(alloc: Global, levels: u8) -> Result<SafeContents, Error> {
@@ -20,44 +55,62 @@ fn nested(alloc: Global, levels: u8) -> Result<SafeContents, Error> {
     Ok(contents)
 }
 
-/// Asks that it is cloned, and holds so many bags.
-fn is_kept(alloc: Global, contents: &SafeContents, levels: u8) -> Result<(), Fail> {
-    let clone = contents.try_clone(alloc)?;
-    expect(clone == *contents, "another clone")?;
-    let bags = clone.all_bags(alloc)?;
-    expect(bags.len() == usize::from(levels), "other bags")
-}
-
-/// Asks for a size of the encoding, and which refusal it meets.
-fn is_read(
-    alloc: Global,
-    contents: &SafeContents,
-    size: usize,
-    refused: Option<Error>,
-) -> Result<(), Fail> {
-    let text = to_vec(alloc, contents)?;
-    expect(text.len() == size, "another size")?;
-    let again = from_bytes::<SafeContents>(alloc, &text).err();
-    expect(again == refused, "another refusal")
-}
-
 /// Values of any number of levels are written and cloned, and up to 64 levels are read.
 #[test]
-fn built_levels(rt: HostRuntime) -> Result<(), Fail> {
-    let deep = Some(Error::TooDeep);
-    for (levels, size, refused) in [
-        (1u8, 21, None),
-        (64, 1546, None),
-        (65, 1571, deep),
-        (200, 4946, deep),
-    ] {
+fn levels_of_bags(rt: HostRuntime) -> Result<(), Fail> {
+    for (levels, size) in [(0u8, 2), (1, 21), (64, 1546), (65, 1571), (200, 4946)] {
         let contents = nested(rt.alloc(), levels)?;
-        expect(
-            contents.well_formed() == refused.is_none(),
-            "what is well-formed",
-        )?;
-        is_kept(rt.alloc(), &contents, levels)?;
-        is_read(rt.alloc(), &contents, size, refused)?;
+        has_levels(rt.alloc(), &contents, levels, size)?;
+        let bags = contents.all_bags(rt.alloc())?;
+        expect(bags.len() == usize::from(levels), "other bags")?;
+    }
+    Ok(())
+}
+
+/// A signer by a key identifier of no octets.
+const SIGNER: &[u8] = b"\
+    \x30\x15\x02\x01\x01\x80\x00\x30\x05\x06\x03\x2A\x03\x04\x30\x05\x06\x03\x2A\x03\x04\x04\x00";
+
+/// The object identifier of counter signatures (RFC 5652, 11.4).
+const COUNTER_SIGNATURE: &[u8] = b"\x2A\x86\x48\x86\xF7\x0D\x01\x09\x06";
+
+/// An attribute with one counter signature.
+fn attribute_of(alloc: Global, signer: SignerInfo) -> Result<UnsignedAttribute, Error> {
+    let mut signers = Vec::new(alloc);
+    signers.push(signer)?;
+    let ty = ObjectIdentifier::from_octets(alloc, COUNTER_SIGNATURE)?;
+    Ok(UnsignedAttribute {
+        ty: ObjectIdentifierAsn1(ty),
+        value: UnsignedAttributeValue::CounterSign(Asn1SetOf(signers)),
+    })
+}
+
+/// A signer with that counter signature.
+fn countersigned(alloc: Global, inner: SignerInfo) -> Result<SignerInfo, Error> {
+    let mut attributes = Vec::new(alloc);
+    attributes.push(attribute_of(alloc, inner)?)?;
+    let mut signer: SignerInfo = from_bytes(alloc, SIGNER)?;
+    signer.unsigned_attrs = Optional(UnsignedAttributes(attributes));
+    Ok(signer)
+}
+
+/// A signer with that many counter signatures inside one another.
+fn with_levels(alloc: Global, levels: u8) -> Result<SignerInfo, Error> {
+    let mut signer = from_bytes(alloc, SIGNER)?;
+    for _ in 0..levels {
+        signer = countersigned(alloc, signer)?;
+    }
+    Ok(signer)
+}
+
+/// Around a counter signature, a level has the 21 octets of a signer, the 11 of the attribute's type, and four headers:
+/// those of the set in the attribute, of the attribute, of the set of attributes, and of the signer. A header has 2
+/// octets, 3 where its contents have 128 or more, and 4 where they have 256 or more.
+#[test]
+fn levels_of_counter_signatures(rt: HostRuntime) -> Result<(), Fail> {
+    for (levels, size) in [(0u8, 23), (1, 63), (64, 3061), (65, 3109), (200, 9589)] {
+        let signer = with_levels(rt.alloc(), levels)?;
+        has_levels(rt.alloc(), &signer, levels, size)?;
     }
     Ok(())
 }

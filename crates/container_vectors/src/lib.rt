@@ -9,6 +9,10 @@ mod attributes;
 #[cfg(test)]
 mod authenticode;
 #[cfg(test)]
+mod built_signed;
+#[cfg(test)]
+mod built_stores;
+#[cfg(test)]
 mod errors;
 #[cfg(test)]
 mod key_stores;
@@ -16,6 +20,8 @@ mod key_stores;
 mod large;
 #[cfg(test)]
 mod levels;
+#[cfg(test)]
+mod mac_inputs;
 #[cfg(test)]
 mod octets_repr;
 #[cfg(test)]
@@ -30,6 +36,10 @@ mod representations;
 mod runs;
 #[cfg(test)]
 mod signers;
+#[cfg(test)]
+mod sinks;
+#[cfg(test)]
+mod spc_strings;
 #[cfg(test)]
 mod times;
 #[cfg(test)]
