@@ -9,13 +9,25 @@ mod attributes;
 #[cfg(test)]
 mod authenticode;
 #[cfg(test)]
+mod bags;
+#[cfg(test)]
 mod built_signed;
 #[cfg(test)]
 mod built_stores;
 #[cfg(test)]
+mod certificate_heads;
+#[cfg(test)]
+mod constructors;
+#[cfg(test)]
+mod contents_as;
+#[cfg(test)]
 mod errors;
 #[cfg(test)]
 mod key_stores;
+#[cfg(test)]
+mod kinds;
+#[cfg(test)]
+mod known_algorithms;
 #[cfg(test)]
 mod large;
 #[cfg(test)]
@@ -23,11 +35,19 @@ mod levels;
 #[cfg(test)]
 mod mac_inputs;
 #[cfg(test)]
+mod moments;
+#[cfg(test)]
+mod object_identifiers;
+#[cfg(test)]
 mod octets_repr;
+#[cfg(test)]
+mod parts;
 #[cfg(test)]
 mod places;
 #[cfg(test)]
 mod program;
+#[cfg(test)]
+mod readers;
 #[cfg(test)]
 mod recipients;
 #[cfg(test)]
@@ -40,6 +60,8 @@ mod signers;
 mod sinks;
 #[cfg(test)]
 mod spc_strings;
+#[cfg(test)]
+mod strings;
 #[cfg(test)]
 mod times;
 #[cfg(test)]
