@@ -1,16 +1,16 @@
-//! Values made from others.
+//! Values made from others, call by call.
 
-use crate::rounds::{Stop, expect, has_text, is_made, is_written};
+use crate::rounds::{Stop, expect, has_text, is_made, is_written, names};
 use crate::texts;
 use std::alloc::Global;
 use x509_containers::prelude::ReadRow;
 use x509_containers::{
     Asn1SetOf, BitString, BitStringAsn1, BmpString, CertificateSet, CmsVersion, ContentInfo,
-    DigestAlgorithmIdentifiers, EncapsulatedContentInfo, Error, ExplicitContextTag0, MAX_NESTING,
-    ObjectIdentifier, ObjectIdentifierAsn1, OctetStringAsn1, Optional,
+    DigestAlgorithmIdentifiers, EncapsulatedContentInfo, Error, ExplicitContextTag0, File,
+    MAX_NESTING, ObjectIdentifier, ObjectIdentifierAsn1, OctetStringAsn1, Optional,
     ParsedAuthenticatedSafeDataRepr, Pbes1AlgorithmKind, Pbes2AesCbcEncryption, Pbkdf2Prf, Pfx,
     Pkcs7Certificate, Pkcs12DigestAlgorithm, Reader, SafeBag, SignedData, SignersInfos, SpcLink,
-    SpcPeImageFlags, SpcSerializedObject, SpcString, TryClone, from_bytes, mac_range,
+    SpcPeImageFlags, SpcSerializedObject, SpcString, SpcUuid, TryClone, from_bytes, mac_range,
 };
 
 /// Dotted texts and the contents octets of their object identifiers (X.660; X.690, 8.19).
@@ -25,12 +25,14 @@ const OBJECTS: [(&str, &[u8]); 4] = [
 ];
 
 /// Object identifiers, from octets and text, and to text.
-pub fn of_objects(alloc: Global) -> Result<(), Stop> {
+pub fn of_objects(rt: &HostRuntime) -> Result<(), Stop> {
     for (dotted, octets) in OBJECTS {
-        has_octets(&ObjectIdentifier::from_octets(alloc, octets)?, octets)?;
-        let oid = ObjectIdentifier::from_text(alloc, dotted)?;
+        names(rt, "ObjectIdentifier::from_octets", dotted)?;
+        has_octets(&ObjectIdentifier::from_octets(rt.alloc(), octets)?, octets)?;
+        names(rt, "ObjectIdentifier::from_text", dotted)?;
+        let oid = ObjectIdentifier::from_text(rt.alloc(), dotted)?;
         has_octets(&oid, octets)?;
-        is_dotted(alloc, &oid, dotted, octets)?;
+        is_dotted(rt, &oid, dotted, octets)?;
     }
     Ok(())
 }
@@ -41,22 +43,25 @@ fn has_octets(oid: &ObjectIdentifier, octets: &[u8]) -> Result<(), Stop> {
 
 /// Asks for the text of the object identifier, which stays as it was where memory is refused.
 fn is_dotted(
-    alloc: Global,
+    rt: &HostRuntime,
     oid: &ObjectIdentifier,
     dotted: &str,
     octets: &[u8],
 ) -> Result<(), Stop> {
-    let text = oid.to_text(alloc);
+    names(rt, "ObjectIdentifier::to_text", dotted)?;
+    let text = oid.to_text(rt.alloc());
     has_octets(oid, octets)?;
     expect(text?.as_str() == dotted, "the text of an object identifier")
 }
 
 /// Kinds of encryption as object identifiers, by their clones, which rows copy.
-pub fn of_encryptions(alloc: Global) -> Result<(), Stop> {
+pub fn of_encryptions(rt: &HostRuntime) -> Result<(), Stop> {
+    let alloc = rt.alloc();
     for (kind, octets) in [
         (Pbes1AlgorithmKind::ShaAnd3Key3DesCbc, texts::TRIPLE_DES),
         (Pbes1AlgorithmKind::ShaAnd40BitRc2Cbc, texts::RC2_40),
     ] {
+        names(rt, "Pbes1AlgorithmKind::to_oid", kind.name())?;
         let oid = kind.try_clone(alloc)?.to_oid(alloc)?;
         expect(oid.octets() == octets, "an object identifier of PBES1")?;
     }
@@ -65,14 +70,15 @@ pub fn of_encryptions(alloc: Global) -> Result<(), Stop> {
         (Pbes2AesCbcEncryption::Aes192, texts::AES_192),
         (Pbes2AesCbcEncryption::Aes256, texts::AES_256),
     ] {
+        names(rt, "Pbes2AesCbcEncryption::to_oid", kind.name())?;
         let oid = kind.try_clone(alloc)?.to_oid(alloc)?;
         expect(oid.octets() == octets, "an object identifier of PBES2")?;
     }
     Ok(())
 }
 
-/// Known digests and pseudorandom functions as algorithm identifiers.
-pub fn of_algorithms(alloc: Global) -> Result<(), Stop> {
+/// Known digests as algorithm identifiers.
+pub fn of_digests(rt: &HostRuntime) -> Result<(), Stop> {
     for (known, text) in [
         (Pkcs12DigestAlgorithm::Sha1, texts::SHA_1),
         (Pkcs12DigestAlgorithm::Sha224, texts::SHA_224),
@@ -80,8 +86,14 @@ pub fn of_algorithms(alloc: Global) -> Result<(), Stop> {
         (Pkcs12DigestAlgorithm::Sha384, texts::SHA_384),
         (Pkcs12DigestAlgorithm::Sha512, texts::SHA_512),
     ] {
-        is_made(known.into_raw(alloc), text)?;
+        names(rt, "Pkcs12DigestAlgorithm::into_raw", known.name())?;
+        is_made(known.into_raw(rt.alloc()), text)?;
     }
+    Ok(())
+}
+
+/// Known pseudorandom functions as algorithm identifiers.
+pub fn of_functions(rt: &HostRuntime) -> Result<(), Stop> {
     for (known, text) in [
         (Pbkdf2Prf::HmacWithSha1, texts::HMAC_WITH_SHA_1),
         (Pbkdf2Prf::HmacWithSha224, texts::HMAC_WITH_SHA_224),
@@ -89,38 +101,62 @@ pub fn of_algorithms(alloc: Global) -> Result<(), Stop> {
         (Pbkdf2Prf::HmacWithSha384, texts::HMAC_WITH_SHA_384),
         (Pbkdf2Prf::HmacWithSha512, texts::HMAC_WITH_SHA_512),
     ] {
-        is_made(known.into_raw(alloc), text)?;
+        names(rt, "Pbkdf2Prf::into_raw", known.name())?;
+        is_made(known.into_raw(rt.alloc()), text)?;
     }
     Ok(())
 }
 
-/// Defaults and strings of Authenticode.
-pub fn of_authenticode(alloc: Global) -> Result<(), Stop> {
-    is_made(SpcLink::default_in(alloc), texts::OBSOLETE_FILE)?;
-    is_made(SpcSerializedObject::default_in(alloc), texts::PAGE_HASHES)?;
-    is_made(SpcPeImageFlags::default_in(alloc), b"\x03\x02\x05\x80")?;
-    let text = String::from_str(alloc, "A\u{263A}")?;
-    has_text(
-        &SpcString::try_from_string(alloc, text)?,
-        b"\x80\x04\x00A\x26\x3A",
+/// Defaults of Authenticode.
+pub fn of_defaults(rt: &HostRuntime) -> Result<(), Stop> {
+    names(rt, "default_in", "SpcLink")?;
+    is_made(SpcLink::default_in(rt.alloc()), texts::OBSOLETE_FILE)?;
+    names(rt, "default_in", "File")?;
+    is_made(File::default_in(rt.alloc()), texts::OBSOLETE_FILE)?;
+    names(rt, "default_in", "SpcSerializedObject")?;
+    is_made(
+        SpcSerializedObject::default_in(rt.alloc()),
+        texts::PAGE_HASHES,
     )?;
-    let bits = BitStringAsn1(BitString::with_len(alloc, 12)?);
+    names(rt, "default_in", "SpcUuid")?;
+    is_made(SpcUuid::default_in(rt.alloc()), texts::PAGE_CLASS)?;
+    names(rt, "default_in", "SpcPeImageFlags")?;
+    is_made(SpcPeImageFlags::default_in(rt.alloc()), b"\x03\x02\x05\x80")
+}
+
+/// A text as a string of Authenticode, and bits that are 0.
+pub fn of_strings(rt: &HostRuntime) -> Result<(), Stop> {
+    names(rt, "String::from_str", "A☺")?;
+    let text = String::from_str(rt.alloc(), "A☺")?;
+    names(rt, "SpcString::try_from_string", "A☺")?;
+    let string = SpcString::try_from_string(rt.alloc(), text)?;
+    has_text(&string, b"\x80\x04\x00A\x26\x3A")?;
+    names(rt, "BitString::with_len", "12 bits")?;
+    let bits = BitStringAsn1(BitString::with_len(rt.alloc(), 12)?);
     has_text(&bits, b"\x03\x03\x04\x00\x00")
 }
 
-/// Content, made and read as a type.
-pub fn of_contents(alloc: Global) -> Result<(), Stop> {
+/// Data as content, of no octets and of two.
+pub fn of_data(rt: &HostRuntime) -> Result<(), Stop> {
+    names(rt, "EncapsulatedContentInfo::new_pkcs7_data", "no octets")?;
     is_made(
-        EncapsulatedContentInfo::new_pkcs7_data(alloc, None),
+        EncapsulatedContentInfo::new_pkcs7_data(rt.alloc(), None),
         texts::NO_DATA,
     )?;
-    let octets = Vec::from_slice(alloc, b"\x30\x00")?;
+    names(rt, "Vec::from_slice", "two octets")?;
+    let octets = Vec::from_slice(rt.alloc(), b"\x30\x00")?;
+    names(rt, "EncapsulatedContentInfo::new_pkcs7_data", "two octets")?;
     is_made(
-        EncapsulatedContentInfo::new_pkcs7_data(alloc, Some(octets)),
+        EncapsulatedContentInfo::new_pkcs7_data(rt.alloc(), Some(octets)),
         texts::CONTENT,
-    )?;
-    let info: ContentInfo = is_written(alloc, texts::CONTENT, texts::CONTENT)?;
-    let outcome = info.content_typed::<OctetStringAsn1>(alloc);
+    )
+}
+
+/// Content, read as a type.
+pub fn of_contents(rt: &HostRuntime) -> Result<(), Stop> {
+    let info: ContentInfo = is_written(rt, "ContentInfo", texts::CONTENT, texts::CONTENT)?;
+    names(rt, "ContentInfo::content_typed", "OctetStringAsn1")?;
+    let outcome = info.content_typed::<OctetStringAsn1>(rt.alloc());
     has_text(&info, texts::CONTENT)?;
     has_text(&outcome?, b"\x04\x02\x30\x00")
 }
@@ -142,13 +178,15 @@ fn bundle_of(alloc: Global, certificates: &[u8]) -> Result<Pkcs7Certificate, Err
 }
 
 /// Signed data made by fields: what docs/USING.md quotes.
-pub fn of_certificates(alloc: Global) -> Result<(), Stop> {
-    is_made(bundle_of(alloc, texts::CERTIFICATES), texts::BUNDLE)
+pub fn of_certificates(rt: &HostRuntime) -> Result<(), Stop> {
+    names(rt, "read_row, from_text and new_pkcs7_data", "signed data")?;
+    is_made(bundle_of(rt.alloc(), texts::CERTIFICATES), texts::BUNDLE)
 }
 
 /// Which octets of a file its MAC covers.
-pub fn of_ranges(alloc: Global) -> Result<(), Stop> {
-    let Some(range) = mac_range(alloc, texts::NAMED_KEY)? else {
+pub fn of_ranges(rt: &HostRuntime) -> Result<(), Stop> {
+    names(rt, "mac_range", "Pfx")?;
+    let Some(range) = mac_range(rt.alloc(), texts::NAMED_KEY)? else {
         return Err(Stop::Other("a file has nothing that a MAC covers"));
     };
     expect(
@@ -165,28 +203,32 @@ fn is_named(bags: &[&SafeBag], name: &BmpString) -> bool {
 }
 
 /// The text of a name, which stays as it was where memory is refused.
-fn is_text_of(alloc: Global, name: &BmpString, bags: &[&SafeBag]) -> Result<(), Stop> {
-    let text = name.to_text(alloc);
+fn is_text_of(rt: &HostRuntime, name: &BmpString, bags: &[&SafeBag]) -> Result<(), Stop> {
+    names(rt, "BmpString::to_text", "AB")?;
+    let text = name.to_text(rt.alloc());
     expect(is_named(bags, name), "a borrowed name")?;
     expect(text?.as_str() == "AB", "the text of a name")
 }
 
 /// Asks for all bags of the file, which stays as it was where memory is refused, and for their names.
 fn has_bags(
-    alloc: Global,
+    rt: &HostRuntime,
     pfx: &Pfx<ParsedAuthenticatedSafeDataRepr>,
     name: &BmpString,
 ) -> Result<(), Stop> {
-    let outcome = pfx.all_bags(alloc);
+    names(rt, "all_bags", "Pfx")?;
+    let outcome = pfx.all_bags(rt.alloc());
     has_text(pfx, texts::NAMED_KEY)?;
     let bags = outcome?;
     expect(is_named(&bags, name), "a file has other bags")?;
-    is_text_of(alloc, name, &bags)
+    is_text_of(rt, name, &bags)
 }
 
 /// All bags of a file, and their names, from text and to text.
-pub fn of_bags(alloc: Global) -> Result<(), Stop> {
-    let name = BmpString::from_text(alloc, "AB")?;
-    let pfx: Pfx<ParsedAuthenticatedSafeDataRepr> = from_bytes(alloc, texts::NAMED_KEY)?;
-    has_bags(alloc, &pfx, &name)
+pub fn of_bags(rt: &HostRuntime) -> Result<(), Stop> {
+    names(rt, "BmpString::from_text", "AB")?;
+    let name = BmpString::from_text(rt.alloc(), "AB")?;
+    names(rt, "from_bytes", "Pfx")?;
+    let pfx: Pfx<ParsedAuthenticatedSafeDataRepr> = from_bytes(rt.alloc(), texts::NAMED_KEY)?;
+    has_bags(rt, &pfx, &name)
 }

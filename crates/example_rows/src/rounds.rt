@@ -1,8 +1,8 @@
-//! Reading, writing and cloning.
+//! Reading, writing and cloning, call by call: each is named before it is made.
 
 use crate::texts;
 use asn1_core_writers::Compare;
-use std::alloc::{AllocError, Global};
+use std::alloc::AllocError;
 use x509_containers::{
     DerDeserialize, DerSerialize, Error, GeneralProtectionDescriptor, MacData,
     ParsedAuthenticatedSafeDataRepr, Pfx, Pkcs12Attribute, RawPfx, SignedData, SpcPeImageData,
@@ -52,6 +52,14 @@ pub fn expect(holds: bool, what: &'static str) -> Result<(), Stop> {
     }
 }
 
+/// Prints the name of the call that is made next, and of what. Takes no memory.
+pub fn names(rt: &HostRuntime, call: &str, of: &str) -> Result<(), Stop> {
+    match println!(rt; "{call} of {of}") {
+        Ok(()) => Ok(()),
+        Err(_) => Err(Stop::Other("a name isn't printed")),
+    }
+}
+
 /// Checks, without memory, that the encoding of the value is this one.
 pub fn has_text<T: DerSerialize>(value: &T, text: &[u8]) -> Result<(), Stop> {
     let mut compare = Compare::new(text);
@@ -65,9 +73,16 @@ pub fn is_made<T: DerDeserialize>(made: Result<T, Error>, text: &[u8]) -> Result
 }
 
 /// Checks that the value is appended to a buffer, and that a refusal leaves both as they were.
-fn is_appended<T: DerSerialize>(alloc: Global, value: &T, text: &[u8]) -> Result<(), Stop> {
-    let mut buffer = Vec::from_slice(alloc, b"ab")?;
-    let outcome = value.write(alloc, &mut buffer);
+fn is_appended<T: DerSerialize>(
+    rt: &HostRuntime,
+    of: &str,
+    value: &T,
+    text: &[u8],
+) -> Result<(), Stop> {
+    names(rt, "Vec::from_slice", "two octets")?;
+    let mut buffer = Vec::from_slice(rt.alloc(), b"ab")?;
+    names(rt, "write", of)?;
+    let outcome = value.write(rt.alloc(), &mut buffer);
     has_text(value, text)?;
     match outcome {
         Ok(()) => expect(
@@ -85,43 +100,78 @@ fn is_appended<T: DerSerialize>(alloc: Global, value: &T, text: &[u8]) -> Result
 }
 
 /// The value of the input, with checks that it has this encoding, and that a refusal leaves it as it was.
-pub fn is_written<T: DerDeserialize>(alloc: Global, input: &[u8], text: &[u8]) -> Result<T, Stop> {
-    let value: T = from_bytes(alloc, input)?;
-    let outcome = to_vec(alloc, &value);
+pub fn is_written<T: DerDeserialize>(
+    rt: &HostRuntime,
+    of: &str,
+    input: &[u8],
+    text: &[u8],
+) -> Result<T, Stop> {
+    names(rt, "from_bytes", of)?;
+    let value: T = from_bytes(rt.alloc(), input)?;
+    names(rt, "to_vec", of)?;
+    let outcome = to_vec(rt.alloc(), &value);
     has_text(&value, text)?;
     expect(outcome?.as_slice() == text, "another text is written")?;
-    is_appended(alloc, &value, text)?;
+    is_appended(rt, of, &value, text)?;
     Ok(value)
 }
 
 /// Checks of the input's value what `is_written` does, and that it is cloned, where a refusal leaves it as it was.
 fn is_cloned<T: DerDeserialize + TryClone>(
-    alloc: Global,
+    rt: &HostRuntime,
+    of: &str,
     input: &[u8],
     text: &[u8],
 ) -> Result<(), Stop> {
-    let value: T = is_written(alloc, input, text)?;
-    let outcome = value.try_clone(alloc);
+    let value: T = is_written(rt, of, input, text)?;
+    names(rt, "try_clone", of)?;
+    let outcome = value.try_clone(rt.alloc());
     has_text(&value, text)?;
     has_text(&outcome?, text)
 }
 
+/// The MACs of PKCS #12: 2048 iterations, one and 2^32 - 1, and no count.
+pub fn macs(rt: &HostRuntime) -> Result<(), Stop> {
+    for text in [
+        texts::MAC_DATA,
+        texts::MAC_OF_ONE,
+        texts::MAC_OF_MOST,
+        texts::MAC_WITHOUT_COUNT,
+    ] {
+        is_cloned::<MacData>(rt, "MacData", text, text)?;
+    }
+    Ok(())
+}
+
 /// Values of PKCS #12.
-pub fn store_values(alloc: Global) -> Result<(), Stop> {
-    is_cloned::<MacData>(alloc, texts::MAC_DATA, texts::MAC_DATA)?;
-    is_cloned::<Pkcs12Attribute>(alloc, texts::FRIENDLY_NAME, texts::FRIENDLY_NAME)?;
-    is_cloned::<ParsedPfx>(alloc, texts::NAMED_KEY, texts::NAMED_KEY)?;
-    is_cloned::<RawPfx>(alloc, texts::NAMED_KEY, texts::NAMED_KEY)?;
-    is_cloned::<ParsedPfx>(alloc, texts::LOOSE_STORE, texts::STORE)?;
-    is_cloned::<RawPfx>(alloc, texts::LOOSE_STORE, texts::LOOSE_STORE)
+pub fn store_values(rt: &HostRuntime) -> Result<(), Stop> {
+    let name = texts::FRIENDLY_NAME;
+    is_cloned::<Pkcs12Attribute>(rt, "Pkcs12Attribute", name, name)?;
+    for (input, text) in [
+        (texts::NAMED_KEY, texts::NAMED_KEY),
+        (texts::LOOSE_STORE, texts::STORE),
+    ] {
+        is_cloned::<ParsedPfx>(rt, "Pfx", input, text)?;
+        is_cloned::<RawPfx>(rt, "RawPfx", input, input)?;
+    }
+    Ok(())
 }
 
 /// Values of PKCS #7 and Authenticode.
-pub fn content_values(alloc: Global) -> Result<(), Stop> {
-    is_cloned::<SignedData>(alloc, texts::SIGNED_DATA, texts::SIGNED_DATA)?;
-    is_cloned::<SignedData>(alloc, texts::EMPTY_LISTS, texts::EMPTY_LISTS)?;
-    is_cloned::<SignedData>(alloc, texts::EMPTY_CERTIFICATES, texts::SIGNED_DATA)?;
-    is_cloned::<SpcPeImageData>(alloc, texts::PAGE_FLAGS, texts::PAGE_FLAGS)?;
-    is_cloned::<SpcPeImageData>(alloc, texts::PAGE_DEFAULTS, texts::PAGE_RESOURCES)?;
-    is_cloned::<GeneralProtectionDescriptor>(alloc, texts::DESCRIPTOR, texts::DESCRIPTOR)
+pub fn content_values(rt: &HostRuntime) -> Result<(), Stop> {
+    for (input, text) in [
+        (texts::SIGNED_DATA, texts::SIGNED_DATA),
+        (texts::EMPTY_LISTS, texts::EMPTY_LISTS),
+        (texts::EMPTY_CERTIFICATES, texts::SIGNED_DATA),
+    ] {
+        is_cloned::<SignedData>(rt, "SignedData", input, text)?;
+    }
+    for (input, text) in [
+        (texts::PAGE_FLAGS, texts::PAGE_FLAGS),
+        (texts::PAGE_DEFAULTS, texts::PAGE_RESOURCES),
+    ] {
+        is_cloned::<SpcPeImageData>(rt, "SpcPeImageData", input, text)?;
+    }
+    let text = texts::DESCRIPTOR;
+    is_cloned::<GeneralProtectionDescriptor>(rt, "GeneralProtectionDescriptor", text, text)
 }

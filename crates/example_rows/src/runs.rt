@@ -2,22 +2,28 @@
 
 ghost use Rattle.std.specs.Prelude.{None};
 
-use crate::rounds::{Stop, expect};
+use crate::rounds::{Stop, expect, names};
 use crate::texts;
-use std::alloc::Global;
 use std::io;
 use x509_containers::{Error, Kind, Mode, Outcome, Sink, StdSource, run};
 
-/// Holds the first 80 bytes of what it gets.
+/// Holds the first 96 bytes of what it gets, without memory.
 #[derive(Drop)]
-struct Held {
-    bytes: [u8; 80],
+pub struct Held {
+    bytes: [u8; 96],
     len: usize,
 }
 
 impl Held {
-    fn bytes(&self) -> &[u8] {
-        &self.bytes[..self.len.min(80)]
+    pub fn new() -> Held {
+        Held {
+            bytes: [0; 96],
+            len: 0,
+        }
+    }
+
+    pub fn bytes(&self) -> &[u8] {
+        &self.bytes[..self.len.min(96)]
     }
 }
 
@@ -28,7 +34,7 @@ impl Sink for Held {
 
     fn write(&mut self, buf: &[u8]) -> io::Result<usize> {
         for byte in buf {
-            if self.len < 80 {
+            if self.len < 96 {
                 self.bytes[self.len] = *byte;
                 self.len += 1;
             }
@@ -43,21 +49,27 @@ impl Sink for Held {
 
 /// Checks that a run over the loose file writes these bytes with that outcome, and this line where memory is refused.
 fn is_run(
-    alloc: Global,
+    rt: &HostRuntime,
     mode: Mode,
     outcome: Outcome,
     wanted: &[u8],
     line: &[u8],
 ) -> Result<(), Stop> {
     let mut source = StdSource::new(texts::LOOSE_STORE);
-    let mut sink = Held {
-        bytes: [0; 80],
-        len: 0,
-    };
+    let mut sink = Held::new();
     let Some(kind) = Kind::from_word("pfx") else {
         return Err(Stop::Other("a kind has no word"));
     };
-    let came = run(alloc, &mut source, &mut sink, mode, kind);
+    names(
+        rt,
+        "run",
+        if mode == Mode::Check {
+            "check"
+        } else {
+            "rewrite"
+        },
+    )?;
+    let came = run(rt.alloc(), &mut source, &mut sink, mode, kind);
     if came == Outcome::Refused(Error::Memory) {
         expect(sink.bytes() == line, "what is written without memory")?;
         return Err(Stop::Memory);
@@ -67,13 +79,13 @@ fn is_run(
 }
 
 /// Both modes.
-pub fn runs(alloc: Global) -> Result<(), Stop> {
+pub fn runs(rt: &HostRuntime) -> Result<(), Stop> {
     is_run(
-        alloc,
+        rt,
         Mode::Check,
         Outcome::Loose,
         b"loose 64 -> 66\n",
         b"refused: no memory\n",
     )?;
-    is_run(alloc, Mode::Rewrite, Outcome::Written, texts::STORE, b"")
+    is_run(rt, Mode::Rewrite, Outcome::Written, texts::STORE, b"")
 }
