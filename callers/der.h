@@ -1,6 +1,7 @@
 /* Checks and rewritings of DER, and the parts of containers that a verifier needs, as octets: the static library der_c.
  *
- * What is proved of its six calls, for all inputs, and what isn't:
+ * What is proved of its calls der_check_word_limited, der_rewrite_word_limited, der_kind_word, der_part_octets,
+ * der_mac_range and der_mac, for all inputs, and what isn't:
  *  - A call answers no status but those that are listed at it. What it writes into numbers and into out is as said
  *    below.
  *  - DER_NORMAL, DER_LOOSE, DER_UNKNOWN_KIND, DER_TOO_LONG, DER_NO_ROOM, DER_NO_RANGE and DER_NO_PART are true where
@@ -8,7 +9,7 @@
  *  - At DER_MALFORMED, DER_MISSING, DER_INVALID and DER_TOO_DEEP the input is no encoding of the kind. Which of the
  *    four it is isn't proved: tests tell them apart.
  *  - That memory was refused where a call answers DER_NO_MEMORY isn't proved. Tests show that calls with memory enough
- *    don't answer it, and that calls keep no memory.
+ *    don't answer it, on inputs of up to 190 KB and of hundreds of parts, and that calls keep no memory.
  *  - The functions in this file, in C, are tested and not proved.
  *
  * What a caller has to keep to:
@@ -24,6 +25,8 @@
  *    aligned to each power of two up to 16 that divides its size.
  *  - No call is made from a signal handler, nor from the child that a process with threads forked.
  *  - The stack has room for the nesting of the input: see DER_MAX_NESTING.
+ *  - The system is Linux, and the processor has what x86-64-v2 asks for, such as SSE4.2 and POPCNT. On an older one a
+ *    library that `rt lib` built ends the program by an illegal instruction; one of `rt lib --cpu x86-64` serves there.
  * Calls share nothing, so threads may make them side by side, each with an out and numbers of its own. */
 #ifndef DER_H
 #define DER_H
@@ -38,8 +41,8 @@ extern "C" {
 
 /* The most levels of nesting that an input may have: bags in bags, signed data in time stamps, counter signatures of
  * counter signatures. A level takes 1.3 to 2.8 KB of stack, so 64 levels take up to 180, and a program that checks them
- * passes with 256 KB in all. A caller on a smaller stack passes a lower limit to der_check_limited and
- * der_rewrite_limited. That is measured, not proved. */
+ * passes with 288 KB in all, its environment included. A caller on a smaller stack passes a lower limit to
+ * der_check_limited and der_rewrite_limited. That is measured, not proved. */
 #define DER_MAX_NESTING 64
 
 typedef enum der_status {
@@ -141,7 +144,8 @@ static inline der_status der_check(const char *kind, const uint8_t *input, size_
 /* Checks as der_check does, and says where an input is refused, as an offset from its first byte.
  *  - DER_MALFORMED: *place is where an element should begin and none does, or where bytes begin that are left over.
  *  - DER_MISSING: the end of the contents in which an element is missing.
- *  - DER_INVALID: where the element begins whose tag or contents are refused.
+ *  - DER_INVALID: where the element begins whose tag or contents are refused. Of a set of one value that has two, as two
+ *    friendly names of a bag, it is the first of them, which may be right itself.
  *  - DER_TOO_DEEP: where the element begins that is nested too deep.
  * At any other status *place is 0. That it is at most input_len is proved; which place it is, is tested. */
 static inline der_status der_locate(const char *kind, const uint8_t *input, size_t input_len, size_t *place) {

@@ -78,11 +78,11 @@ module _ (b : List ℕ) where
   }
 
   -- a range without a MAC
-  pub no_mac_there : HasCount b None → FindsMac b 0 0 0 11
-  no_mac_there is = record {
+  pub no_mac_there : (start len status : ℕ) → status ≡ 0 → FindsRange b start len status → HasCount b None → FindsMac b 0 0 0 11
+  no_mac_there start len status zero r is = record {
     found = λ h. absurd (omega (arith, h));
     no_range = λ h. absurd (omega (arith, h));
-    no_mac = λ h. is;
+    no_mac = λ h. ((start, start + len, r.found zero), is);
     refused = λ h low. absurd (omega (arith, low));
     no_place = λ _. (refl, (refl, refl));
     range = inr (inr (inl refl));

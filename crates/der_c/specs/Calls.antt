@@ -59,7 +59,8 @@ pub record ChecksWord (word : List ℕ) (limit : ℕ) (b : List ℕ) (len place 
   pub why : SaysWhy word limit b status
   pub no_len : 2 ≤ status → len ≡ 0
   pub inside : place ≤ length b
-  pub no_place : (status ≡ 0) ⊎ (status ≡ 2) → place ≡ 0
+  -- a place is said of the input where it is loose or refused, and an encoding that is too long has none
+  pub no_place : (status ≡ 0) ⊎ ((status ≡ 2) ⊎ (status ≡ 7)) → place ≡ 0
   pub range : status ≤ 8
 
 -- what der_rewrite_word_limited answers of the input b and a buffer
@@ -97,14 +98,18 @@ pub record NamesKind (index : ℕ) (old new : List ℕ) (len status : ℕ) : Typ
   pub kept : status ≢ 0 → new ≡ old
   pub range : (status ≡ 0) ⊎ ((status ≡ 2) ⊎ (status ≡ 9))
 
+-- the input has octets that a MAC covers, if there is one: its authSafe is data
+abbrev pub HasMacOctets : List ℕ → Type 0
+HasMacOctets b = (start : ℕ) × (end : ℕ) × IsMacRange b (Some (start, end))
+
 -- what der_mac answers of the input b
 pub record FindsMac (b : List ℕ) (start len iterations status : ℕ) : Type 0 where
   -- DER_NORMAL: these octets of the file the MAC covers, and so often its key derivation hashes
   pub found : status ≡ 0 → IsMacRange b (Some (start, start + len)) × HasCount b (Some iterations)
   -- DER_NO_RANGE: authSafe isn't data
   pub no_range : status ≡ 10 → IsMacRange b None
-  -- DER_NO_PART: there is no MAC
-  pub no_mac : status ≡ 11 → HasCount b None
+  -- DER_NO_PART: authSafe is data, and there is no MAC
+  pub no_mac : status ≡ 11 → HasMacOctets b × HasCount b None
   -- DER_MALFORMED, DER_MISSING, DER_INVALID, DER_TOO_DEEP: no raw PFX
   pub refused : 3 ≤ status → status ≤ 6 → (v : PfxValue (List ℕ)) → (pfx raw).Reads 64 b v → ⊥
   pub no_place : status ≢ 0 → (start ≡ 0) × ((len ≡ 0) × (iterations ≡ 0))

@@ -49,7 +49,7 @@ fn part_at(number: usize) -> Option<ContainerPart>
 /// 64. 0 where it is normal, 1 where it is loose, 2 where the word is no kind's, 3 to 6 where it isn't in the grammar
 /// or has more levels, 7 where its encoding is too long, 8 for want of memory. At 0 and 1 `normal_len` is the length of
 /// its encoding, and otherwise 0. `place` is at 1 where the end begins that the input and its encoding have in common, at
-/// 3 to 6 where the input is refused, at 7 and 8 an offset without use, and otherwise 0.
+/// 3 to 6 where the input is refused, at 8 an offset without use, and otherwise 0.
 #[unsafe(no_mangle)]
 pub extern "C" fn der_check_word_limited(
     alloc: Global,
@@ -141,8 +141,8 @@ pub extern "C" fn der_mac_range(
 }
 
 /// What a verifier of a PKCS #12 file's MAC needs beside octets: at 0 the MAC covers `len` octets from `start` on, and
-/// its key derivation hashes `iterations` times. At 10 the file has no range, at 11 no MAC. Any other status is as of
-/// `der_mac_range`. Unless at 0 the numbers are 0.
+/// its key derivation hashes `iterations` times. At 10 the file has no range, at 11 it has one and no MAC. Any other
+/// status is as of `der_mac_range`. Unless at 0 the numbers are 0.
 #[tactic(auto, using(crate::proofs::Ranges::no_range_no_mac, crate::proofs::Ranges::mac_found, crate::proofs::Ranges::no_mac_there, crate::proofs::Ranges::mac_not_found))]
 #[unsafe(no_mangle)]
 pub extern "C" fn der_mac(
