@@ -41,7 +41,7 @@ extern "C" {
 
 /* The most levels of nesting that an input may have: bags in bags, signed data in time stamps, counter signatures of
  * counter signatures. A level takes 1.3 to 2.8 KB of stack, so 64 levels take up to 180, and a program that checks them
- * passes with 288 KB in all, its environment included. A caller on a smaller stack passes a lower limit to
+ * passes with 288 KB in all, with its environment and arguments. A caller on a smaller stack passes a lower limit to
  * der_check_limited and der_rewrite_limited. That is measured, not proved. */
 #define DER_MAX_NESTING 64
 

@@ -35,7 +35,8 @@ class Refused(ValueError):
     """An input that is no encoding of its kind.
 
     reason is "malformed", "missing", "invalid" or "too deep", and place the offset at which the input is refused: where
-    the element begins that is invalid, nested too deep or none, or the end of the contents in which one is missing.
+    the element begins that is invalid, nested too deep or none, or the end of the contents in which one is missing; of a
+    set of one value that has two, where the first of them begins.
     """
 
     def __init__(self, reason: str, place: int) -> None:
