@@ -47,7 +47,7 @@ copies_hashed None (Ok None) is = is
 copies_hashed None (Ok (Some v)) is = is
 copies_hashed (Some content) (Ok None) is = absurd is
 copies_hashed (Some content) (Ok (Some v)) is = ap Some (same_contents content v.items is)
-copies_hashed None (Err e) why = inl why
+copies_hashed None (Err e) why = absurd why
 copies_hashed (Some content) (Err e) why = why
 
 pub hashed_content_is : (x : Pkcs7Certificate) (r : Result (Option (Vec ℕ Global)) Error) → MatchResult r (λ octets. IsHashed (option_value (λ c. content_value c.0) (out-SignedData (data_in x)).content_info.content) (copied octets)) (λ e. IsNotHashed (option_value (λ c. content_value c.0) (out-SignedData (data_in x)).content_info.content) e) → CopiesOutOf (option_value content_values.text (content_in (certificate_value x))) (option_value hashed_of (content_in (certificate_value x))) r
