@@ -1,6 +1,6 @@
 -- What signed data and a signer hold, by their values.
 use Rattle.std.specs.Prelude.{◌≡◌, ℕ, List, Option, None, Some, Result, Ok, Err, MatchResult, map}
-use Rattle.std.proofs.Common.{Vec, Global, ap, sym, ◌∙◌, subst, inl}
+use Rattle.std.proofs.Common.{Vec, Global, ap, sym, ◌∙◌, subst}
 use Rattle.asn1_core.specs.Der.{option_value}
 use Rattle.asn1_core_element.specs.ElementLaws.{element_same}
 use Rattle.asn1_core_element.specs.declared.error.Error.{Error}
