@@ -43,11 +43,11 @@ abbrev pub IsKeyIdOf : List ElementOctets → Option Octets → Type 0
 IsKeyIdOf rest None = AreExtensionsOf rest None ⊎ ((es : List ExtensionValue) × AreExtensionsOf rest (Some es) × (extension_with subject_key_identifier_oid es ≡ None))
 IsKeyIdOf rest (Some key) = (es : List ExtensionValue) × AreExtensionsOf rest (Some es) × (e : ExtensionValue) × (extension_with subject_key_identifier_oid es ≡ Some e) × octet_string.Reads 64 e.1.1.0 key
 
--- there is an element under [3]: without one there is nothing to read, and no memory is asked for
+-- there is an element under [3]: only this has to be read, and so only then memory is asked for
 abbrev pub HasExtensions : List ElementOctets → Type 0
 HasExtensions rest = find (has_tag 0xA3) rest ≢ None
 
--- why there is no answer: nothing is one, or memory was refused; and only where there are extensions
+-- why there is no answer: nothing is one, or memory was refused. Without extensions there is always one
 pub record HasNone {V : Type 0} (IsIt : List ElementOctets → V → Type 0) (rest : List ElementOctets) (e : Error) : Type 0 where
   pub there : HasExtensions rest
   pub kind : e ≢ TooLong

@@ -12,14 +12,14 @@ abbrev pub IsNamedBy : SignerIdValue → CertificateValue → Type 0
 IsNamedBy (inl i) v = (v.0.1.1.1.0 ≡ i.0) × (v.0.1.0 ≡ i.1.0)
 IsNamedBy (inr key) v = IsKeyIdOf (rest_of v) (Some key)
 
--- extensions have to be read to tell this, which takes memory: the signer names a key, and the certificate has them
-abbrev pub NeedsExtensions : SignerIdValue → CertificateValue → Type 0
-NeedsExtensions (inl i) v = ⊥
-NeedsExtensions (inr key) v = HasExtensions (rest_of v)
-
 -- the element is a certificate of which that is true
 abbrev pub IsSigners : SignerIdValue → ElementOctets → Type 0
 IsSigners id b = (v : CertificateValue) × certificate.Reads 64 b v × IsNamedBy id v
+
+-- to tell whether a signer names a certificate takes memory: it names a key, and the certificate has extensions to read
+abbrev pub NeedsExtensions : SignerIdValue → CertificateValue → Type 0
+NeedsExtensions (inl i) v = ⊥
+NeedsExtensions (inr key) v = HasExtensions (rest_of v)
 
 -- the octets of a certificate, or of another choice
 abbrev pub choice_octets : ChoiceValue → ElementOctets

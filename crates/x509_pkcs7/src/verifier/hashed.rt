@@ -14,7 +14,7 @@ use std::alloc::Global;
 
 /// The octets whose digest is signed, or is the attribute `messageDigest`: of an OCTET STRING what it contains, of
 /// indirect data and of a trust list their contents. `None` where the content is absent, as it is where a signature is
-/// detached: this takes no memory and is never refused. Refuses other content by `TooLong` or `Memory` alone.
+/// detached, and this is never refused. Refuses other content by `TooLong` or `Memory` alone.
 pub fn hashed_octets(
     alloc: Global,
     info: &EncapsulatedContentInfo,

@@ -81,8 +81,8 @@ pub fn first_extension<'a>(extensions: &'a [Extension], oid: &[u8]) -> Option<&'
 }
 
 impl CertificateHead {
-    /// The extensions: those of the first element under `[3]`. `None` where there is no such element, which takes no
-    /// memory and is never refused; one that holds something else is refused, as `from_bytes` refuses it.
+    /// The extensions: those of the first element under `[3]`. `None` where there is no such element, and this is never
+    /// refused; one that holds something else is refused, as `from_bytes` refuses it. Reading them takes memory.
     pub fn extensions(&self, alloc: Global) -> Result<Option<Extensions>, Error>
         ensures { Answers (option_value extensions_value) AreExtensionsOf (rest_of (certificate_value self.now)) result }
     {
@@ -97,7 +97,7 @@ impl CertificateHead {
 
     /// The identifier of the key, by which a signer may name its certificate: the value of the first extension
     /// `subjectKeyIdentifier`. `None` where there is no such extension; a value that is no OCTET STRING is refused. A
-    /// certificate without extensions takes no memory and is never refused.
+    /// certificate without extensions is never refused.
     pub fn subject_key_identifier(
         &self,
         alloc: Global,

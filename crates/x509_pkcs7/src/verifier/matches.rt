@@ -49,7 +49,7 @@ fn without_answer(error: Error) -> Result<bool, Error>
 impl CertificateHead {
     /// Whether this is the certificate that a signer names: by issuer and serial number, or by the identifier of its key.
     /// A certificate whose extensions aren't read has no such identifier. Refuses by `Memory` alone, and only where the
-    /// signer names a key and the certificate has extensions: all else takes no memory.
+    /// signer names a key and the certificate has extensions.
     pub fn is_named_by(&self, alloc: Global, signer: &SignerIdentifier) -> Result<bool, Error>
         ensures { MatchResult result
             (λ b. IsTrue b ↔ IsNamedBy (signer_id_value signer.now) (certificate_value self.now))
@@ -69,7 +69,7 @@ impl CertificateHead {
         is_same(&tbs.issuer, &named.issuer) && is_same(&tbs.serial_number, &named.serial_number)
     }
 
-    /// Whether this is the identifier of the key. Without extensions it is none, and no memory is taken.
+    /// Whether this is the identifier of the key. A certificate without extensions has none, and is never refused.
     fn has_key(&self, alloc: Global, key: &SubjectKeyIdentifier) -> Result<bool, Error>
         ensures { MatchResult result
             (λ b. IsTrue b ↔ IsKeyIdOf (rest_of (certificate_value self.now)) (Some key.now.0.0.items))

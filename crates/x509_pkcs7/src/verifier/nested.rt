@@ -15,7 +15,7 @@ const NESTED_SIGNATURE: [u8; 10] = [0x2B, 0x06, 0x01, 0x04, 0x01, 0x82, 0x37, 0x
 
 /// The nested signatures of a signer, in their order: all values of its unsigned attributes `1.3.6.1.4.1.311.2.4.1`,
 /// each as it is. A value should be a `Pkcs7Certificate`, which `from_bytes` reads from its octets. None where there is no
-/// such attribute. Refuses by `Memory` alone, and never where there is no nested signature: then it takes no memory.
+/// such attribute. Refuses by `Memory` alone, and never where there is no nested signature.
 pub fn nested_signatures(alloc: Global, signer: &SignerInfo) -> Result<Vec<&Asn1RawDer>, Error>
     ensures { MatchResult result
         (λ found. map (λ e. e.now.0.items) found.items ≡ nested_in_signer signer.now)
@@ -28,7 +28,7 @@ pub fn nested_signatures(alloc: Global, signer: &SignerInfo) -> Result<Vec<&Asn1
     Ok(found)
 }
 
-/// Appends some elements. Without any it takes no memory and never refuses.
+/// Appends some elements. To append none is never refused.
 #[tactic(auto, using(crate::proofs::NotEmpty::has_item))]
 fn push_all<'a>(found: &mut Vec<&'a Asn1RawDer>, elements: &'a [Asn1RawDer]) -> Result<(), Error>
     ensures { MatchResult result
