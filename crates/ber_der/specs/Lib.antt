@@ -1,0 +1,6 @@
+pub mod Contexts
+pub mod Ber
+pub mod Lengths
+pub mod BerLaws
+pub mod Der
+pub mod DerLaws

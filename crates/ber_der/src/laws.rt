@@ -1,0 +1,37 @@
+//! What holds of BER and its DER, for callers to cite.
+
+ghost use Rattle.std.specs.Prelude.{◌≡◌, ◌<◌, ◌^◌, ◌++◌, ℕ, List, length};
+ghost use Rattle.asn1_core_element.specs.Element.{element};
+ghost use Rattle.ber_der.specs.Ber.{IsBer, IsUnambiguousBer};
+ghost use Rattle.ber_der.specs.Der.{IsDer};
+ghost use Rattle.ber_der.specs.declared.contexts.Role.TheVariants.{Whole, Segment};
+
+/// An encoding of BER has one DER, and is no proper beginning of another.
+pub fn each_encoding_has_one_der()
+    ensures { (k : ℕ) (a b d e x : List ℕ) → IsBer k Whole a d → IsBer k Whole b e → a ++ x ≡ b → (a ≡ b) × (d ≡ e) }
+{}
+
+/// What an encoding is converted to is DER.
+pub fn what_is_converted_is_der()
+    ensures { (k : ℕ) (b d : List ℕ) → IsBer k Whole b d → IsDer k d }
+{}
+
+/// DER stays as it is, and none of its elements has two readings.
+pub fn der_stays()
+    ensures { (k : ℕ) (b : List ℕ) → length b < 2 ^ 64 → IsDer k b → IsBer k Whole b b × IsUnambiguousBer k Whole b b }
+{}
+
+/// A second conversion changes nothing.
+pub fn converting_reaches_an_end()
+    ensures { (k : ℕ) (b d : List ℕ) → length d < 2 ^ 64 → IsBer k Whole b d → IsBer k Whole d d }
+{}
+
+/// The octets of an OCTET STRING, in segments or in one piece, are the contents of what it is converted to.
+pub fn octets_stay()
+    ensures { (k : ℕ) (b octets : List ℕ) → IsBer k Segment b octets → IsBer k Whole b (element 4 octets) }
+{}
+
+/// An input without an element of two readings has the same DER, whether such are joined or refused.
+pub fn what_is_unambiguous_is_converted_alike()
+    ensures { (k : ℕ) (b d : List ℕ) → IsUnambiguousBer k Whole b d → IsBer k Whole b d }
+{}
