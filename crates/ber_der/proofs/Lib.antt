@@ -1,2 +1,4 @@
 pub mod Octets
 pub mod Steps
+pub mod DerTests
+pub mod Answered

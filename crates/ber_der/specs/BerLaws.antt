@@ -1,5 +1,5 @@
 -- No encoding of BER is a proper beginning of another, and each has one DER.
-use Rattle.std.proofs.Common.{◌≡◌, ℕ, Bool, true, false, inl, inr, zero, suc, ◌/◌, ◌%◌, ◌<◌, ◌≤◌, List, [], ◌∷◌, ◌++◌, length, get_or, refl, sym, ap, subst, ◌∙◌, ⊎_elim, arith, append_assoc, length-append}
+use Rattle.std.proofs.Common.{◌≡◌, ℕ, Bool, true, false, inl, inr, zero, suc, ◌+◌, ◌/◌, ◌%◌, ◌<◌, ◌≤◌, List, [], ◌∷◌, ◌++◌, length, get_or, refl, sym, ap, subst, ◌∙◌, ⊎_elim, arith, append_assoc, length-append}
 use Rattle.std.specs.Int.Digits.{number_from_digits}
 use Rattle.asn1_core_element.specs.ElementLaws.{same_parts}
 use Rattle.ber_der.specs.Contexts.{role_in, context_after, context_inside, der_tag}
@@ -27,11 +27,11 @@ length_octets_some : (ls : List ℕ) (n : ℕ) → IsLength ls n → 1 ≤ lengt
 length_octets_some [] n l = absurd l
 length_octets_some (f ∷ ls) n l = omega arith
 
-definite_long : {b c : List ℕ} {tag : ℕ} → IsDefinite b tag c → 2 ≤ length b
+pub definite_long : {b c : List ℕ} {tag : ℕ} → IsDefinite b tag c → 2 + length c ≤ length b
 definite_long {b} {c} {tag} d = omega (arith, ap length d.is, length-append d.length_octets c, length_octets_some d.length_octets (length c) d.length_is)
 
-indefinite_long : (b c : List ℕ) (tag : ℕ) → IsIndefinite b tag c → 2 ≤ length b
-indefinite_long b c tag e = omega (arith, ap length e)
+pub indefinite_long : (b c : List ℕ) (tag : ℕ) → IsIndefinite b tag c → 4 + length c ≤ length b
+indefinite_long b c tag e = omega (arith, ap length e, length-append c (0 ∷ 0 ∷ []))
 
 -- the octets of a length begin those of no other
 pub length_cut : (a b : List ℕ) (m n : ℕ) (x y : List ℕ) → IsLength a m → IsLength b n → a ++ x ≡ b ++ y → (a ≡ b) × (m ≡ n) × (x ≡ y)
@@ -86,10 +86,10 @@ module _ (joins : Bool) where
   -- an encoding has two bytes and more
   pub ber_long : (k : ℕ) (role : Role) (b d : List ℕ) → IsBerWith joins k role b d → 2 ≤ length b
   unfolding IsBerWith
-  ber_long zero role b d p = definite_long p.is
+  ber_long zero role b d p = omega (arith, definite_long p.is)
   ber_long (suc k) role b d p =
-      ⊎_elim (λ (h : IsPrimitive joins role b d). definite_long h.is)
-      (λ (h : IsConstructed joins (IsBerWith joins k) role b d). ⊎_elim (λ (i : IsDefinite b h.tag h.contents). definite_long i) (λ (i : IsIndefinite b h.tag h.contents). indefinite_long b h.contents h.tag i) h.is) p
+      ⊎_elim (λ (h : IsPrimitive joins role b d). omega (arith, definite_long h.is))
+      (λ (h : IsConstructed joins (IsBerWith joins k) role b d). ⊎_elim (λ (i : IsDefinite b h.tag h.contents). omega (arith, definite_long i)) (λ (i : IsIndefinite b h.tag h.contents). omega (arith, indefinite_long b h.contents h.tag i)) h.is) p
 
   -- an encoding is not the end of contents
   pub first_some : (role : Role) (k : ℕ) (a d : List ℕ) → IsBerWith joins k role a d → 1 ≤ get_or a 0 0

@@ -1,10 +1,17 @@
 -- Encodings of DER (ITU-T X.690, 10): definite lengths in the fewest octets, OCTET STRINGs in one piece.
-use Rattle.std.specs.Prelude.{◌≡◌, ℕ, true, zero, suc, ◌/◌, ◌%◌, List, ◌⊎◌}
+use Rattle.std.specs.Prelude.{◌≡◌, ℕ, true, zero, suc, ◌/◌, ◌%◌, List, ◌++◌, ◌⊎◌}
 use Rattle.std.specs.List.{AllByRecursion}
 use Rattle.asn1_core_element.specs.Element.{element}
 use Rattle.ber_der.specs.Contexts.{may_be_constructed}
 use Rattle.ber_der.specs.Ber.{IsTag, joined}
 
+-- contents of elements, one after another
+pub record AreDer (D : List ℕ → Type 0) (contents : List ℕ) : Type 0 where
+  pub parts : List (List ℕ)
+  pub each : AllByRecursion D parts
+  pub is : contents ≡ joined parts
+
+-- 10.1: an element, and so a length in the fewest octets
 pub record IsDerPrimitive (b : List ℕ) : Type 0 where
   pub tag : ℕ
   pub contents : List ℕ
@@ -14,16 +21,25 @@ pub record IsDerPrimitive (b : List ℕ) : Type 0 where
 
 pub record IsDerConstructed (D : List ℕ → Type 0) (b : List ℕ) : Type 0 where
   pub tag : ℕ
-  pub parts : List (List ℕ)
+  pub contents : List ℕ
   pub is_tag : IsTag tag
   pub form : tag / 32 % 2 ≡ 1
   pub constructed : may_be_constructed tag ≡ true
   -- 10.2
   pub no_string : tag ≡ 36 → ⊥
-  pub each : AllByRecursion D parts
-  pub is : b ≡ element tag (joined parts)
+  pub holds : AreDer D contents
+  pub is : b ≡ element tag contents
 
 -- with at most k levels of constructed ones
 unfoldable pub IsDer : ℕ → List ℕ → Type 0
 IsDer zero b = IsDerPrimitive b
 IsDer (suc k) b = IsDerPrimitive b ⊎ IsDerConstructed (IsDer k) b
+
+-- DER is at the front
+pub record BeginsDer (k : ℕ) (bytes rest : List ℕ) : Type 0 where
+  pub der : List ℕ
+  pub is : IsDer k der
+  pub split : bytes ≡ der ++ rest
+
+abbrev pub BeginsNoDer : ℕ → List ℕ → Type 0
+BeginsNoDer k bytes = (der rest : List ℕ) → IsDer k der → bytes ≡ der ++ rest → ⊥

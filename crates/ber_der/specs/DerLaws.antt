@@ -7,7 +7,7 @@ use Rattle.std.proofs.lemmas.Int.Digits.{number_digits_of, length-digits_of-le, 
 use Rattle.asn1_core_element.specs.Element.{head, element, length_octets}
 use Rattle.asn1_core_element.specs.ElementLaws.{octets_short, octets_long, element_long}
 use Rattle.ber_der.specs.Contexts.{role_in, context_after, context_inside, der_tag}
-use Rattle.ber_der.specs.Ber.{IsLong, IsLength, IsDefinite, IsPrimitive, IsConstructed, IsBerWith, Holds, joined}
+use Rattle.ber_der.specs.Ber.{IsTag, IsLong, IsLength, IsDefinite, IsPrimitive, IsConstructed, IsBerWith, Holds, joined}
 use Rattle.ber_der.specs.Der.{IsDerPrimitive, IsDerConstructed, IsDer}
 use Rattle.ber_der.specs.declared.contexts.Role.{Role}
 use Rattle.ber_der.specs.declared.contexts.Role.TheVariants.{Whole, Segment, Implicit}
@@ -83,10 +83,10 @@ definite_element tag c l = record { length_octets = length_octets (length c); le
 element_longer : (tag : ℕ) (c : List ℕ) (n : ℕ) → length (element tag c) < n → length c < n
 element_longer tag c n l = omega (arith, l, element_long tag c)
 
-some_element : (k : ℕ) (b : List ℕ) → IsDer k b → (tag : ℕ) × (c : List ℕ) × (b ≡ element tag c)
+pub some_element : (k : ℕ) (b : List ℕ) → IsDer k b → (tag : ℕ) × (c : List ℕ) × (b ≡ element tag c) × IsTag tag
 unfolding IsDer
-some_element zero b p = (p.tag, p.contents, p.is)
-some_element (suc k) b p = ⊎_elim (λ (h : IsDerPrimitive b). (h.tag, h.contents, h.is)) (λ (h : IsDerConstructed (IsDer k) b). (h.tag, joined h.parts, h.is)) p
+some_element zero b p = (p.tag, p.contents, p.is, p.is_tag)
+some_element (suc k) b p = ⊎_elim (λ (h : IsDerPrimitive b). (h.tag, h.contents, h.is, h.is_tag)) (λ (h : IsDerConstructed (IsDer k) b). (h.tag, h.contents, h.is, h.is_tag)) p
 
 module _ (joins : Bool) where
   der_of_primitive : (role : Role) (b d : List ℕ) → (role ≡ Segment → ⊥) → IsPrimitive joins role b d → IsDerPrimitive d
@@ -107,12 +107,12 @@ module _ (joins : Bool) where
         (λ (s : q.tag ≡ 36). inl (record { tag = 4; contents = joined q.ders; is_tag = (omega arith, omega arith); form = refl; is = q.der ∙ ap (λ t. element (der_tag Whole t) (joined q.ders)) s }))
         (λ (s : q.tag ≡ 36 → ⊥). inr (record {
           tag = q.tag;
-          parts = q.ders;
+          contents = joined q.ders;
           is_tag = q.is_tag;
           form = q.form;
           constructed = q.constructed;
           no_string = s;
-          each = all_der (context_inside Whole q.tag) q.contents q.ders (inside q.tag s) q.holds;
+          holds = record { parts = q.ders; each = all_der (context_inside Whole q.tag) q.contents q.ders (inside q.tag s) q.holds; is = refl };
           is = q.der ∙ ap (λ t. element t (joined q.ders)) (other_tag q.tag s);
         }))
         (cases_eq q.tag 36)
@@ -139,18 +139,20 @@ module _ (joins : Bool) where
 
     constructed_fixed : (b : List ℕ) → length b < 2 ^ 64 → IsDerConstructed (IsDer k) b → IsConstructed joins (IsBerWith joins k) Whole b b
     constructed_fixed b l q =
-        let m : length (joined q.parts) < 2 ^ 64 = element_longer q.tag (joined q.parts) (2 ^ 64) (omega (arith, l, ap length q.is)) in
+        let parts : List (List ℕ) = q.holds.parts in
+        let e : b ≡ element q.tag (joined parts) = q.is ∙ ap (element q.tag) q.holds.is in
+        let m : length (joined parts) < 2 ^ 64 = element_longer q.tag (joined parts) (2 ^ 64) (omega (arith, l, ap length e)) in
         record {
           tag = q.tag;
-          contents = joined q.parts;
-          ders = q.parts;
+          contents = joined parts;
+          ders = parts;
           is_tag = q.is_tag;
           form = q.form;
           constructed = q.constructed;
           allowed = tt;
-          is = inl (subst (λ x. IsDefinite x q.tag (joined q.parts)) (sym q.is) (definite_element q.tag (joined q.parts) m));
-          holds = all_fixed (context_inside Whole q.tag) q.parts m (inside q.tag q.no_string) q.each;
-          der = q.is ∙ ap (λ t. element t (joined q.parts)) (sym (other_tag q.tag q.no_string));
+          is = inl (subst (λ x. IsDefinite x q.tag (joined parts)) (sym e) (definite_element q.tag (joined parts) m));
+          holds = all_fixed (context_inside Whole q.tag) parts m (inside q.tag q.no_string) q.holds.each;
+          der = e ∙ ap (λ t. element t (joined parts)) (sym (other_tag q.tag q.no_string));
         }
 
   -- DER is converted to itself

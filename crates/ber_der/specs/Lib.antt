@@ -4,3 +4,5 @@ pub mod Lengths
 pub mod BerLaws
 pub mod Der
 pub mod DerLaws
+pub mod Counts
+pub mod Typed

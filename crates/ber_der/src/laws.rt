@@ -1,8 +1,9 @@
 //! What holds of BER and its DER, for callers to cite.
 
-ghost use Rattle.std.specs.Prelude.{◌≡◌, ◌<◌, ◌^◌, ◌++◌, ℕ, List, length};
+ghost use Rattle.std.specs.Prelude.{◌≡◌, ◌<◌, ◌≤◌, ◌*◌, ◌^◌, ◌++◌, true, ℕ, List, length};
 ghost use Rattle.asn1_core_element.specs.Element.{element};
 ghost use Rattle.ber_der.specs.Ber.{IsBer, IsUnambiguousBer};
+ghost use Rattle.ber_der.specs.Counts.{elements};
 ghost use Rattle.ber_der.specs.Der.{IsDer};
 ghost use Rattle.ber_der.specs.declared.contexts.Role.TheVariants.{Whole, Segment};
 
@@ -34,4 +35,9 @@ pub fn octets_stay()
 /// An input without an element of two readings has the same DER, whether such are joined or refused.
 pub fn what_is_unambiguous_is_converted_alike()
     ensures { (k : ℕ) (b d : List ℕ) → IsUnambiguousBer k Whole b d → IsBer k Whole b d }
+{}
+
+/// An encoding has at most half as many elements as bytes, all that it holds counted.
+pub fn elements_are_few()
+    ensures { (k : ℕ) (b d : List ℕ) (is : IsBer k Whole b d) → 2 * elements true k Whole b d is ≤ length b }
 {}
