@@ -17,10 +17,10 @@ fn digit(byte: u8) -> Option<u8> {
     }
 }
 
-/// The octets of a line.
+/// The octets of a line, which is `-` where there are none.
 fn octets(rt: &HostRuntime, line: &[u8]) -> io::Result<Option<Vec<u8>>> {
     let mut octets = Vec::new(rt.alloc());
-    let mut rest = line;
+    let mut rest = line.strip_prefix(b"-").unwrap_or(line);
     while let [high, low, after @ ..] = rest {
         let (Some(high), Some(low)) = (digit(*high), digit(*low)) else {
             return Ok(None);
