@@ -1,0 +1,48 @@
+//! What no row tries, with ample memory: the calls that `main` doesn't make, with the example of X.690, 8.7.3 and 10.2, of
+//! a string in segments.
+
+use asn1_core::{Error, OctetStringAsn1};
+use ber_der::{from_ber, to_der, to_der_limited};
+use std::test::Fail;
+
+const SEGMENTS: &[u8] = b"\x24\x80\x04\x02AB\x04\x01C\x00\x00";
+
+const STRING: &[u8] = b"\x04\x03ABC";
+
+#[test]
+fn levels_are_limited(rt: HostRuntime) -> Result<(), Fail> {
+    for (limit, refused) in [(0, Some(Error::TooDeep)), (1, None)] {
+        let outcome = to_der_limited(rt.alloc(), limit, SEGMENTS);
+        assert_eq!(rt; outcome.err(), refused, "{limit}");
+    }
+    Ok(())
+}
+
+#[test]
+fn segments_are_joined(rt: HostRuntime) -> Result<(), Fail> {
+    let der = to_der(rt.alloc(), SEGMENTS)?;
+    assert_eq!(rt; der.as_slice(), STRING);
+    Ok(())
+}
+
+#[test]
+fn values_are_read(rt: HostRuntime) -> Result<(), Fail> {
+    for input in [SEGMENTS, STRING] {
+        let string: OctetStringAsn1 = from_ber(rt.alloc(), input)?;
+        assert_eq!(rt; string.0.as_slice(), b"ABC".as_slice());
+    }
+    Ok(())
+}
+
+/// Where BER has no DER, and where its DER has no value.
+#[test]
+fn values_are_refused(rt: HostRuntime) -> Result<(), Fail> {
+    for (input, error) in [
+        (b"\x24\x80\x04\x01A".as_slice(), Error::Missing),
+        (b"\x30\x80\x00\x00".as_slice(), Error::Invalid),
+    ] {
+        let refused = from_ber::<OctetStringAsn1>(rt.alloc(), input).err();
+        assert_eq!(rt; refused, Some(error));
+    }
+    Ok(())
+}
