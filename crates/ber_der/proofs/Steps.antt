@@ -1,9 +1,9 @@
 -- Converting, step by step.
-use Rattle.std.proofs.Common.{◌≡◌, ℕ, Bool, true, zero, suc, ◌-◌, ◌/◌, ◌%◌, ◌<◌, ◌≤◌, List, [], ◌∷◌, ◌++◌, length, take, drop, get_or, refl, sym, ap, subst, ◌∙◌, inl, inr, ◌⊎◌, ⊎_elim, Option, Some, None, arith, append_assoc, append-nil, length-append}
+use Rattle.std.proofs.Common.{◌≡◌, ℕ, Bool, true, zero, suc, ◌-◌, ◌/◌, ◌%◌, ◌<◌, ◌≤◌, List, [], ◌∷◌, ◌++◌, length, take, drop, get_or, refl, sym, ap, subst, ◌∙◌, inl, inr, ◌⊎◌, ⊎_elim, Option, Some, None, IfSome, arith, append_assoc, append-nil, length-append}
 use Rattle.std.proofs.Math.Seq.{take-append_seam}
 use Rattle.std.proofs.lemmas.List.{take-append-drop, take_rest, length-take-le, flat_map_more}
 use Rattle.ber_der.specs.Contexts.{role_in, context_after, context_inside, der_tag, may_be_constructed}
-use Rattle.ber_der.specs.Ber.{IsLength, IsTag, Allows, IsDefinite, IsIndefinite, IsPrimitive, IsConstructed, IsBerWith, Holds, joined, der_of, Converted, ConvertedContents, ConvertedToEnd, BeginsNone, HoldsNone, EndsNone}
+use Rattle.ber_der.specs.Ber.{IsLength, IsTag, Allows, IsDefinite, IsIndefinite, IsPrimitive, IsConstructed, IsBerWith, Holds, joined, der_of, Converted, ConvertedContents, ConvertedToEnd, ConvertedBody, BeginsNone, HoldsNone, EndsNone, BodyNone}
 use Rattle.ber_der.specs.Lengths.{BeginsDefinite, BeginsWithLength, HasNoLength}
 use Rattle.ber_der.proofs.Octets.{uncons}
 use Rattle.ber_der.specs.BerLaws.{role_in_front, first_at_front, ber_long, first_some, ber_fronts, ber_cut, length_cut, not_indefinite}
@@ -58,6 +58,20 @@ module _ (bytes a y : List ℕ) (tag : ℕ) (contents : List ℕ) (e : bytes ≡
   after_tag_indefinite i =
       let f : bytes ≡ tag ∷ 128 ∷ (contents ++ 0 ∷ 0 ∷ y) = e ∙ ap (λ w. w ++ y) i ∙ ap (λ w. tag ∷ 128 ∷ w) (append_assoc contents (0 ∷ 0 ∷ []) y) in
       (ap (λ w. get_or w 0 0) f, ap after_tag f ∙ after_tag_cons tag (128 ∷ (contents ++ 0 ∷ 0 ∷ y)))
+
+pub body_fits : (b : List ℕ) (o : Option ℕ) (after : List ℕ) → BeginsWithLength b o after → IfSome o (λ n. n ≤ length after)
+body_fits b None after h = tt
+body_fits b (Some n) after h = h.fits
+
+module _ (R : Role → List ℕ → List ℕ → Type 0) (start : Context) (after contents rest : List ℕ) (o : Option ℕ) (n : ℕ) (some : o ≡ Some n) (front : contents ≡ take n after) (back : rest ≡ drop n after) where
+  pub contents_are_body : (old new : List ℕ) → ConvertedContents R start contents old new → ConvertedBody R start o after rest old new
+  contents_are_body old new c = subst (λ p. ConvertedBody R start p after rest old new) (sym some) (back, subst (λ x. ConvertedContents R start x old new) front c)
+
+  pub none_in_contents : HoldsNone R start contents → BodyNone R start o after
+  none_in_contents none = subst (λ p. BodyNone R start p after) (sym some) (subst (HoldsNone R start) front none)
+
+pub to_end_is_body : (R : Role → List ℕ → List ℕ → Type 0) (start : Context) (after rest old new : List ℕ) (o : Option ℕ) → o ≡ None → ConvertedToEnd R start after rest old new → ConvertedBody R start o after rest old new
+to_end_is_body R start after rest old new o none c = subst (λ p. ConvertedBody R start p after rest old new) (sym none) c
 
 module _ (joins : Bool) where
   pub primitive_ber : (k : ℕ) (role : Role) (b d : List ℕ) → IsPrimitive joins role b d → IsBerWith joins k role b d
@@ -135,6 +149,10 @@ module _ (joins : Bool) where
         split = uncons bytes some ∙ ap (λ x. tag ∷ x) h ∙ ap (λ x. tag ∷ 128 ∷ x) (c.split ∙ sym (append_assoc c.contents (0 ∷ 0 ∷ []) rest));
         out = out;
       }
+
+  pub body_converted : (bytes after rest : List ℕ) (o : Option ℕ) (k : ℕ) (role : Role) (old new : List ℕ) → 1 ≤ length bytes → BeginsWithLength (after_tag bytes) o after → (get_or bytes 0 0 ≡ 0 → ⊥) → (get_or bytes 0 0 % 32 ≡ 31 → ⊥) → (context : Context) (der : ℕ) (empty body : List ℕ) → (k ≡ 0 → ⊥) → (get_or bytes 0 0 / 32 % 2 ≡ 0 → ⊥) → may_be_constructed (get_or bytes 0 0) ≡ true → Allows joins role (get_or bytes 0 0) 36 → context ≡ context_inside role (get_or bytes 0 0) → der ≡ der_tag role (get_or bytes 0 0) → empty ≡ [] → ConvertedBody (IsBerWith joins (k - 1)) context o after rest empty body → new ≡ old ++ der_of role der body → Converted (IsBerWith joins k role) bytes rest old new
+  body_converted bytes after rest None k role old new some begins not_end low context der empty body p f m a is_context is_der none c out = indefinite_converted bytes after rest None k role old new some begins refl not_end low context der empty body p f m a is_context is_der none c out
+  body_converted bytes after rest (Some n) k role old new some begins not_end low context der empty body p f m a is_context is_der none c out = constructed_converted bytes after (take n after) rest (Some n) n some begins refl refl c.0 k role old new not_end low context der empty body p f m a is_context is_der none c.1 out
 
   pub shortens : (k : ℕ) (role : Role) (bytes rest old new : List ℕ) → Converted (IsBerWith joins k role) bytes rest old new → length rest < length bytes
   shortens k role bytes rest old new c = omega (arith, ap length c.split, length-append c.encoding rest, ber_long joins k role c.encoding c.der c.is)
@@ -303,6 +321,10 @@ module _ (joins : Bool) where
         let v : 128 ∷ after ≡ 128 ∷ (q.contents ++ 0 ∷ 0 ∷ y) = sym h ∙ u.1 in
         let w : after ≡ q.contents ++ 0 ∷ 0 ∷ y = cc in
         none q.contents y q.ders (subst (λ p. Holds (IsBerWith joins (k - 1)) p q.contents q.ders) (sym (is_context ∙ ap (context_inside role) u.0)) q.holds) w) q.is)
+
+    pub none_body : (after : List ℕ) (o : Option ℕ) (context : Context) → (get_or bytes 0 0 / 32 % 2 ≡ 0 → ⊥) → BeginsWithLength (after_tag bytes) o after → context ≡ context_inside role (get_or bytes 0 0) → BodyNone (IsBerWith joins (k - 1)) context o after → BeginsNone (IsBerWith joins k role) bytes
+    none_body after None context f b is_context none = none_to_end after None context f b refl is_context none
+    none_body after (Some n) context f b is_context none = none_definite after (take n after) (Some n) n context f b refl refl is_context none
 
   -- no DER where bytes are left after the encoding
   pub none_longer : (k : ℕ) (role : Role) (bytes rest old new : List ℕ) → Converted (IsBerWith joins k role) bytes rest old new → 1 ≤ length rest → (der : List ℕ) → IsBerWith joins k role bytes der → ⊥

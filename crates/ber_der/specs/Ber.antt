@@ -1,5 +1,5 @@
 -- Encodings of BER (ITU-T X.690, 8.1), and what each is in DER.
-use Rattle.std.specs.Prelude.{◌≡◌, ◌≢◌, ℕ, Bool, IsTrue, true, false, zero, suc, ◌+◌, ◌/◌, ◌%◌, ◌<◌, ◌≤◌, List, [], ◌∷◌, ◌++◌, length, get_or, ◌⊎◌}
+use Rattle.std.specs.Prelude.{◌≡◌, ◌≢◌, ℕ, Bool, IsTrue, true, false, zero, suc, ◌+◌, ◌/◌, ◌%◌, ◌<◌, ◌≤◌, List, [], ◌∷◌, ◌++◌, length, take, drop, get_or, ◌⊎◌, Option, Some, None}
 use Rattle.std.specs.List.{flat_map}
 use Rattle.std.specs.Int.Digits.{number_from_digits}
 use Rattle.asn1_core_element.specs.Element.{element, IsTagByte}
@@ -113,6 +113,11 @@ pub record ConvertedToEnd (R : Role → List ℕ → List ℕ → Type 0) (conte
   pub all : ConvertedContents R context contents old new
   pub split : bytes ≡ contents ++ 0 ∷ 0 ∷ rest
 
+-- the bytes begin with contents, of that length or up to their end
+abbrev pub ConvertedBody : (Role → List ℕ → List ℕ → Type 0) → Context → Option ℕ → List ℕ → List ℕ → List ℕ → List ℕ → Type 0
+ConvertedBody R context None after rest old new = ConvertedToEnd R context after rest old new
+ConvertedBody R context (Some n) after rest old new = (rest ≡ drop n after) × ConvertedContents R context (take n after) old new
+
 -- no encoding begins the bytes
 abbrev pub BeginsNone : (List ℕ → List ℕ → Type 0) → List ℕ → Type 0
 BeginsNone R bytes = (encoding der rest : List ℕ) → R encoding der → bytes ≡ encoding ++ rest → ⊥
@@ -124,6 +129,11 @@ HoldsNone R context contents = (ders : List (List ℕ)) → Holds R context cont
 -- no encodings and their end begin the bytes
 abbrev pub EndsNone : (Role → List ℕ → List ℕ → Type 0) → Context → List ℕ → Type 0
 EndsNone R context bytes = (contents rest : List ℕ) (ders : List (List ℕ)) → Holds R context contents ders → bytes ≡ contents ++ 0 ∷ 0 ∷ rest → ⊥
+
+-- no such contents begin the bytes
+abbrev pub BodyNone : (Role → List ℕ → List ℕ → Type 0) → Context → Option ℕ → List ℕ → Type 0
+BodyNone R context None after = EndsNone R context after
+BodyNone R context (Some n) after = HoldsNone R context (take n after)
 
 -- converting gave no DER: there is none, or memory was refused
 abbrev pub HasNoDer : Bool → ℕ → List ℕ → Error → Type 0

@@ -199,38 +199,48 @@ allows_more Whole tag own a = tt
 allows_more Segment tag own a = a
 allows_more Implicit tag own a = (a.0, refl)
 
-primitive_more : (role : Role) (b d : List ℕ) → IsPrimitive false role b d → IsPrimitive true role b d
-primitive_more role b d p = record {
-  tag = p.tag;
-  contents = p.contents;
-  is_tag = p.is_tag;
-  form = p.form;
-  allowed = allows_more role p.tag 4 p.allowed;
-  is = p.is;
-  der = p.der;
-}
-
-module _ (R S : Role → List ℕ → List ℕ → Type 0) (each : (role : Role) (b d : List ℕ) → R role b d → S role b d) where
-  holds_more : (context : Context) (c : List ℕ) (ds : List (List ℕ)) → Holds R context c ds → Holds S context c ds
-  holds_more context c [] h = h
-  holds_more context c (d ∷ ds) h = (h.0, h.1, h.2, each (role_in context h.0) h.0 d h.3, holds_more (context_after context (get_or h.0 0 0)) h.1 ds h.4)
-
-  constructed_more : (role : Role) (b d : List ℕ) → IsConstructed false R role b d → IsConstructed true S role b d
-  constructed_more role b d q = record {
-    tag = q.tag;
-    contents = q.contents;
-    ders = q.ders;
-    is_tag = q.is_tag;
-    form = q.form;
-    constructed = q.constructed;
-    allowed = allows_more role q.tag 36 q.allowed;
-    is = q.is;
-    holds = holds_more (context_inside role q.tag) q.contents q.ders q.holds;
-    der = q.der;
+module _ (i j : Bool) (more : (role : Role) (tag own : ℕ) → Allows i role tag own → Allows j role tag own) where
+  primitive_more : (role : Role) (b d : List ℕ) → IsPrimitive i role b d → IsPrimitive j role b d
+  primitive_more role b d p = record {
+    tag = p.tag;
+    contents = p.contents;
+    is_tag = p.is_tag;
+    form = p.form;
+    allowed = more role p.tag 4 p.allowed;
+    is = p.is;
+    der = p.der;
   }
+
+  module _ (R S : Role → List ℕ → List ℕ → Type 0) (each : (role : Role) (b d : List ℕ) → R role b d → S role b d) where
+    holds_more : (context : Context) (c : List ℕ) (ds : List (List ℕ)) → Holds R context c ds → Holds S context c ds
+    holds_more context c [] h = h
+    holds_more context c (d ∷ ds) h = (h.0, h.1, h.2, each (role_in context h.0) h.0 d h.3, holds_more (context_after context (get_or h.0 0 0)) h.1 ds h.4)
+
+    constructed_more : (role : Role) (b d : List ℕ) → IsConstructed i R role b d → IsConstructed j S role b d
+    constructed_more role b d q = record {
+      tag = q.tag;
+      contents = q.contents;
+      ders = q.ders;
+      is_tag = q.is_tag;
+      form = q.form;
+      constructed = q.constructed;
+      allowed = more role q.tag 36 q.allowed;
+      is = q.is;
+      holds = holds_more (context_inside role q.tag) q.contents q.ders q.holds;
+      der = q.der;
+    }
 
 pub unambiguous_is_ber : (k : ℕ) (role : Role) (b d : List ℕ) → IsBerWith false k role b d → IsBerWith true k role b d
 unfolding IsBerWith
-unambiguous_is_ber zero role b d p = primitive_more role b d p
+unambiguous_is_ber zero role b d p = primitive_more false true allows_more role b d p
 unambiguous_is_ber (suc k) role b d p =
-    ⊎_elim (λ (h : IsPrimitive false role b d). inl (primitive_more role b d h)) (λ (h : IsConstructed false (IsBerWith false k) role b d). inr (constructed_more (IsBerWith false k) (IsBerWith true k) (unambiguous_is_ber k) role b d h)) p
+    ⊎_elim (λ (h : IsPrimitive false role b d). inl (primitive_more false true allows_more role b d h))
+    (λ (h : IsConstructed false (IsBerWith false k) role b d). inr (constructed_more false true allows_more (IsBerWith false k) (IsBerWith true k) (unambiguous_is_ber k) role b d h)) p
+
+-- what is converted at k levels is converted alike at one more
+pub deeper : (joins : Bool) (k : ℕ) (role : Role) (b d : List ℕ) → IsBerWith joins k role b d → IsBerWith joins (suc k) role b d
+unfolding IsBerWith
+deeper joins zero role b d p = inl p
+deeper joins (suc k) role b d p =
+    ⊎_elim (λ (h : IsPrimitive joins role b d). inl h)
+    (λ (h : IsConstructed joins (IsBerWith joins k) role b d). inr (constructed_more joins joins (λ role tag own a. a) (IsBerWith joins k) (IsBerWith joins (suc k)) (deeper joins k) role b d h)) p

@@ -1,7 +1,7 @@
 //! The conversion.
 
-ghost use Rattle.std.specs.Prelude.{◌≡◌, ◌≢◌, ◌↔◌, ◌++◌, ◌≤◌, true, false, length, IsTrue, MatchResult};
-ghost use Rattle.ber_der.specs.Ber.{IsBer, IsUnambiguousBer, IsBerWith, Converted, ConvertedContents, ConvertedToEnd, BeginsNone, HoldsNone, EndsNone, HasNoDer, der_of, Allows};
+ghost use Rattle.std.specs.Prelude.{◌≡◌, ◌≢◌, ◌↔◌, ◌++◌, ◌≤◌, true, false, length, IsTrue, IfSome, MatchResult};
+ghost use Rattle.ber_der.specs.Ber.{IsBer, IsUnambiguousBer, IsBerWith, Converted, ConvertedContents, ConvertedToEnd, ConvertedBody, BeginsNone, HoldsNone, EndsNone, BodyNone, HasNoDer, der_of, Allows};
 ghost use Rattle.ber_der.specs.declared.contexts.Role.TheVariants.{Whole};
 ghost use Rattle.asn1_core_element.specs.declared.error.Error.TheVariants.{Memory};
 
@@ -104,6 +104,31 @@ fn convert_to_end<'a>(
     Err((error, rest.len()))
 }
 
+/// Appends the DER of the encodings in the contents that these bytes begin with, of that length or up to their end, and
+/// answers what follows.
+#[cycle(convert)]
+fn convert_body<'a>(
+    rule: Rule,
+    len: Option<usize>,
+    after: &'a [u8],
+    start: Context,
+    nest: u8,
+    out: &mut Forward,
+) -> Result<&'a [u8], (Error, usize)>
+    requires { IfSome len (λ n. n ≤ length after.now) }
+    ensures { MatchResult result (λ rest. ConvertedBody (IsBerWith rule.joins nest) start len after.now rest.now out.old.out.items out.new.out.items)
+        (λ e. e.0 ≢ Memory → BodyNone (IsBerWith rule.joins nest) start len after.now) }
+{
+    let Some(len) = len else {
+        return convert_to_end(rule, after, start, nest, out);
+    };
+    let (contents, rest) = after.split_at(len);
+    match convert_contents(rule, contents, start, nest, out) {
+        Ok(()) => Ok(rest),
+        Err((error, left)) => Err((error, left.saturating_add(rest.len()))),
+    }
+}
+
 /// Appends the DER of the encoding at the front, and answers what follows it; or why there is none, and how many of the
 /// bytes are left there.
 #[cycle(convert)]
@@ -141,37 +166,15 @@ fn convert<'a>(
     if nest == 0 {
         return Err((Error::TooDeep, bytes.len()));
     }
-    if !may_be_constructed(tag) {
-        return Err((Error::Invalid, bytes.len()));
-    }
-    if !allows(rule, role, tag, 0x24) {
+    if !may_be_constructed(tag) || !allows(rule, role, tag, 0x24) {
         return Err((Error::Invalid, bytes.len()));
     }
     let mut body = Forward::new(Vec::new(rule.alloc));
     let start = Context::inside(role, tag);
-    match len {
-        Some(len) => {
-            let (contents, rest) = after.split_at(len);
-            if let Err((error, left)) = convert_contents(
-                rule,
-                contents,
-                start,
-                nest - 1,
-                &mut body,
-            ) {
-                return Err((error, left.saturating_add(rest.len())));
-            }
-            let body = body.into_inner();
-            keep(role, der_tag(role, tag), body.as_slice(), rest.len(), out)?;
-            Ok(rest)
-        }
-        None => {
-            let rest = convert_to_end(rule, after, start, nest - 1, &mut body)?;
-            let body = body.into_inner();
-            keep(role, der_tag(role, tag), body.as_slice(), rest.len(), out)?;
-            Ok(rest)
-        }
-    }
+    let rest = convert_body(rule, len, after, start, nest - 1, &mut body)?;
+    let body = body.into_inner();
+    keep(role, der_tag(role, tag), body.as_slice(), rest.len(), out)?;
+    Ok(rest)
 }
 
 /// The DER of the input, or why it has none, and where.
@@ -207,7 +210,8 @@ pub fn to_der(alloc: Global, bytes: &[u8]) -> Result<Vec<u8>, Error>
     to_der_limited(alloc, MAX_NESTING, bytes)
 }
 
-/// As `to_der`, with at most `limit` levels of nesting.
+/// As `to_der`, with at most `limit` levels of nesting. Whatever is converted at one limit is converted alike at every
+/// larger one.
 pub fn to_der_limited(alloc: Global, limit: u8, bytes: &[u8]) -> Result<Vec<u8>, Error>
     requires { limit ≤ 64 }
     ensures { MatchResult result (λ der. IsBer limit Whole bytes.now der.items) (λ e. HasNoDer true limit bytes.now e) }
@@ -222,11 +226,14 @@ pub fn to_der_limited(alloc: Global, limit: u8, bytes: &[u8]) -> Result<Vec<u8>,
 pub fn to_der_unambiguous(alloc: Global, bytes: &[u8]) -> Result<Vec<u8>, Error>
     ensures { MatchResult result (λ der. IsUnambiguousBer 64 Whole bytes.now der.items) (λ e. HasNoDer false 64 bytes.now e) }
 {
-    let rule = Rule {
-        alloc,
-        joins: false,
-    };
-    match to_der_with(rule, MAX_NESTING, bytes) {
+    match to_der_with(
+        Rule {
+            alloc,
+            joins: false,
+        },
+        MAX_NESTING,
+        bytes,
+    ) {
         Ok(der) => Ok(der),
         Err((error, _)) => Err(error),
     }
@@ -235,7 +242,7 @@ pub fn to_der_unambiguous(alloc: Global, bytes: &[u8]) -> Result<Vec<u8>, Error>
 /// As `to_der`, with the place where the input was refused: an offset in it, counted from 0.
 ///
 /// - `Malformed`: where an element should begin and none does, or where the bytes begin that are left over.
-/// - `Missing`: the end of the input, where an element or the end of contents is missing.
+/// - `Missing`: the end of the contents, or of the input, in which an element or the end of contents is missing.
 /// - `Invalid`: where the element begins whose tag is refused.
 /// - `TooDeep`: where the element begins that is nested too deep.
 /// - `Memory`: how far the input was read.

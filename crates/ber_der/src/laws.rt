@@ -1,6 +1,6 @@
 //! What holds of BER and its DER, for callers to cite.
 
-ghost use Rattle.std.specs.Prelude.{◌≡◌, ◌<◌, ◌≤◌, ◌*◌, ◌^◌, ◌++◌, true, ℕ, List, length};
+ghost use Rattle.std.specs.Prelude.{◌≡◌, ◌<◌, ◌≤◌, ◌+◌, ◌*◌, ◌^◌, ◌++◌, true, ℕ, List, length};
 ghost use Rattle.asn1_core_element.specs.Element.{element};
 ghost use Rattle.ber_der.specs.Ber.{IsBer, IsUnambiguousBer};
 ghost use Rattle.ber_der.specs.Counts.{elements};
@@ -35,6 +35,11 @@ pub fn octets_stay()
 /// An input without an element of two readings has the same DER, whether such are joined or refused.
 pub fn what_is_unambiguous_is_converted_alike()
     ensures { (k : ℕ) (b d : List ℕ) → IsUnambiguousBer k Whole b d → IsBer k Whole b d }
+{}
+
+/// What is converted with at most so many levels of nesting is converted alike with one more.
+pub fn a_larger_limit_converts_alike()
+    ensures { (k : ℕ) (b d : List ℕ) → IsBer k Whole b d → IsBer (k + 1) Whole b d }
 {}
 
 /// An encoding has at most half as many elements as bytes, all that it holds counted.

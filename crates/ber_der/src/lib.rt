@@ -12,7 +12,8 @@ pub mod typed;
 pub use canonical::is_der;
 pub use convert::{MAX_NESTING, to_der, to_der_limited, to_der_located, to_der_unambiguous};
 pub use laws::{
-    converting_reaches_an_end, der_stays, each_encoding_has_one_der, elements_are_few, octets_stay,
-    what_is_converted_is_der, what_is_unambiguous_is_converted_alike,
+    a_larger_limit_converts_alike, converting_reaches_an_end, der_stays, each_encoding_has_one_der,
+    elements_are_few, octets_stay, what_is_converted_is_der,
+    what_is_unambiguous_is_converted_alike,
 };
 pub use typed::from_ber;

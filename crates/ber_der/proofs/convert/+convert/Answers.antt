@@ -2,9 +2,9 @@ use Rattle.std.proofs.Common.{ap, ◌∙◌, ◌≢◌, refl, sym, subst, inl, i
 use Rattle.std.proofs.lemmas.List.{nil_from_length}
 use Rattle.ber_der.specs.Ber.{IsBerWith, Converted, BeginsNone, HoldsNone, EndsNone}
 use Rattle.asn1_core_element.specs.declared.error.Error.TheVariants.{Memory}
-use Rattle.ber_der.proofs.Steps.{refused_all, refused_to_end, no_end, none_empty, none_tag, none_length, none_primitive_indefinite, none_primitive_role, none_deep, none_constructed_role, none_holder, none_definite, none_to_end, SoFar, none_yet, one_more, all_converted, converted_to_end, shortens, two_zeros, primitive_converted, constructed_converted, indefinite_converted}
+use Rattle.ber_der.proofs.Steps.{none_body, body_converted, refused_all, refused_to_end, no_end, none_empty, none_tag, none_length, none_primitive_indefinite, none_primitive_role, none_deep, none_constructed_role, none_holder, SoFar, none_yet, one_more, all_converted, converted_to_end, shortens, two_zeros, primitive_converted}
 use Rattle.ber_der.proofs.convert.+convert.Goals as goal
-use Rattle.ber_der.proofs.convert.+convert.Goals.{convert_to_end-else-tag-eq0-via-then-tag-eq0+else-more-eq0, convert_to_end-else-tag-eq0-via-else-tag-eq0, convert-then-tag-eq0-via-then-tag-eq0, convert-then-tag-eq0-via-else-tag-eq0+then-tag-eq31}
+use Rattle.ber_der.proofs.convert.+convert.Goals.{convert-then-not-may_be_constructed-via-then-not-may_be_constructed, convert-then-not-may_be_constructed-via-else-not-may_be_constructed+then-not-allows-2, convert_to_end-else-tag-eq0-via-then-tag-eq0+else-more-eq0, convert_to_end-else-tag-eq0-via-else-tag-eq0, convert-then-tag-eq0-via-then-tag-eq0, convert-then-tag-eq0-via-else-tag-eq0+then-tag-eq31}
 
 pub convert_contents-parts-init : goal.convert_contents-parts-init
 convert_contents-parts-init t c = none_yet c.args.rule.joins (IsBerWith c.args.rule.joins c.args.nest) c.args.start c.args.contents.now c.args.out.now.out.items
@@ -24,19 +24,6 @@ pub convert-returns-then-tag-eq0-2 : goal.convert-returns-then-tag-eq0-2
 convert-returns-then-tag-eq0-2 t c =
     primitive_converted c.args.rule.joins c.args.bytes.now c.in-Some.after.now c.split_at.result.0.now c.split_at.result.1.now c.in-Some.len c.in-Some-len.len c.in-len1-up.len_at_least c.in-Some.ensures c.in-Some-len.is c.split_at.ensures.front c.split_at.ensures.back
     c.args.nest c.args.role c.args.out.now.out.items c.keep.new.out.out.items c.if-tag-eq0.false c.if-tag-eq31.false c.if-tag-eq0-2.true (c.allows.ensures.0 c.if-not-allows.false) c.in_ok-keep.ensures
-
-pub convert-returns-in_ok-keep-in-Some-len-2 : goal.convert-returns-in_ok-keep-in-Some-len-2
-convert-returns-in_ok-keep-in-Some-len-2 t c =
-    let s = c.split_at-in-Some-len-2 in
-    constructed_converted c.args.rule.joins c.args.bytes.now c.in-Some.after.now s.result.0.now s.result.1.now c.in-Some.len c.in-Some-len-2.len c.in-len1-up.len_at_least c.in-Some.ensures c.in-Some-len-2.is s.ensures.front s.ensures.back
-    c.args.nest c.args.role c.args.out.now.out.items c.keep-in-Some-len-2.new.out.out.items c.if-tag-eq0.false c.if-tag-eq31.false c.inside-start.result c.der_tag.result c.new-body.result.out.items c.convert_contents.new.out.out.items c.if-nest-eq0.false c.if-tag-eq0-2.false (sym c.may_be_constructed.ensures ∙ c.if-not-may_be_constructed.false) (c.allows-2.ensures.0 c.if-not-allows-2.false) c.inside-start.ensures c.der_tag.ensures (ap (λ v. v.items) c.new-body.ensures ∙ c.new.ensures.items) c.in_default-convert_contents.ensures
-    (rw (← ap (λ v. v.items) c.into_inner-body.ensures, ← c.as_slice.ensures.value) c.in_ok-keep-in-Some-len-2.ensures)
-
-pub convert-returns-in_ok-keep-in-None : goal.convert-returns-in_ok-keep-in-None
-convert-returns-in_ok-keep-in-None t c =
-    indefinite_converted c.args.rule.joins c.args.bytes.now c.in-Some.after.now c.in_ok-rest-in-None.rest.now c.in-Some.len c.args.nest c.args.role c.args.out.now.out.items c.keep-in-None.new.out.out.items c.in-len1-up.len_at_least c.in-Some.ensures c.in-None.is c.if-tag-eq0.false c.if-tag-eq31.false
-    c.inside-start.result c.der_tag-in-None.result c.new-body.result.out.items c.convert_to_end.new.out.out.items c.if-nest-eq0.false c.if-tag-eq0-2.false (sym c.may_be_constructed.ensures ∙ c.if-not-may_be_constructed.false) (c.allows-2.ensures.0 c.if-not-allows-2.false) c.inside-start.ensures c.der_tag-in-None.ensures (ap (λ v. v.items) c.new-body.ensures ∙ c.new.ensures.items) c.in_ok-rest-in-None.ensures
-    (rw (← ap (λ v. v.items) c.into_inner-body-in-None.ensures, ← c.as_slice-in-None.ensures.value) c.in_ok-keep-in-None.ensures)
 
 pub convert_to_end-parts-init : goal.convert_to_end-parts-init
 convert_to_end-parts-init t c = none_yet c.args.rule.joins (IsBerWith c.args.rule.joins c.args.nest) c.args.start c.args.bytes.now c.args.out.now.out.items
@@ -90,19 +77,22 @@ convert-returns-then-not-allows t c m = none_primitive_role c.args.rule.joins c.
 pub convert-returns-then-nest-eq0 : goal.convert-returns-then-nest-eq0
 convert-returns-then-nest-eq0 t c m = none_deep c.args.rule.joins c.args.nest c.args.role c.args.bytes.now c.if-nest-eq0.true c.if-tag-eq0-2.false
 
-pub convert-returns-then-not-allows-2 : goal.convert-returns-then-not-allows-2
-convert-returns-then-not-allows-2 t c m = none_constructed_role c.args.rule.joins c.args.nest c.args.role c.args.bytes.now c.if-tag-eq0-2.false (λ a. let h = c.allows-2.ensures.1 a in search rules)
-
-pub convert-returns-in-Err : goal.convert-returns-in-Err
-convert-returns-in-Err t c =
-    let s = c.split_at-in-Some-len-2 in
-    let r : c.in-Err.error ≢ Memory → BeginsNone (IsBerWith c.args.rule.joins c.args.nest c.args.role) c.args.bytes.now = λ m. none_definite c.args.rule.joins c.args.nest c.args.role c.args.bytes.now c.in-Some.after.now s.result.0.now c.in-Some.len c.in-Some-len-2.len c.inside-start.result c.if-tag-eq0-2.false c.in-Some.ensures c.in-Some-len-2.is s.ensures.front c.inside-start.ensures (c.in-Err.ensures m) in
-    search rules
-
-pub convert-returns-in_err-rest-in-None : goal.convert-returns-in_err-rest-in-None
-convert-returns-in_err-rest-in-None t c =
-    let r : c.in_err-rest-in-None.field-0.0.0 ≢ Memory → BeginsNone (IsBerWith c.args.rule.joins c.args.nest c.args.role) c.args.bytes.now = λ m. none_to_end c.args.rule.joins c.args.nest c.args.role c.args.bytes.now c.in-Some.after.now c.in-Some.len c.inside-start.result c.if-tag-eq0-2.false c.in-Some.ensures c.in-None.is c.inside-start.ensures (c.in_err-rest-in-None.ensures m) in
-    search rules
+pub convert_body-returns-in_default : goal.convert_body-returns-in_default
+convert_body-returns-in_default t c = rw (c.in_default.is) c.convert_to_end.ensures
 
 pub convert-returns-then-not-may_be_constructed : goal.convert-returns-then-not-may_be_constructed
-convert-returns-then-not-may_be_constructed t c m = none_holder c.args.rule.joins c.args.nest c.args.role c.args.bytes.now c.if-tag-eq0-2.false (λ e. let f = c.may_be_constructed.ensures ∙ e in search rules)
+convert-returns-then-not-may_be_constructed t c m = elim c.then-not-may_be_constructed.branch [
+  | convert-then-not-may_be_constructed-via-then-not-may_be_constructed w ↦ none_holder c.args.rule.joins c.args.nest c.args.role c.args.bytes.now c.if-tag-eq0-2.false (λ e. let f = c.may_be_constructed.ensures ∙ e in search rules)
+  | convert-then-not-may_be_constructed-via-else-not-may_be_constructed+then-not-allows-2 w ↦ none_constructed_role c.args.rule.joins c.args.nest c.args.role c.args.bytes.now c.if-tag-eq0-2.false (λ a. let h = w.allows-else-not-may_be_constructed.ensures.1 a in search rules)
+]
+
+pub convert-returns-in_err-rest : goal.convert-returns-in_err-rest
+convert-returns-in_err-rest t c =
+    let r : c.in_err-rest.field-0.0.0 ≢ Memory → BeginsNone (IsBerWith c.args.rule.joins c.args.nest c.args.role) c.args.bytes.now = λ m. none_body c.args.rule.joins c.args.nest c.args.role c.args.bytes.now c.in-Some.after.now c.in-Some.len c.inside-start.result c.if-tag-eq0-2.false c.in-Some.ensures c.inside-start.ensures (c.in_err-rest.ensures m) in
+    search rules
+
+pub convert-returns : goal.convert-returns
+convert-returns t c =
+    body_converted c.args.rule.joins c.args.bytes.now c.in-Some.after.now c.in_ok-rest.rest.now c.in-Some.len c.args.nest c.args.role c.args.out.now.out.items c.keep-2.new.out.out.items c.in-len1-up.len_at_least c.in-Some.ensures c.if-tag-eq0.false c.if-tag-eq31.false
+    c.inside-start.result c.der_tag.result c.new-body.result.out.items c.convert_body.new.out.out.items c.if-nest-eq0.false c.if-tag-eq0-2.false (sym c.may_be_constructed.ensures ∙ c.if-not-may_be_constructed.false) (c.allows-else-not-may_be_constructed.ensures.0 c.if-not-allows-2.false) c.inside-start.ensures c.der_tag.ensures (ap (λ v. v.items) c.new-body.ensures ∙ c.new.ensures.items) c.in_ok-rest.ensures
+    (rw (← ap (λ v. v.items) c.into_inner-body.ensures, ← c.as_slice.ensures.value) c.in_ok-keep-2.ensures)
