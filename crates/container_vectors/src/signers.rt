@@ -4,8 +4,9 @@ use std::alloc::Global;
 use std::test::Fail;
 use vector_checks::checks::expect;
 use x509_containers::{
-    CertificateChoices, EncapsulatedContentInfo, Pkcs7Certificate, SignedData, SignerIdentifier,
-    certificate_element, certificates, from_bytes, hashed_octets, signer_certificate, signers,
+    CertificateChoices, CertificateSet, EncapsulatedContentInfo, Pkcs7Certificate, SignedData,
+    SignerIdentifier, TryClone, certificate_element, certificates, from_bytes, hashed_octets,
+    signer_certificate, signers,
 };
 
 /// "hello, world", signed by the first of two certificates. That has the serial number 2 and 06 07 08 as its key's
@@ -73,6 +74,22 @@ fn is_named_by(
     is_signed_by(alloc, all, &signer, wanted)
 }
 
+/// Asks for the certificate of each signer among others that aren't read as certificates, which are passed over.
+fn is_found_after_others(
+    alloc: Global,
+    signed: &SignedData,
+    wanted: Option<&[u8]>,
+) -> Result<(), Fail> {
+    let CertificateSet(mut all) = from_bytes(alloc, b"\xA0\x04\x30\x00\xA1\x00")?;
+    for certificate in certificates(signed) {
+        all.push(certificate.try_clone(alloc)?)?;
+    }
+    for signer in signers(signed) {
+        is_signed_by(alloc, &all, &signer.sid, wanted)?;
+    }
+    Ok(())
+}
+
 fn is_hashed(alloc: Global, info: &EncapsulatedContentInfo, wanted: &[u8]) -> Result<(), Fail> {
     let hashed = hashed_octets(alloc, info)?;
     expect(hashed.as_deref() == Some(wanted), "other hashed octets")
@@ -88,6 +105,7 @@ fn is_verified(alloc: Global, signed: &SignedData) -> Result<(), Fail> {
     for signer in signers(signed) {
         is_signed_by(alloc, all, &signer.sid, first)?;
     }
+    is_found_after_others(alloc, signed, first)?;
     is_named_by(alloc, all, b"\x80\x03\x06\x07\x08", first)?;
     is_named_by(alloc, all, b"\x80\x05\x01\x02\x03\x04\x05", second)?;
     is_named_by(alloc, all, b"\x80\x02\x06\x07", None)
