@@ -50,7 +50,7 @@ fn after_element(bytes: &[u8], nest: u8) -> Option<&[u8]>
 }
 
 /// Whether the input is one element of DER, with at most `MAX_NESTING` levels of nesting: one that `to_der` leaves as it
-/// is.
+/// is. It refuses the tags that `to_der` refuses.
 pub fn is_der(bytes: &[u8]) -> bool
     ensures { IsTrue result ↔ IsDer 64 bytes.now }
 {

@@ -199,7 +199,7 @@ fn to_der_with(rule: Rule, limit: u8, bytes: &[u8]) -> Result<Vec<u8>, (Error, u
 /// primitive ones.
 ///
 /// Refused are tags of several bytes, lengths of more than eight octets, and constructed encodings of other strings than
-/// OCTET STRING.
+/// OCTET STRING, in every constructed element: also in one that a type would keep as it is.
 ///
 /// One element has two readings: in a SEQUENCE that begins with an OBJECT IDENTIFIER and a SEQUENCE, a third element
 /// `[0]` of indefinite length. It is taken as an OCTET STRING under an implicit tag, which it is in `EncryptedContentInfo`

@@ -9,7 +9,7 @@ use asn1_core_element::Error;
 use asn1_core_format::{DerDeserialize, from_bytes};
 use std::alloc::Global;
 
-/// The value of the DER of the input. For DER it answers as `from_bytes`.
+/// The value of the DER of the input, which `to_der` gives. For DER it answers as `from_bytes`.
 pub fn from_ber<T: DerDeserialize>(alloc: Global, bytes: &[u8]) -> Result<T, Error>
     ensures ber { AnswersBer T.value T.format bytes.now result }
     ensures der { IsDer 64 bytes.now → AnswersInput T.value T.format 64 bytes.now result }
