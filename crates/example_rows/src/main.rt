@@ -101,6 +101,7 @@ fn calls_without_memory(rt: &HostRuntime) -> Result<(), Stop> {
     without_memory::algorithms(rt)?;
     without_memory::raw_algorithms(rt)?;
     without_memory::words(rt)?;
+    without_memory::streams(rt)?;
     without_memory::reads(rt)?;
     without_memory::reader(rt)?;
     without_memory::representations(rt)?;

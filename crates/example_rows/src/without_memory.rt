@@ -10,12 +10,13 @@ use x509_containers::{
     EqualByText, Error, GeneralProtectionDescriptor, GeneralizedTime, GeneralizedTimeAsn1,
     IA5String, Kind, MacData, ObjectIdentifier, OctetStringAsn1, ParsedAuthenticatedSafeDataRepr,
     Pbkdf2Prf, Pfx, Pkcs12DigestAlgorithm, RawAlgorithmIdentifier, RawAuthenticatedSafeDataRepr,
-    RawPfx, Reader, RevocationInfoChoices, SignedData, SpcPeImageData, Time, UTCTime, UTCTimeAsn1,
-    UnsignedAttributes, Utf8String, Version, from_bytes, write_to,
+    RawPfx, Reader, RevocationInfoChoices, SignedData, Sink, Source, SpcPeImageData, StdSink,
+    StdSource, Time, UTCTime, UTCTimeAsn1, UnsignedAttributes, Utf8String, Version, from_bytes,
+    write_to,
 };
 
 /// Prints the name of a call that takes no memory, and is made next.
-fn frees(rt: &HostRuntime, call: &str) -> Result<(), Stop> {
+fn names_free(rt: &HostRuntime, call: &str) -> Result<(), Stop> {
     match println!(rt; "without memory: {call}") {
         Ok(()) => Ok(()),
         Err(_) => Err(Stop::Other("a name isn't printed")),
@@ -38,16 +39,16 @@ const BY_SHA: &[u8] = b"\x30\x0B\x06\x09\x60\x86\x48\x01\x65\x03\x04\x02\x01";
 fn oid(rt: &HostRuntime, octets: &[u8]) -> Result<ObjectIdentifier, Stop> {
     names(rt, "ObjectIdentifier::from_octets", "an algorithm")?;
     let oid = ObjectIdentifier::from_octets(rt.alloc(), octets)?;
-    frees(rt, "ObjectIdentifier::octets")?;
+    names_free(rt, "ObjectIdentifier::octets")?;
     expect(oid.octets() == octets, "other octets")?;
     Ok(oid)
 }
 
 pub fn algorithms(rt: &HostRuntime) -> Result<(), Stop> {
     let oid = oid(rt, SHA)?;
-    frees(rt, "AlgorithmIdentifier::from_parts")?;
+    names_free(rt, "AlgorithmIdentifier::from_parts")?;
     let made = AlgorithmIdentifier::from_parts(oid, None);
-    frees(rt, "AlgorithmIdentifier::algorithm and parameters")?;
+    names_free(rt, "AlgorithmIdentifier::algorithm and parameters")?;
     expect(made.algorithm().octets() == SHA, "another algorithm")?;
     expect(made.parameters().is_none(), "parameters")?;
     has_text(&made, BY_SHA)
@@ -56,9 +57,9 @@ pub fn algorithms(rt: &HostRuntime) -> Result<(), Stop> {
 /// An algorithm identifier without parameters, and its getters.
 fn raw(rt: &HostRuntime, octets: &[u8]) -> Result<RawAlgorithmIdentifier, Stop> {
     let oid = oid(rt, octets)?;
-    frees(rt, "RawAlgorithmIdentifier::from_parts")?;
+    names_free(rt, "RawAlgorithmIdentifier::from_parts")?;
     let made = RawAlgorithmIdentifier::from_parts(oid, None);
-    frees(rt, "RawAlgorithmIdentifier::algorithm and parameters")?;
+    names_free(rt, "RawAlgorithmIdentifier::algorithm and parameters")?;
     expect(made.algorithm().octets() == octets, "another algorithm")?;
     expect(made.parameters().is_none(), "parameters")?;
     Ok(made)
@@ -66,14 +67,14 @@ fn raw(rt: &HostRuntime, octets: &[u8]) -> Result<RawAlgorithmIdentifier, Stop> 
 
 pub fn raw_algorithms(rt: &HostRuntime) -> Result<(), Stop> {
     let sha = raw(rt, SHA)?;
-    frees(rt, "Pkcs12DigestAlgorithm::from_raw")?;
+    names_free(rt, "Pkcs12DigestAlgorithm::from_raw")?;
     let digest = Pkcs12DigestAlgorithm::from_raw(sha);
     expect(digest == Pkcs12DigestAlgorithm::Sha256, "another digest")?;
     let hmac = raw(rt, HMAC)?;
-    frees(rt, "Pbkdf2Prf::from_raw")?;
+    names_free(rt, "Pbkdf2Prf::from_raw")?;
     let function = Pbkdf2Prf::from_raw(hmac);
     expect(function == Pbkdf2Prf::HmacWithSha256, "another function")?;
-    frees(rt, "Pbkdf2Prf::default")?;
+    names_free(rt, "Pbkdf2Prf::default")?;
     expect(
         Pbkdf2Prf::default() == Pbkdf2Prf::HmacWithSha1,
         "another default",
@@ -82,21 +83,31 @@ pub fn raw_algorithms(rt: &HostRuntime) -> Result<(), Stop> {
 
 /// Words and numbers.
 pub fn words(rt: &HostRuntime) -> Result<(), Stop> {
-    frees(rt, "CmsVersion::from_u8")?;
+    names_free(rt, "CmsVersion::from_u8")?;
     expect(
         CmsVersion::from_u8(5) == Some(CmsVersion::V5),
         "another version",
     )?;
     expect(CmsVersion::from_u8(6).is_none(), "a version 6")?;
-    frees(rt, "Error::word")?;
+    names_free(rt, "Error::word")?;
     expect(Error::Invalid.word() == "invalid", "another word")?;
-    frees(rt, "Kind::from_word")?;
+    names_free(rt, "Kind::from_word")?;
     expect(Kind::from_word("rawpfx").is_some(), "no kind")
+}
+
+/// Streams of std, which hold a reader or a writer.
+pub fn streams(rt: &HostRuntime) -> Result<(), Stop> {
+    names_free(rt, "StdSource::new and failures")?;
+    let source = StdSource::new(b"AB".as_slice());
+    expect(source.failures() == 0, "a failure of a source")?;
+    names_free(rt, "StdSink::new and failures")?;
+    let sink = StdSink::new(Vec::new(rt.alloc()));
+    expect(sink.failures() == 0, "a failure of a sink")
 }
 
 /// Asks that the encoding is read whole, as a value that has it.
 fn is_read<T: DerDeserialize>(rt: &HostRuntime, call: &str, text: &[u8]) -> Result<(), Stop> {
-    frees(rt, call)?;
+    names_free(rt, call)?;
     let mut r = Reader::new(text);
     let value = T::read(rt.alloc(), &mut r, 64)?;
     expect(r.unread() == 0, "bytes are left")?;
@@ -118,11 +129,11 @@ pub fn reads(rt: &HostRuntime) -> Result<(), Stop> {
 
 /// The calls of a reader.
 pub fn reader(rt: &HostRuntime) -> Result<(), Stop> {
-    frees(rt, "Reader::new, peek, left, unread and from_header")?;
+    names_free(rt, "Reader::new, peek, left, unread and from_header")?;
     let mut r = Reader::new(b"\x30\x03\x02\x01\x07\x05\x00");
     expect(r.peek() == Some(0x30) && r.left() == 7, "another input")?;
     expect(r.unread() == 7 && r.from_header() == 7, "another place")?;
-    frees(
+    names_free(
         rt,
         "Reader::header, open, whole_element, end and headers_read",
     )?;
@@ -132,8 +143,10 @@ pub fn reader(rt: &HostRuntime) -> Result<(), Stop> {
     expect(item == b"\x02\x01\x07".as_slice(), "another element")?;
     r.end(outer)?;
     expect(r.headers_read() == 2, "other headers")?;
-    frees(rt, "Reader::contents")?;
-    expect(r.contents(1) == b"\x05".as_slice(), "other contents")
+    names_free(rt, "Reader::contents")?;
+    let left = r.left();
+    let rest = r.contents(left);
+    expect(rest == b"\x05\x00".as_slice(), "other contents")
 }
 
 /// The data of `authSafe`, with this encoding.
@@ -142,14 +155,14 @@ fn is_repr<R: AuthenticatedSafeDataRepr>(
     repr: R::Repr,
     text: &[u8],
 ) -> Result<(), Stop> {
-    frees(rt, "repr_well_formed_at and repr_len")?;
+    names_free(rt, "repr_well_formed_at and repr_len")?;
     expect(R::repr_well_formed_at(&repr, 64), "an ill-formed value")?;
     expect(R::repr_len(&repr)? == text.len(), "another length")?;
-    frees(rt, "emit_repr")?;
+    names_free(rt, "emit_repr")?;
     let mut sink = Held::new();
     expect(R::emit_repr(&repr, &mut sink).is_ok(), "a refusal")?;
     expect(sink.bytes() == text, "other bytes")?;
-    frees(rt, "from_repr")?;
+    names_free(rt, "from_repr")?;
     has_text(&R::from_repr(repr), text)
 }
 
@@ -160,7 +173,7 @@ fn of_repr<R: AuthenticatedSafeDataRepr>(
 ) -> Result<(), Stop> {
     names(rt, "from_bytes", name)?;
     let read: R = from_bytes(rt.alloc(), text)?;
-    frees(rt, "into_repr")?;
+    names_free(rt, "into_repr")?;
     is_repr::<R>(rt, read.into_repr(), text)
 }
 
@@ -175,7 +188,7 @@ pub fn representations(rt: &HostRuntime) -> Result<(), Stop> {
 pub fn parts(rt: &HostRuntime) -> Result<(), Stop> {
     names(rt, "from_bytes", "ContentInfo")?;
     let info: ContentInfo = from_bytes(rt.alloc(), texts::CONTENT)?;
-    frees(rt, "ContentInfo::content")?;
+    names_free(rt, "ContentInfo::content")?;
     expect(
         info.content() == b"\x04\x02\x30\x00".as_slice(),
         "another content",
@@ -185,7 +198,7 @@ pub fn parts(rt: &HostRuntime) -> Result<(), Stop> {
 pub fn covered(rt: &HostRuntime) -> Result<(), Stop> {
     names(rt, "from_bytes", "RawPfx")?;
     let file: RawPfx = from_bytes(rt.alloc(), texts::NAMED_KEY)?;
-    frees(rt, "RawPfx::mac_octets")?;
+    names_free(rt, "RawPfx::mac_octets")?;
     expect(
         file.mac_octets() == texts::NAMED_KEY.get(22..),
         "other octets",
@@ -195,13 +208,13 @@ pub fn covered(rt: &HostRuntime) -> Result<(), Stop> {
 /// Empty sets.
 pub fn empty_sets(rt: &HostRuntime) -> Result<(), Stop> {
     let alloc = rt.alloc();
-    frees(rt, "Attributes::empty")?;
+    names_free(rt, "Attributes::empty")?;
     has_text(&Attributes::empty(alloc), b"\xA0\x00")?;
-    frees(rt, "CertificateSet::empty")?;
+    names_free(rt, "CertificateSet::empty")?;
     has_text(&CertificateSet::empty(alloc), b"\xA0\x00")?;
-    frees(rt, "RevocationInfoChoices::empty")?;
+    names_free(rt, "RevocationInfoChoices::empty")?;
     has_text(&RevocationInfoChoices::empty(alloc), b"\xA1\x00")?;
-    frees(rt, "UnsignedAttributes::empty")?;
+    names_free(rt, "UnsignedAttributes::empty")?;
     has_text(&UnsignedAttributes::empty(alloc), b"\xA1\x00")
 }
 
@@ -209,7 +222,7 @@ pub fn empty_sets(rt: &HostRuntime) -> Result<(), Stop> {
 pub fn content(rt: &HostRuntime) -> Result<(), Stop> {
     let oid = oid(rt, b"\x2A\x03\x04")?;
     let octets = octets(rt, b"\x01")?;
-    frees(rt, "EncapsulatedContentInfo::new")?;
+    names_free(rt, "EncapsulatedContentInfo::new")?;
     let made = EncapsulatedContentInfo::new(oid, Some(octets));
     has_text(&made, b"\x30\x0A\x06\x03\x2A\x03\x04\xA0\x03\x04\x01\x01")
 }
@@ -217,7 +230,7 @@ pub fn content(rt: &HostRuntime) -> Result<(), Stop> {
 /// Octets of the character set as strings.
 pub fn bmp_strings(rt: &HostRuntime) -> Result<(), Stop> {
     let given = octets(rt, b"\x00A")?;
-    frees(rt, "BmpString::new and as_bytes")?;
+    names_free(rt, "BmpString::new and as_bytes")?;
     match BmpString::new(given) {
         Ok(made) => expect(made.as_bytes() == b"\x00A".as_slice(), "another BMPString"),
         Err(_) => Err(Stop::Other("no BMPString")),
@@ -226,7 +239,7 @@ pub fn bmp_strings(rt: &HostRuntime) -> Result<(), Stop> {
 
 pub fn ia5_strings(rt: &HostRuntime) -> Result<(), Stop> {
     let given = octets(rt, b"A")?;
-    frees(rt, "IA5String::new and as_bytes")?;
+    names_free(rt, "IA5String::new and as_bytes")?;
     match IA5String::new(given) {
         Ok(made) => expect(made.as_bytes() == b"A".as_slice(), "another IA5String"),
         Err(_) => Err(Stop::Other("no IA5String")),
@@ -235,7 +248,7 @@ pub fn ia5_strings(rt: &HostRuntime) -> Result<(), Stop> {
 
 pub fn utf8_strings(rt: &HostRuntime) -> Result<(), Stop> {
     let given = octets(rt, b"A")?;
-    frees(rt, "Utf8String::new and as_bytes")?;
+    names_free(rt, "Utf8String::new and as_bytes")?;
     match Utf8String::new(given) {
         Ok(made) => expect(made.as_bytes() == b"A".as_slice(), "another UTF8String"),
         Err(_) => Err(Stop::Other("no UTF8String")),
@@ -245,7 +258,7 @@ pub fn utf8_strings(rt: &HostRuntime) -> Result<(), Stop> {
 /// Bits of bytes, and bits that change.
 pub fn bits(rt: &HostRuntime) -> Result<(), Stop> {
     let given = octets(rt, b"\x0A\x3B")?;
-    frees(rt, "BitString::with_bytes, payload and num_unused_bits")?;
+    names_free(rt, "BitString::with_bytes, payload and num_unused_bits")?;
     let bits = BitString::with_bytes(given);
     expect(bits.payload() == b"\x0A\x3B".as_slice(), "other bytes")?;
     expect(bits.num_unused_bits() == 0, "unused bits")
@@ -254,7 +267,7 @@ pub fn bits(rt: &HostRuntime) -> Result<(), Stop> {
 pub fn changed_bits(rt: &HostRuntime) -> Result<(), Stop> {
     names(rt, "BitString::with_len", "10 bits")?;
     let mut bits = BitString::with_len(rt.alloc(), 10)?;
-    frees(rt, "BitString::set and is_set")?;
+    names_free(rt, "BitString::set and is_set")?;
     bits.set(9, true);
     expect(bits.is_set(9) && !bits.is_set(8), "another bit")?;
     expect(bits.payload() == b"\x00\x40".as_slice(), "other bytes")
@@ -262,15 +275,15 @@ pub fn changed_bits(rt: &HostRuntime) -> Result<(), Stop> {
 
 /// A time of either type, and its parts.
 pub fn utc_times(rt: &HostRuntime) -> Result<(), Stop> {
-    frees(rt, "UTCTime::new")?;
+    names_free(rt, "UTCTime::new")?;
     let time = UTCTime::new(2021, 4, 20, 6, 52, 24);
-    frees(rt, "UTCTime::from_contents and ==")?;
+    names_free(rt, "UTCTime::from_contents and ==")?;
     let read = UTCTime::from_contents(b"210420065224Z");
     expect(time == read, "another time")?;
     let Some(time) = time else {
         return Err(Stop::Other("no time"));
     };
-    frees(
+    names_free(
         rt,
         "UTCTime::year, month, day, hour, minute, second and spelled",
     )?;
@@ -282,15 +295,15 @@ pub fn utc_times(rt: &HostRuntime) -> Result<(), Stop> {
 }
 
 pub fn general_times(rt: &HostRuntime) -> Result<(), Stop> {
-    frees(rt, "GeneralizedTime::new")?;
+    names_free(rt, "GeneralizedTime::new")?;
     let time = GeneralizedTime::new(2050, 1, 2, 3, 4, 5);
-    frees(rt, "GeneralizedTime::from_contents and ==")?;
+    names_free(rt, "GeneralizedTime::from_contents and ==")?;
     let read = GeneralizedTime::from_contents(b"20500102030405Z");
     expect(time == read, "another time")?;
     let Some(time) = time else {
         return Err(Stop::Other("no time"));
     };
-    frees(
+    names_free(
         rt,
         "GeneralizedTime::year, month, day, hour, minute, second and spelled",
     )?;
@@ -303,19 +316,19 @@ pub fn general_times(rt: &HostRuntime) -> Result<(), Stop> {
 
 /// Asks what a value is, and sends it, into a sink that takes no memory.
 fn is_sent<T: EqualByText>(rt: &HostRuntime, value: &T, text: &[u8]) -> Result<(), Stop> {
-    frees(rt, "well_formed, well_formed_at and ==")?;
+    names_free(rt, "well_formed, well_formed_at and ==")?;
     expect(
         value.well_formed() && value.well_formed_at(64),
         "an ill-formed value",
     )?;
     expect(value == value, "a value differs from itself")?;
-    frees(rt, "encoded_len")?;
+    names_free(rt, "encoded_len")?;
     expect(value.encoded_len()? == text.len(), "another length")?;
-    frees(rt, "write_to")?;
+    names_free(rt, "write_to")?;
     let mut sink = Held::new();
     expect(write_to(value, &mut sink).is_ok(), "a refusal")?;
     expect(sink.bytes() == text, "other bytes")?;
-    frees(rt, "emit")?;
+    names_free(rt, "emit")?;
     let mut sink = Held::new();
     expect(value.emit(&mut sink).is_ok(), "a refusal")?;
     expect(sink.bytes() == text, "other bytes")
@@ -345,7 +358,7 @@ pub fn values(rt: &HostRuntime) -> Result<(), Stop> {
 /// A value under another tag.
 pub fn tags(rt: &HostRuntime) -> Result<(), Stop> {
     let value = OctetStringAsn1(octets(rt, b"AB")?);
-    frees(rt, "emit_as")?;
+    names_free(rt, "emit_as")?;
     let mut sink = Held::new();
     expect(value.emit_as(0x80, &mut sink).is_ok(), "a refusal")?;
     expect(sink.bytes() == b"\x80\x02AB".as_slice(), "another tag")
