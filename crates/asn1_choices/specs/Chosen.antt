@@ -1,6 +1,6 @@
 -- Choices by object identifier, as they are read: first the object identifier, then what follows it.
 use Rattle.std.specs.Prelude.{ℕ, ◌-◌, List, ◌++◌}
-use Rattle.asn1_core.specs.Der.{element, Choice, Format}
+use Rattle.asn1_core.specs.Der.{any_tag, element, Choice, Format}
 
 -- what follows the object identifier `key`, which was read already
 abbrev pub after_oid : {V : Type 0} → List ℕ → Choice V → Format V
@@ -11,5 +11,6 @@ after_oid key C = record {
   IsNormal = λ k b. C.row.IsNormal k (element 0x06 key ++ b);
   normal = C.row.normal;
   IsTag = λ _. Unit {0};
+  first = any_tag;
   least = λ v. C.row.least v - 1;
 }

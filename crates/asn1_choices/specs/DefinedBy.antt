@@ -1,6 +1,6 @@
 -- ANY DEFINED BY: an object identifier, which is kept, and after it, to the end of the contents, what it picks.
 use Rattle.std.specs.Prelude.{◌≡◌, ℕ, ◌+◌, List, ◌++◌}
-use Rattle.asn1_core.specs.Der.{element, Format, IsOid}
+use Rattle.asn1_core.specs.Der.{no_tag, one_tag, element, Format, IsOid}
 
 -- how the values V are encoded, whatever the object identifier is, and the body that each object identifier picks
 pub record DefinedBy (V : Type 0) : Type 1 where
@@ -15,6 +15,7 @@ any_defined_by P = record {
   IsNormal = λ k b. (o : List ℕ) × (c : List ℕ) × (b ≡ element 0x06 o ++ c) × IsOid o × (P.row o).IsNormal k c;
   normal = λ p. (p.0, (P.row p.0).normal p.1);
   IsTag = λ t. t ≡ 0x06;
+  first = one_tag 0x06;
   least = λ p. 1 + (P.row p.0).least p.1;
 }
 
@@ -33,6 +34,7 @@ arm {A} {V} W m F = record {
   IsNormal = F.IsNormal;
   normal = λ v. W.normal (m.brought v);
   IsTag = F.IsTag;
+  first = F.first;
   least = W.least;
 }
 
@@ -49,6 +51,7 @@ no_arm W = record {
   IsNormal = λ _ _. ⊥;
   normal = W.normal;
   IsTag = λ _. ⊥;
+  first = no_tag;
   least = W.least;
 }
 
@@ -61,5 +64,6 @@ only_written F = record {
   IsNormal = λ _ _. ⊥;
   normal = F.normal;
   IsTag = λ _. ⊥;
+  first = no_tag;
   least = F.least;
 }

@@ -1,7 +1,7 @@
 -- Tables of object identifiers: alternatives that all have the same body after the object identifier.
 use Rattle.std.specs.Prelude.{◌≡◌, ◌⊎◌, ℕ, ◌+◌, List, ◌++◌, Option, Some, None}
 use Rattle.std.proofs.Common.{refl, sym, ap, ◌∙◌, subst, inl, inr}
-use Rattle.asn1_core.specs.Der.{element, element_cut, Choice, Heads, IsLawfulChoice, same_head, heads_begin, OneOf, from_one, map_one, Format, IsLawfulRow}
+use Rattle.asn1_core.specs.Der.{one_tag, element, element_cut, Choice, Heads, IsLawfulChoice, same_head, heads_begin, OneOf, from_one, map_one, Format, IsLawfulRow}
 
 -- the object identifier of each alternative, and the alternative of an object identifier
 pub record Table (A : Type 0) : Type 0 where
@@ -23,6 +23,7 @@ among {A} {V} {W} T R C = record {
     IsNormal = λ k b. ((a : A) × (c : List ℕ) × (b ≡ element 0x06 (T.oid_of a) ++ c) × R.IsNormal k c) ⊎ (C.row.IsNormal k b × ((a : A) → Heads (T.oid_of a) b → ⊥));
     normal = map_one (λ p. (p.0, R.normal p.1)) C.row.normal;
     IsTag = λ t. t ≡ 0x06;
+    first = one_tag 0x06;
     least = from_one (λ p. 1 + R.least p.1) C.row.least;
   };
   oid_of = from_one (λ p. T.oid_of p.0) C.oid_of;

@@ -1,7 +1,8 @@
 //! The alternative of one object identifier, and that of any other.
 
-ghost use Rattle.std.specs.Prelude.{◌≡◌, ◌↔◌, ◌⊎◌, ℕ, List, IsTrue};
+ghost use Rattle.std.specs.Prelude.{◌≡◌, ◌↔◌, ◌⊎◌, ◌&&◌, ℕ, List, Bool, IsTrue, true};
 ghost use Rattle.std.proofs.Common.{inl, inr};
+ghost use Rattle.std.proofs.lemmas.Bool.{and_parts};
 ghost use Rattle.asn1_core.specs.Der.{known, otherwise, lawful_known, lawful_otherwise, IsOid, octets_of};
 ghost use Rattle.asn1_core_format.specs.declared.eithers.Either.TheVariants.{First, Second};
 
@@ -88,6 +89,8 @@ impl<N: Named, R: WriteRow, C: WriteChoice> WriteChoice for Either<Arm<N, R>, C>
 }
 
 impl<N: Named + Drop, R: ReadRow, C: ReadChoice> ReadChoice for Either<Arm<N, R>, C> {
+    ghost clear = { R.clear && C.clear };
+
     fn read_behind(oid: &[u8], alloc: Global, r: &mut Reader<'_>, nest: u8) -> Result<Self, Error> {
         if is_named::<N>(oid) {
             let row = R::read_row(alloc, r, nest)?;
@@ -97,7 +100,7 @@ impl<N: Named + Drop, R: ReadRow, C: ReadChoice> ReadChoice for Either<Arm<N, R>
         Ok(Either::Second(other))
     }
 
-    ghost lawful = { lawful_known N.OID R.WriteRow.format C.WriteChoice.choice R.lawful C.lawful };
+    ghost lawful = { λ c. let p = and_parts R.clear C.clear c in lawful_known N.OID R.WriteRow.format C.WriteChoice.choice (R.lawful p.0) (C.lawful p.1) };
 }
 
 /// Any other object identifier, which is kept, and what follows it.
@@ -129,13 +132,15 @@ impl<R: WriteRow> WriteChoice for AnyOid<R> {
 }
 
 impl<R: ReadRow> ReadChoice for AnyOid<R> {
+    ghost clear = { R.clear };
+
     fn read_behind(oid: &[u8], alloc: Global, r: &mut Reader<'_>, nest: u8) -> Result<Self, Error> {
         let kept = ObjectIdentifier::from_octets(alloc, oid)?;
         let row = R::read_row(alloc, r, nest)?;
         Ok(AnyOid(kept, row))
     }
 
-    ghost lawful = { lawful_otherwise IsOid R.WriteRow.format R.lawful };
+    ghost lawful = { λ c. lawful_otherwise IsOid R.WriteRow.format (R.lawful c) };
 }
 
 impl<R: WriteRow> WriteChoice for AnyOidRef<'_, R> {

@@ -1,6 +1,6 @@
 //! Choices by object identifier, and as bodies of contents.
 
-ghost use Rattle.std.specs.Prelude.{◌≡◌, ◌↔◌, ℕ, List, IsTrue, false};
+ghost use Rattle.std.specs.Prelude.{◌≡◌, ◌↔◌, ℕ, List, Bool, IsTrue, true, false};
 ghost use Rattle.asn1_core.specs.Der.{Choice, IsLawfulChoice, GivesRow};
 ghost use Rattle.asn1_choices.specs.Chosen.{after_oid};
 
@@ -32,12 +32,16 @@ pub trait WriteChoice {
 
 /// A choice by object identifier that is read.
 pub trait ReadChoice: WriteChoice + Drop {
+    /// Whether the bodies of all alternatives are clear, as `ReadRow` says.
+    ghost clear: { Bool } = { true };
+
     /// Reads what follows an object identifier with these contents octets, to the end of the open contents.
     fn read_behind(oid: &[u8], alloc: Global, r: &mut Reader<'_>, nest: u8) -> Result<Self, Error>
-        requires { r.old.refused ≡ false }
+        requires sound { r.old.refused ≡ false }
+        requires told { clear ≡ true }
         ensures { GivesRow Self.value (after_oid oid.now Self.choice) nest r.old r.new result };
 
-    ghost lawful: { IsLawfulChoice Self.WriteChoice.choice };
+    ghost lawful: { clear ≡ true → IsLawfulChoice Self.WriteChoice.choice };
 }
 
 /// A choice as a body.
@@ -61,13 +65,15 @@ impl<C: WriteChoice> WriteRow for Chosen<C> {
 }
 
 impl<C: ReadChoice> ReadRow for Chosen<C> {
+    ghost clear = { C.clear };
+
     fn read_row(alloc: Global, r: &mut Reader<'_>, nest: u8) -> Result<Self, Error> {
         let oid = contents_of(r, 0x06)?;
         let choice = C::read_behind(oid, alloc, r, nest)?;
         Ok(Chosen(choice))
     }
 
-    ghost lawful = { C.lawful.row };
+    ghost lawful = { λ c. (C.lawful c).row };
 }
 
 impl<C: WriteChoice> WriteChoice for &C {

@@ -1,6 +1,6 @@
 //! Choices of which one alternative may hold the type that is being read.
 
-ghost use Rattle.std.specs.Prelude.{◌≡◌, false};
+ghost use Rattle.std.specs.Prelude.{◌≡◌, false, true};
 ghost use Rattle.std.proofs.Common.{inl, inr};
 ghost use Rattle.asn1_core.specs.Der.{IsTagByte, MayBelow, GivesBelow, known, IsLawful, less, GivesRow, part, within};
 ghost use Rattle.asn1_core_format.specs.declared.eithers.Either.TheVariants.{First, Second};
@@ -23,6 +23,8 @@ pub fn read_nested_or<
 >(alloc: Global, r: &mut Reader<'_>, nest: u8, tag: u8, by: &F) -> Result<Either<(T, R), C>, Error>
     requires sound { r.old.refused ≡ false }
     requires tag { IsTagByte tag }
+    requires told_rest { R.clear ≡ true }
+    requires told_others { C.clear ≡ true }
     requires lawful { IsLawful T.format }
     requires called { MayBelow (F.pre by.now) nest }
     requires gives { GivesBelow (F.post by.now) T.value T.format nest }

@@ -1,7 +1,8 @@
 //! Alternatives that a table lists, which all have the same body after their object identifiers.
 
-ghost use Rattle.std.specs.Prelude.{◌≡◌, ◌⊎◌, None, MatchOption};
+ghost use Rattle.std.specs.Prelude.{◌≡◌, ◌⊎◌, ◌&&◌, Bool, None, MatchOption, true};
 ghost use Rattle.std.proofs.Common.{inl, inr};
+ghost use Rattle.std.proofs.lemmas.Bool.{and_parts};
 ghost use Rattle.asn1_choices.specs.Tables.{Table, IsTable, among, lawful_among};
 ghost use Rattle.asn1_choices.specs.declared.tables.Among.TheVariants.{Arm, Other};
 
@@ -63,6 +64,8 @@ impl<K: OidTable, R: WriteRow, C: WriteChoice> WriteChoice for Among<K, R, C> {
 }
 
 impl<K: OidTable, R: ReadRow, C: ReadChoice> ReadChoice for Among<K, R, C> {
+    ghost clear = { R.clear && C.clear };
+
     fn read_behind(oid: &[u8], alloc: Global, r: &mut Reader<'_>, nest: u8) -> Result<Self, Error> {
         match K::with_octets(oid) {
             Some(kind) => {
@@ -73,5 +76,5 @@ impl<K: OidTable, R: ReadRow, C: ReadChoice> ReadChoice for Among<K, R, C> {
         }
     }
 
-    ghost lawful = { lawful_among K.table R.WriteRow.format C.WriteChoice.choice K.is_table R.lawful C.lawful };
+    ghost lawful = { λ c. let p = and_parts R.clear C.clear c in lawful_among K.table R.WriteRow.format C.WriteChoice.choice K.is_table (R.lawful p.0) (C.lawful p.1) };
 }

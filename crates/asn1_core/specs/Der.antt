@@ -2,14 +2,15 @@
 -- the laws by which `search` finds that a type is lawful. The definitions of std come from its own modules,
 -- `Rattle.std.specs.Prelude` and `Rattle.std.proofs.Common`.
 use Rattle.std.proofs.Common.{arith}
-pub use Rattle.asn1_core_format.specs.Format.{Format, IsLawfulRow, IsLawful, GaveUp, Gives, Took}
+pub use Rattle.asn1_core_format.specs.FirstTags.{Listing, no_tag, any_tag, one_tag, both_tags, other_tags}
+pub use Rattle.asn1_core_format.specs.Format.{Format, IsLawfulRow, IsLawful, GaveUp, Gives, Took, are_apart, told}
 pub use Rattle.asn1_core_format.specs.Lists.{each, least_all}
 pub use Rattle.asn1_core_format.specs.ListLaws.{lawful_each}
 pub use Rattle.asn1_core_format.specs.Numbers.{number_below, lawful_number, numbers_below}
 pub use Rattle.asn1_core_format.specs.Rows.{nothing, part, optional, within, option_value, GaveUpRow, GivesRow, TookRow, text_if}
 pub use Rattle.asn1_core_format.specs.RowLaws.{lawful_nothing, lawful_part, lawful_optional, lawful_within}
 pub use Rattle.asn1_core_format.specs.Sequences.{sequence, followed_by, perhaps, lawful_sequence, set_of, lawful_set}
-pub use Rattle.asn1_core_format.specs.Omitted.{omitted, is_default, lawful_omitted, IsDefault, least_unless, text_unless}
+pub use Rattle.asn1_core_format.specs.Omitted.{omitted, is_default, lawful_omitted, unless, IsDefault, least_unless, text_unless}
 pub use Rattle.asn1_core_format.specs.Tagged.{implicit, context_tag}
 pub use Rattle.asn1_core_format.specs.TaggedLaws.{lawful_implicit, leaf_tagged, within_tagged, context_tag_is}
 pub use Rattle.asn1_core_oid.specs.OidValue.{octets_of}
@@ -29,7 +30,7 @@ pub use Rattle.asn1_core_element.specs.Reading.{RefusedElement, TookElement}
 pub use Rattle.asn1_core_element.specs.Words.{word_of}
 pub use Rattle.asn1_core_format.specs.Calls.{GivesBelow, MayBelow}
 pub use Rattle.asn1_core_format.specs.Choices.{Choice, Heads, IsLawfulChoice, heads_begin, known, lawful_known, lawful_otherwise, otherwise, same_head}
-pub use Rattle.asn1_core_format.specs.Eithers.{OneOf, either, from_one, lawful_either, map_one}
+pub use Rattle.asn1_core_format.specs.Eithers.{OneOf, either, from_one, lawful_either, map_one, or_else}
 pub use Rattle.asn1_core_format.specs.EmptySets.{empty_left_out, is_nil, lawful_set_or_none, set_or_none}
 pub use Rattle.asn1_core_format.specs.Gated.{gated, lawful_gated}
 pub use Rattle.asn1_core_format.specs.Laws.{NextIs, begins_next, element_some, next_apart}
@@ -53,6 +54,6 @@ pub use Rattle.asn1_core_writers.specs.Comparing.{IsBefore}
 pub use Rattle.asn1_core_writers.specs.Sinks.{Emits}
 pub use Rattle.asn1_core_writers.specs.Texts.{Measures, Writes}
 
--- The laws of required parts, and of a last part that is OPTIONAL. The law of any other OPTIONAL part is given by hand,
--- with `perhaps` or `lawful_omitted`, since its tags must differ from those of what follows it.
+-- The laws of required parts, and of a last part that is OPTIONAL. That of any other OPTIONAL part is `perhaps`, with `refl`
+-- for the first tags, of one with a default `unless`.
 pub ruleset der_laws = (arith, followed_by, perhaps_last, lawful_sequence, lawful_sequence_of, lawful_set, lawful_explicit, lawful_implicit_set, lawful_implicit_octets, lawful_each, lawful_nothing, lawful_number, lawful_object_identifier, lawful_only_oid, lawful_octet_string, lawful_raw, lawful_null_element, lawful_version_0, lawful_version_1, lawful_version_3)

@@ -8,3 +8,4 @@ pub mod Equal
 pub mod Versions
 pub mod Der
 pub mod Tagged
+pub mod Asn1

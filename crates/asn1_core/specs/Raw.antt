@@ -1,24 +1,26 @@
 -- One element, kept as it is.
 use Rattle.std.specs.Prelude.{◌≡◌, ℕ, List}
 use Rattle.std.proofs.Common.{refl, sym, ◌∙◌, subst}
-use Rattle.asn1_core_element.specs.Element.{IsElement, IsTagByte}
+use Rattle.asn1_core_element.specs.Element.{IsElement}
+use Rattle.asn1_core_format.specs.FirstTags.{Listing, tag_bytes}
 use Rattle.asn1_core_format.specs.Format.{Format, IsLawful}
 use Rattle.asn1_core_format.specs.Laws.{begins_alone}
 
 -- an element whose tag is one of these
-abbrev pub element_of : (ℕ → Type 0) → Format (List ℕ)
-element_of IsOne = record {
+abbrev pub element_of : {IsOne : ℕ → Type 0} → Listing IsOne → Format (List ℕ)
+element_of {IsOne} tags = record {
   text = λ v. v;
   IsWellFormed = λ _ v. IsElement IsOne v;
   Reads = λ _ b v. (b ≡ v) × IsElement IsOne b;
   IsNormal = λ _ b. IsElement IsOne b;
   normal = λ v. v;
   IsTag = IsOne;
+  first = tags;
   least = λ _. 1;
 }
 
-pub lawful_element_of : (IsOne : ℕ → Type 0) → IsLawful (element_of IsOne)
-lawful_element_of IsOne = record {
+pub lawful_element_of : {IsOne : ℕ → Type 0} (tags : Listing IsOne) → IsLawful (element_of tags)
+lawful_element_of {IsOne} tags = record {
   row = record {
     begins = λ k b v r. begins_alone IsOne b r.1;
     one_value = λ k b v w r s. sym r.0 ∙ s.0;
@@ -34,7 +36,7 @@ lawful_element_of IsOne = record {
 
 -- any element
 abbrev pub raw : Format (List ℕ)
-raw = element_of IsTagByte
+raw = element_of tag_bytes
 
 pub lawful_raw : IsLawful raw
-lawful_raw = lawful_element_of IsTagByte
+lawful_raw = lawful_element_of tag_bytes

@@ -1,6 +1,6 @@
 -- The words of ASN.1 for lists and for context tags (X.690, 8.10, 8.12, 8.14), each with its law.
 use Rattle.std.specs.Prelude.{◌≡◌, ℕ, ◌+◌, List}
-use Rattle.std.proofs.Common.{arith}
+use Rattle.std.proofs.Common.{arith, refl}
 use Rattle.asn1_core_element.specs.Element.{IsTagByte}
 use Rattle.asn1_core_format.specs.Format.{Format, IsLawful, IsLawfulRow}
 use Rattle.asn1_core_format.specs.Leaf.{leaf, kept}
@@ -16,7 +16,7 @@ use Rattle.asn1_core.specs.Octets.{any_octets, octet_string, lawful_octet_string
 
 -- an OPTIONAL last part
 pub perhaps_last : {V : Type 0} {F : Format V} → IsLawful F → IsLawfulRow (optional F nothing)
-perhaps_last f = perhaps f (λ t h e. e) lawful_nothing
+perhaps_last f = perhaps f refl lawful_nothing
 
 -- SEQUENCE OF
 abbrev pub sequence_of : {V : Type 0} → Format V → Format (List V)

@@ -6,7 +6,7 @@ ghost use Rattle.asn1_core_format.specs.RowLaws.{lawful_within};
 
 use asn1_core_element::{Error, Reader};
 use asn1_core_format::{
-    Alone, DerDeserialize, DerSerialize, FirstTags, TryClone, Viewed, put_within, read_within,
+    Alone, DerDeserialize, DerSerialize, FirstTags, Ref, TryClone, Viewed, put_within, read_within,
 };
 use asn1_core_writers::{WriteError, Writer};
 use std::alloc::Global;
@@ -23,7 +23,7 @@ impl<T: DerSerialize> DerSerialize for OctetStringAsn1Container<T> {
     ghost format = { within 0x04 T.format };
 
     fn put<W: Writer>(&self, w: &mut W) -> Result<(), WriteError> {
-        put_within(0x04, &Alone(&self.0), w)
+        put_within(0x04, &Alone(Ref(&self.0)), w)
     }
 
     fn well_formed_at(&self, limit: u8) -> bool {

@@ -6,8 +6,7 @@ ghost use Rattle.asn1_core_format.specs.RowLaws.{lawful_within};
 
 use asn1_core_element::{Error, Reader};
 use asn1_core_format::{
-    Alone, ApartFrom, DerDeserialize, DerSerialize, FirstTags, TryClone, Viewed, put_within,
-    read_within,
+    Alone, DerDeserialize, DerSerialize, FirstTags, Ref, TryClone, Viewed, put_within, read_within,
 };
 use asn1_core_writers::{WriteError, Writer};
 use std::alloc::Global;
@@ -24,7 +23,7 @@ impl<T: DerSerialize> DerSerialize for ExplicitContextTag0<T> {
     ghost format = { within 0xA0 T.format };
 
     fn put<W: Writer>(&self, w: &mut W) -> Result<(), WriteError> {
-        put_within(0xA0, &Alone(&self.0), w)
+        put_within(0xA0, &Alone(Ref(&self.0)), w)
     }
 
     fn well_formed_at(&self, limit: u8) -> bool {
@@ -73,7 +72,7 @@ impl<T: DerSerialize> DerSerialize for ExplicitContextTag1<T> {
     ghost format = { within 0xA1 T.format };
 
     fn put<W: Writer>(&self, w: &mut W) -> Result<(), WriteError> {
-        put_within(0xA1, &Alone(&self.0), w)
+        put_within(0xA1, &Alone(Ref(&self.0)), w)
     }
 
     fn well_formed_at(&self, limit: u8) -> bool {
@@ -122,7 +121,7 @@ impl<T: DerSerialize> DerSerialize for ExplicitContextTag2<T> {
     ghost format = { within 0xA2 T.format };
 
     fn put<W: Writer>(&self, w: &mut W) -> Result<(), WriteError> {
-        put_within(0xA2, &Alone(&self.0), w)
+        put_within(0xA2, &Alone(Ref(&self.0)), w)
     }
 
     fn well_formed_at(&self, limit: u8) -> bool {
@@ -157,9 +156,4 @@ impl<T: TryClone> TryClone for ExplicitContextTag2<T> {
     fn try_clone(&self, alloc: Global) -> Result<Self, Error> {
         Ok(ExplicitContextTag2(self.0.try_clone(alloc)?))
     }
-}
-
-impl<T: DerSerialize, U: DerSerialize> ApartFrom<ExplicitContextTag1<U>>
-    for ExplicitContextTag0<T> {
-    ghost no_common_tag = { λ t h e. Prim.omega arith };
 }

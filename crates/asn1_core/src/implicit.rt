@@ -1,14 +1,14 @@
 //! Implicit tags (X.690, 8.14): a context tag in place of the tag of the type under it, whose constructed bit stays.
 
+ghost use Rattle.std.specs.Prelude.{◌%◌};
 ghost use Rattle.std.proofs.Common.{arith};
 ghost use Rattle.asn1_core_format.specs.Tagged.{implicit, context_tag};
 ghost use Rattle.asn1_core_format.specs.TaggedLaws.{lawful_implicit, context_tag_is};
 
-use crate::lists::Asn1SetOf;
 use asn1_core_element::{Error, Reader};
 use asn1_core_format::tagged::context_tag_of;
 use asn1_core_format::{
-    ApartFrom, DerDeserialize, DerSerialize, DerTagged, FirstTags, TryClone, Viewed, read_retagged,
+    DerDeserialize, DerSerialize, DerTagged, FirstTags, TryClone, Viewed, read_retagged,
 };
 use asn1_core_writers::{WriteError, Writer};
 use std::alloc::Global;
@@ -109,10 +109,36 @@ impl<T: TryClone> TryClone for ImplicitContextTag1<T> {
     }
 }
 
-impl<T: DerTagged, U: DerTagged> ApartFrom<ImplicitContextTag1<U>> for ImplicitContextTag0<T> {
-    ghost no_common_tag = { λ t h e. Prim.omega arith };
+/// `[N] IMPLICIT T`, for N up to 30; a greater number counts as its remainder by 31.
+#[derive(Debug, Drop, PartialEq, Eq)]
+pub struct Implicit<const N: u8, T>(pub T);
+
+impl<const N: u8, T: DerTagged> DerSerialize for Implicit<N, T> {
+    ghost Value = { T.Value };
+
+    ghost value = { λ x. T.value x.0 };
+
+    ghost format = { implicit (context_tag (N % 31) T.TAG) T.TAG T.format };
+
+    fn put<W: Writer>(&self, w: &mut W) -> Result<(), WriteError> {
+        self.0.put_as(context_tag_of::<T>(N % 31), w)
+    }
+
+    fn well_formed_at(&self, limit: u8) -> bool {
+        self.0.well_formed_at(limit)
+    }
 }
 
-impl<T: DerTagged, U: DerSerialize> ApartFrom<Asn1SetOf<U>> for ImplicitContextTag0<T> {
-    ghost no_common_tag = { λ t h e. Prim.omega arith };
+impl<const N: u8, T: DerTagged> DerDeserialize for Implicit<N, T> {
+    fn read(alloc: Global, r: &mut Reader<'_>, nest: u8) -> Result<Self, Error> {
+        Ok(Implicit(read_retagged(alloc, r, nest, context_tag_of::<T>(N % 31))?))
+    }
+
+    ghost lawful = { lawful_implicit (context_tag (N % 31) T.TAG) T.TAG T.DerSerialize.format T.lawful T.tagged (context_tag_is (N % 31) T.TAG (Prim.omega arith)) };
+}
+
+impl<const N: u8, T: DerTagged> FirstTags for Implicit<N, T> {
+    fn begins(tag: u8) -> bool {
+        tag == context_tag_of::<T>(N % 31)
+    }
 }

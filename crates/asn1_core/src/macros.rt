@@ -7,13 +7,16 @@
 macro_rules! body_of {
     ($value:ident;) => { $crate::prelude::End };
     ($value:ident; $field:ident OPTIONAL $(, $($rest:tt)*)?) => {
-        $crate::prelude::Maybe($value.$field.as_ref(), $crate::body_of!($value; $($($rest)*)?))
+        $crate::prelude::MaybeRef(&$value.$field, $crate::body_of!($value; $($($rest)*)?))
     };
     ($value:ident; $field:ident DEFAULT $(, $($rest:tt)*)?) => {
         $crate::prelude::OmittedRef(&$value.$field, $crate::body_of!($value; $($($rest)*)?))
     };
     ($value:ident; $field:ident $(, $($rest:tt)*)?) => {
-        $crate::prelude::Part(&$value.$field, $crate::body_of!($value; $($($rest)*)?))
+        $crate::prelude::Part($crate::prelude::Ref(&$value.$field), $crate::body_of!($value; $($($rest)*)?))
+    };
+    ($value:ident; $part:ident($field:ident) DEFAULT $(, $($rest:tt)*)?) => {
+        $crate::prelude::Omitted($part($value.$field), $crate::body_of!($value; $($($rest)*)?))
     };
     ($value:ident; ($part:expr) OPTIONAL $(, $($rest:tt)*)?) => {
         $crate::prelude::Maybe($part, $crate::body_of!($value; $($($rest)*)?))
@@ -43,6 +46,9 @@ macro_rules! fields_of {
     };
     ($field:ident $(, $($rest:tt)*)?) => {
         $crate::prelude::Part($field, $crate::fields_of!($($($rest)*)?))
+    };
+    ($part:ident($field:ident) DEFAULT $(, $($rest:tt)*)?) => {
+        $crate::prelude::Omitted($part($field), $crate::fields_of!($($($rest)*)?))
     };
     (($part:pat) OPTIONAL $(, $($rest:tt)*)?) => {
         $crate::prelude::Maybe($part, $crate::fields_of!($($($rest)*)?))
@@ -92,5 +98,75 @@ macro_rules! clone_of {
             $($field: $value.$field.try_clone($alloc)?,)*
             $($($copied: $value.$copied,)*)?
         })
+    };
+}
+
+/// Lends the parts of a SEQUENCE, as the body of `Sequence::lend`: `lend_of!(self, task; Stamp { id, data, count
+/// OPTIONAL })`. A field that is a part in a type of its own is in that type's parentheses, as `DefaultFalse(critical)
+/// DEFAULT`.
+///
+/// `lend_of`, `parts_of` and `clones_of` take the same list, so a table can give it to all three: `macro_rules! stamp {
+/// ($by:ident($($by_what:ident),*)) => { $by!($($by_what),*; Stamp { id, data, count OPTIONAL }) }; }`, with bodies such
+/// as `stamp!(lend_of(self, task))`.
+#[macro_export]
+macro_rules! lend_of {
+    ($value:ident, $task:ident; $type:ident { $($parts:tt)* }) => {
+        $task.run(&$crate::body_of!($value; $($parts)*))
+    };
+}
+
+/// Reads the parts of a SEQUENCE, as the body of `Sequence::read_parts`: `parts_of!(alloc, r, nest; Stamp { id, data,
+/// count OPTIONAL })`.
+#[macro_export]
+macro_rules! parts_of {
+    ($alloc:ident, $r:ident, $nest:ident; $type:ident { $($parts:tt)* }) => {{
+        let $crate::fields_of!($($parts)*): $crate::types_of!($($parts)*) = $crate::prelude::ReadRow::read_row($alloc, $r, $nest)?;
+        Ok($crate::struct_of!($type; ; $($parts)*))
+    }};
+}
+
+/// The types of the parts that `parts_of` reads, as far as the words say them.
+#[macro_export]
+macro_rules! types_of {
+    () => { $crate::prelude::End };
+    ($part:ident($field:ident) DEFAULT $(, $($rest:tt)*)?) => {
+        $crate::prelude::Omitted<$part, $crate::types_of!($($($rest)*)?)>
+    };
+    ($field:ident OPTIONAL $(, $($rest:tt)*)?) => {
+        $crate::prelude::Maybe<_, $crate::types_of!($($($rest)*)?)>
+    };
+    ($field:ident DEFAULT $(, $($rest:tt)*)?) => {
+        $crate::prelude::Omitted<_, $crate::types_of!($($($rest)*)?)>
+    };
+    ($field:ident $(, $($rest:tt)*)?) => {
+        $crate::prelude::Part<_, $crate::types_of!($($($rest)*)?)>
+    };
+}
+
+/// The struct that `parts_of` makes, field by field.
+#[macro_export]
+macro_rules! struct_of {
+    ($type:ident; $($field:ident)*;) => { $type { $($field),* } };
+    ($type:ident; $($done:ident)*; $part:ident($field:ident) $word:ident $(, $($rest:tt)*)?) => {
+        $crate::struct_of!($type; $($done)* $field; $($($rest)*)?)
+    };
+    ($type:ident; $($done:ident)*; $field:ident $($word:ident)? $(, $($rest:tt)*)?) => {
+        $crate::struct_of!($type; $($done)* $field; $($($rest)*)?)
+    };
+}
+
+/// Clones the parts of a SEQUENCE, as the body of `Sequence::clone_parts`: `clones_of!(self, alloc; Stamp { id, data,
+/// count OPTIONAL })`. A field that is a part in a type of its own is copied.
+#[macro_export]
+macro_rules! clones_of {
+    (@ $value:ident $alloc:ident $type:ident [$($made:tt)*]) => { Ok($type { $($made)* }) };
+    (@ $value:ident $alloc:ident $type:ident [$($made:tt)*] $part:ident($field:ident) $word:ident $(, $($rest:tt)*)?) => {
+        $crate::clones_of!(@ $value $alloc $type [$($made)* $field: $value.$field,] $($($rest)*)?)
+    };
+    (@ $value:ident $alloc:ident $type:ident [$($made:tt)*] $field:ident $($word:ident)? $(, $($rest:tt)*)?) => {
+        $crate::clones_of!(@ $value $alloc $type [$($made)* $field: $value.$field.try_clone($alloc)?,] $($($rest)*)?)
+    };
+    ($value:ident, $alloc:ident; $type:ident { $($parts:tt)* }) => {
+        $crate::clones_of!(@ $value $alloc $type [] $($parts)*)
     };
 }

@@ -10,6 +10,7 @@ use Rattle.asn1_core_format.specs.RowLaws.{lawful_part}
 use Rattle.asn1_core_format.specs.Leaf.{leaf, kept}
 use Rattle.asn1_core_format.specs.LeafLaws.{lawful_leaf, lawful_kept}
 use Rattle.asn1_core_format.specs.Eithers.{OneOf, from_one, map_one}
+use Rattle.asn1_core_format.specs.FirstTags.{one_tag}
 
 -- contents that begin with an object identifier
 pub record Choice (V : Type 0) : Type 1 where
@@ -34,6 +35,7 @@ known {V} {W} o R C = record {
     IsNormal = λ k b. ((c : List ℕ) × (b ≡ element 0x06 o ++ c) × R.IsNormal k c) ⊎ (C.row.IsNormal k b × (Heads o b → ⊥));
     normal = map_one R.normal C.row.normal;
     IsTag = λ t. t ≡ 0x06;
+    first = one_tag 0x06;
     least = from_one (λ v. 1 + R.least v) C.row.least;
   };
   oid_of = from_one (λ _. o) C.oid_of;

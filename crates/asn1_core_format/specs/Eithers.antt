@@ -1,9 +1,10 @@
 -- A choice by tag (X.680, 29: CHOICE).
-use Rattle.std.specs.Prelude.{◌≡◌, ◌⊎◌, ℕ, ◌+◌, List, []}
+use Rattle.std.specs.Prelude.{◌≡◌, ◌⊎◌, ℕ, ◌+◌, ◌&&◌, Bool, true, List, []}
 use Rattle.std.proofs.Common.{sym, ap, inl, inr, append-nil}
 use Rattle.asn1_core_element.specs.Element.{IsElement}
-use Rattle.asn1_core_format.specs.Format.{Format, IsLawful}
+use Rattle.asn1_core_format.specs.Format.{Format, IsLawful, are_apart, told, told_both}
 use Rattle.asn1_core_format.specs.Laws.{begins_alone, begins_next, next_apart, tag_left, tag_right}
+use Rattle.asn1_core_format.specs.FirstTags.{both_tags}
 
 abbrev pub OneOf : {V W : Type 0} → (V → Type 0) → (W → Type 0) → V ⊎ W → Type 0
 OneOf P Q (inl v) = P v
@@ -26,6 +27,7 @@ either {V} {W} F G = record {
   IsNormal = λ k b. F.IsNormal k b ⊎ G.IsNormal k b;
   normal = map_one F.normal G.normal;
   IsTag = λ t. F.IsTag t ⊎ G.IsTag t;
+  first = both_tags F.first G.first;
   least = from_one F.least G.least;
 }
 
@@ -87,3 +89,11 @@ module _ {V W : Type 0} (F : Format V) (G : Format W) (f : IsLawful F) (g : IsLa
     };
     element = either_element;
   }
+
+-- where the other alternatives are clear, and the first tags tell the first from them
+pub either_if_clear : {V W : Type 0} (F : Format V) (G : Format W) (c : Bool) → IsLawful F → (c ≡ true → IsLawful G) → (c && are_apart F G) ≡ true → IsLawful (either F G)
+either_if_clear F G c f g e = let p = told_both F G c e in lawful_either F G f (g p.0) p.1
+
+-- the same where the other is one alternative
+pub or_else : {V W : Type 0} {F : Format V} {G : Format W} → IsLawful F → are_apart F G ≡ true → IsLawful G → IsLawful (either F G)
+or_else {V} {W} {F} {G} f e g = lawful_either F G f g (told F G e)

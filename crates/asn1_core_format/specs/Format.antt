@@ -1,9 +1,11 @@
 -- What the values of a type are written as and read from, the laws of a type that does both, and what reading answers.
-use Rattle.std.specs.Prelude.{◌≡◌, ◌≢◌, ◌⊎◌, ◌↔◌, ℕ, ◌+◌, ◌*◌, ◌≤◌, false, List, [], ◌++◌, length, Result, MatchResult}
+use Rattle.std.specs.Prelude.{◌≡◌, ◌≢◌, ◌⊎◌, ◌↔◌, ℕ, ◌+◌, ◌*◌, ◌≤◌, ◌&&◌, Bool, true, false, List, [], ◌++◌, length, Result, MatchResult}
+use Rattle.std.proofs.lemmas.Bool.{and_parts}
 use Rattle.asn1_core_element.specs.Element.{IsElement}
 use Rattle.asn1_core_element.specs.Position.{Position}
 use Rattle.asn1_core_element.specs.declared.error.Error.{Error}
 use Rattle.asn1_core_element.specs.declared.error.Error.TheVariants.{TooLong, Memory}
+use Rattle.asn1_core_format.specs.FirstTags.{Listing, no_common, no_common_is}
 
 -- What the values V of a type are written as and read from. A level is a nesting level, where the type counts it.
 pub record Format (V : Type 0) : Type 1 where
@@ -19,8 +21,21 @@ pub record Format (V : Type 0) : Type 1 where
   pub normal : V → V
   -- the first tags: the bytes that encodings begin with
   pub IsTag : ℕ → Type 0
+  -- the same, as an expression
+  pub first : Listing IsTag
   -- the fewest elements that the grammar gives an encoding of the value
   pub least : V → ℕ
+
+-- whether no tag is one of both, which is computed
+abbrev pub are_apart : {V W : Type 0} → Format V → Format W → Bool
+are_apart F R = no_common F.first.tags R.first.tags
+
+pub told : {V W : Type 0} (F : Format V) (R : Format W) → are_apart F R ≡ true → (t : ℕ) → F.IsTag t → R.IsTag t → ⊥
+told F R e t h i = no_common_is F.first.tags R.first.tags e t ((F.first.same t).0 h) ((R.first.same t).0 i)
+
+-- the same of the rest, where a first test holds too
+pub told_both : {V W : Type 0} (F : Format V) (R : Format W) (c : Bool) → (c && are_apart F R) ≡ true → (c ≡ true) × ((t : ℕ) → F.IsTag t → R.IsTag t → ⊥)
+told_both F R c e = let p = and_parts c (are_apart F R) e in (p.0, told F R p.1)
 
 -- there are no bytes, or they begin with an element of one of these tags
 abbrev pub BeginsBy : (ℕ → Type 0) → List ℕ → Type 0

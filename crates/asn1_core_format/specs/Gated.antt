@@ -14,6 +14,7 @@ gated F = record {
   IsNormal = λ k b. below (λ _. F.IsNormal k b) k;
   normal = F.normal;
   IsTag = F.IsTag;
+  first = F.first;
   least = F.least;
 }
 

@@ -4,6 +4,7 @@ use Rattle.asn1_core_element.specs.Element.{element}
 use Rattle.asn1_core_element.specs.declared.error.Error.{Error}
 use Rattle.asn1_core_element.specs.declared.error.Error.TheVariants.{TooLong, Memory}
 use Rattle.asn1_core_format.specs.Format.{Format}
+use Rattle.asn1_core_format.specs.FirstTags.{one_tag}
 
 -- How the values V are spelled, each in one way, in the contents of an element. IsContents, over bytes alone, says
 -- which contents spell a value.
@@ -26,6 +27,7 @@ leaf {V} tag S = record {
   IsNormal = λ _ b. (c : List ℕ) × (b ≡ element tag c) × S.IsContents c;
   normal = λ v. v;
   IsTag = λ t. t ≡ tag;
+  first = one_tag tag;
   least = λ _. 1;
 }
 

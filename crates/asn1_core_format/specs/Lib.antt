@@ -1,4 +1,5 @@
 pub mod Format
+pub mod FirstTags
 pub mod Laws
 pub mod Leaf
 pub mod LeafLaws
@@ -23,3 +24,4 @@ pub mod Rolled
 pub mod Same
 pub mod Views
 pub mod Numbers
+pub mod Asn1

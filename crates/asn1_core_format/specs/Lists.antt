@@ -26,6 +26,7 @@ each F = record {
   IsNormal = λ k c. IsNormalAll (F.IsNormal k) c;
   normal = map F.normal;
   IsTag = F.IsTag;
+  first = F.first;
   least = least_all F.least;
 }
 

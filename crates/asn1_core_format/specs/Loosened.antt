@@ -32,6 +32,7 @@ loosened {A} {V} P L = record {
   IsNormal = λ k b. P.IsNormal k b × L.IsWritten b;
   normal = L.normal;
   IsTag = P.IsTag;
+  first = P.first;
   least = L.least;
 }
 

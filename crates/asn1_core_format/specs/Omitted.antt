@@ -5,10 +5,11 @@ use Rattle.std.specs.Str.{bytes_eq}
 use Rattle.std.proofs.lemmas.Bool.{false_from_ne_true}
 use Rattle.asn1_core_element.specs.declared.error.Error.{Error}
 use Rattle.asn1_core_element.specs.declared.error.Error.TheVariants.{Memory}
-use Rattle.asn1_core_format.specs.Format.{Format, BeginsBy, IsLawfulRow, IsLawful}
+use Rattle.asn1_core_format.specs.Format.{Format, BeginsBy, IsLawfulRow, IsLawful, are_apart, told, told_both}
 use Rattle.asn1_core_format.specs.Laws.{texts_cut, begins_right, tag_left}
 use Rattle.asn1_core_format.specs.Rows.{part}
 use Rattle.asn1_core_format.specs.RowLaws.{lawful_part, not_both}
+use Rattle.asn1_core_format.specs.FirstTags.{both_tags}
 
 abbrev pub text_unless : Bool → List ℕ → List ℕ
 text_unless true b = []
@@ -28,6 +29,7 @@ omitted {V} {W} o d F R = record {
   IsNormal = λ k b. R.IsNormal k b ⊎ ((a : List ℕ) × (c : List ℕ) × (b ≡ a ++ c) × F.IsNormal k a × R.IsNormal k c × (a ≢ d));
   normal = λ p. (F.normal p.0, R.normal p.1);
   IsTag = λ t. F.IsTag t ⊎ R.IsTag t;
+  first = both_tags F.first R.first;
   least = λ p. least_unless (o p.0) (F.least p.0) + R.least p.1;
 }
 
@@ -131,6 +133,14 @@ module _ {V W : Type 0} (o : V → Bool) (d : List ℕ) (F : Format V) (R : Form
   -- the value that absence means
   pub omitted_is : (k : ℕ) (v : V) → F.Reads k d v → o v ≡ true
   omitted_is = omitted_value
+
+-- where the rest is clear, and the first tags tell the part from it
+pub omitted_if_clear : {V W : Type 0} (o : V → Bool) (d : List ℕ) (F : Format V) (R : Format W) (c : Bool) → IsLawful F → (c ≡ true → IsLawfulRow R) → IsDefault o d F → (c && are_apart F R) ≡ true → IsLawfulRow (omitted o d F R)
+omitted_if_clear o d F R c f r n e = let p = told_both F R c e in lawful_omitted o d F R f (r p.0) n p.1
+
+-- `refl` where the part's first tags aren't those of what follows
+pub unless : {V W : Type 0} {o : V → Bool} {d : List ℕ} {F : Format V} {R : Format W} → IsLawful F → IsDefault o d F → are_apart F R ≡ true → IsLawfulRow R → IsLawfulRow (omitted o d F R)
+unless {V} {W} {o} {d} {F} {R} f n e r = lawful_omitted o d F R f r n (told F R e)
 
 -- The values that are left out: those that are written as d, which is one element. A set whose items have an empty
 -- encoding is written as the empty set is, but has more elements; such a set is ill-formed.

@@ -1,9 +1,9 @@
 -- The laws of bodies (rows), of their parts, and of an element with a body in it.
-use Rattle.std.specs.Prelude.{◌≡◌, ◌↔◌, ℕ, ◌+◌, List, ◌++◌, Option, None, Some}
+use Rattle.std.specs.Prelude.{◌≡◌, ◌↔◌, ℕ, ◌+◌, ◌&&◌, Bool, true, List, ◌++◌, Option, None, Some}
 use Rattle.std.proofs.Common.{refl, sym, ap, ◌∙◌, subst, inl, inr}
 use Rattle.asn1_core_element.specs.Element.{element, IsElement, IsTagByte}
 use Rattle.asn1_core_element.specs.ElementLaws.{element_same, elements_cut}
-use Rattle.asn1_core_format.specs.Format.{Format, BeginsBy, IsLawfulRow, IsLawful}
+use Rattle.asn1_core_format.specs.Format.{Format, BeginsBy, IsLawfulRow, IsLawful, are_apart, told_both}
 use Rattle.asn1_core_format.specs.Laws.{begins_alone, begins_next, next_apart, begins_right, tag_left}
 use Rattle.asn1_core_format.specs.Rows.{nothing, part, optional, within}
 
@@ -119,6 +119,10 @@ module _ {V W : Type 0} (F : Format V) (R : Format W) (f : IsLawful F) (r : IsLa
     well_formed = optional_well_formed;
     deeper = optional_deeper;
   }
+
+-- where the rest is clear, and the first tags tell the part from it
+pub optional_if_clear : {V W : Type 0} (F : Format V) (R : Format W) (c : Bool) → IsLawful F → (c ≡ true → IsLawfulRow R) → (c && are_apart F R) ≡ true → IsLawfulRow (optional F R)
+optional_if_clear F R c f r e = let p = told_both F R c e in lawful_optional F R f (r p.0) p.1
 
 module _ {V : Type 0} (R : Format V) (r : IsLawfulRow R) (tag : ℕ) (is_tag : IsTagByte tag) where
   inner : (b c d : List ℕ) → b ≡ element tag c → b ≡ element tag d → c ≡ d

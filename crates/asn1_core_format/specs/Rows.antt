@@ -5,6 +5,7 @@ use Rattle.asn1_core_element.specs.Position.{Position}
 use Rattle.asn1_core_format.specs.Format.{Format}
 use Rattle.asn1_core_element.specs.declared.error.Error.{Error}
 use Rattle.asn1_core_element.specs.declared.error.Error.TheVariants.{TooLong, Memory}
+use Rattle.asn1_core_format.specs.FirstTags.{both_tags, no_tag, one_tag}
 
 -- nothing more
 abbrev pub nothing : Format (Unit {0})
@@ -15,6 +16,7 @@ nothing = record {
   IsNormal = λ _ b. b ≡ [];
   normal = λ v. v;
   IsTag = λ _. ⊥;
+  first = no_tag;
   least = λ _. 0;
 }
 
@@ -27,6 +29,7 @@ part {V} {W} F R = record {
   IsNormal = λ k b. (a : List ℕ) × (c : List ℕ) × (b ≡ a ++ c) × F.IsNormal k a × R.IsNormal k c;
   normal = λ p. (F.normal p.0, R.normal p.1);
   IsTag = F.IsTag;
+  first = F.first;
   least = λ p. F.least p.0 + R.least p.1;
 }
 
@@ -60,6 +63,7 @@ optional {V} {W} F R = record {
   IsNormal = λ k b. R.IsNormal k b ⊎ (part F R).IsNormal k b;
   normal = λ p. (normal_if F.normal p.0, R.normal p.1);
   IsTag = λ t. F.IsTag t ⊎ R.IsTag t;
+  first = both_tags F.first R.first;
   least = λ p. least_if F.least p.0 + R.least p.1;
 }
 
@@ -72,6 +76,7 @@ within {V} tag R = record {
   IsNormal = λ k b. (c : List ℕ) × (b ≡ element tag c) × R.IsNormal k c;
   normal = R.normal;
   IsTag = λ t. t ≡ tag;
+  first = one_tag tag;
   least = λ v. 1 + R.least v;
 }
 

@@ -1,7 +1,7 @@
 -- A SEQUENCE (X.690, 8.9) and its laws, part by part, in the order of the parts, and a SET OF (8.12).
-use Rattle.std.specs.Prelude.{ℕ, List}
+use Rattle.std.specs.Prelude.{◌≡◌, true, List}
 use Rattle.std.proofs.Common.{arith}
-use Rattle.asn1_core_format.specs.Format.{Format, IsLawfulRow, IsLawful}
+use Rattle.asn1_core_format.specs.Format.{Format, IsLawfulRow, IsLawful, are_apart, told}
 use Rattle.asn1_core_format.specs.Lists.{each}
 use Rattle.asn1_core_format.specs.ListLaws.{lawful_each}
 use Rattle.asn1_core_format.specs.Rows.{part, optional, within}
@@ -14,9 +14,9 @@ module _ {V W : Type 0} {F : Format V} {R : Format W} where
   pub followed_by : IsLawful F → IsLawfulRow R → IsLawfulRow (part F R)
   followed_by f r = lawful_part F R f r
 
-  -- the second argument tells the part's first tags from those of what follows
-  pub perhaps : IsLawful F → ((t : ℕ) → F.IsTag t → R.IsTag t → ⊥) → IsLawfulRow R → IsLawfulRow (optional F R)
-  perhaps f apart r = lawful_optional F R f r apart
+  -- the second argument is `refl` where the part's first tags aren't those of what follows
+  pub perhaps : IsLawful F → are_apart F R ≡ true → IsLawfulRow R → IsLawfulRow (optional F R)
+  perhaps f apart r = lawful_optional F R f r (told F R apart)
 
 pub lawful_sequence : {V : Type 0} {R : Format V} → IsLawfulRow R → IsLawful (sequence R)
 lawful_sequence {V} {R} r = lawful_within R r 0x30 (omega arith)

@@ -2,6 +2,7 @@
 use Rattle.std.specs.Prelude.{◌≡◌, ◌↔◌, ℕ, ◌+◌, ◌-◌, ◌*◌, ◌/◌, ◌%◌, List}
 use Rattle.asn1_core_element.specs.Element.{element, retag, IsTagByte}
 use Rattle.asn1_core_format.specs.Format.{Format}
+use Rattle.asn1_core_format.specs.FirstTags.{one_tag}
 
 -- every encoding, also of an ill-formed value, is an element with that tag
 pub record IsTagged {V : Type 0} (tag : ℕ) (F : Format V) : Type 0 where
@@ -18,6 +19,7 @@ inside {V} tag F = record {
   IsNormal = λ k c. F.IsNormal k (element tag c);
   normal = F.normal;
   IsTag = F.IsTag;
+  first = F.first;
   least = λ v. F.least v - 1;
 }
 
@@ -30,6 +32,7 @@ implicit {V} tag inner F = record {
   IsNormal = λ k b. (c : List ℕ) × (b ≡ element tag c) × F.IsNormal k (element inner c);
   normal = F.normal;
   IsTag = λ t. t ≡ tag;
+  first = one_tag tag;
   least = λ v. 1 + (F.least v - 1);
 }
 

@@ -1,11 +1,12 @@
 //! A choice by tag.
 
-ghost use Rattle.std.specs.Prelude.{◌⊎◌};
+ghost use Rattle.std.specs.Prelude.{◌≡◌, ◌⊎◌, ◌&&◌, Bool, true, false};
 ghost use Rattle.std.proofs.Common.{inl, inr};
-ghost use Rattle.asn1_core_format.specs.Eithers.{either, lawful_either};
+ghost use Rattle.asn1_core_format.specs.Eithers.{either, either_if_clear};
+ghost use Rattle.asn1_core_format.specs.Format.{Gives, IsLawful, are_apart};
 ghost use Rattle.asn1_core_format.specs.declared.eithers.Either.TheVariants.{First, Second};
 
-use crate::rows::{ApartFrom, FirstTags, next_is};
+use crate::rows::{FirstTags, next_is};
 use crate::traits::{DerDeserialize, DerSerialize};
 use asn1_core_element::{Error, Reader};
 use asn1_core_writers::{WriteError, Writer};
@@ -40,21 +41,39 @@ impl<A: DerSerialize, B: DerSerialize> DerSerialize for Either<A, B> {
     }
 }
 
-impl<A: FirstTags + ApartFrom<B>, B: DerDeserialize> DerDeserialize for Either<A, B> {
-    fn read(alloc: Global, r: &mut Reader<'_>, nest: u8) -> Result<Self, Error> {
+/// What is read as one of several alternatives, or as a type of its own.
+pub trait Alternatives: DerSerialize + Drop {
+    /// Whether the first tags of each alternative are none of those of the alternatives after it.
+    ghost clear: { Bool } = { true };
+
+    /// Reads a value from the front of what is left, as `read` does.
+    fn read_one(alloc: Global, r: &mut Reader<'_>, nest: u8) -> Result<Self, Error>
+        requires sound { r.old.refused ≡ false }
+        requires told { clear ≡ true }
+        ensures { Gives Self.value Self.format nest r.old r.new result };
+
+    ghost laws: { clear ≡ true → IsLawful Self.DerSerialize.format };
+}
+
+impl<T: DerDeserialize> Alternatives for T {
+    fn read_one(alloc: Global, r: &mut Reader<'_>, nest: u8) -> Result<Self, Error> {
+        T::read(alloc, r, nest)
+    }
+
+    ghost laws = { λ _. T.lawful };
+}
+
+impl<A: FirstTags, B: Alternatives> Alternatives for Either<A, B> {
+    ghost clear = { B.clear && are_apart A.format B.format };
+
+    fn read_one(alloc: Global, r: &mut Reader<'_>, nest: u8) -> Result<Self, Error> {
         if next_is::<A>(r) {
             let first = A::read(alloc, r, nest)?;
             return Ok(Either::First(first));
         }
-        let second = B::read(alloc, r, nest)?;
+        let second = B::read_one(alloc, r, nest)?;
         Ok(Either::Second(second))
     }
 
-    ghost lawful = { lawful_either A.DerSerialize.format B.DerSerialize.format A.lawful B.lawful A.no_common_tag };
-}
-
-impl<A: FirstTags + ApartFrom<B>, B: FirstTags> FirstTags for Either<A, B> {
-    fn begins(tag: u8) -> bool {
-        A::begins(tag) || B::begins(tag)
-    }
+    ghost laws = { λ c. either_if_clear A.DerSerialize.format B.DerSerialize.format B.clear A.lawful B.laws c };
 }

@@ -10,6 +10,7 @@ pub mod lists;
 pub mod numbers;
 pub mod recursive;
 pub mod rows;
+pub mod sequences;
 pub mod sets;
 pub mod tagged;
 pub mod tails;
@@ -18,18 +19,19 @@ pub mod views;
 pub mod whole;
 pub mod within;
 
-pub use eithers::Either;
+pub use eithers::{Alternatives, Either};
 pub use leaves::{Leaf, read_leaf, read_leaf_contents};
 pub use less::Less;
 pub use recursive::{read_below_within, read_list_with};
 pub use rows::{
-    Alone, ApartFrom, End, FirstTags, HasDefault, Maybe, Omitted, OmittedRef, Part, ReadRow,
-    TagsApart, WriteRow, put_both,
+    Alone, End, FirstTags, HasDefault, Maybe, MaybeRef, Omitted, OmittedRef, Part, ReadRow,
+    WriteRow, put_both,
 };
+pub use sequences::{Sequence, Task};
 pub use sets::{SetOrNone, is_left_out, read_set_below_with, read_set_or_none_with, read_set_with};
 pub use tagged::{DerTagged, read_retagged};
 pub use tails::{ReadRowWith, Tail, read_row_within_with};
-pub use traits::{DerDeserialize, DerSerialize, MAX_NESTING};
+pub use traits::{DerDeserialize, DerSerialize, MAX_NESTING, Ref};
 pub use views::{EqualByText, TryClone, Viewed};
 pub use whole::{
     from_bytes, from_bytes_counted, from_bytes_limited, from_bytes_located,

@@ -128,5 +128,5 @@ impl<T: DerDeserialize> ReadRow for Vec<T> {
         Ok(items)
     }
 
-    ghost lawful = { lawful_each T.DerSerialize.format T.lawful };
+    ghost lawful = { λ _. lawful_each T.DerSerialize.format T.lawful };
 }

@@ -1,15 +1,14 @@
 //! Bodies (rows), which are what contents hold: parts in order, of which some may be absent.
 
-ghost use Rattle.std.specs.Prelude.{◌≡◌, ◌↔◌, ◌++◌, ℕ, List, Option, Bool, IsTrue, true, false};
-ghost use Rattle.std.proofs.Common.{⊎_elim};
-ghost use Rattle.asn1_core_format.specs.Format.{Format, IsLawfulRow};
+ghost use Rattle.std.specs.Prelude.{◌≡◌, ◌↔◌, ◌++◌, ◌&&◌, ℕ, List, Option, Bool, IsTrue, true, false};
+ghost use Rattle.asn1_core_format.specs.Format.{Format, IsLawfulRow, are_apart};
 ghost use Rattle.asn1_core_format.specs.Laws.{NextIs};
-ghost use Rattle.asn1_core_format.specs.Omitted.{omitted, lawful_omitted, is_default, IsDefault, StandsFor};
+ghost use Rattle.asn1_core_format.specs.Omitted.{omitted, omitted_if_clear, is_default, IsDefault, StandsFor};
 ghost use Rattle.asn1_core_format.specs.Rows.{nothing, part, optional, option_value, GivesRow};
-ghost use Rattle.asn1_core_format.specs.RowLaws.{lawful_nothing, lawful_part, lawful_optional};
+ghost use Rattle.asn1_core_format.specs.RowLaws.{lawful_nothing, lawful_part, optional_if_clear};
 
 use crate::tagged::DerTagged;
-use crate::traits::{DerDeserialize, DerSerialize};
+use crate::traits::{DerDeserialize, DerSerialize, Ref};
 use asn1_core_element::{Error, Reader};
 use asn1_core_writers::{WriteError, Writer};
 use std::alloc::Global;
@@ -34,11 +33,15 @@ pub trait WriteRow {
 
 /// Parts that are read to the end of the open contents.
 pub trait ReadRow: WriteRow + Drop {
+    /// Whether the first tags of each part that may be absent are none of those that may follow it.
+    ghost clear: { Bool } = { true };
+
     fn read_row(alloc: Global, r: &mut Reader<'_>, nest: u8) -> Result<Self, Error>
-        requires { r.old.refused ≡ false }
+        requires sound { r.old.refused ≡ false }
+        requires told { clear ≡ true }
         ensures { GivesRow Self.value Self.format nest r.old r.new result };
 
-    ghost lawful: { IsLawfulRow Self.WriteRow.format };
+    ghost lawful: { clear ≡ true → IsLawfulRow Self.WriteRow.format };
 }
 
 /// A type that may be an optional part, since its first tags are known.
@@ -51,21 +54,6 @@ impl<T: DerTagged> FirstTags for T {
     fn begins(tag: u8) -> bool {
         tag == T::TAG
     }
-}
-
-/// The first tags of a type are none of another's.
-pub trait ApartFrom<A: DerSerialize>: DerSerialize {
-    ghost no_common_tag: { (t : ℕ) → Self.DerSerialize.format.IsTag t → A.format.IsTag t → ⊥ };
-}
-
-/// The first tags of a type are none of those that some parts begin with. It follows from `ApartFrom` each of the parts
-/// that may come first.
-pub trait TagsApart<R: WriteRow>: DerSerialize {
-    ghost apart: { (t : ℕ) → Self.DerSerialize.format.IsTag t → R.WriteRow.format.IsTag t → ⊥ };
-}
-
-impl<T: DerSerialize> TagsApart<End> for T {
-    ghost apart = { λ t h e. e };
 }
 
 /// Nothing more.
@@ -96,7 +84,7 @@ impl ReadRow for End {
         Ok(End)
     }
 
-    ghost lawful = { lawful_nothing };
+    ghost lawful = { λ _. lawful_nothing };
 }
 
 /// A part, and what follows it.
@@ -111,7 +99,7 @@ impl<A: DerSerialize, R: WriteRow> WriteRow for Part<A, R> {
     ghost format = { part A.format R.format };
 
     fn put_row<W: Writer>(&self, w: &mut W) -> Result<(), WriteError> {
-        put_both(&Alone(&self.0), &self.1, w)
+        put_both(&Alone(Ref(&self.0)), &self.1, w)
     }
 
     fn row_well_formed_at(&self, limit: u8) -> bool {
@@ -120,17 +108,15 @@ impl<A: DerSerialize, R: WriteRow> WriteRow for Part<A, R> {
 }
 
 impl<A: DerDeserialize, R: ReadRow> ReadRow for Part<A, R> {
+    ghost clear = { R.clear };
+
     fn read_row(alloc: Global, r: &mut Reader<'_>, nest: u8) -> Result<Self, Error> {
         let first = A::read(alloc, r, nest)?;
         let rest = R::read_row(alloc, r, nest)?;
         Ok(Part(first, rest))
     }
 
-    ghost lawful = { lawful_part A.DerSerialize.format R.WriteRow.format A.lawful R.lawful };
-}
-
-impl<T: ApartFrom<A>, A: DerSerialize, R: WriteRow> TagsApart<Part<A, R>> for T {
-    ghost apart = { T.no_common_tag };
+    ghost lawful = { λ c. lawful_part A.DerSerialize.format R.WriteRow.format A.lawful (R.lawful c) };
 }
 
 /// A part that may be absent, and what follows it.
@@ -147,7 +133,7 @@ impl<A: DerSerialize, R: WriteRow> WriteRow for Maybe<A, R> {
     fn put_row<W: Writer>(&self, w: &mut W) -> Result<(), WriteError> {
         match &self.0 {
             None => self.1.put_row(w),
-            Some(first) => put_both(&Alone(first), &self.1, w),
+            Some(first) => put_both(&Alone(Ref(first)), &self.1, w),
         }
     }
 
@@ -161,7 +147,37 @@ impl<A: DerSerialize, R: WriteRow> WriteRow for Maybe<A, R> {
     }
 }
 
-impl<A: FirstTags + TagsApart<R>, R: ReadRow> ReadRow for Maybe<A, R> {
+/// Borrowed form of `Maybe`, for writing.
+#[derive(Drop)]
+pub struct MaybeRef<'a, A, R>(pub &'a Option<A>, pub R);
+
+impl<A: DerSerialize, R: WriteRow> WriteRow for MaybeRef<'_, A, R> {
+    ghost Value = { Option A.Value × R.Value };
+
+    ghost value = { λ p. (option_value A.value p.0.now, R.value p.1) };
+
+    ghost format = { optional A.format R.format };
+
+    fn put_row<W: Writer>(&self, w: &mut W) -> Result<(), WriteError> {
+        match self.0 {
+            None => self.1.put_row(w),
+            Some(first) => put_both(&Alone(Ref(first)), &self.1, w),
+        }
+    }
+
+    fn row_well_formed_at(&self, limit: u8) -> bool {
+        if let Some(first) = self.0 {
+            if !first.well_formed_at(limit) {
+                return false;
+            }
+        }
+        self.1.row_well_formed_at(limit)
+    }
+}
+
+impl<A: FirstTags, R: ReadRow> ReadRow for Maybe<A, R> {
+    ghost clear = { R.clear && are_apart A.format R.format };
+
     fn read_row(alloc: Global, r: &mut Reader<'_>, nest: u8) -> Result<Self, Error> {
         if next_is::<A>(r) {
             let first = A::read(alloc, r, nest)?;
@@ -172,11 +188,7 @@ impl<A: FirstTags + TagsApart<R>, R: ReadRow> ReadRow for Maybe<A, R> {
         Ok(Maybe(None, rest))
     }
 
-    ghost lawful = { lawful_optional A.DerSerialize.format R.WriteRow.format A.lawful R.lawful A.apart };
-}
-
-impl<T: ApartFrom<A> + TagsApart<R>, A: DerSerialize, R: WriteRow> TagsApart<Maybe<A, R>> for T {
-    ghost apart = { λ t h e. ⊎_elim (T.no_common_tag t h) (T.apart t h) e };
+    ghost lawful = { λ c. optional_if_clear A.DerSerialize.format R.WriteRow.format R.clear A.lawful R.lawful c };
 }
 
 /// A type of which one value may be left out: a DEFAULT (X.680, 25.5), or the empty set.
@@ -209,7 +221,7 @@ impl<A: HasDefault, R: WriteRow> WriteRow for Omitted<A, R> {
         if self.0.is_default() {
             self.1.put_row(w)
         } else {
-            put_both(&Alone(&self.0), &self.1, w)
+            put_both(&Alone(Ref(&self.0)), &self.1, w)
         }
     }
 
@@ -218,7 +230,9 @@ impl<A: HasDefault, R: WriteRow> WriteRow for Omitted<A, R> {
     }
 }
 
-impl<A: HasDefault + FirstTags + TagsApart<R>, R: ReadRow> ReadRow for Omitted<A, R> {
+impl<A: HasDefault + FirstTags, R: ReadRow> ReadRow for Omitted<A, R> {
+    ghost clear = { R.clear && are_apart A.format R.format };
+
     fn read_row(alloc: Global, r: &mut Reader<'_>, nest: u8) -> Result<Self, Error> {
         if next_is::<A>(r) {
             let first = A::read(alloc, r, nest)?;
@@ -230,7 +244,7 @@ impl<A: HasDefault + FirstTags + TagsApart<R>, R: ReadRow> ReadRow for Omitted<A
         Ok(Omitted(absent, others))
     }
 
-    ghost lawful = { lawful_omitted (is_default A.DerSerialize.format A.DEFAULT) A.DEFAULT A.DerSerialize.format R.WriteRow.format A.lawful R.lawful A.left_out A.apart };
+    ghost lawful = { λ c. omitted_if_clear (is_default A.DerSerialize.format A.DEFAULT) A.DEFAULT A.DerSerialize.format R.WriteRow.format R.clear A.lawful R.lawful A.left_out c };
 }
 
 /// Borrowed form of `Omitted`, for writing.
@@ -248,7 +262,7 @@ impl<A: HasDefault, R: WriteRow> WriteRow for OmittedRef<&A, R> {
         if self.0.is_default() {
             self.1.put_row(w)
         } else {
-            put_both(&Alone(self.0), &self.1, w)
+            put_both(&Alone(Ref(self.0)), &self.1, w)
         }
     }
 
@@ -286,7 +300,7 @@ impl<T: DerDeserialize> ReadRow for Alone<T> {
         Ok(Alone(value))
     }
 
-    ghost lawful = { T.lawful.row };
+    ghost lawful = { λ _. T.lawful.row };
 }
 
 impl<R: WriteRow> WriteRow for &R {

@@ -1,14 +1,14 @@
 //! Bodies (rows) whose last part is read by a closure.
 
-ghost use Rattle.std.specs.Prelude.{◌≡◌, false};
+ghost use Rattle.std.specs.Prelude.{◌≡◌, ◌&&◌, Bool, false, true};
 ghost use Rattle.asn1_core_element.specs.Element.{IsTagByte};
-ghost use Rattle.asn1_core_format.specs.Format.{Gives, IsLawfulRow};
-ghost use Rattle.asn1_core_format.specs.Omitted.{is_default, lawful_omitted};
+ghost use Rattle.asn1_core_format.specs.Format.{Gives, IsLawfulRow, are_apart};
+ghost use Rattle.asn1_core_format.specs.Omitted.{is_default, omitted_if_clear};
 ghost use Rattle.asn1_core_format.specs.Rows.{GivesRow, within};
-ghost use Rattle.asn1_core_format.specs.RowLaws.{lawful_part, lawful_optional};
+ghost use Rattle.asn1_core_format.specs.RowLaws.{lawful_part, optional_if_clear};
 
 use crate::recursive::read_row_by;
-use crate::rows::{FirstTags, HasDefault, Maybe, Omitted, Part, TagsApart, WriteRow, next_is};
+use crate::rows::{FirstTags, HasDefault, Maybe, Omitted, Part, WriteRow, next_is};
 use crate::traits::DerDeserialize;
 use asn1_core_element::element::open_element;
 use asn1_core_element::{Error, Reader};
@@ -17,6 +17,9 @@ use std::alloc::Global;
 
 /// Parts of which the last, `S`, is read by a closure.
 pub trait ReadRowWith<S: WriteRow>: WriteRow + Drop {
+    /// Whether the first tags of each part that may be absent are none of those that may follow it.
+    ghost clear: { Bool } = { true };
+
     /// Reads the parts to the end of the open contents, the last of them by `by`.
     fn read_row_with<F: Fn(&mut Reader<'_>) -> Result<S, Error>>(
         alloc: Global,
@@ -25,12 +28,13 @@ pub trait ReadRowWith<S: WriteRow>: WriteRow + Drop {
         by: &F,
     ) -> Result<Self, Error>
         requires sound { r.old.refused ≡ false }
+        requires told { clear ≡ true }
         requires lawful { IsLawfulRow S.format }
         requires called { (s : _) → s.now.refused ≡ false → F.pre by.now s }
         requires gives { (s : _) (x : _) (t : _) → F.post by.now s x t → GivesRow S.value S.format nest s.now t.now x }
         ensures { GivesRow Self.value Self.format nest r.old r.new result };
 
-    ghost keeps_laws: { IsLawfulRow S.WriteRow.format → IsLawfulRow Self.WriteRow.format };
+    ghost keeps_laws: { clear ≡ true → IsLawfulRow S.WriteRow.format → IsLawfulRow Self.WriteRow.format };
 }
 
 /// The last part.
@@ -64,14 +68,12 @@ impl<S: WriteRow + Drop> ReadRowWith<S> for Tail<S> {
         Ok(Tail(row))
     }
 
-    ghost keeps_laws = { λ s. s };
-}
-
-impl<T: TagsApart<S>, S: WriteRow> TagsApart<Tail<S>> for T {
-    ghost apart = { T.apart };
+    ghost keeps_laws = { λ c s. s };
 }
 
 impl<A: DerDeserialize, S: WriteRow, R: ReadRowWith<S>> ReadRowWith<S> for Part<A, R> {
+    ghost clear = { R.clear };
+
     fn read_row_with<F: Fn(&mut Reader<'_>) -> Result<S, Error>>(
         alloc: Global,
         r: &mut Reader<'_>,
@@ -83,10 +85,12 @@ impl<A: DerDeserialize, S: WriteRow, R: ReadRowWith<S>> ReadRowWith<S> for Part<
         Ok(Part(first, rest))
     }
 
-    ghost keeps_laws = { λ s. lawful_part A.DerSerialize.format R.WriteRow.format A.lawful (R.keeps_laws s) };
+    ghost keeps_laws = { λ c s. lawful_part A.DerSerialize.format R.WriteRow.format A.lawful (R.keeps_laws c s) };
 }
 
-impl<A: FirstTags + TagsApart<R>, S: WriteRow, R: ReadRowWith<S>> ReadRowWith<S> for Maybe<A, R> {
+impl<A: FirstTags, S: WriteRow, R: ReadRowWith<S>> ReadRowWith<S> for Maybe<A, R> {
+    ghost clear = { R.clear && are_apart A.format R.format };
+
     fn read_row_with<F: Fn(&mut Reader<'_>) -> Result<S, Error>>(
         alloc: Global,
         r: &mut Reader<'_>,
@@ -102,11 +106,12 @@ impl<A: FirstTags + TagsApart<R>, S: WriteRow, R: ReadRowWith<S>> ReadRowWith<S>
         Ok(Maybe(None, rest))
     }
 
-    ghost keeps_laws = { λ s. lawful_optional A.DerSerialize.format R.WriteRow.format A.lawful (R.keeps_laws s) A.apart };
+    ghost keeps_laws = { λ c s. optional_if_clear A.DerSerialize.format R.WriteRow.format R.clear A.lawful (λ d. R.keeps_laws d s) c };
 }
 
-impl<A: HasDefault + FirstTags + TagsApart<R>, S: WriteRow, R: ReadRowWith<S>> ReadRowWith<S>
-    for Omitted<A, R> {
+impl<A: HasDefault + FirstTags, S: WriteRow, R: ReadRowWith<S>> ReadRowWith<S> for Omitted<A, R> {
+    ghost clear = { R.clear && are_apart A.format R.format };
+
     fn read_row_with<F: Fn(&mut Reader<'_>) -> Result<S, Error>>(
         alloc: Global,
         r: &mut Reader<'_>,
@@ -123,7 +128,7 @@ impl<A: HasDefault + FirstTags + TagsApart<R>, S: WriteRow, R: ReadRowWith<S>> R
         Ok(Omitted(absent, others))
     }
 
-    ghost keeps_laws = { λ s. lawful_omitted (is_default A.DerSerialize.format A.DEFAULT) A.DEFAULT A.DerSerialize.format R.WriteRow.format A.lawful (R.keeps_laws s) A.left_out A.apart };
+    ghost keeps_laws = { λ c s. omitted_if_clear (is_default A.DerSerialize.format A.DEFAULT) A.DEFAULT A.DerSerialize.format R.WriteRow.format R.clear A.lawful (λ d. R.keeps_laws d s) A.left_out c };
 }
 
 /// Reads an element with that tag, whose contents are the parts, the last of them read by `by`.
@@ -134,6 +139,7 @@ pub fn read_row_within_with<
 >(alloc: Global, r: &mut Reader<'_>, nest: u8, tag: u8, by: &F) -> Result<R, Error>
     requires sound { r.old.refused ≡ false }
     requires tag { IsTagByte tag }
+    requires told { R.clear ≡ true }
     requires lawful { IsLawfulRow S.format }
     requires called { (s : _) → s.now.refused ≡ false → F.pre by.now s }
     requires gives { (s : _) (x : _) (t : _) → F.post by.now s x t → GivesRow S.value S.format nest s.now t.now x }

@@ -161,18 +161,22 @@ pub trait DerDeserialize: DerSerialize + Drop {
     ghost lawful: { IsLawful Self.DerSerialize.format };
 }
 
-impl<T: DerSerialize> DerSerialize for &T {
+/// A borrowed value, as a part for writing.
+#[derive(Drop)]
+pub struct Ref<'a, T>(pub &'a T);
+
+impl<T: DerSerialize> DerSerialize for Ref<'_, T> {
     ghost Value = { T.Value };
 
-    ghost value = { λ x. T.value x.now };
+    ghost value = { λ x. T.value x.0.now };
 
     ghost format = { T.format };
 
     fn put<W: Writer>(&self, w: &mut W) -> Result<(), WriteError> {
-        (**self).put(w)
+        self.0.put(w)
     }
 
     fn well_formed_at(&self, limit: u8) -> bool {
-        (**self).well_formed_at(limit)
+        self.0.well_formed_at(limit)
     }
 }

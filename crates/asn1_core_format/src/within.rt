@@ -1,6 +1,6 @@
 //! Parts in an element: a SEQUENCE, a SET, an EXPLICIT tag, an OCTET STRING around an encoding.
 
-ghost use Rattle.std.specs.Prelude.{◌≡◌, ℕ, false};
+ghost use Rattle.std.specs.Prelude.{◌≡◌, ℕ, false, true};
 ghost use Rattle.asn1_core_element.specs.Element.{IsTagByte, retag};
 ghost use Rattle.asn1_core_format.specs.Format.{Gives};
 ghost use Rattle.asn1_core_format.specs.Rows.{GivesRow, within};
@@ -22,6 +22,7 @@ pub fn read_within<R: ReadRow>(
 ) -> Result<R, Error>
     requires sound { r.old.refused ≡ false }
     requires tag { IsTagByte tag }
+    requires told { R.clear ≡ true }
     ensures { Gives R.value (within tag R.format) nest r.old r.new result }
 {
     let outer = open_element(r, tag)?;
@@ -37,7 +38,8 @@ pub fn read_row_contents<R: ReadRow>(
     nest: u8,
     _tag: u8,
 ) -> Result<R, Error>
-    requires { r.old.refused ≡ false }
+    requires sound { r.old.refused ≡ false }
+    requires told { R.clear ≡ true }
     ensures { GivesRow R.value (inside _tag (within _tag R.format)) nest r.old r.new result }
 {
     R::read_row(alloc, r, nest)

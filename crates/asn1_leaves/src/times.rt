@@ -14,7 +14,7 @@ ghost use Rattle.asn1_leaves_times.specs.declared.calendar.Moment.{Moment};
 
 use asn1_core_element::{Error, Reader};
 use asn1_core_format::{
-    ApartFrom, DerDeserialize, DerSerialize, DerTagged, EqualByText, Leaf, TryClone, read_leaf,
+    DerDeserialize, DerSerialize, DerTagged, EqualByText, Leaf, TryClone, read_leaf,
     read_leaf_contents,
 };
 use asn1_core_writers::{WriteError, Writer, put_element};
@@ -165,8 +165,4 @@ impl TryClone for GeneralizedTimeAsn1 {
     fn try_clone(&self, _alloc: Global) -> Result<Self, Error> {
         Ok(GeneralizedTimeAsn1(self.0))
     }
-}
-
-impl ApartFrom<GeneralizedTimeAsn1> for UTCTimeAsn1 {
-    ghost no_common_tag = { λ t h e. Prim.omega arith };
 }

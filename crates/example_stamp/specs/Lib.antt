@@ -1,1 +1,5 @@
+pub mod Booleans
 pub mod Stamps
+pub mod Parcels
+pub mod Shipments
+pub mod ShipmentEqual

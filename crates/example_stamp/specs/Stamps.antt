@@ -1,12 +1,16 @@
+use Rattle.std.specs.Prelude.{◌^◌}
+use Rattle.std.proofs.Common.{refl, rules}
+use Rattle.asn1_core.specs.Asn1.{Contents, contents, ◌then◌, ◌OPTIONAL◌, end, OBJECT_IDENTIFIER, OCTET_STRING, INTEGER_BELOW}
+use Rattle.asn1_core.specs.Der.{SeesEqual, octets_of, option_value, der_equal}
+use Rattle.example_stamp.specs.declared.Stamp.{Stamp}
+use Rattle.example_stamp.specs.contracts.StampPartialEq.TheImpl as StampEq
+
 -- Stamp ::= SEQUENCE { id OBJECT IDENTIFIER, data OCTET STRING, count INTEGER (0..4294967295) OPTIONAL }
-use Rattle.std.specs.Prelude.{ℕ, ◌^◌, List, Option}
-use Rattle.asn1_core.specs.Der.{Format, IsLawful, sequence, part, optional, nothing, object_identifier, octet_string, number_below, der_laws}
+abbrev pub stamp : Contents
+stamp = contents (OBJECT_IDENTIFIER then OCTET_STRING then INTEGER_BELOW (2 ^ 32) OPTIONAL end) refl
 
-abbrev pub StampValue : Type 0
-StampValue = List ℕ × (List ℕ × (Option ℕ × Unit {0}))
+abbrev pub stamp_value : Stamp → stamp.Value
+stamp_value x = (octets_of x.id.0, (x.data.0.items, (option_value (λ n. n) x.count, tt)))
 
-abbrev pub stamp : Format StampValue
-stamp = sequence (part object_identifier (part octet_string (optional (number_below (2 ^ 32)) nothing)))
-
-pub lawful_stamp : IsLawful stamp
-lawful_stamp = search der_laws depth 20
+pub stamp_equal : SeesEqual StampEq.ghosts.eq stamp_value
+stamp_equal x y = search (der_equal, rules) depth 20

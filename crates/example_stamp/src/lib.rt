@@ -1,9 +1,11 @@
-//! A caller's own SEQUENCE, complete, as a crate that uses this library: docs/ARCHITECTURE.md explains how to add one.
+//! A caller's own SEQUENCEs, complete, as a crate that uses this library: docs/ARCHITECTURE.md explains how to add one.
 #![tactic(auto)]
 
-ghost use Rattle.std.proofs.Common.{rules};
-ghost use Rattle.asn1_core.specs.Der.{octets_of, option_value};
-ghost use Rattle.example_stamp.specs.Stamps.{StampValue, stamp, lawful_stamp};
+ghost use Rattle.example_stamp.specs.Stamps.{stamp, stamp_value, stamp_equal};
+
+pub mod booleans;
+pub mod parcels;
+pub mod shipments;
 
 use asn1_core::prelude::*;
 use std::alloc::Global;
@@ -16,36 +18,22 @@ pub struct Stamp {
     pub count: Option<u32>,
 }
 
-impl DerSerialize for Stamp {
-    ghost Value = { StampValue };
+impl Sequence for Stamp {
+    ghost asn1 = { stamp };
 
-    ghost value = { λ x. (octets_of x.id.0, (x.data.0.items, (option_value (λ n. n) x.count, tt))) };
+    ghost value = { stamp_value };
 
-    ghost format = { stamp };
-
-    fn put<W: Writer>(&self, w: &mut W) -> Result<(), WriteError> {
-        put_of!(self, w; id, data, count OPTIONAL)
+    fn lend<U: Task>(&self, task: &mut U) -> U::Out {
+        lend_of!(self, task; Stamp { id, data, count OPTIONAL })
     }
 
-    fn well_formed_at(&self, limit: u8) -> bool {
-        formed_of!(self, limit; id, data, count OPTIONAL)
-    }
-}
-
-impl DerDeserialize for Stamp {
-    fn read(alloc: Global, r: &mut Reader<'_>, nest: u8) -> Result<Self, Error> {
-        read_of!(alloc, r, nest; Stamp { id, data, count OPTIONAL })
+    fn read_parts(alloc: Global, r: &mut Reader<'_>, nest: u8) -> Result<Self, Error> {
+        parts_of!(alloc, r, nest; Stamp { id, data, count OPTIONAL })
     }
 
-    ghost lawful = { lawful_stamp };
-}
-
-impl EqualByText for Stamp {
-    ghost equal_by_text = { Prim.search rules };
-}
-
-impl TryClone for Stamp {
-    fn try_clone(&self, alloc: Global) -> Result<Self, Error> {
-        clone_of!(self, alloc; Stamp { id, data; count })
+    fn clone_parts(&self, alloc: Global) -> Result<Self, Error> {
+        clones_of!(self, alloc; Stamp { id, data, count OPTIONAL })
     }
+
+    ghost equal = { stamp_equal };
 }

@@ -5,7 +5,7 @@
 ghost use Rattle.std.specs.Prelude.{◌≡◌};
 ghost use Rattle.std.proofs.Common.{arith, refl, rules};
 ghost use Rattle.asn1_core.specs.Der.{option_value, oid_from_test};
-ghost use Rattle.example_ticket.specs.Tickets.{token_oid, HolderValue, holder_value, holder, lawful_holder, TicketValue, ticket, lawful_ticket};
+ghost use Rattle.example_ticket.specs.Tickets.{token_oid, HolderValue, holder_value, holder, lawful_holder, ticket};
 
 use asn1_choices::{AnyOid, AnyOidRef, Arm, Chosen, Named, WriteChoice};
 use asn1_core::prelude::*;
@@ -41,8 +41,8 @@ pub enum Holder {
 type HolderChoice = Either<Arm<Token, Alone<OctetStringAsn1>>, AnyOid<Alone<Asn1RawDer>>>;
 
 type HolderRef<'a> = Either<
-    Arm<Token, Alone<&'a OctetStringAsn1>>,
-    AnyOidRef<'a, Alone<&'a Asn1RawDer>>,
+    Arm<Token, Alone<Ref<'a, OctetStringAsn1>>>,
+    AnyOidRef<'a, Alone<Ref<'a, Asn1RawDer>>>,
 >;
 
 impl Holder {
@@ -50,8 +50,11 @@ impl Holder {
         ensures { ⟦<HolderRef<'static> as WriteChoice>⟧.value result ≡ holder_value self.now }
     {
         match self {
-            Holder::Token(octets) => Either::First(Arm::new(Alone(octets))),
-            Holder::Unknown { type_id, value } => Either::Second(AnyOidRef(type_id, Alone(value))),
+            Holder::Token(octets) => Either::First(Arm::new(Alone(Ref(octets)))),
+            Holder::Unknown { type_id, value } => Either::Second(AnyOidRef(
+                type_id,
+                Alone(Ref(value)),
+            )),
         }
     }
 }
@@ -93,10 +96,6 @@ impl FirstTags for Holder {
     }
 }
 
-impl ApartFrom<Holder> for ExplicitContextTag0<OctetStringAsn1> {
-    ghost no_common_tag = { λ t h e. Prim.omega arith };
-}
-
 /// `Ticket ::= SEQUENCE { serial INTEGER (0..4294967295), note [0] EXPLICIT OCTET STRING OPTIONAL, holder Holder }`
 #[derive(Debug, Drop, PartialEq, Eq)]
 pub struct Ticket {
@@ -105,45 +104,27 @@ pub struct Ticket {
     pub holder: Holder,
 }
 
-type TicketRow = Part<u32, Maybe<ExplicitContextTag0<OctetStringAsn1>, Part<Holder, End>>>;
-
-impl DerSerialize for Ticket {
-    ghost Value = { TicketValue };
+impl Sequence for Ticket {
+    ghost asn1 = { ticket };
 
     ghost value = { λ x. (x.serial, (option_value (λ n. n.0.0.items) x.note, (holder_value x.holder, tt))) };
 
-    ghost format = { ticket };
-
-    fn put<W: Writer>(&self, w: &mut W) -> Result<(), WriteError> {
-        let rest = Maybe(self.note.as_ref(), Part(&self.holder, End));
-        put_within(0x30, &Part(self.serial, rest), w)
+    fn lend<U: Task>(&self, task: &mut U) -> U::Out {
+        lend_of!(self, task; Ticket { serial, note OPTIONAL, holder })
     }
 
-    fn well_formed_at(&self, limit: u8) -> bool {
-        let rest = Maybe(self.note.as_ref(), Part(&self.holder, End));
-        Part(self.serial, rest).row_well_formed_at(limit)
-    }
-}
-
-impl DerDeserialize for Ticket {
-    fn read(alloc: Global, r: &mut Reader<'_>, nest: u8) -> Result<Self, Error> {
-        let row: TicketRow = read_within(alloc, r, nest, 0x30)?;
-        let Part(serial, Maybe(note, Part(holder, End))) = row;
-        Ok(Ticket {
-            serial,
-            note,
-            holder,
-        })
+    fn read_parts(alloc: Global, r: &mut Reader<'_>, nest: u8) -> Result<Self, Error> {
+        parts_of!(alloc, r, nest; Ticket { serial, note OPTIONAL, holder })
     }
 
-    ghost lawful = { lawful_ticket };
+    fn clone_parts(&self, alloc: Global) -> Result<Self, Error> {
+        clones_of!(self, alloc; Ticket { serial, note OPTIONAL, holder })
+    }
+
+    ghost equal = { Prim.search rules };
 }
 
 impl EqualByText for Holder {
-    ghost equal_by_text = { Prim.search rules };
-}
-
-impl EqualByText for Ticket {
     ghost equal_by_text = { Prim.search rules };
 }
 
@@ -157,11 +138,5 @@ impl TryClone for Holder {
                 Ok(Holder::Unknown { type_id, value })
             }
         }
-    }
-}
-
-impl TryClone for Ticket {
-    fn try_clone(&self, alloc: Global) -> Result<Self, Error> {
-        clone_of!(self, alloc; Ticket { note, holder; serial })
     }
 }

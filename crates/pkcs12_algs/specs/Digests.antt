@@ -6,7 +6,7 @@
 -- MacData ::= SEQUENCE { mac DigestInfo, macSalt OCTET STRING, iterations INTEGER DEFAULT 1 } (RFC 7292, 4)
 use Rattle.std.specs.Prelude.{◌^◌, ℕ, List, [], ◌∷◌, Option, map}
 use Rattle.asn1_core.specs.Der.{Format, IsLawful, sequence, part, optional, nothing, octet_string, number_below, option_value, lawful_sequence, followed_by, perhaps, lawful_nothing, lawful_octet_string, lawful_number, Octets, der_laws}
-use Rattle.std.proofs.Common.{inr}
+use Rattle.std.proofs.Common.{inr, refl}
 use Rattle.x509_base.specs.AlgorithmChoiceLaws.{lawful_algorithm_choice}
 use Rattle.pkcs12_algs.specs.Algorithms.{KnownOrRaw, known_or_raw, raw_value, from_oid}
 use Rattle.pkcs12_algs.specs.Oids.{sha1_oid, sha224_oid, sha256_oid, sha384_oid, sha512_oid}
@@ -67,4 +67,4 @@ mac_data = sequence (part digest_info (part octet_string (optional (number_below
 pub lawful_mac_data : IsLawful mac_data
 lawful_mac_data =
     lawful_sequence (followed_by lawful_digest_info (followed_by lawful_octet_string
-    (perhaps (lawful_number (2 ^ 32)) (λ t h e. e) lawful_nothing)))
+    (perhaps (lawful_number (2 ^ 32)) refl lawful_nothing)))

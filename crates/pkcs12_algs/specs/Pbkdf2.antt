@@ -7,9 +7,9 @@
 --     prf AlgorithmIdentifier {{PBKDF2-PRFs}} DEFAULT algid-hmacWithSHA1 }
 --
 -- Counts and lengths from 0 to 2^32 - 1 are read. An absent PRF and an explicit HMAC with SHA-1 are told apart.
-use Rattle.std.specs.Prelude.{◌≡◌, ◌⊎◌, ◌^◌, ℕ, List, [], ◌∷◌, Option, map}
-use Rattle.asn1_core.specs.Der.{Format, IsLawful, sequence, part, optional, nothing, octet_string, number_below, option_value, lawful_sequence, followed_by, perhaps, lawful_nothing, lawful_octet_string, lawful_number, Octets, either, lawful_either}
-use Rattle.std.proofs.Common.{inl, inr, ⊎_elim, arith}
+use Rattle.std.specs.Prelude.{◌⊎◌, ◌^◌, ℕ, List, [], ◌∷◌, Option, map}
+use Rattle.asn1_core.specs.Der.{Format, IsLawful, sequence, part, optional, nothing, octet_string, number_below, option_value, lawful_sequence, followed_by, perhaps, lawful_nothing, lawful_octet_string, lawful_number, Octets, either, or_else}
+use Rattle.std.proofs.Common.{inl, inr, refl}
 use Rattle.x509_base.specs.Algorithms.{AlgorithmValue, raw_algorithm_identifier}
 use Rattle.x509_base.specs.AlgorithmLaws.{lawful_raw_algorithm_identifier}
 use Rattle.x509_base.specs.AlgorithmChoiceLaws.{lawful_algorithm_choice}
@@ -60,7 +60,7 @@ abbrev pub salt : Format SaltValue
 salt = either octet_string raw_algorithm_identifier
 
 pub lawful_salt : IsLawful salt
-lawful_salt = lawful_either octet_string raw_algorithm_identifier lawful_octet_string lawful_raw_algorithm_identifier (λ t h e. omega arith)
+lawful_salt = or_else lawful_octet_string refl lawful_raw_algorithm_identifier
 
 -- the salt, the iteration count, the key length, and the PRF
 abbrev pub Pbkdf2Value : Type 0
@@ -73,11 +73,7 @@ abbrev pub pbkdf2_params : Format Pbkdf2Value
 pbkdf2_params =
     sequence (part salt (part (number_below (2 ^ 32)) (optional (number_below (2 ^ 32)) (optional prf nothing))))
 
--- a key length begins with 02, and a PRF with 30
-length_or_prf : (t : ℕ) → (number_below (2 ^ 32)).IsTag t → (optional prf nothing).IsTag t → ⊥
-length_or_prf t h e = ⊎_elim (λ (i : t ≡ 0x30). omega (arith, h, i)) (λ i. i) e
-
 pub lawful_pbkdf2_params : IsLawful pbkdf2_params
 lawful_pbkdf2_params =
     lawful_sequence (followed_by lawful_salt (followed_by (lawful_number (2 ^ 32))
-    (perhaps (lawful_number (2 ^ 32)) length_or_prf (perhaps lawful_prf (λ t h e. e) lawful_nothing))))
+    (perhaps (lawful_number (2 ^ 32)) refl (perhaps lawful_prf refl lawful_nothing))))

@@ -135,7 +135,3 @@ impl<T: Algorithm> FirstTags for AlgorithmPart<T> {
         tag == 0x30
     }
 }
-
-impl<T: Algorithm> ApartFrom<AlgorithmPart<T>> for u32 {
-    ghost no_common_tag = { λ t h e. Prim.omega arith };
-}

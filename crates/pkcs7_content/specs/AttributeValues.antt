@@ -5,7 +5,7 @@
 -- certificate policies OCTET STRING (CONTAINING SEQUENCE OF CertPolicy)
 -- any others ANY
 use Rattle.std.specs.Prelude.{◌⊎◌, ℕ, List, ◌≡◌, map}
-use Rattle.asn1_core.specs.Der.{Format, within, set_of, object_identifier, octet_string, raw, OidOctets, ElementOctets, IsLawful, IsLawfulRow, lawful_within, lawful_set, lawful_each, lawful_sequence, lawful_object_identifier, lawful_octet_string, lawful_raw, octets_of, sequence_of, either}
+use Rattle.asn1_core.specs.Der.{no_tag, Format, within, set_of, object_identifier, octet_string, raw, OidOctets, ElementOctets, IsLawful, IsLawfulRow, lawful_within, lawful_set, lawful_each, lawful_sequence, lawful_object_identifier, lawful_octet_string, lawful_raw, octets_of, sequence_of, either}
 use Rattle.asn1_core.specs.Words as Words
 use Rattle.std.proofs.Common.{inl, inr, arith, refl}
 use Rattle.asn1_choices.specs.DefinedBy.{DefinedBy, arm, by_itself, only_written}
@@ -86,6 +86,7 @@ numbered F = record {
   IsNormal = λ _ _. ⊥;
   normal = λ p. (p.0, F.normal p.1);
   IsTag = λ _. ⊥;
+  first = no_tag;
   least = λ p. F.least p.1;
 }
 

@@ -15,7 +15,7 @@ pub data_oid_is : (octets : List ℕ) → octets ≡ data_oid → IsOid octets
 data_oid_is octets e = subst IsOid (sym e) (oid_from_test data_oid refl)
 
 lawful_octets_row : IsLawfulRow octets_row
-lawful_octets_row = perhaps (lawful_within octet_string lawful_octet_string.row 0xA0 (omega arith)) (λ t h e. e) lawful_nothing
+lawful_octets_row = perhaps (lawful_within octet_string lawful_octet_string.row 0xA0 (omega arith)) refl lawful_nothing
 
 -- an alternative of the content values is one of content that may be absent
 module _ (m : Arm (List ℕ) ContentValues) (l : IsArm content_values m octet_string) where

@@ -13,7 +13,7 @@ lawful_file_row : IsLawfulRow file_row
 lawful_file_row = followed_by (lawful_explicit (omega arith) lawful_spc_link) lawful_nothing
 
 pub lawful_pe_image_spelled : IsLawful pe_image_spelled
-lawful_pe_image_spelled = lawful_sequence (perhaps lawful_bit_string (λ t h e. omega arith) lawful_file_row)
+lawful_pe_image_spelled = lawful_sequence (perhaps lawful_bit_string refl lawful_file_row)
 
 pub default_is_bits : IsBits default_flags
 default_is_bits = (omega arith, λ e. cc)

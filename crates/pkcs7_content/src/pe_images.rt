@@ -59,10 +59,6 @@ impl FirstTags for SpcPeImageFlags {
     }
 }
 
-impl ApartFrom<ExplicitContextTag0<SpcLink>> for SpcPeImageFlags {
-    ghost no_common_tag = { λ t h e. Prim.omega arith };
-}
-
 impl EqualByText for SpcPeImageFlags {
     ghost equal_by_text = { Prim.search rules };
 }

@@ -3,8 +3,8 @@
 --   OPTIONAL }, with v2 as its version where it has one (RFC 5280, 5.1)
 -- CertificateList ::= SEQUENCE { tbsCertList TBSCertList, signatureAlgorithm AlgorithmIdentifier, signatureValue BIT
 --   STRING }
-use Rattle.std.specs.Prelude.{◌≡◌, ◌⊎◌, ℕ, List, Option}
-use Rattle.std.proofs.Common.{arith, inl, inr, ⊎_elim}
+use Rattle.std.specs.Prelude.{ℕ, List, Option}
+use Rattle.std.proofs.Common.{arith, refl}
 use Rattle.asn1_core.specs.Der.{Format, IsLawful, IsLawfulRow, sequence, part, optional, nothing, version, option_value, lawful_sequence, lawful_within, followed_by, perhaps, lawful_nothing, lawful_version_1, BitStringOctets, explicit, der_laws}
 use Rattle.asn1_leaves.specs.Strings.{bit_string, lawful_bit_string}
 use Rattle.asn1_leaves_strings.specs.Octets.{contents_of}
@@ -45,24 +45,15 @@ tbs_list_value x = (option_value number_of x.version, list_value x)
 abbrev pub tbs_list : Format TbsListValue
 tbs_list = sequence (optional (version 1) list_row)
 
--- the tags that may follow nextUpdate are none of a time
-no_time : (t : ℕ) → time.IsTag t → (t ≡ 0x30) ⊎ ((t ≡ 0xA0) ⊎ ⊥) → ⊥
-no_time t (inl u) (inl r) = omega (arith, u, r)
-no_time t (inl u) (inr (inl x)) = omega (arith, u, x)
-no_time t (inl u) (inr (inr n)) = n
-no_time t (inr g) (inl r) = omega (arith, g, r)
-no_time t (inr g) (inr (inl x)) = omega (arith, g, x)
-no_time t (inr g) (inr (inr n)) = n
-
 lawful_updates : IsLawfulRow updates
 lawful_updates =
-    perhaps lawful_time no_time
-    (perhaps lawful_all_revoked (λ t h e. ⊎_elim (λ (x : t ≡ 0xA0). omega arith) (λ (n : ⊥). n) e)
-    (perhaps (lawful_within extensions lawful_extensions.row 0xA0 (omega arith)) (λ t h e. e) lawful_nothing))
+    perhaps lawful_time refl
+    (perhaps lawful_all_revoked refl
+    (perhaps (lawful_within extensions lawful_extensions.row 0xA0 (omega arith)) refl lawful_nothing))
 
 pub lawful_tbs_list : IsLawful tbs_list
 lawful_tbs_list =
-    lawful_sequence (perhaps lawful_version_1 (λ t h e. omega arith)
+    lawful_sequence (perhaps lawful_version_1 refl
     (followed_by lawful_algorithm_identifier (followed_by lawful_name (followed_by lawful_time lawful_updates))))
 
 abbrev pub CertificateListValue : Type 0

@@ -4,7 +4,7 @@
 use Rattle.std.specs.Prelude.{◌≡◌, ◌≤◌, ◌⊎◌, ℕ, List, [], map}
 use Rattle.std.proofs.Common.{inl, inr, arith}
 use Rattle.asn1_choices.specs.KnownOrRaw.{known_or_raw, lawful_known_or_raw}
-use Rattle.asn1_core.specs.Der.{Format, IsLawful, element_of, lawful_element_of, ElementOctets, implicit_set, element, empty_left_out, is_default, IsDefault, lawful_implicit_set}
+use Rattle.asn1_core.specs.Der.{one_tag, Format, IsLawful, element_of, lawful_element_of, ElementOctets, implicit_set, element, empty_left_out, is_default, IsDefault, lawful_implicit_set}
 use Rattle.pkcs7_signed.specs.declared.parts.certificates.CertificateChoices.{CertificateChoices}
 use Rattle.pkcs7_signed.specs.declared.parts.certificates.CertificateChoices.TheVariants.{Certificate, Other}
 use Rattle.pkcs7_signed.specs.declared.parts.certificates.CertificateSet.{CertificateSet}
@@ -21,10 +21,10 @@ abbrev pub IsSequenceTag : ℕ → Type 0
 IsSequenceTag t = t ≡ 0x30
 
 abbrev pub certificate_choice : Format CertificateValue
-certificate_choice = known_or_raw (element_of IsSequenceTag)
+certificate_choice = known_or_raw (element_of (one_tag 0x30))
 
 pub lawful_certificate_choice : IsLawful certificate_choice
-lawful_certificate_choice = lawful_known_or_raw (element_of IsSequenceTag) (lawful_element_of IsSequenceTag)
+lawful_certificate_choice = lawful_known_or_raw (element_of (one_tag 0x30)) (lawful_element_of (one_tag 0x30))
 
 abbrev pub certificates_value : CertificateSet → List CertificateValue
 certificates_value x = map certificate_value x.0.items

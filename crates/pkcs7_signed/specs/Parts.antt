@@ -1,7 +1,7 @@
 -- The parts of a signer before its unsigned attributes, and of signed data before its signers.
-use Rattle.std.specs.Prelude.{◌≡◌, ℕ, List, Option}
-use Rattle.std.proofs.Common.{arith, ⊎_elim}
-use Rattle.asn1_core.specs.Der.{Format, IsLawfulRow, number_below, lawful_number, version, lawful_version_1, part, optional, followed_by, perhaps, octet_string, lawful_octet_string, Octets, no_grammar, always, omitted, is_default, lawful_omitted}
+use Rattle.std.specs.Prelude.{◌≡◌, ℕ, List, Option, true}
+use Rattle.std.proofs.Common.{arith, refl, ⊎_elim}
+use Rattle.asn1_core.specs.Der.{no_tag, Format, IsLawfulRow, number_below, lawful_number, version, lawful_version_1, part, optional, followed_by, perhaps, octet_string, lawful_octet_string, Octets, no_grammar, always, omitted, is_default, lawful_omitted, unless, are_apart, told}
 use Rattle.pkcs7_content.specs.Contents.{EncapsulatedValue, encapsulated}
 use Rattle.pkcs7_content.specs.ContentLaws.{lawful_encapsulated}
 use Rattle.pkcs7_signed.specs.Algorithms.{algorithms, lawful_algorithms}
@@ -32,9 +32,8 @@ signer_parts R =
 pub lawful_signer_parts : {V : Type 0} {R : Format V} → IsLawfulRow R → IsLawfulRow (signer_parts R)
 lawful_signer_parts {V} {R} r =
     followed_by lawful_version_1 (followed_by lawful_signer_id (followed_by lawful_algorithm_identifier
-    (lawful_omitted (is_default attributes no_attributes) no_attributes attributes _ lawful_attributes
-    (followed_by lawful_algorithm_identifier (followed_by lawful_octet_string r))
-    no_attributes_left_out (λ t h e. omega arith))))
+    (unless lawful_attributes no_attributes_left_out refl
+    (followed_by lawful_algorithm_identifier (followed_by lawful_octet_string r)))))
 
 -- signed data before its signers, and what follows
 abbrev pub SignedParts : Type 0 → Type 0
@@ -52,14 +51,14 @@ signed_parts R =
     (omitted (is_default certificate_set no_certificates) no_certificates certificate_set
     (optional revocations R))))
 
-pub lawful_signed_parts : {V : Type 0} {R : Format V} → IsLawfulRow R → ((t : ℕ) → R.IsTag t → t ≡ 0x31) → IsLawfulRow (signed_parts R)
-lawful_signed_parts {V} {R} r is_set =
+pub lawful_signed_parts : {V : Type 0} {R : Format V} → IsLawfulRow R → are_apart revocations R ≡ true → are_apart certificate_set R ≡ true → IsLawfulRow (signed_parts R)
+lawful_signed_parts {V} {R} r e f =
     followed_by (lawful_number 6) (followed_by lawful_algorithms (followed_by lawful_encapsulated
     (lawful_omitted (is_default certificate_set no_certificates) no_certificates certificate_set _ lawful_certificate_set
-    (perhaps lawful_revocations (λ t h e. omega (arith, h, is_set t e)) r)
+    (perhaps lawful_revocations e r)
     no_certificates_left_out
-    (λ t h e. ⊎_elim (λ (x : t ≡ 0xA1). omega (arith, h, x)) (λ (x : R.IsTag t). omega (arith, h, is_set t x)) e))))
+    (λ t h i. ⊎_elim (λ (x : t ≡ 0xA1). omega (arith, h, x)) (told certificate_set R f t h) i))))
 
 -- something that is written so and has so many elements
 abbrev pub ending : List ℕ → ℕ → Format (Unit {0})
-ending t n = always (record { text = λ _. t; normal = λ v. v; IsTag = λ _. ⊥; least = λ _. n }) no_grammar
+ending t n = always (record { text = λ _. t; normal = λ v. v; IsTag = λ _. ⊥; first = no_tag; least = λ _. n }) no_grammar

@@ -3,8 +3,8 @@
 -- RevocationInfoChoice ::= CHOICE { crl CertificateList, other [1] IMPLICIT OtherRevocationInfoFormat }
 -- RevocationInfoChoices ::= SET OF RevocationInfoChoice, under its tag [1] IMPLICIT (RFC 5652, 5.1)
 use Rattle.std.specs.Prelude.{◌⊎◌, List, map}
-use Rattle.std.proofs.Common.{inl, inr, arith}
-use Rattle.asn1_core.specs.Der.{Format, IsLawful, sequence, part, nothing, object_identifier, null_element, octets_of, OidOctets, implicit_set, der_laws, either, lawful_either, implicit, lawful_implicit, within_tagged, lawful_implicit_set}
+use Rattle.std.proofs.Common.{inl, inr, arith, refl}
+use Rattle.asn1_core.specs.Der.{Format, IsLawful, sequence, part, nothing, object_identifier, null_element, octets_of, OidOctets, implicit_set, der_laws, either, or_else, implicit, lawful_implicit, within_tagged, lawful_implicit_set}
 use Rattle.pkcs7_signed.specs.CertificateLists.{CertificateListValue, certificate_list_value, certificate_list, lawful_certificate_list}
 use Rattle.pkcs7_signed.specs.declared.parts.revocations.OtherRevocationInfoFormat.{OtherRevocationInfoFormat}
 use Rattle.pkcs7_signed.specs.declared.parts.revocations.RevocationInfoChoice.{RevocationInfoChoice}
@@ -44,7 +44,7 @@ lawful_other_revocation : IsLawful other_revocation
 lawful_other_revocation = lawful_implicit 0xA1 0x30 other_format lawful_other_format (within_tagged 0x30 (omega arith) other_format_row) (omega arith)
 
 pub lawful_revocation : IsLawful revocation
-lawful_revocation = lawful_either certificate_list other_revocation lawful_certificate_list lawful_other_revocation (λ t h e. omega arith)
+lawful_revocation = or_else lawful_certificate_list refl lawful_other_revocation
 
 abbrev pub revocations_value : RevocationInfoChoices → List RevocationValue
 revocations_value x = map revocation_value x.0.items

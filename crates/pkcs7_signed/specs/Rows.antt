@@ -80,6 +80,7 @@ module _ {C S : Type 0} (F : Format C) (G : Format S) where
     IsNormal = λ k b. by_kind i (certificates_arm.IsNormal k b) (signers_arm.IsNormal k b) (elements_arm.IsNormal k b);
     normal = attribute_values.normal;
     IsTag = (set_of raw).IsTag;
+    first = (set_of raw).first;
     least = attribute_values.least;
   }
 
@@ -97,7 +98,7 @@ pub lawful_signer_row : {A : Type 0} (F : Format A) → IsLawful F → IsLawful 
 lawful_signer_row F f = lawful_sequence (lawful_signer_parts (lawful_set_or_none 0xA1 (omega arith) F f))
 
 pub lawful_signed_row : {S : Type 0} (F : Format S) → IsLawful F → IsLawful (signed_row F)
-lawful_signed_row F f = lawful_gated (sequence (signed_parts (set_of F))) (lawful_sequence (lawful_signed_parts (lawful_set F f).row (λ t h. h)))
+lawful_signed_row F f = lawful_gated (sequence (signed_parts (set_of F))) (lawful_sequence (lawful_signed_parts (lawful_set F f).row refl refl))
 
 pub lawful_certificate_row : {S : Type 0} (F : Format S) → IsLawful F → IsLawful (certificate_row F)
 lawful_certificate_row F f = lawful_sequence (followed_by (lawful_only_oid signed_data_oid) (lawful_explicit (omega arith) (lawful_signed_row F f)).row)

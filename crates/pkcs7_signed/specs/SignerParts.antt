@@ -4,8 +4,8 @@
 -- SignerIdentifier ::= CHOICE { issuerAndSerialNumber IssuerAndSerialNumber, subjectKeyIdentifier [0]
 --   SubjectKeyIdentifier } (RFC 5652, 5.3)
 use Rattle.std.specs.Prelude.{◌⊎◌}
-use Rattle.std.proofs.Common.{inl, inr, arith}
-use Rattle.asn1_core.specs.Der.{Format, IsLawful, sequence, part, nothing, octet_string, Octets, IntegerOctets, der_laws, either, lawful_either, implicit}
+use Rattle.std.proofs.Common.{inl, inr, refl}
+use Rattle.asn1_core.specs.Der.{Format, IsLawful, sequence, part, nothing, octet_string, Octets, IntegerOctets, der_laws, either, or_else, implicit}
 use Rattle.asn1_leaves.specs.Integers.{integer, lawful_integer}
 use Rattle.x509_base.specs.Names.{NameParts, name_parts, name, lawful_name}
 use Rattle.pkcs7_signed.specs.declared.parts.signers.CertificateSerialNumber.{CertificateSerialNumber}
@@ -46,4 +46,4 @@ lawful_key_id : IsLawful key_id
 lawful_key_id = search der_laws depth 20
 
 pub lawful_signer_id : IsLawful signer_id
-lawful_signer_id = lawful_either issuer_serial key_id lawful_issuer_serial lawful_key_id (λ t h e. omega arith)
+lawful_signer_id = or_else lawful_issuer_serial refl lawful_key_id

@@ -2,7 +2,7 @@
 -- signed data, which take a level themselves.
 use Rattle.std.specs.Prelude.{◌≡◌, ℕ, List, [], map}
 use Rattle.std.proofs.Common.{inl, inr}
-use Rattle.asn1_core.specs.Der.{Format, nothing, raw, OidOctets, ElementOctets, set_of, implicit_set, Still, no_grammar, always, less, levels, rolled}
+use Rattle.asn1_core.specs.Der.{no_tag, one_tag, Format, nothing, raw, OidOctets, ElementOctets, set_of, implicit_set, Still, no_grammar, always, less, levels, rolled}
 use Rattle.pkcs7_signed.specs.Forest.{Forest, none, Node, nodes, forest, fold_node, same_node}
 use Rattle.pkcs7_signed.specs.Parts.{SignerParts, signer_end, behind_signer, signer_parts, SignedParts, signed_end, behind_signed, signed_parts}
 use Rattle.pkcs7_signed.specs.Rows.{SignerRow, signer_row, SignedRow, signed_row, CertificateRow, certificate_row, UnsignedValues, attribute_values, AttributeRow, attribute_row}
@@ -90,10 +90,10 @@ signer_with F = rolled signer_out signer_into (signer_row (attribute_with F))
 
 -- what is made of a node, from what was made of those inside: an encoding, a count
 abbrev pub as_text : Format (List ℕ)
-as_text = always (record { text = λ t. t; normal = λ t. t; IsTag = λ _. ⊥; least = λ _. 0 }) no_grammar
+as_text = always (record { text = λ t. t; normal = λ t. t; IsTag = λ _. ⊥; first = no_tag; least = λ _. 0 }) no_grammar
 
 abbrev pub as_count : Format ℕ
-as_count = always (record { text = λ _. []; normal = λ n. n; IsTag = λ _. ⊥; least = λ n. n }) no_grammar
+as_count = always (record { text = λ _. []; normal = λ n. n; IsTag = λ _. ⊥; first = no_tag; least = λ n. n }) no_grammar
 
 abbrev pub attribute_of : {T : Type 0} (i : Kind) → InAttribute i → List T → AttributeRow T T
 attribute_of MsCounterSign o ts = (o, inl ts)
@@ -128,6 +128,7 @@ still i = record {
   text = fold_node Arm Plain holds text_of signers;
   normal = same_node Arm Plain holds normal_of signers;
   IsTag = λ t. t ≡ 0x30;
+  first = one_tag 0x30;
   least = fold_node Arm Plain holds least_of signers;
 }
 

@@ -97,14 +97,6 @@ impl WriteRow for SignersBelow {
     }
 }
 
-impl TagsApart<SignersBelow> for CertificateSet {
-    ghost apart = { λ t h e. Prim.omega arith };
-}
-
-impl TagsApart<SignersBelow> for RevocationInfoChoices {
-    ghost apart = { λ t h e. Prim.omega arith };
-}
-
 type SignerTail = Part<
     SignatureAlgorithmIdentifier,
     Part<SignatureValue, Tail<SetOrNone<UnsignedAttribute>>>,

@@ -2,8 +2,8 @@
 -- Extensions ::= SEQUENCE OF Extension (RFC 5280, 4.1)
 -- An explicit FALSE is read, since old producers write it, and never written.
 use Rattle.std.specs.Prelude.{Bool, List, map}
-use Rattle.std.proofs.Common.{arith}
-use Rattle.asn1_core.specs.Der.{Format, IsLawful, sequence, part, nothing, object_identifier, octet_string, octets_of, Octets, OidOctets, lawful_sequence, followed_by, lawful_nothing, lawful_object_identifier, lawful_octet_string, sequence_of, der_laws, omitted, is_default, lawful_omitted}
+use Rattle.std.proofs.Common.{refl}
+use Rattle.asn1_core.specs.Der.{Format, IsLawful, sequence, part, nothing, object_identifier, octet_string, octets_of, Octets, OidOctets, lawful_sequence, followed_by, lawful_nothing, lawful_object_identifier, lawful_octet_string, sequence_of, der_laws, omitted, is_default, unless}
 use Rattle.x509_base.specs.declared.extensions.Extension.{Extension}
 use Rattle.x509_base.specs.declared.extensions.Extensions.{Extensions}
 use Rattle.x509_base.specs.Booleans.{boolean, lawful_boolean, explicit_false, false_left_out}
@@ -20,7 +20,7 @@ extension = sequence (part object_identifier (omitted (is_default boolean explic
 pub lawful_extension : IsLawful extension
 lawful_extension =
     lawful_sequence (followed_by lawful_object_identifier
-    (lawful_omitted (is_default boolean explicit_false) explicit_false boolean _ lawful_boolean (followed_by lawful_octet_string lawful_nothing) false_left_out (λ t h e. omega arith)))
+    (unless lawful_boolean false_left_out refl (followed_by lawful_octet_string lawful_nothing)))
 
 abbrev pub extensions_value : Extensions → List ExtensionValue
 extensions_value x = map extension_value x.0.items

@@ -2,9 +2,9 @@
 -- SpcLink ::= CHOICE { url [0] IMPLICIT IA5String, moniker [1] IMPLICIT SpcSerializedObject, file [2] EXPLICIT
 --   SpcString }
 -- SpcSpOpusInfo ::= SEQUENCE { programName [0] EXPLICIT SpcString OPTIONAL, moreInfo [1] EXPLICIT SpcLink OPTIONAL }
-use Rattle.std.specs.Prelude.{◌≡◌, ◌⊎◌, Option}
-use Rattle.asn1_core.specs.Der.{StringOctets, Format, IsLawful, nothing, optional, within, lawful_nothing, lawful_optional, lawful_within, either, lawful_either, implicit, lawful_implicit, leaf_tagged, within_tagged, kept, sequence, explicit, der_laws}
-use Rattle.std.proofs.Common.{arith, ⊎_elim, inl, inr}
+use Rattle.std.specs.Prelude.{◌⊎◌, Option}
+use Rattle.asn1_core.specs.Der.{StringOctets, Format, IsLawful, nothing, optional, lawful_nothing, lawful_sequence, lawful_explicit, perhaps, either, or_else, implicit, lawful_implicit, leaf_tagged, within_tagged, kept, sequence, explicit, der_laws}
+use Rattle.std.proofs.Common.{arith, inl, inr, refl}
 use Rattle.asn1_leaves.specs.Strings.{bmp_string, lawful_bmp_string, ia5_string, lawful_ia5_string}
 use Rattle.asn1_leaves_strings.specs.Bmp.{IsBmp}
 use Rattle.asn1_leaves_strings.specs.Ia5.{IsIa5}
@@ -66,7 +66,7 @@ lawful_ascii : IsLawful ascii
 lawful_ascii = lawful_implicit 0x81 0x16 ia5_string lawful_ia5_string (leaf_tagged 0x16 (omega arith) (kept IsIa5)) (omega arith)
 
 pub lawful_spc_string : IsLawful spc_string
-lawful_spc_string = lawful_either unicode ascii lawful_unicode lawful_ascii (λ t h e. omega arith)
+lawful_spc_string = or_else lawful_unicode refl lawful_ascii
 
 pub lawful_url : IsLawful url
 lawful_url = lawful_implicit 0x80 0x16 ia5_string lawful_ia5_string (leaf_tagged 0x16 (omega arith) (kept IsIa5)) (omega arith)
@@ -78,14 +78,9 @@ pub lawful_file : IsLawful file
 lawful_file = search (der_laws, lawful_spc_string) depth 20
 
 pub lawful_spc_link : IsLawful spc_link
-lawful_spc_link =
-    lawful_either url (either moniker file) lawful_url (lawful_either moniker file lawful_moniker lawful_file (λ t h e. omega arith))
-    (λ t h e. ⊎_elim (λ (m : t ≡ 0xA1). omega arith) (λ (f : t ≡ 0xA2). omega arith) e)
+lawful_spc_link = or_else lawful_url refl (or_else lawful_moniker refl lawful_file)
 
 pub lawful_opus_info : IsLawful opus_info
 lawful_opus_info =
-    lawful_within _
-    (lawful_optional (within 0xA0 spc_string) _ (lawful_within spc_string lawful_spc_string.row 0xA0 (omega arith))
-    (lawful_optional (within 0xA1 spc_link) nothing (lawful_within spc_link lawful_spc_link.row 0xA1 (omega arith)) lawful_nothing (λ t h e. e))
-    (λ t h e. ⊎_elim (λ (l : t ≡ 0xA1). omega arith) (λ (n : ⊥). n) e))
-    0x30 (omega arith)
+    lawful_sequence (perhaps (lawful_explicit (omega arith) lawful_spc_string) refl
+    (perhaps (lawful_explicit (omega arith) lawful_spc_link) refl lawful_nothing))

@@ -85,10 +85,6 @@ impl FirstTags for AlgorithmIdentifier {
     }
 }
 
-impl<const N: u8> ApartFrom<AlgorithmIdentifier> for FixedVersion<N> {
-    ghost no_common_tag = { λ t h e. Prim.omega arith };
-}
-
 impl EqualByText for AlgorithmIdentifier {
     ghost equal_by_text = { algorithm_equal };
 }
@@ -188,7 +184,7 @@ impl ReadChoice for RawAlgorithmIdentifier {
         Ok(Self::from_parts(algorithm, parameters))
     }
 
-    ghost lawful = { lawful_other_algorithm };
+    ghost lawful = { λ _. lawful_other_algorithm };
 }
 
 impl FirstTags for RawAlgorithmIdentifier {

@@ -77,11 +77,3 @@ impl HasDefault for DefaultFalse {
 
     ghost left_out = { false_left_out };
 }
-
-impl ApartFrom<OctetStringAsn1> for DefaultFalse {
-    ghost no_common_tag = { λ t h e. Prim.omega arith };
-}
-
-impl ApartFrom<IntegerAsn1> for DefaultFalse {
-    ghost no_common_tag = { λ t h e. Prim.omega arith };
-}

@@ -65,10 +65,6 @@ impl FirstTags for Time {
     }
 }
 
-impl<T: DerSerialize> ApartFrom<ExplicitContextTag0<T>> for Time {
-    ghost no_common_tag = { λ t h e. ⊎_elim (λ (u : t ≡ 0x17). Prim.omega arith) (λ (g : t ≡ 0x18). Prim.omega arith) h };
-}
-
 impl EqualByText for Time {
     ghost equal_by_text = { time_equal };
 }

@@ -1,6 +1,6 @@
 -- SafeContents ::= SEQUENCE OF SafeBag, where a bag of kind SafeContents holds further bags, one level down.
 use Rattle.std.specs.Prelude.{◌≡◌, ◌⊎◌, ℕ, ◌+◌, List, [], ◌∷◌, ◌++◌, map}
-use Rattle.asn1_core.specs.Der.{Format, sequence, sequence_of, element, Choice, known, Still, no_grammar, always, less, levels, least_all, rolled}
+use Rattle.asn1_core.specs.Der.{no_tag, one_tag, Format, sequence, sequence_of, element, Choice, known, Still, no_grammar, always, less, levels, least_all, rolled}
 use Rattle.std.specs.List.{flat_map}
 use Rattle.std.proofs.Common.{inl, inr}
 use Rattle.x509_pkcs12.specs.Attributes.{AttributesValue, attributes}
@@ -52,10 +52,10 @@ bags_with F = sequence_of (bag_with F)
 
 -- what is written of a bag, over what was written of those inside: an encoding, a count
 abbrev pub step_text : BagRow (List ℕ) → List ℕ
-step_text = (bag_row (always (record { text = λ t. t; normal = λ t. t; IsTag = λ _. ⊥; least = λ _. 0 }) no_grammar)).text
+step_text = (bag_row (always (record { text = λ t. t; normal = λ t. t; IsTag = λ _. ⊥; first = no_tag; least = λ _. 0 }) no_grammar)).text
 
 abbrev pub step_least : BagRow ℕ → ℕ
-step_least = (bag_row (always (record { text = λ _. []; normal = λ n. n; IsTag = λ _. ⊥; least = λ n. n }) no_grammar)).least
+step_least = (bag_row (always (record { text = λ _. []; normal = λ n. n; IsTag = λ _. ⊥; first = no_tag; least = λ n. n }) no_grammar)).least
 
 abbrev mutual
   pub bag_text : Bag → List ℕ
@@ -90,6 +90,7 @@ still i = record {
   text = λ bs. element 0x30 (flat_map bag_text bs);
   normal = map bag_normal;
   IsTag = λ t. t ≡ 0x30;
+  first = one_tag 0x30;
   least = λ bs. 1 + least_all bag_least bs;
 }
 

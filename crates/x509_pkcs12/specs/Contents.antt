@@ -3,7 +3,7 @@
 -- EncryptedData ::= SEQUENCE { version Version (0), encryptedContentInfo EncryptedContentInfo } (RFC 2315, 13)
 use Rattle.std.specs.Prelude.{◌⊎◌, ℕ, List, Option}
 use Rattle.asn1_core.specs.Der.{Format, within, sequence, part, optional, nothing, raw, octets_of, option_value, OidOctets, ElementOctets, IsLawful, IsLawfulRow, version, lawful_within, lawful_raw, perhaps, lawful_nothing, explicit, der_laws, Choice, known, otherwise, IsLawfulChoice, lawful_known, lawful_otherwise, IsOid, lawful_explicit, lawful_sequence, followed_by, lawful_version_0}
-use Rattle.std.proofs.Common.{inl, inr, arith}
+use Rattle.std.proofs.Common.{inl, inr, arith, refl}
 use Rattle.x509_pkcs12.specs.Bags.{Bag, safe_contents}
 use Rattle.x509_pkcs12.specs.BagValues.{contents_value}
 use Rattle.x509_pkcs12.specs.EncryptedContents.{EncryptedContentsValue, encrypted_contents_value, encrypted_contents, lawful_encrypted_contents}
@@ -59,7 +59,7 @@ lawful_encrypted_content =
     lawful_explicit (omega arith) (lawful_sequence (followed_by lawful_version_0 (followed_by lawful_encrypted_contents lawful_nothing)))
 
 pub lawful_any_content : IsLawfulRow any_content
-lawful_any_content = perhaps (lawful_within raw lawful_raw.row 0xA0 (omega arith)) (λ t h e. e) lawful_nothing
+lawful_any_content = perhaps (lawful_within raw lawful_raw.row 0xA0 (omega arith)) refl lawful_nothing
 
 pub lawful_unknown_content : IsLawfulChoice unknown_content
 lawful_unknown_content = lawful_otherwise IsOid any_content lawful_any_content

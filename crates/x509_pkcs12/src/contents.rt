@@ -1,7 +1,7 @@
 //! The contents that a PKCS #12 file holds.
 
 ghost use Rattle.std.specs.Prelude.{◌≡◌};
-ghost use Rattle.asn1_core.specs.Der.{option_value, sequence, lawful_sequence};
+ghost use Rattle.asn1_core.specs.Der.{option_value, sequence, followed_by, lawful_nothing, lawful_sequence};
 ghost use Rattle.x509_pkcs12.specs.Contents.{AnyContentValue, any_content, ContentInfoValue, content_info_value, content_info, lawful_any_content, lawful_content_info};
 ghost use Rattle.x509_pkcs12.specs.ContentsEqual.{content_info_equal};
 
@@ -84,7 +84,7 @@ impl ReadRow for AnyContent {
         }
     }
 
-    ghost lawful = { lawful_any_content };
+    ghost lawful = { λ _. lawful_any_content };
 }
 
 /// `EncryptedData ::= SEQUENCE { version Version, encryptedContentInfo EncryptedContentInfo }` (RFC 2315, 13), tagged.
@@ -116,12 +116,12 @@ impl<R: WriteRow> DerSerialize for Asn1Sequence<R> {
     }
 }
 
-impl<R: ReadRow> DerDeserialize for Asn1Sequence<R> {
+impl<A: DerDeserialize, B: DerDeserialize> DerDeserialize for Asn1Sequence<Part<A, Part<B, End>>> {
     fn read(alloc: Global, r: &mut Reader<'_>, nest: u8) -> Result<Self, Error> {
         Ok(Asn1Sequence(read_within(alloc, r, nest, 0x30)?))
     }
 
-    ghost lawful = { lawful_sequence R.lawful };
+    ghost lawful = { lawful_sequence (followed_by A.lawful (followed_by B.lawful lawful_nothing)) };
 }
 
 type ContentChoice = Either<

@@ -5,8 +5,8 @@
 --   OPTIONAL }
 -- EncryptedContentInfo ::= SEQUENCE { contentType ContentType, contentEncryptionAlgorithm
 --   ContentEncryptionAlgorithmIdentifier, encryptedContent [0] IMPLICIT EncryptedContent OPTIONAL } (RFC 5652, 6.1)
-use Rattle.std.specs.Prelude.{◌≡◌, ℕ, List, Option, map}
-use Rattle.std.proofs.Common.{arith, ⊎_elim}
+use Rattle.std.specs.Prelude.{ℕ, List, Option, map}
+use Rattle.std.proofs.Common.{arith, refl}
 use Rattle.asn1_core.specs.Der.{Format, IsLawful, sequence, part, optional, nothing, each, set_of, number_below, object_identifier, octet_string, octets_of, option_value, lawful_sequence, followed_by, perhaps, lawful_nothing, lawful_set, lawful_number, Octets, OidOctets, der_laws, implicit, lawful_implicit, within_tagged}
 use Rattle.pkcs7_content.specs.Versions.{number_of}
 use Rattle.pkcs7_signed.specs.Certificates.{CertificateValue, certificates_value, certificate_choice, certificate_set, lawful_certificate_set}
@@ -54,8 +54,8 @@ lawful_crls = lawful_implicit 0xA1 0xA1 revocations lawful_revocations (within_t
 
 pub lawful_originator : IsLawful originator
 lawful_originator =
-    lawful_sequence (perhaps lawful_certs (λ t h e. ⊎_elim (λ (x : t ≡ 0xA1). omega arith) (λ (n : ⊥). n) e)
-    (perhaps lawful_crls (λ t h e. e) lawful_nothing))
+    lawful_sequence (perhaps lawful_certs refl
+    (perhaps lawful_crls refl lawful_nothing))
 
 -- SET OF Attribute, under [1] IMPLICIT
 abbrev pub attributes : Format (List AttributeValue)
@@ -90,6 +90,6 @@ enveloped F =
 
 pub lawful_enveloped : {V : Type 0} (F : Format V) → IsLawful F → IsLawful (enveloped F)
 lawful_enveloped F f =
-    lawful_sequence (followed_by (lawful_number 6) (perhaps lawful_originator_0 (λ t h e. omega arith)
+    lawful_sequence (followed_by (lawful_number 6) (perhaps lawful_originator_0 refl
     (followed_by (lawful_set F f)
-    (followed_by lawful_encrypted_content (perhaps lawful_unprotected (λ t h e. e) lawful_nothing)))))
+    (followed_by lawful_encrypted_content (perhaps lawful_unprotected refl lawful_nothing)))))

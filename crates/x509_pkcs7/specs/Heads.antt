@@ -6,7 +6,7 @@
 --   issuerUniqueID [1] IMPLICIT UniqueIdentifier OPTIONAL, subjectUniqueID [2] IMPLICIT UniqueIdentifier OPTIONAL,
 --   extensions [3] Extensions OPTIONAL }, with each element from issuerUniqueID on as it is
 use Rattle.std.specs.Prelude.{ℕ, List, Option, map}
-use Rattle.std.proofs.Common.{arith, rules}
+use Rattle.std.proofs.Common.{arith, rules, refl}
 use Rattle.asn1_core.specs.Der.{Format, IsLawful, IsLawfulRow, sequence, part, optional, nothing, each, explicit, raw, number_below, option_value, perhaps, lawful_sequence, lawful_within, lawful_number, der_laws, SeesEqual, ElementOctets, IntegerOctets, BitStringOctets}
 use Rattle.asn1_leaves.specs.Integers.{integer, lawful_integer}
 use Rattle.asn1_leaves.specs.Strings.{bit_string, lawful_bit_string}
@@ -53,7 +53,7 @@ pub lawful_explicit_version : IsLawful explicit_version
 lawful_explicit_version = lawful_within (number_below 3) (lawful_number 3).row 0xA0 (omega arith)
 
 pub lawful_tbs_head : IsLawful tbs_head
-lawful_tbs_head = lawful_sequence (perhaps lawful_explicit_version (λ t h e. omega arith) lawful_head_row)
+lawful_tbs_head = lawful_sequence (perhaps lawful_explicit_version refl lawful_head_row)
 
 pub tbs_head_equal : SeesEqual TbsEq.ghosts.eq tbs_head_value
 tbs_head_equal x y = search x509_equal depth 20

@@ -3,9 +3,9 @@
 --   RevocationInfoChoices OPTIONAL, signerInfos SignerInfos } (RFC 5652, 5.1), over the signers' format
 -- ContentInfo ::= SEQUENCE { contentType ContentType, content [0] EXPLICIT ANY DEFINED BY contentType } (RFC 5652, 3)
 --   of id-signedData
-use Rattle.std.specs.Prelude.{◌≡◌, ℕ, List, [], ◌∷◌, Option, map}
-use Rattle.std.proofs.Common.{arith, ⊎_elim}
-use Rattle.asn1_core.specs.Der.{Format, IsLawful, IsLawfulRow, sequence, part, optional, nothing, number_below, set_of, explicit, implicit_set, raw, only_oid, arcs, option_value, ElementOctets, omitted, is_default, lawful_omitted, lawful_sequence, followed_by, perhaps, lawful_number, lawful_nothing, lawful_set, lawful_explicit, lawful_implicit_set, lawful_only_oid, lawful_raw}
+use Rattle.std.specs.Prelude.{ℕ, List, [], ◌∷◌, Option, map}
+use Rattle.std.proofs.Common.{arith, refl}
+use Rattle.asn1_core.specs.Der.{Format, IsLawful, IsLawfulRow, sequence, part, optional, nothing, number_below, set_of, explicit, implicit_set, raw, only_oid, arcs, option_value, ElementOctets, omitted, is_default, lawful_sequence, followed_by, perhaps, lawful_number, lawful_nothing, lawful_set, lawful_explicit, lawful_implicit_set, lawful_only_oid, lawful_raw, unless}
 use Rattle.pkcs7_content.specs.Versions.{number_of}
 use Rattle.pkcs7_signed.specs.Algorithms.{algorithms_value, algorithms, lawful_algorithms}
 use Rattle.pkcs7_signed.specs.Certificates.{CertificateValue, certificates_value, certificate_set, lawful_certificate_set, no_certificates, no_certificates_left_out}
@@ -51,11 +51,8 @@ module _ {V : Type 0} where
 
   lawful_sets_row : (F : Format V) → IsLawful F → IsLawfulRow (sets_row F)
   lawful_sets_row F f =
-      lawful_omitted (is_default certificate_set no_certificates) no_certificates certificate_set _ lawful_certificate_set
-      (perhaps lawful_raw_revocations (λ t h e. omega (arith, h, e))
-      (followed_by (lawful_set F f) lawful_nothing))
-      no_certificates_left_out
-      (λ t h e. ⊎_elim (λ (x : t ≡ 0xA1). omega (arith, h, x)) (λ (x : t ≡ 0x31). omega (arith, h, x)) e)
+      unless lawful_certificate_set no_certificates_left_out refl
+      (perhaps lawful_raw_revocations refl (followed_by (lawful_set F f) lawful_nothing))
 
   pub lawful_raw_signed : (F : Format V) → IsLawful F → IsLawful (raw_signed F)
   lawful_raw_signed F f = lawful_sequence (followed_by (lawful_number 6) (followed_by lawful_algorithms (followed_by lawful_raw_encapsulated (lawful_sets_row F f))))

@@ -3,8 +3,8 @@
 --   SignatureValue, unsignedAttrs [1] IMPLICIT UnsignedAttributes OPTIONAL }
 -- UnsignedAttributes ::= SET SIZE (1..MAX) OF Attribute (RFC 5652, 5.3)
 use Rattle.std.specs.Prelude.{ℕ, List, [], map}
-use Rattle.std.proofs.Common.{arith}
-use Rattle.asn1_core.specs.Der.{Format, IsLawful, IsLawfulRow, sequence, part, nothing, number_below, octet_string, Octets, omitted, is_default, IsDefault, element, empty_left_out, implicit_set, lawful_implicit_set, lawful_omitted, lawful_sequence, followed_by, lawful_number, lawful_octet_string, lawful_nothing}
+use Rattle.std.proofs.Common.{arith, refl}
+use Rattle.asn1_core.specs.Der.{Format, IsLawful, IsLawfulRow, sequence, part, nothing, number_below, octet_string, Octets, omitted, is_default, IsDefault, element, empty_left_out, implicit_set, lawful_implicit_set, lawful_sequence, followed_by, lawful_number, lawful_octet_string, lawful_nothing, unless}
 use Rattle.pkcs7_content.specs.Versions.{number_of}
 use Rattle.pkcs7_attributes.specs.Attributes.{attributes_value, attributes, lawful_attributes, no_attributes, no_attributes_left_out}
 use Rattle.pkcs7_signed.specs.SignerParts.{SignerIdValue, signer_id_value, signer_id, lawful_signer_id}
@@ -43,8 +43,7 @@ signature_row =
 lawful_signature_row : IsLawfulRow signature_row
 lawful_signature_row =
     followed_by lawful_algorithm_identifier (followed_by lawful_octet_string
-    (lawful_omitted (is_default unsigned_attributes no_unsigned_attributes) no_unsigned_attributes unsigned_attributes nothing
-    lawful_unsigned_attributes lawful_nothing no_unsigned_attributes_left_out (λ t h e. e)))
+    (unless lawful_unsigned_attributes no_unsigned_attributes_left_out refl lawful_nothing))
 
 abbrev pub RawSignerValue : Type 0
 RawSignerValue = ℕ × (SignerIdValue × (AlgorithmValue × (List AttributeValue × SignatureValues)))
@@ -72,5 +71,4 @@ raw_signer =
 pub lawful_raw_signer : IsLawful raw_signer
 lawful_raw_signer =
     lawful_sequence (followed_by (lawful_number 6) (followed_by lawful_signer_id (followed_by lawful_algorithm_identifier
-    (lawful_omitted (is_default attributes no_attributes) no_attributes attributes signature_row
-    lawful_attributes lawful_signature_row no_attributes_left_out (λ t h e. omega arith)))))
+    (unless lawful_attributes no_attributes_left_out refl lawful_signature_row))))

@@ -6,8 +6,8 @@
 --   OPTIONAL }
 -- OtherKeyAttribute ::= SEQUENCE { keyAttrId OBJECT IDENTIFIER, keyAttr ANY DEFINED BY keyAttrId OPTIONAL }
 --   (RFC 5652, 10.2.7)
-use Rattle.std.specs.Prelude.{◌≡◌, ℕ, Option}
-use Rattle.std.proofs.Common.{arith, ⊎_elim}
+use Rattle.std.specs.Prelude.{ℕ, Option}
+use Rattle.std.proofs.Common.{arith, refl}
 use Rattle.asn1_core.specs.Der.{Format, IsLawful, sequence, part, optional, nothing, number_below, object_identifier, octet_string, raw, octets_of, option_value, lawful_sequence, followed_by, perhaps, lawful_nothing, lawful_octet_string, Octets, OidOctets, ElementOctets, der_laws, implicit, lawful_implicit, within_tagged}
 use Rattle.asn1_leaves.specs.Times.{generalized_time, lawful_generalized_time}
 use Rattle.asn1_leaves_times.specs.Times.{moment_of_generalized}
@@ -46,8 +46,8 @@ kek_id = sequence (part octet_string (optional generalized_time (optional other_
 pub lawful_kek_id : IsLawful kek_id
 lawful_kek_id =
     lawful_sequence (followed_by lawful_octet_string
-    (perhaps lawful_generalized_time (λ t h e. ⊎_elim (λ (x : t ≡ 0x30). omega arith) (λ (n : ⊥). n) e)
-    (perhaps lawful_other_key (λ t h e. e) lawful_nothing)))
+    (perhaps lawful_generalized_time refl
+    (perhaps lawful_other_key refl lawful_nothing)))
 
 abbrev pub KekRecipientValue : Type 0
 KekRecipientValue = ℕ × (KekIdValue × (AlgorithmValue × (Octets × Unit {0})))

@@ -5,9 +5,9 @@
 -- MessageImprint ::= SEQUENCE { hashAlgorithm AlgorithmIdentifier, hashedMessage OCTET STRING }, as DigestInfo is
 -- Accuracy ::= SEQUENCE { seconds INTEGER OPTIONAL, millis [0] INTEGER OPTIONAL, micros [1] INTEGER OPTIONAL }
 -- genTime may have a fraction of a second, so its contents octets are kept; so are the name and the parts of Accuracy.
-use Rattle.std.specs.Prelude.{◌≡◌, ◌⊎◌, ℕ, Bool, List, Option, map}
-use Rattle.std.proofs.Common.{arith, rules, ap, inl, inr}
-use Rattle.asn1_core.specs.Der.{Format, IsLawful, IsLawfulRow, sequence, part, optional, omitted, is_default, nothing, explicit, implicit_set, sequence_of, raw, version, object_identifier, octets_of, option_value, leaf, any_octets, lawful_leaf, perhaps, followed_by, lawful_omitted, lawful_nothing, lawful_sequence, lawful_sequence_of, lawful_explicit, lawful_implicit_set, lawful_raw, lawful_version_1, lawful_object_identifier, der_equal, SeesEqual, two_equal, option_equal, with_end, Octets, OidOctets, ElementOctets, IntegerOctets}
+use Rattle.std.specs.Prelude.{ℕ, Bool, List, Option, map}
+use Rattle.std.proofs.Common.{arith, rules, ap, refl}
+use Rattle.asn1_core.specs.Der.{Format, IsLawful, IsLawfulRow, sequence, part, optional, omitted, is_default, nothing, explicit, implicit_set, sequence_of, raw, version, object_identifier, octets_of, option_value, leaf, any_octets, lawful_leaf, perhaps, followed_by, lawful_nothing, lawful_sequence, lawful_sequence_of, lawful_explicit, lawful_implicit_set, lawful_raw, lawful_version_1, lawful_object_identifier, der_equal, SeesEqual, two_equal, option_equal, with_end, Octets, OidOctets, ElementOctets, IntegerOctets, unless}
 use Rattle.std.specs.Cmp.{booleans_Decides}
 use Rattle.asn1_core.specs.Equal.{oid_equal}
 use Rattle.asn1_core_format.specs.LeafLaws.{lawful_kept}
@@ -79,36 +79,11 @@ tst_info_value x = (1, (octets_of x.policy.0, (digest_info_value x.message_impri
 abbrev pub tst_info : Format TstInfoValue
 tst_info = sequence (part (version 1) (part object_identifier (part digest_info (part integer (part generation_time options)))))
 
--- what follows a part that may be absent begins with another tag
-not_ordering : (t : ℕ) → t ≡ 0x01 → (t ≡ 0x02) ⊎ ((t ≡ 0xA0) ⊎ ((t ≡ 0xA1) ⊎ ⊥)) → ⊥
-not_ordering t h (inl x) = omega (arith, h, x)
-not_ordering t h (inr (inl x)) = omega (arith, h, x)
-not_ordering t h (inr (inr (inl x))) = omega (arith, h, x)
-not_ordering t h (inr (inr (inr n))) = n
-
-pub not_accuracy : (t : ℕ) → t ≡ 0x30 → (t ≡ 0x01) ⊎ ((t ≡ 0x02) ⊎ ((t ≡ 0xA0) ⊎ ((t ≡ 0xA1) ⊎ ⊥))) → ⊥
-not_accuracy t h (inl x) = omega (arith, h, x)
-not_accuracy t h (inr (inl x)) = omega (arith, h, x)
-not_accuracy t h (inr (inr (inl x))) = omega (arith, h, x)
-not_accuracy t h (inr (inr (inr (inl x)))) = omega (arith, h, x)
-not_accuracy t h (inr (inr (inr (inr n)))) = n
-
-not_nonce : (t : ℕ) → t ≡ 0x02 → (t ≡ 0xA0) ⊎ ((t ≡ 0xA1) ⊎ ⊥) → ⊥
-not_nonce t h (inl x) = omega (arith, h, x)
-not_nonce t h (inr (inl x)) = omega (arith, h, x)
-not_nonce t h (inr (inr n)) = n
-
-not_authority : (t : ℕ) → t ≡ 0xA0 → (t ≡ 0xA1) ⊎ ⊥ → ⊥
-not_authority t h (inl x) = omega (arith, h, x)
-not_authority t h (inr n) = n
-
 lawful_nonce_row : IsLawfulRow nonce_row
-lawful_nonce_row = perhaps lawful_integer not_nonce (perhaps lawful_authority not_authority (perhaps lawful_time_stamp_extensions (λ t h e. e) lawful_nothing))
+lawful_nonce_row = perhaps lawful_integer refl (perhaps lawful_authority refl (perhaps lawful_time_stamp_extensions refl lawful_nothing))
 
 lawful_options : IsLawfulRow options
-lawful_options =
-    perhaps lawful_accuracy not_accuracy
-    (lawful_omitted (is_default boolean explicit_false) explicit_false boolean _ lawful_boolean lawful_nonce_row false_left_out not_ordering)
+lawful_options = perhaps lawful_accuracy refl (unless lawful_boolean false_left_out refl lawful_nonce_row)
 
 pub lawful_tst_info : IsLawful tst_info
 lawful_tst_info =

@@ -47,10 +47,6 @@ impl FirstTags for RawRevocationInfoChoices {
     }
 }
 
-impl ApartFrom<RawRevocationInfoChoices> for CertificateSet {
-    ghost no_common_tag = { λ t h e. Prim.omega arith };
-}
-
 impl EqualByText for RawRevocationInfoChoices {
     ghost equal_by_text = { raw_revocations_equal };
 }
@@ -87,14 +83,6 @@ impl<S: DerDeserialize> DerDeserialize for RawSignersInfos<S> {
     }
 
     ghost lawful = { lawful_set S.DerSerialize.format S.lawful };
-}
-
-impl<S: DerSerialize> ApartFrom<RawSignersInfos<S>> for CertificateSet {
-    ghost no_common_tag = { λ t h e. Prim.omega arith };
-}
-
-impl<S: DerSerialize> ApartFrom<RawSignersInfos<S>> for RawRevocationInfoChoices {
-    ghost no_common_tag = { λ t h e. Prim.omega arith };
 }
 
 impl<S: EqualByText> EqualByText for RawSignersInfos<S> {

@@ -55,10 +55,6 @@ impl FirstTags for OtherKeyAttribute {
     }
 }
 
-impl ApartFrom<OtherKeyAttribute> for GeneralizedTimeAsn1 {
-    ghost no_common_tag = { λ t h e. Prim.omega arith };
-}
-
 impl EqualByText for OtherKeyAttribute {
     ghost equal_by_text = { other_key_equal };
 }

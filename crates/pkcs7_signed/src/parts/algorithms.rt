@@ -118,10 +118,6 @@ impl DerDeserialize for SignatureAlgorithmIdentifier {
     ghost lawful = { lawful_algorithm_identifier };
 }
 
-impl ApartFrom<SignatureAlgorithmIdentifier> for Attributes {
-    ghost no_common_tag = { λ t h e. Prim.omega arith };
-}
-
 impl EqualByText for SignatureAlgorithmIdentifier {
     ghost equal_by_text = { λ x y. algorithm_equal x.0 y.0 };
 }

@@ -109,13 +109,9 @@ impl DerSerialize for RevocationInfoChoice {
     }
 }
 
-impl<T: DerTagged> ApartFrom<ImplicitContextTag1<T>> for CertificateList {
-    ghost no_common_tag = { λ t h e. Prim.omega arith };
-}
-
 impl DerDeserialize for RevocationInfoChoice {
     fn read(alloc: Global, r: &mut Reader<'_>, nest: u8) -> Result<Self, Error> {
-        match Either::read(alloc, r, nest)? {
+        match Either::read_one(alloc, r, nest)? {
             Either::First(list) => Ok(RevocationInfoChoice::Crl(list)),
             Either::Second(other) => Ok(RevocationInfoChoice::Other(other)),
         }
@@ -194,10 +190,6 @@ impl DerTagged for RevocationInfoChoices {
     }
 
     ghost tagged = { within_tagged 0xA1 (Prim.omega arith) (each revocation) };
-}
-
-impl ApartFrom<RevocationInfoChoices> for CertificateSet {
-    ghost no_common_tag = { λ t h e. Prim.omega arith };
 }
 
 impl EqualByText for RevocationInfoChoices {

@@ -91,14 +91,6 @@ impl FirstTags for RevokedCertificates {
     }
 }
 
-impl ApartFrom<RevokedCertificates> for Time {
-    ghost no_common_tag = { λ t h e. ⊎_elim (λ (u : t ≡ 0x17). Prim.omega arith) (λ (g : t ≡ 0x18). Prim.omega arith) h };
-}
-
-impl ApartFrom<ExplicitContextTag0<Extensions>> for RevokedCertificates {
-    ghost no_common_tag = { λ t h e. Prim.omega arith };
-}
-
 impl EqualByText for RevokedCertificates {
     ghost equal_by_text = { all_revoked_equal };
 }

@@ -86,10 +86,6 @@ impl FirstTags for IssuerAndSerialNumber {
     }
 }
 
-impl<T: DerTagged> ApartFrom<ImplicitContextTag0<T>> for IssuerAndSerialNumber {
-    ghost no_common_tag = { λ t h e. Prim.omega arith };
-}
-
 impl EqualByText for IssuerAndSerialNumber {
     ghost equal_by_text = { issuer_serial_equal };
 }
@@ -134,7 +130,7 @@ impl DerSerialize for SignerIdentifier {
 
 impl DerDeserialize for SignerIdentifier {
     fn read(alloc: Global, r: &mut Reader<'_>, nest: u8) -> Result<Self, Error> {
-        match Either::read(alloc, r, nest)? {
+        match Either::read_one(alloc, r, nest)? {
             Either::First(certificate) => Ok(SignerIdentifier::IssuerAndSerialNumber(certificate)),
             Either::Second(key) => Ok(SignerIdentifier::SubjectKeyIdentifier(key)),
         }

@@ -40,7 +40,7 @@ impl DerSerialize for SpcString {
 
 impl DerDeserialize for SpcString {
     fn read(alloc: Global, r: &mut Reader<'_>, nest: u8) -> Result<Self, Error> {
-        match Either::read(alloc, r, nest)? {
+        match Either::read_one(alloc, r, nest)? {
             Either::First(text) => Ok(SpcString::Unicode(Optional(text))),
             Either::Second(text) => Ok(SpcString::Ancii(Optional(text))),
         }
@@ -102,10 +102,6 @@ impl FirstTags for Url {
     }
 }
 
-impl ApartFrom<Either<Moniker, File>> for Url {
-    ghost no_common_tag = { λ t h e. ⊎_elim (λ (m : t ≡ 0xA1). Prim.omega arith) (λ (f : t ≡ 0xA2). Prim.omega arith) e };
-}
-
 impl EqualByText for Url {
     ghost equal_by_text = { Prim.search rules };
 }
@@ -148,10 +144,6 @@ impl FirstTags for Moniker {
     fn begins(tag: u8) -> bool {
         tag == 0xA1
     }
-}
-
-impl ApartFrom<File> for Moniker {
-    ghost no_common_tag = { λ t h e. Prim.omega arith };
 }
 
 impl EqualByText for Moniker {
@@ -243,7 +235,7 @@ impl DerSerialize for SpcLink {
 
 impl DerDeserialize for SpcLink {
     fn read(alloc: Global, r: &mut Reader<'_>, nest: u8) -> Result<Self, Error> {
-        match Either::read(alloc, r, nest)? {
+        match Either::read_one(alloc, r, nest)? {
             Either::First(url) => Ok(SpcLink::Url(url)),
             Either::Second(Either::First(moniker)) => Ok(SpcLink::Moniker(moniker)),
             Either::Second(Either::Second(file)) => Ok(SpcLink::File(file)),

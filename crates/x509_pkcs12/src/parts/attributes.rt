@@ -162,7 +162,7 @@ impl ReadRow for BagAttributes {
         }
     }
 
-    ghost lawful = { lawful_attributes };
+    ghost lawful = { λ _. lawful_attributes };
 }
 
 /// The borrowed attributes of a bag, for writing.

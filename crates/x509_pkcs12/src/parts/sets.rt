@@ -68,7 +68,7 @@ impl<T: DerDeserialize> ReadRow for Only<T> {
         Ok(Only(value))
     }
 
-    ghost lawful = { T.lawful.row };
+    ghost lawful = { λ _. T.lawful.row };
 }
 
 /// `SET OF T`, of borrowed items, for writing.

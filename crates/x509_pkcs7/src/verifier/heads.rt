@@ -47,10 +47,6 @@ impl FirstTags for ExplicitVersion {
     }
 }
 
-impl ApartFrom<CertificateSerialNumber> for ExplicitVersion {
-    ghost no_common_tag = { λ t h e. Prim.omega arith };
-}
-
 /// The version in its tag, where there is one.
 fn tagged(version: Option<Version>) -> Option<ExplicitVersion>
     ensures { option_value (λ x. number_of x.0) result ≡ option_value number_of version }

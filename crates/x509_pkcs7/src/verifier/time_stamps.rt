@@ -5,7 +5,7 @@ ghost use Rattle.std.specs.Prelude.{◌≡◌, List};
 ghost use Rattle.std.proofs.Common.{rules, arith};
 ghost use Rattle.asn1_core.specs.Der.{any_octets, raw, octets_equal, raw_equal, Octets, ElementOctets};
 ghost use Rattle.x509_base.specs.Extensions.{ExtensionValue};
-ghost use Rattle.x509_pkcs7.specs.TimeStamps.{generation_time, lawful_generation_time, accuracy_value, accuracy, lawful_accuracy, not_accuracy, accuracy_equal, authority, lawful_authority, time_stamp_extensions_value, time_stamp_extensions, lawful_time_stamp_extensions, time_stamp_extensions_equal, OptionsValue, options_value, TstInfoValue, tst_info_value, tst_info, lawful_tst_info, tst_info_equal};
+ghost use Rattle.x509_pkcs7.specs.TimeStamps.{generation_time, lawful_generation_time, accuracy_value, accuracy, lawful_accuracy, accuracy_equal, authority, lawful_authority, time_stamp_extensions_value, time_stamp_extensions, lawful_time_stamp_extensions, time_stamp_extensions_equal, OptionsValue, options_value, TstInfoValue, tst_info_value, tst_info, lawful_tst_info, tst_info_equal};
 
 use asn1_core::prelude::*;
 use asn1_leaves::IntegerAsn1;
@@ -108,22 +108,6 @@ impl TryClone for Accuracy {
     }
 }
 
-impl ApartFrom<TimeStampAuthority> for DefaultFalse {
-    ghost no_common_tag = { λ t h e. Prim.omega arith };
-}
-
-impl ApartFrom<TimeStampExtensions> for DefaultFalse {
-    ghost no_common_tag = { λ t h e. Prim.omega arith };
-}
-
-impl ApartFrom<TimeStampAuthority> for IntegerAsn1 {
-    ghost no_common_tag = { λ t h e. Prim.omega arith };
-}
-
-impl ApartFrom<TimeStampExtensions> for IntegerAsn1 {
-    ghost no_common_tag = { λ t h e. Prim.omega arith };
-}
-
 /// `[0] GeneralName`, the name as it is.
 #[derive(Debug, Drop, PartialEq, Eq)]
 pub struct TimeStampAuthority(pub Asn1RawDer);
@@ -167,10 +151,6 @@ impl TryClone for TimeStampAuthority {
     fn try_clone(&self, alloc: Global) -> Result<Self, Error> {
         Ok(TimeStampAuthority(self.0.try_clone(alloc)?))
     }
-}
-
-impl ApartFrom<TimeStampExtensions> for TimeStampAuthority {
-    ghost no_common_tag = { λ t h e. Prim.omega arith };
 }
 
 /// `[1] IMPLICIT Extensions`
@@ -235,10 +215,6 @@ pub struct TstInfo {
 }
 
 type NonceRow = Maybe<IntegerAsn1, Maybe<TimeStampAuthority, Maybe<TimeStampExtensions, End>>>;
-
-impl TagsApart<Omitted<DefaultFalse, NonceRow>> for Accuracy {
-    ghost apart = { not_accuracy };
-}
 
 type OptionsRow = Maybe<Accuracy, Omitted<DefaultFalse, NonceRow>>;
 

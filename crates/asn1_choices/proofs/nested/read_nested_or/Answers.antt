@@ -8,26 +8,26 @@ use Rattle.asn1_choices.proofs.nested.read_nested_or.Goals as goal
 
 pub returns-in_err-oid : goal.returns-in_err-oid
 returns-in_err-oid g c =
-    let r = oid_refused (known g.N.Named.OID (part (within c.args.tag (less g.T.DerSerialize.format)) g.R.WriteRow.format) g.C.WriteChoice.choice) (lawful_nested g.N.Named.OID c.args.tag c.requires.tag g.T.DerSerialize.format c.requires.lawful g.R.WriteRow.format g.met.R.ReadRow.lawful g.C.WriteChoice.choice g.met.C.ReadChoice.lawful) {k = c.args.nest} c.in_err-oid.ensures in
+    let r = oid_refused (known g.N.Named.OID (part (within c.args.tag (less g.T.DerSerialize.format)) g.R.WriteRow.format) g.C.WriteChoice.choice) (lawful_nested g.N.Named.OID c.args.tag c.requires.tag g.T.DerSerialize.format c.requires.lawful g.R.WriteRow.format (g.met.R.ReadRow.lawful c.requires.told_rest) g.C.WriteChoice.choice (g.met.C.ReadChoice.lawful c.requires.told_others)) {k = c.args.nest} c.in_err-oid.ensures in
     gave_row _ (known g.N.Named.OID (part (within c.args.tag (less g.T.DerSerialize.format)) g.R.WriteRow.format) g.C.WriteChoice.choice).row c.args.nest (err_from_is_err_and c.from_residual.result c.from_residual.ensures.1) r
 
 pub returns-in_err-held : goal.returns-in_err-held
 returns-in_err-held g c =
-    let r = held_failed g.N.Named.OID c.args.tag c.requires.tag g.T.DerSerialize.format c.requires.lawful g.R.WriteRow.format g.met.R.ReadRow.lawful g.C.WriteChoice.choice g.met.C.ReadChoice.lawful c.args.nest c.in_ok-oid.ensures (c.is_named.ensures.0 c.if-is_named.true) c.in_err-held.ensures in
+    let r = held_failed g.N.Named.OID c.args.tag c.requires.tag g.T.DerSerialize.format c.requires.lawful g.R.WriteRow.format (g.met.R.ReadRow.lawful c.requires.told_rest) g.C.WriteChoice.choice (g.met.C.ReadChoice.lawful c.requires.told_others) c.args.nest c.in_ok-oid.ensures (c.is_named.ensures.0 c.if-is_named.true) c.in_err-held.ensures in
     gave_row _ (known g.N.Named.OID (part (within c.args.tag (less g.T.DerSerialize.format)) g.R.WriteRow.format) g.C.WriteChoice.choice).row c.args.nest (err_from_is_err_and c.from_residual-in_err-held.result c.from_residual-in_err-held.ensures.1) r
 
 pub returns-in_err-rest : goal.returns-in_err-rest
 returns-in_err-rest g c =
-    let r = rest_failed g.N.Named.OID c.args.tag c.requires.tag g.T.DerSerialize.format c.requires.lawful g.R.WriteRow.format g.met.R.ReadRow.lawful g.C.WriteChoice.choice g.met.C.ReadChoice.lawful c.args.nest c.in_ok-oid.ensures (c.is_named.ensures.0 c.if-is_named.true) c.in_ok-held.ensures c.in_err-rest.ensures in
+    let r = rest_failed g.N.Named.OID c.args.tag c.requires.tag g.T.DerSerialize.format c.requires.lawful g.R.WriteRow.format (g.met.R.ReadRow.lawful c.requires.told_rest) g.C.WriteChoice.choice (g.met.C.ReadChoice.lawful c.requires.told_others) c.args.nest c.in_ok-oid.ensures (c.is_named.ensures.0 c.if-is_named.true) c.in_ok-held.ensures c.in_err-rest.ensures in
     gave_row _ (known g.N.Named.OID (part (within c.args.tag (less g.T.DerSerialize.format)) g.R.WriteRow.format) g.C.WriteChoice.choice).row c.args.nest (err_from_is_err_and c.from_residual-in_err-rest.result c.from_residual-in_err-rest.ensures.1) r
 
 pub returns-then-is_named : goal.returns-then-is_named
-returns-then-is_named g c = both_took g.N.Named.OID c.args.tag c.requires.tag g.T.DerSerialize.format c.requires.lawful g.R.WriteRow.format g.met.R.ReadRow.lawful g.C.WriteChoice.choice g.met.C.ReadChoice.lawful c.args.nest c.in_ok-oid.ensures (c.is_named.ensures.0 c.if-is_named.true) c.in_ok-held.ensures c.in_ok-rest.ensures
+returns-then-is_named g c = both_took g.N.Named.OID c.args.tag c.requires.tag g.T.DerSerialize.format c.requires.lawful g.R.WriteRow.format (g.met.R.ReadRow.lawful c.requires.told_rest) g.C.WriteChoice.choice (g.met.C.ReadChoice.lawful c.requires.told_others) c.args.nest c.in_ok-oid.ensures (c.is_named.ensures.0 c.if-is_named.true) c.in_ok-held.ensures c.in_ok-rest.ensures
 
 pub returns-in_err-other : goal.returns-in_err-other
 returns-in_err-other g c =
-    let r = other_failed g.N.Named.OID c.args.tag c.requires.tag g.T.DerSerialize.format c.requires.lawful g.R.WriteRow.format g.met.R.ReadRow.lawful g.C.WriteChoice.choice g.met.C.ReadChoice.lawful c.args.nest c.in_ok-oid.ensures (iff_false c.is_named.ensures c.if-is_named.false) c.in_err-other.ensures in
+    let r = other_failed g.N.Named.OID c.args.tag c.requires.tag g.T.DerSerialize.format c.requires.lawful g.R.WriteRow.format (g.met.R.ReadRow.lawful c.requires.told_rest) g.C.WriteChoice.choice (g.met.C.ReadChoice.lawful c.requires.told_others) c.args.nest c.in_ok-oid.ensures (iff_false c.is_named.ensures c.if-is_named.false) c.in_err-other.ensures in
     gave_row _ (known g.N.Named.OID (part (within c.args.tag (less g.T.DerSerialize.format)) g.R.WriteRow.format) g.C.WriteChoice.choice).row c.args.nest (err_from_is_err_and c.from_residual-in_err-other.result c.from_residual-in_err-other.ensures.1) r
 
 pub returns : goal.returns
-returns g c = other_took g.N.Named.OID c.args.tag c.requires.tag g.T.DerSerialize.format c.requires.lawful g.R.WriteRow.format g.met.R.ReadRow.lawful g.C.WriteChoice.choice g.met.C.ReadChoice.lawful c.args.nest c.in_ok-oid.ensures (iff_false c.is_named.ensures c.if-is_named.false) c.in_ok-other.ensures
+returns g c = other_took g.N.Named.OID c.args.tag c.requires.tag g.T.DerSerialize.format c.requires.lawful g.R.WriteRow.format (g.met.R.ReadRow.lawful c.requires.told_rest) g.C.WriteChoice.choice (g.met.C.ReadChoice.lawful c.requires.told_others) c.args.nest c.in_ok-oid.ensures (iff_false c.is_named.ensures c.if-is_named.false) c.in_ok-other.ensures

@@ -1,5 +1,6 @@
 use Rattle.std.proofs.Common.{rules}
 use Rattle.std.proofs.lemmas.Bool.{iff_false}
+use Rattle.asn1_core_format.specs.Format.{told_both}
 use Rattle.asn1_core_format.proofs.RowReads.{first_refused, rest_refused, there_refused, omitted_refused, no_default, took_default}
 use Rattle.asn1_core_format.specs.Omitted.{is_default}
 use Rattle.asn1_core_format.proofs.tails.OmittedReadRowWith.read_row_with.Goals as goal
@@ -7,24 +8,24 @@ use Rattle.asn1_core_format.proofs.tails.OmittedReadRowWith.read_row_with.Goals 
 pub returns-in_err-first : goal.returns-in_err-first
 returns-in_err-first g c =
     let p = first_refused g.A.DerSerialize.format g.R.WriteRow.format g.met.A.DerDeserialize.lawful c.args.nest c.in_err-first.ensures in
-    let r = there_refused (is_default g.A.DerSerialize.format g.A.HasDefault.DEFAULT) g.A.HasDefault.DEFAULT g.A.DerSerialize.format g.R.WriteRow.format g.met.A.DerDeserialize.lawful (g.met.R.ReadRowWith.keeps_laws c.requires.lawful) g.met.A.HasDefault.left_out g.met.A.TagsApart.apart c.args.nest (c.next_is.ensures.0 c.if-next_is.true) p in
+    let r = there_refused (is_default g.A.DerSerialize.format g.A.HasDefault.DEFAULT) g.A.HasDefault.DEFAULT g.A.DerSerialize.format g.R.WriteRow.format g.met.A.DerDeserialize.lawful (g.met.R.ReadRowWith.keeps_laws (told_both g.A.DerSerialize.format g.R.WriteRow.format g.R.ReadRowWith.clear c.requires.told).0 c.requires.lawful) g.met.A.HasDefault.left_out (told_both g.A.DerSerialize.format g.R.WriteRow.format g.R.ReadRowWith.clear c.requires.told).1 c.args.nest (c.next_is.ensures.0 c.if-next_is.true) p in
     search rules
 
 pub returns-in_err-rest : goal.returns-in_err-rest
 returns-in_err-rest g c =
     let p = rest_refused g.A.DerSerialize.format g.R.WriteRow.format g.met.A.DerDeserialize.lawful c.args.nest c.in_ok-first.ensures c.in_err-rest.ensures in
-    let r = there_refused (is_default g.A.DerSerialize.format g.A.HasDefault.DEFAULT) g.A.HasDefault.DEFAULT g.A.DerSerialize.format g.R.WriteRow.format g.met.A.DerDeserialize.lawful (g.met.R.ReadRowWith.keeps_laws c.requires.lawful) g.met.A.HasDefault.left_out g.met.A.TagsApart.apart c.args.nest (c.next_is.ensures.0 c.if-next_is.true) p in
+    let r = there_refused (is_default g.A.DerSerialize.format g.A.HasDefault.DEFAULT) g.A.HasDefault.DEFAULT g.A.DerSerialize.format g.R.WriteRow.format g.met.A.DerDeserialize.lawful (g.met.R.ReadRowWith.keeps_laws (told_both g.A.DerSerialize.format g.R.WriteRow.format g.R.ReadRowWith.clear c.requires.told).0 c.requires.lawful) g.met.A.HasDefault.left_out (told_both g.A.DerSerialize.format g.R.WriteRow.format g.R.ReadRowWith.clear c.requires.told).1 c.args.nest (c.next_is.ensures.0 c.if-next_is.true) p in
     search rules
 
 pub returns-in_err-absent : goal.returns-in_err-absent
 returns-in_err-absent g c =
-    let r = no_default (is_default g.A.DerSerialize.format g.A.HasDefault.DEFAULT) g.A.HasDefault.DEFAULT g.A.DerSerialize.format g.R.WriteRow.format g.met.A.DerDeserialize.lawful (g.met.R.ReadRowWith.keeps_laws c.requires.lawful) g.met.A.HasDefault.left_out g.met.A.TagsApart.apart c.args.nest c.args.r.now c.in_err-absent.ensures in
+    let r = no_default (is_default g.A.DerSerialize.format g.A.HasDefault.DEFAULT) g.A.HasDefault.DEFAULT g.A.DerSerialize.format g.R.WriteRow.format g.met.A.DerDeserialize.lawful (g.met.R.ReadRowWith.keeps_laws (told_both g.A.DerSerialize.format g.R.WriteRow.format g.R.ReadRowWith.clear c.requires.told).0 c.requires.lawful) g.met.A.HasDefault.left_out (told_both g.A.DerSerialize.format g.R.WriteRow.format g.R.ReadRowWith.clear c.requires.told).1 c.args.nest c.args.r.now c.in_err-absent.ensures in
     search rules
 
 pub returns-in_err-others : goal.returns-in_err-others
 returns-in_err-others g c =
-    let r = omitted_refused (is_default g.A.DerSerialize.format g.A.HasDefault.DEFAULT) g.A.HasDefault.DEFAULT g.A.DerSerialize.format g.R.WriteRow.format g.met.A.DerDeserialize.lawful (g.met.R.ReadRowWith.keeps_laws c.requires.lawful) g.met.A.HasDefault.left_out g.met.A.TagsApart.apart c.args.nest (iff_false c.next_is.ensures c.if-next_is.false) c.in_err-others.ensures in
+    let r = omitted_refused (is_default g.A.DerSerialize.format g.A.HasDefault.DEFAULT) g.A.HasDefault.DEFAULT g.A.DerSerialize.format g.R.WriteRow.format g.met.A.DerDeserialize.lawful (g.met.R.ReadRowWith.keeps_laws (told_both g.A.DerSerialize.format g.R.WriteRow.format g.R.ReadRowWith.clear c.requires.told).0 c.requires.lawful) g.met.A.HasDefault.left_out (told_both g.A.DerSerialize.format g.R.WriteRow.format g.R.ReadRowWith.clear c.requires.told).1 c.args.nest (iff_false c.next_is.ensures c.if-next_is.false) c.in_err-others.ensures in
     search rules
 
 pub returns : goal.returns
-returns g c = took_default (is_default g.A.DerSerialize.format g.A.HasDefault.DEFAULT) g.A.HasDefault.DEFAULT g.A.DerSerialize.format g.R.WriteRow.format g.met.A.DerDeserialize.lawful (g.met.R.ReadRowWith.keeps_laws c.requires.lawful) g.met.A.HasDefault.left_out g.met.A.TagsApart.apart c.args.nest (c.in_ok-absent.ensures c.args.nest) c.in_ok-others.ensures
+returns g c = took_default (is_default g.A.DerSerialize.format g.A.HasDefault.DEFAULT) g.A.HasDefault.DEFAULT g.A.DerSerialize.format g.R.WriteRow.format g.met.A.DerDeserialize.lawful (g.met.R.ReadRowWith.keeps_laws (told_both g.A.DerSerialize.format g.R.WriteRow.format g.R.ReadRowWith.clear c.requires.told).0 c.requires.lawful) g.met.A.HasDefault.left_out (told_both g.A.DerSerialize.format g.R.WriteRow.format g.R.ReadRowWith.clear c.requires.told).1 c.args.nest (c.in_ok-absent.ensures c.args.nest) c.in_ok-others.ensures
