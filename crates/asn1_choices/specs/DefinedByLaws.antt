@@ -1,13 +1,13 @@
 -- The laws of what an object identifier picks, and of its alternatives.
 use Rattle.std.specs.Prelude.{◌≡◌, ◌↔◌, ℕ, List, ◌++◌}
 use Rattle.std.proofs.Common.{refl, sym, ap, ◌∙◌, subst}
-use Rattle.asn1_core.specs.Der.{element, element_cut, heads_begin, Format, IsLawfulRow}
-use Rattle.asn1_choices.specs.DefinedBy.{DefinedBy, any_defined_by, Arm, arm, by_itself, no_arm}
+use Rattle.asn1_core.specs.Der.{element, element_cut, heads_begin, Format, IsLawfulComponents}
+use Rattle.asn1_choices.specs.DefinedBy.{DefinedBy, any_defined_by, Alternative, alternative, by_itself, no_alternative}
 
 -- the body that each object identifier picks is lawful, and encodes a value as all others do
 pub record IsDefinedBy {V : Type 0} (P : DefinedBy V) : Type 0 where
-  pub lawful : (o : List ℕ) → IsLawfulRow (P.row o)
-  pub alike : (o : List ℕ) (v : V) → (P.row o).text v ≡ P.text v
+  pub lawful : (o : List ℕ) → IsLawfulComponents (P.components o)
+  pub alike : (o : List ℕ) (v : V) → (P.components o).text v ≡ P.text v
 
 module _ {V : Type 0} (P : DefinedBy V) (p : IsDefinedBy P) where
   same : (b o c q d : List ℕ) → b ≡ element 0x06 o ++ c → b ≡ element 0x06 q ++ d → (o ≡ q) × (c ≡ d)
@@ -16,26 +16,26 @@ module _ {V : Type 0} (P : DefinedBy V) (p : IsDefinedBy P) where
   picked_one : (k : ℕ) (b : List ℕ) (x y : List ℕ × V) → (any_defined_by P).Reads k b x → (any_defined_by P).Reads k b y → x ≡ y
   picked_one k b (o, v) (q, w) s t =
       let e = same b o s.0 q t.0 s.1 t.1 in
-      let r : (P.row o).Reads k s.0 w = subst (λ c. (P.row o).Reads k c w) (sym e.1) (subst (λ a. (P.row a).Reads k t.0 w) (sym e.0) t.3) in
+      let r : (P.components o).Reads k s.0 w = subst (λ c. (P.components o).Reads k c w) (sym e.1) (subst (λ a. (P.components a).Reads k t.0 w) (sym e.0) t.3) in
       ap (λ z. (o, z)) ((p.lawful o).one_value k s.0 v w s.3 r) ∙ ap (λ a. (a, w)) e.0
 
   picked_fixed : (k : ℕ) (b : List ℕ) (x : List ℕ × V) → (any_defined_by P).Reads k b x → ((any_defined_by P).text x ≡ b) ↔ (any_defined_by P).IsNormal k b
   picked_fixed k b (o, v) s = (
     λ e.
-        let t : (P.row o).text v ≡ s.0 = p.alike o v ∙ (same b o (P.text v) o s.0 (sym e) s.1).1 in
+        let t : (P.components o).text v ≡ s.0 = p.alike o v ∙ (same b o (P.text v) o s.0 (sym e) s.1).1 in
         (o, s.0, s.1, s.2, ((p.lawful o).fixed k s.0 v s.3).0 t),
     λ n.
         let e = same b n.0 n.1 o s.0 n.2 s.1 in
-        let m : (P.row o).IsNormal k s.0 = subst ((P.row o).IsNormal k) e.1 (subst (λ a. (P.row a).IsNormal k n.1) e.0 n.4) in
+        let m : (P.components o).IsNormal k s.0 = subst ((P.components o).IsNormal k) e.1 (subst (λ a. (P.components a).IsNormal k n.1) e.0 n.4) in
         ap (λ c. element 0x06 o ++ c) (sym (p.alike o v) ∙ ((p.lawful o).fixed k s.0 v s.3).1 m) ∙ sym s.1,
   )
 
-  pub lawful_any_defined_by : IsLawfulRow (any_defined_by P)
+  pub lawful_any_defined_by : IsLawfulComponents (any_defined_by P)
   lawful_any_defined_by = record {
     begins = λ k b x s. heads_begin x.0 b (s.0, s.1);
     one_value = picked_one;
-    text_reads = λ k x h. (P.text x.1, refl, h.0, subst (λ c. (P.row x.0).Reads k c ((P.row x.0).normal x.1)) (p.alike x.0 x.1) ((p.lawful x.0).text_reads k x.1 h.1));
-    text_normal = λ k x h. (x.0, P.text x.1, refl, h.0, subst ((P.row x.0).IsNormal k) (p.alike x.0 x.1) ((p.lawful x.0).text_normal k x.1 h.1));
+    text_reads = λ k x h. (P.text x.1, refl, h.0, subst (λ c. (P.components x.0).Reads k c ((P.components x.0).normal x.1)) (p.alike x.0 x.1) ((p.lawful x.0).text_reads k x.1 h.1));
+    text_normal = λ k x h. (x.0, P.text x.1, refl, h.0, subst ((P.components x.0).IsNormal k) (p.alike x.0 x.1) ((p.lawful x.0).text_normal k x.1 h.1));
     normal_reads = λ k b n. let v = (p.lawful n.0).normal_reads k n.1 n.4 in ((n.0, v.0), (n.1, n.2, n.3, v.1));
     fixed = picked_fixed;
     well_formed = λ k b x s. (s.2, (p.lawful x.0).well_formed k s.0 x.1 s.3);
@@ -43,7 +43,7 @@ module _ {V : Type 0} (P : DefinedBy V) (p : IsDefinedBy P) where
   }
 
 -- W says of the alternative's values what F says of the values that are put into it
-pub record IsArm {A V : Type 0} (W : Format V) (m : Arm A V) (F : Format A) : Type 0 where
+pub record IsAlternative {A V : Type 0} (W : Format V) (m : Alternative A V) (F : Format A) : Type 0 where
   pub text : (a : A) → W.text (m.put a) ≡ F.text a
   pub normal : (a : A) → W.normal (m.put a) ≡ m.put (F.normal a)
   pub least : (a : A) → W.least (m.put a) ≡ F.least a
@@ -51,15 +51,15 @@ pub record IsArm {A V : Type 0} (W : Format V) (m : Arm A V) (F : Format A) : Ty
   pub alike : (v : V) → W.text (m.brought v) ≡ W.text v
   pub still : (a : A) → m.brought (m.put a) ≡ m.put a
 
-module _ {A V : Type 0} (W : Format V) (m : Arm A V) (F : Format A) (l : IsArm W m F) (f : IsLawfulRow F) where
+module _ {A V : Type 0} (W : Format V) (m : Alternative A V) (F : Format A) (l : IsAlternative W m F) (f : IsLawfulComponents F) where
   text_of : (v : V) (a : A) → m.put a ≡ m.brought v → F.text a ≡ W.text v
   text_of v a e = sym (l.text a) ∙ ap W.text e ∙ l.alike v
 
   text_put : (v : V) (a : A) → m.put a ≡ v → F.text a ≡ W.text v
   text_put v a e = sym (l.text a) ∙ ap W.text e
 
-  pub lawful_arm : IsLawfulRow (arm W m F)
-  lawful_arm = record {
+  pub lawful_alternative : IsLawfulComponents (alternative W m F)
+  lawful_alternative = record {
     begins = λ k b v s. f.begins k b s.0 s.2;
     one_value = λ k b v w s t. sym s.1 ∙ ap m.put (f.one_value k b s.0 t.0 s.2 t.2) ∙ t.1;
     text_reads = λ k v h. (F.normal h.0, sym (l.normal h.0) ∙ ap W.normal h.1, subst (λ b. F.Reads k b (F.normal h.0)) (text_of v h.0 h.1) (f.text_reads k h.0 h.2));
@@ -75,11 +75,11 @@ module _ {A V : Type 0} (W : Format V) (m : Arm A V) (F : Format A) (l : IsArm W
 
 -- an alternative into which no value of another is converted
 module _ {A V : Type 0} {W : Format V} {put : A → V} {F : Format A} where
-  pub itself : ((a : A) → W.text (put a) ≡ F.text a) → ((a : A) → W.normal (put a) ≡ put (F.normal a)) → ((a : A) → W.least (put a) ≡ F.least a) → IsArm W (by_itself put) F
+  pub itself : ((a : A) → W.text (put a) ≡ F.text a) → ((a : A) → W.normal (put a) ≡ put (F.normal a)) → ((a : A) → W.least (put a) ≡ F.least a) → IsAlternative W (by_itself put) F
   itself text normal least = record { text = text; normal = normal; least = least; alike = λ v. refl; still = λ a. refl }
 
-pub lawful_no_arm : {V : Type 0} (W : Format V) → IsLawfulRow (no_arm W)
-lawful_no_arm W = record {
+pub lawful_no_alternative : {V : Type 0} (W : Format V) → IsLawfulComponents (no_alternative W)
+lawful_no_alternative W = record {
   begins = λ k b v s. absurd s;
   one_value = λ k b v w s t. absurd s;
   text_reads = λ k v h. h;

@@ -2,7 +2,7 @@
 //! ANY DEFINED BY type }` and the like, with the values that are known.
 
 ghost use Rattle.std.specs.Prelude.{◌≡◌, List, ℕ, false};
-ghost use Rattle.asn1_core.specs.Der.{IsLawful, Gives, GivesRow, within, octets_of};
+ghost use Rattle.asn1_core.specs.Der.{IsLawful, Gives, GivesComponents, within, octets_of};
 ghost use Rattle.asn1_choices.specs.DefinedBy.{DefinedBy, any_defined_by};
 ghost use Rattle.asn1_choices.specs.DefinedByLaws.{IsDefinedBy};
 
@@ -26,7 +26,7 @@ pub trait AnyDefinedBy: Drop {
         nest: u8,
     ) -> Result<Self, Error>
         requires { r.old.refused ≡ false }
-        ensures { GivesRow value (defined_by.row oid.now) nest r.old r.new result };
+        ensures { GivesComponents value (defined_by.components oid.now) nest r.old r.new result };
 
     ghost lawful: { IsDefinedBy Self.AnyDefinedBy.defined_by };
 }
@@ -42,7 +42,7 @@ fn read_both<P: AnyDefinedBy>(
     nest: u8,
 ) -> Result<OidAnd<P>, Error>
     requires { r.old.refused ≡ false }
-    ensures { GivesRow (λ x. (octets_of x.0.0, P.value x.1)) (any_defined_by P.defined_by) nest r.old r.new result }
+    ensures { GivesComponents (λ x. (octets_of x.0.0, P.value x.1)) (any_defined_by P.defined_by) nest r.old r.new result }
 {
     let oid = ObjectIdentifierAsn1::read(alloc, r, nest)?;
     let value = P::read_defined_by(alloc, oid.0.octets(), r, nest)?;

@@ -7,7 +7,7 @@ ghost use Rattle.asn1_choices.specs.KnownOrRaw.{known_or_raw, lawful_known_or_ra
 ghost use Rattle.asn1_choices.specs.declared.known_or_raw.KnownOrRaw.TheVariants.{Known, Raw};
 
 use asn1_core::prelude::*;
-use asn1_core_format::rows::next_is;
+use asn1_core_format::components::next_is;
 use std::alloc::Global;
 
 /// A `T`, or an element with another tag. An element with a tag of `T` is a `T` or refused, and isn't well-formed as

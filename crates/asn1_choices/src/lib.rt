@@ -4,14 +4,14 @@
 //! `KnownOrRaw` is a choice by tag.
 #![tactic(auto)]
 
-mod arms;
+mod alternatives;
 mod choices;
 mod defined_by;
 mod known_or_raw;
 mod nested;
 mod tables;
 
-pub use arms::{AnyOid, AnyOidRef, Arm, Named};
+pub use alternatives::{AnyOid, AnyOidRef, Alternative, Named};
 pub use choices::{Chosen, ReadChoice, WriteChoice};
 pub use defined_by::{
     AnyDefinedBy, OidAnd, read_sequence_defined_by, sequences_defined_by_are_lawful,

@@ -2,10 +2,10 @@
 
 ghost use Rattle.std.specs.Prelude.{◌≡◌, false, true};
 ghost use Rattle.std.proofs.Common.{inl, inr};
-ghost use Rattle.asn1_core.specs.Der.{IsTagByte, MayBelow, GivesBelow, known, IsLawful, less, GivesRow, part, within};
+ghost use Rattle.asn1_core.specs.Der.{IsTagByte, MayBelow, GivesBelow, known, IsLawful, less, GivesComponents, part, within};
 ghost use Rattle.asn1_core_format.specs.declared.eithers.Either.TheVariants.{First, Second};
 
-use crate::arms::{Named, is_named};
+use crate::alternatives::{Named, is_named};
 use crate::choices::ReadChoice;
 use asn1_core::prelude::*;
 use asn1_core_element::element::contents_of;
@@ -17,25 +17,25 @@ use std::alloc::Global;
 pub fn read_nested_or<
     N: Named,
     T: DerSerialize + Drop,
-    R: ReadRow,
+    R: ReadComponents,
     C: ReadChoice,
     F: Fn(&mut Reader<'_>, u8) -> Result<T, Error>,
 >(alloc: Global, r: &mut Reader<'_>, nest: u8, tag: u8, by: &F) -> Result<Either<(T, R), C>, Error>
     requires sound { r.old.refused ≡ false }
     requires tag { IsTagByte tag }
-    requires told_rest { R.clear ≡ true }
-    requires told_others { C.clear ≡ true }
+    requires tags_of_rest { R.distinct ≡ true }
+    requires tags_of_others { C.distinct ≡ true }
     requires lawful { IsLawful T.format }
     requires called { MayBelow (F.pre by.now) nest }
     requires gives { GivesBelow (F.post by.now) T.value T.format nest }
-    ensures { GivesRow (λ x. elim x [ First p ↦ inl (T.value p.0, R.value p.1) | Second c ↦ inr (C.value c) ]) (known N.OID (part (within tag (less T.format)) R.format) C.choice).row nest r.old r.new result }
+    ensures { GivesComponents (λ x. elim x [ First p ↦ inl (T.value p.0, R.value p.1) | Second c ↦ inr (C.value c) ]) (known N.OID (part (within tag (less T.format)) R.format) C.choice).components nest r.old r.new result }
 {
     let oid = contents_of(r, 0x06)?;
     if is_named::<N>(oid) {
         let held = read_below_within(r, nest, tag, by)?;
-        let rest = R::read_row(alloc, r, nest)?;
+        let rest = R::read_components(alloc, r, nest)?;
         return Ok(Either::First((held, rest)));
     }
-    let other = C::read_behind(oid, alloc, r, nest)?;
+    let other = C::read_after(oid, alloc, r, nest)?;
     Ok(Either::Second(other))
 }

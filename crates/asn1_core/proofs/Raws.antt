@@ -4,12 +4,12 @@ use Rattle.std.proofs.lemmas.List.{append-nil}
 use Rattle.asn1_core_element.specs.Element.{element, head, IsElement, IsTagByte, IsFront, HasNoFront}
 use Rattle.asn1_core_element.specs.ElementLaws.{head_cut, element_long}
 use Rattle.asn1_core_element.specs.Position.{Position}
-use Rattle.asn1_core_format.specs.Format.{Took}
-use Rattle.asn1_core_element.specs.Reading.{TookWholeElement}
+use Rattle.asn1_core_format.specs.Format.{HasRead}
+use Rattle.asn1_core_element.specs.Reading.{HasReadWholeElement}
 use Rattle.asn1_core.specs.Raw.{raw}
 
-pub raw_took : (k : ℕ) {old new : Position} {bytes text : List ℕ} → TookWholeElement old new bytes → text ≡ bytes → Took raw k old new text
-raw_took k {old} {new} {bytes} {text} w e = record {
+pub raw_has_read : (k : ℕ) {old new : Position} {bytes text : List ℕ} → HasReadWholeElement old new bytes → text ≡ bytes → HasRead raw k old new text
+raw_has_read k {old} {new} {bytes} {text} w e = record {
   taken = bytes;
   split = w.split;
   reads = (sym e, w.is_element);

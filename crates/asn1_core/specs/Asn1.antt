@@ -3,7 +3,7 @@ use Rattle.std.specs.Prelude.{ℕ}
 use Rattle.asn1_core_format.specs.Numbers.{lawful_number}
 use Rattle.asn1_core.specs.Objects.{lawful_object_identifier}
 use Rattle.asn1_core.specs.Octets.{lawful_octet_string}
-pub use Rattle.asn1_core_format.specs.Asn1.{Asn1, asn1, Asn1Default, Parts, Told, all_told, Contents, end, ◌then◌, ◌OPTIONAL◌, ◌DEFAULT◌, contents, SEQUENCE, SEQUENCE_OF, EXPLICIT, CHOICE}
+pub use Rattle.asn1_core_format.specs.Asn1.{Asn1, asn1, Asn1Default, Parts, Distinct, all_distinct, Contents, end, ◌then◌, ◌OPTIONAL◌, ◌DEFAULT◌, contents, SEQUENCE, SEQUENCE_OF, EXPLICIT, CHOICE}
 
 abbrev pub OBJECT_IDENTIFIER : Asn1
 OBJECT_IDENTIFIER = asn1 lawful_object_identifier

@@ -3,12 +3,12 @@
 -- `Rattle.std.specs.Prelude` and `Rattle.std.proofs.Common`.
 use Rattle.std.proofs.Common.{arith}
 pub use Rattle.asn1_core_format.specs.FirstTags.{Listing, no_tag, any_tag, one_tag, both_tags, other_tags}
-pub use Rattle.asn1_core_format.specs.Format.{Format, IsLawfulRow, IsLawful, GaveUp, Gives, Took, are_apart, told}
+pub use Rattle.asn1_core_format.specs.Format.{Format, IsLawfulComponents, IsLawful, HasRefused, Gives, HasRead, are_distinct, distinct_tags}
 pub use Rattle.asn1_core_format.specs.Lists.{each, least_all}
 pub use Rattle.asn1_core_format.specs.ListLaws.{lawful_each}
 pub use Rattle.asn1_core_format.specs.Numbers.{number_below, lawful_number, numbers_below}
-pub use Rattle.asn1_core_format.specs.Rows.{nothing, part, optional, within, option_value, GaveUpRow, GivesRow, TookRow, text_if}
-pub use Rattle.asn1_core_format.specs.RowLaws.{lawful_nothing, lawful_part, lawful_optional, lawful_within}
+pub use Rattle.asn1_core_format.specs.Components.{nothing, part, optional, within, option_value, HasRefusedComponents, GivesComponents, HasReadComponents, text_if}
+pub use Rattle.asn1_core_format.specs.ComponentLaws.{lawful_nothing, lawful_part, lawful_optional, lawful_within}
 pub use Rattle.asn1_core_format.specs.Sequences.{sequence, followed_by, perhaps, lawful_sequence, set_of, lawful_set}
 pub use Rattle.asn1_core_format.specs.Omitted.{omitted, is_default, lawful_omitted, unless, IsDefault, least_unless, text_unless}
 pub use Rattle.asn1_core_format.specs.Tagged.{implicit, context_tag}
@@ -26,19 +26,19 @@ pub use Rattle.asn1_core_element.specs.Element.{IsElement, IsTagByte, element, h
 pub use Rattle.asn1_core_element.specs.ElementLaws.{element_cut, element_long, element_same, octets_long, octets_short}
 pub use Rattle.asn1_core_element.specs.Numbers.{integer_octets}
 pub use Rattle.asn1_core_element.specs.Position.{Position}
-pub use Rattle.asn1_core_element.specs.Reading.{RefusedElement, TookElement}
+pub use Rattle.asn1_core_element.specs.Reading.{RefusedElement, HasReadElement}
 pub use Rattle.asn1_core_element.specs.Words.{word_of}
 pub use Rattle.asn1_core_format.specs.Calls.{GivesBelow, MayBelow}
 pub use Rattle.asn1_core_format.specs.Choices.{Choice, Heads, IsLawfulChoice, heads_begin, known, lawful_known, lawful_otherwise, otherwise, same_head}
 pub use Rattle.asn1_core_format.specs.Eithers.{OneOf, either, from_one, lawful_either, map_one, or_else}
 pub use Rattle.asn1_core_format.specs.EmptySets.{empty_left_out, is_nil, lawful_set_or_none, set_or_none}
 pub use Rattle.asn1_core_format.specs.Gated.{gated, lawful_gated}
-pub use Rattle.asn1_core_format.specs.Laws.{NextIs, begins_next, element_some, next_apart}
+pub use Rattle.asn1_core_format.specs.Laws.{NextIs, begins_next, element_some, next_distinct}
 pub use Rattle.asn1_core_format.specs.Leaf.{IsLawfulSpelling, Spelling, kept, leaf}
 pub use Rattle.asn1_core_format.specs.LeafLaws.{lawful_leaf}
 pub use Rattle.asn1_core_format.specs.LevelLaws.{IsStep, lawful_less, lawful_levels, unroll_formed, unroll_text}
 pub use Rattle.asn1_core_format.specs.Levels.{Grammar, Still, always, by_levels, less, levels, no_grammar}
-pub use Rattle.asn1_core_format.specs.Loosened.{IsLoosening, Loosening, lawful_loosened, lawful_loosened_row, loosened}
+pub use Rattle.asn1_core_format.specs.Loosened.{IsLoosening, Loosening, lawful_loosened, lawful_loosened_components, loosened}
 pub use Rattle.asn1_core_format.specs.Rolled.{lawful_rolled, rolled}
 pub use Rattle.asn1_core_format.specs.Same.{all_same, least_same, texts_same}
 pub use Rattle.asn1_core_format.specs.Views.{Clones, SeesEqual, list_equal, option_equal, two_equal}

@@ -21,7 +21,7 @@ element_of {IsOne} tags = record {
 
 pub lawful_element_of : {IsOne : ℕ → Type 0} (tags : Listing IsOne) → IsLawful (element_of tags)
 lawful_element_of {IsOne} tags = record {
-  row = record {
+  components = record {
     begins = λ k b v r. begins_alone IsOne b r.1;
     one_value = λ k b v w r s. sym r.0 ∙ s.0;
     text_reads = λ k v h. (refl, h);

@@ -2,20 +2,20 @@
 use Rattle.std.specs.Prelude.{◌≡◌, ℕ, ◌+◌, List}
 use Rattle.std.proofs.Common.{arith, refl}
 use Rattle.asn1_core_element.specs.Element.{IsTagByte}
-use Rattle.asn1_core_format.specs.Format.{Format, IsLawful, IsLawfulRow}
+use Rattle.asn1_core_format.specs.Format.{Format, IsLawful, IsLawfulComponents}
 use Rattle.asn1_core_format.specs.Leaf.{leaf, kept}
 use Rattle.asn1_core_format.specs.LeafLaws.{lawful_leaf, lawful_kept}
 use Rattle.asn1_core_format.specs.Lists.{each}
 use Rattle.asn1_core_format.specs.ListLaws.{lawful_each}
-use Rattle.asn1_core_format.specs.Rows.{within, optional, nothing}
-use Rattle.asn1_core_format.specs.RowLaws.{lawful_within, lawful_nothing}
+use Rattle.asn1_core_format.specs.Components.{within, optional, nothing}
+use Rattle.asn1_core_format.specs.ComponentLaws.{lawful_within, lawful_nothing}
 use Rattle.asn1_core_format.specs.Sequences.{sequence, perhaps, lawful_sequence}
 use Rattle.asn1_core_format.specs.Tagged.{implicit}
 use Rattle.asn1_core_format.specs.TaggedLaws.{lawful_implicit, leaf_tagged}
 use Rattle.asn1_core.specs.Octets.{any_octets, octet_string, lawful_octet_string}
 
 -- an OPTIONAL last part
-pub perhaps_last : {V : Type 0} {F : Format V} → IsLawful F → IsLawfulRow (optional F nothing)
+pub perhaps_last : {V : Type 0} {F : Format V} → IsLawful F → IsLawfulComponents (optional F nothing)
 perhaps_last f = perhaps f refl lawful_nothing
 
 -- SEQUENCE OF
@@ -31,7 +31,7 @@ explicit n F = within (0xA0 + n) F
 
 -- the same for any tag byte, so that `search` finds it
 pub lawful_explicit : {V : Type 0} {tag : ℕ} {F : Format V} → IsTagByte tag → IsLawful F → IsLawful (within tag F)
-lawful_explicit {V} {tag} {F} h f = lawful_within F f.row tag h
+lawful_explicit {V} {tag} {F} h f = lawful_within F f.components tag h
 
 -- [n] IMPLICIT SET OF
 abbrev pub implicit_set : {V : Type 0} → ℕ → Format V → Format (List V)

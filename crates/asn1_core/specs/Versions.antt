@@ -45,4 +45,4 @@ lawful_version_3 = lawful_version 3 (omega arith)
 
 -- different numbers have different contents
 pub one_version : (v w : ℕ) → v < 2 ^ 8 → w < 2 ^ 8 → integer_octets v ≡ integer_octets w → v ≡ w
-one_version v w h i e = (lawful_number (2 ^ 8)).row.one_value 0 (element 0x02 (integer_octets v)) v w (refl, h) (ap (element 0x02) e, i)
+one_version v w h i e = (lawful_number (2 ^ 8)).components.one_value 0 (element 0x02 (integer_octets v)) v w (refl, h) (ap (element 0x02) e, i)

@@ -1,8 +1,8 @@
 //! An encoding in an OCTET STRING, and a part that may be absent.
 
 ghost use Rattle.std.proofs.Common.{arith};
-ghost use Rattle.asn1_core_format.specs.Rows.{within};
-ghost use Rattle.asn1_core_format.specs.RowLaws.{lawful_within};
+ghost use Rattle.asn1_core_format.specs.Components.{within};
+ghost use Rattle.asn1_core_format.specs.ComponentLaws.{lawful_within};
 
 use asn1_core_element::{Error, Reader};
 use asn1_core_format::{
@@ -37,7 +37,7 @@ impl<T: DerDeserialize> DerDeserialize for OctetStringAsn1Container<T> {
         Ok(OctetStringAsn1Container(value))
     }
 
-    ghost lawful = { lawful_within T.DerSerialize.format T.lawful.row 0x04 (Prim.omega arith) };
+    ghost lawful = { lawful_within T.DerSerialize.format T.lawful.components 0x04 (Prim.omega arith) };
 }
 
 impl<T: DerDeserialize> FirstTags for OctetStringAsn1Container<T> {

@@ -1,8 +1,8 @@
 //! Explicit tags (X.690, 8.14): an element with a context tag around the whole element under it.
 
 ghost use Rattle.std.proofs.Common.{arith};
-ghost use Rattle.asn1_core_format.specs.Rows.{within};
-ghost use Rattle.asn1_core_format.specs.RowLaws.{lawful_within};
+ghost use Rattle.asn1_core_format.specs.Components.{within};
+ghost use Rattle.asn1_core_format.specs.ComponentLaws.{lawful_within};
 
 use asn1_core_element::{Error, Reader};
 use asn1_core_format::{
@@ -37,7 +37,7 @@ impl<T: DerDeserialize> DerDeserialize for ExplicitContextTag0<T> {
         Ok(ExplicitContextTag0(value))
     }
 
-    ghost lawful = { lawful_within T.DerSerialize.format T.lawful.row 0xA0 (Prim.omega arith) };
+    ghost lawful = { lawful_within T.DerSerialize.format T.lawful.components 0xA0 (Prim.omega arith) };
 }
 
 impl<T: DerDeserialize> FirstTags for ExplicitContextTag0<T> {
@@ -86,7 +86,7 @@ impl<T: DerDeserialize> DerDeserialize for ExplicitContextTag1<T> {
         Ok(ExplicitContextTag1(value))
     }
 
-    ghost lawful = { lawful_within T.DerSerialize.format T.lawful.row 0xA1 (Prim.omega arith) };
+    ghost lawful = { lawful_within T.DerSerialize.format T.lawful.components 0xA1 (Prim.omega arith) };
 }
 
 impl<T: DerDeserialize> FirstTags for ExplicitContextTag1<T> {
@@ -135,7 +135,7 @@ impl<T: DerDeserialize> DerDeserialize for ExplicitContextTag2<T> {
         Ok(ExplicitContextTag2(value))
     }
 
-    ghost lawful = { lawful_within T.DerSerialize.format T.lawful.row 0xA2 (Prim.omega arith) };
+    ghost lawful = { lawful_within T.DerSerialize.format T.lawful.components 0xA2 (Prim.omega arith) };
 }
 
 impl<T: DerDeserialize> FirstTags for ExplicitContextTag2<T> {

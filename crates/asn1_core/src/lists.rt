@@ -4,16 +4,16 @@ ghost use Rattle.std.specs.Prelude.{◌≡◌, List, map, slice_get};
 ghost use Rattle.std.proofs.Common.{arith};
 ghost use Rattle.asn1_core_format.specs.Lists.{each};
 ghost use Rattle.asn1_core_format.specs.ListLaws.{lawful_each};
-ghost use Rattle.asn1_core_format.specs.Rows.{option_value, within};
-ghost use Rattle.asn1_core_format.specs.RowLaws.{lawful_within};
+ghost use Rattle.asn1_core_format.specs.Components.{option_value, within};
+ghost use Rattle.asn1_core_format.specs.ComponentLaws.{lawful_within};
 ghost use Rattle.asn1_core_format.specs.Sequences.{set_of, lawful_set};
 ghost use Rattle.asn1_core_format.specs.TaggedLaws.{within_tagged};
 ghost use Rattle.asn1_core_format.specs.Views.{list_equal};
 
 use asn1_core_element::{Error, Reader};
 use asn1_core_format::{
-    DerDeserialize, DerSerialize, DerTagged, TryClone, Viewed, WriteRow, put_within,
-    read_row_contents, read_within,
+    DerDeserialize, DerSerialize, DerTagged, TryClone, Viewed, WriteComponents, put_within,
+    read_inside, read_within,
 };
 use asn1_core_writers::{WriteError, Writer};
 use std::alloc::Global;
@@ -34,7 +34,7 @@ impl<T: DerSerialize> DerSerialize for Asn1SequenceOf<T> {
     }
 
     fn well_formed_at(&self, limit: u8) -> bool {
-        self.0.row_well_formed_at(limit)
+        self.0.components_well_formed_at(limit)
     }
 }
 
@@ -57,7 +57,7 @@ impl<T: DerDeserialize> DerTagged for Asn1SequenceOf<T> {
     }
 
     fn read_contents(alloc: Global, r: &mut Reader<'_>, nest: u8) -> Result<Self, Error> {
-        let items = read_row_contents::<Vec<T>>(alloc, r, nest, 0x30)?;
+        let items = read_inside::<Vec<T>>(alloc, r, nest, 0x30)?;
         Ok(Asn1SequenceOf(items))
     }
 
@@ -94,7 +94,7 @@ impl<T: DerSerialize> DerSerialize for Asn1SetOf<T> {
     }
 
     fn well_formed_at(&self, limit: u8) -> bool {
-        self.0.row_well_formed_at(limit)
+        self.0.components_well_formed_at(limit)
     }
 }
 
@@ -117,7 +117,7 @@ impl<T: DerDeserialize> DerTagged for Asn1SetOf<T> {
     }
 
     fn read_contents(alloc: Global, r: &mut Reader<'_>, nest: u8) -> Result<Self, Error> {
-        let items = read_row_contents::<Vec<T>>(alloc, r, nest, 0x31)?;
+        let items = read_inside::<Vec<T>>(alloc, r, nest, 0x31)?;
         Ok(Asn1SetOf(items))
     }
 

@@ -75,7 +75,7 @@ macro_rules! put_of {
 #[macro_export]
 macro_rules! formed_of {
     ($value:ident, $limit:ident; $($parts:tt)*) => {
-        $crate::body_of!($value; $($parts)*).row_well_formed_at($limit)
+        $crate::body_of!($value; $($parts)*).components_well_formed_at($limit)
     };
 }
 
@@ -120,7 +120,7 @@ macro_rules! lend_of {
 #[macro_export]
 macro_rules! parts_of {
     ($alloc:ident, $r:ident, $nest:ident; $type:ident { $($parts:tt)* }) => {{
-        let $crate::fields_of!($($parts)*): $crate::types_of!($($parts)*) = $crate::prelude::ReadRow::read_row($alloc, $r, $nest)?;
+        let $crate::fields_of!($($parts)*): $crate::types_of!($($parts)*) = $crate::prelude::ReadComponents::read_components($alloc, $r, $nest)?;
         Ok($crate::struct_of!($type; ; $($parts)*))
     }};
 }

@@ -11,9 +11,9 @@ pub use crate::{
 pub use asn1_core_element::{Error, Reader};
 pub use asn1_core_format::{
     Alone, Alternatives, DerDeserialize, DerSerialize, DerTagged, Either, End, EqualByText,
-    FirstTags, HasDefault, Leaf, MAX_NESTING, Maybe, MaybeRef, Omitted, OmittedRef, Part, ReadRow,
-    Ref, Sequence, Task, TryClone, Viewed, WriteRow, is_left_out, put_both, put_within, read_leaf,
-    read_leaf_contents, read_retagged, read_row_contents, read_within,
+    FirstTags, HasDefault, Leaf, MAX_NESTING, Maybe, MaybeRef, Omitted, OmittedRef, Part, ReadComponents,
+    Ref, Sequence, Task, TryClone, Viewed, WriteComponents, is_left_out, put_both, put_within, read_leaf,
+    read_leaf_contents, read_retagged, read_inside, read_within,
 };
 pub use asn1_core_oid::ObjectIdentifier;
 pub use asn1_core_writers::{WriteError, Writer, put_element, put_unsigned};

@@ -3,12 +3,12 @@ use Rattle.std.proofs.Common.{◌≡◌, ℕ, ◌-◌, ◌≤◌, List, ◌++◌
 use Rattle.asn1_core_element.specs.Element.{head, element}
 use Rattle.asn1_core_element.specs.ElementLaws.{head_cut}
 use Rattle.asn1_core_element.specs.Position.{Position}
-use Rattle.asn1_core_element.specs.Reading.{TookHeader, TookContents, TookWholeElement, Opened, RefusedElement, OpenedElement}
+use Rattle.asn1_core_element.specs.Reading.{HasReadHeader, HasReadContents, HasReadWholeElement, Opened, RefusedElement, OpenedElement}
 use Rattle.std.proofs.lemmas.List.{take-append-drop, length-take-le}
 use Rattle.std.proofs.Math.Seq.{take-append_seam}
 use Rattle.asn1_core_element.specs.declared.error.Error.TheVariants.{Invalid}
 
-pub other_tag : {tag : ℕ} {old new : Position} {found n : ℕ} → TookHeader old new found n → (found ≡ tag → ⊥) → RefusedElement tag old new Invalid
+pub other_tag : {tag : ℕ} {old new : Position} {found n : ℕ} → HasReadHeader old new found n → (found ≡ tag → ⊥) → RefusedElement tag old new Invalid
 other_tag {tag} {old} {new} {found} {n} h d = record {
   long = λ p. cc;
   memory = λ p. cc;
@@ -16,10 +16,10 @@ other_tag {tag} {old} {new} {found} {n} h d = record {
   headers = h.headers;
 }
 
-pub same_tag : {tag : ℕ} {old new : Position} {found n : ℕ} → TookHeader old new found n → found ≡ tag → TookHeader old new tag n
-same_tag {tag} {old} {new} {found} {n} h e = subst (λ t. TookHeader old new t n) e h
+pub same_tag : {tag : ℕ} {old new : Position} {found n : ℕ} → HasReadHeader old new found n → found ≡ tag → HasReadHeader old new tag n
+same_tag {tag} {old} {new} {found} {n} h e = subst (λ t. HasReadHeader old new t n) e h
 
-module _ {old mid new : Position} {tag n : ℕ} {c : List ℕ} (h : TookHeader old mid tag n) (t : TookContents mid new n c) where
+module _ {old mid new : Position} {tag n : ℕ} {c : List ℕ} (h : HasReadHeader old mid tag n) (t : HasReadContents mid new n c) where
   contents_length : length c ≡ n
   contents_length = ap length t.contents_are ∙ length-take n mid.left ∙ omega (arith, h.fits)
 
@@ -30,7 +30,7 @@ module _ {old mid new : Position} {tag n : ℕ} {c : List ℕ} (h : TookHeader o
       ∙ sym (append_assoc (head tag (length c)) c new.left)
 
   -- the element is what lies between where its header begins and where its contents end
-  pub whole : (rest : List ℕ) (room left : ℕ) → take room rest ≡ old.left → room ≤ length rest → length new.left ≡ left → TookWholeElement old new (take (room - left) rest)
+  pub whole : (rest : List ℕ) (room left : ℕ) → take room rest ≡ old.left → room ≤ length rest → length new.left ≡ left → HasReadWholeElement old new (take (room - left) rest)
   whole rest room left is_old within is_new =
       let e : room - left ≡ length (element tag c) = omega (arith, ap length whole_split, length-append (element tag c) new.left, ap length is_old, length-take-le room rest within, is_new) in
       let taken : take (room - left) rest ≡ element tag c =
@@ -47,7 +47,7 @@ module _ {old mid new : Position} {tag n : ℕ} {c : List ℕ} (h : TookHeader o
         refused = t.refused ∙ h.refused;
       }
 
-pub opened : (tag : ℕ) {old mid new : Position} {found n outer : ℕ} → TookHeader old mid found n → Opened mid new n outer → found ≡ tag → OpenedElement tag old new outer
+pub opened : (tag : ℕ) {old mid new : Position} {found n outer : ℕ} → HasReadHeader old mid found n → Opened mid new n outer → found ≡ tag → OpenedElement tag old new outer
 opened tag {old} {mid} {new} {found} {n} {outer} h o e =
     let l : length new.left ≡ n = ap length o.left ∙ length-take n mid.left ∙ omega (arith, h.fits) in
     record {

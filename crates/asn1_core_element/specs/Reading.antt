@@ -6,7 +6,7 @@ use Rattle.asn1_core_element.specs.declared.error.Error.{Error}
 use Rattle.asn1_core_element.specs.declared.error.Error.TheVariants.{TooLong, Memory}
 
 -- a header was taken off the front, and the contents whose length it gives are there
-pub record TookHeader (old new : Position) (tag n : ℕ) : Type 0 where
+pub record HasReadHeader (old new : Position) (tag n : ℕ) : Type 0 where
   pub is_tag : IsTagByte tag
   pub split : old.left ≡ head tag n ++ new.left
   pub fits : n ≤ length new.left
@@ -26,10 +26,10 @@ pub record RefusedHeader (old new : Position) (e : Error) : Type 0 where
   pub refused : new.refused ≡ true
 
 abbrev pub HeaderGives : Position → Position → Result (ℕ × ℕ) Error → Type 0
-HeaderGives old new r = MatchResult r (λ h. TookHeader old new h.0 h.1) (λ e. RefusedHeader old new e)
+HeaderGives old new r = MatchResult r (λ h. HasReadHeader old new h.0 h.1) (λ e. RefusedHeader old new e)
 
 -- the first n bytes were taken
-pub record TookContents (old new : Position) (n : ℕ) (contents : List ℕ) : Type 0 where
+pub record HasReadContents (old new : Position) (n : ℕ) (contents : List ℕ) : Type 0 where
   pub contents_are : contents ≡ take n old.left
   pub left : new.left ≡ drop n old.left
   pub beyond : new.beyond ≡ old.beyond
@@ -39,7 +39,7 @@ pub record TookContents (old new : Position) (n : ℕ) (contents : List ℕ) : T
   pub refused : new.refused ≡ old.refused
 
 -- an element was taken off the front, and these are its bytes
-pub record TookWholeElement (old new : Position) (bytes : List ℕ) : Type 0 where
+pub record HasReadWholeElement (old new : Position) (bytes : List ℕ) : Type 0 where
   pub is_element : IsElement IsTagByte bytes
   pub split : old.left ≡ bytes ++ new.left
   pub beyond : new.beyond ≡ old.beyond
@@ -49,7 +49,7 @@ pub record TookWholeElement (old new : Position) (bytes : List ℕ) : Type 0 whe
   pub refused : new.refused ≡ false
 
 abbrev pub WholeElementGives : {T : Type 0} → (T → List ℕ) → Position → Position → Result T Error → Type 0
-WholeElementGives bytes old new r = MatchResult r (λ b. TookWholeElement old new (bytes b)) (λ e. RefusedHeader old new e)
+WholeElementGives bytes old new r = MatchResult r (λ b. HasReadWholeElement old new (bytes b)) (λ e. RefusedHeader old new e)
 
 -- the first n bytes are the open contents
 pub record Opened (old new : Position) (n outer : ℕ) : Type 0 where
@@ -84,7 +84,7 @@ abbrev pub EndGives : Position → Position → ℕ → Result (Unit {0}) Error 
 EndGives old new outer r = MatchResult r (λ _. Closed old new outer) (λ e. RefusedEnd old new e)
 
 -- an element with that tag was taken off the front
-pub record TookElement (tag : ℕ) (old new : Position) (contents : List ℕ) : Type 0 where
+pub record HasReadElement (tag : ℕ) (old new : Position) (contents : List ℕ) : Type 0 where
   pub split : old.left ≡ element tag contents ++ new.left
   pub beyond : new.beyond ≡ old.beyond
   pub end : new.end ≡ old.end
@@ -100,7 +100,7 @@ pub record RefusedElement (tag : ℕ) (old new : Position) (e : Error) : Type 0 
   pub headers : new.headers ≡ old.headers + 1
 
 abbrev pub ElementGives : {T : Type 0} → (T → List ℕ) → ℕ → Position → Position → Result T Error → Type 0
-ElementGives contents tag old new r = MatchResult r (λ c. TookElement tag old new (contents c)) (λ e. RefusedElement tag old new e)
+ElementGives contents tag old new r = MatchResult r (λ c. HasReadElement tag old new (contents c)) (λ e. RefusedElement tag old new e)
 
 -- an element with that tag is at the front, and its contents are open
 pub record OpenedElement (tag : ℕ) (old new : Position) (outer : ℕ) : Type 0 where

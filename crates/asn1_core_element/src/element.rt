@@ -2,7 +2,7 @@
 
 ghost use Rattle.std.specs.Prelude.{◌≡◌, false, MatchResult};
 ghost use Rattle.asn1_core_element.specs.Element.{IsTagByte};
-ghost use Rattle.asn1_core_element.specs.Reading.{TookHeader, RefusedElement, ElementGives, OpenGives};
+ghost use Rattle.asn1_core_element.specs.Reading.{HasReadHeader, RefusedElement, ElementGives, OpenGives};
 
 use crate::error::Error;
 use crate::reader::Reader;
@@ -11,7 +11,7 @@ use crate::reader::Reader;
 fn header_of(r: &mut Reader<'_>, tag: u8) -> Result<usize, Error>
     requires sound { r.old.refused ≡ false }
     requires tag { IsTagByte tag }
-    ensures { MatchResult result (λ n. TookHeader r.old r.new tag n) (λ e. RefusedElement tag r.old r.new e) }
+    ensures { MatchResult result (λ n. HasReadHeader r.old r.new tag n) (λ e. RefusedElement tag r.old r.new e) }
 {
     let (found, len) = r.header()?;
     if found != tag {

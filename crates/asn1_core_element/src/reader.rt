@@ -1,7 +1,7 @@
 //! A reader, which goes over the elements of an input.
 
 ghost use Rattle.std.specs.Prelude.{◌≡◌, ◌+◌, ◌≤◌, ◌<◌, [], ◌++◌, length, take, drop, false, true, slice_get};
-ghost use Rattle.asn1_core_element.specs.Reading.{HeaderGives, TookContents, WholeElementGives, Opened, EndGives};
+ghost use Rattle.asn1_core_element.specs.Reading.{HeaderGives, HasReadContents, WholeElementGives, Opened, EndGives};
 
 use crate::error::Error;
 use crate::front::front;
@@ -89,7 +89,7 @@ impl<'a> Reader<'a> {
     pub fn contents(&mut self, len: usize) -> &'a [u8]
         requires sound { self.old.refused ≡ false }
         requires fits { len ≤ length self.old.left }
-        ensures { TookContents self.old self.new len result.now }
+        ensures { HasReadContents self.old self.new len result.now }
     {
         let (contents, rest) = self.rest.split_at(len);
         self.rest = rest;

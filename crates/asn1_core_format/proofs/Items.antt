@@ -3,10 +3,10 @@ use Rattle.std.proofs.Common.{◌≡◌, ◌≢◌, ℕ, ◌+◌, ◌<◌, List,
 use Rattle.asn1_core_element.specs.Position.{Position}
 use Rattle.asn1_core_element.specs.declared.error.Error.{Error}
 use Rattle.asn1_core_element.specs.declared.error.Error.TheVariants.{Memory}
-use Rattle.asn1_core_format.specs.Format.{Format, IsLawful, Took, GaveUp}
+use Rattle.asn1_core_format.specs.Format.{Format, IsLawful, HasRead, HasRefused}
 use Rattle.asn1_core_format.specs.Laws.{text_some, texts_cut}
-use Rattle.asn1_core_format.specs.Lists.{ReadsAll, least_all, each, TookItems}
-use Rattle.asn1_core_format.specs.Rows.{TookRow, GaveUpRow}
+use Rattle.asn1_core_format.specs.Lists.{ReadsAll, least_all, each, HasReadItems}
+use Rattle.asn1_core_format.specs.Components.{HasReadComponents, HasRefusedComponents}
 
 pub least_push : {V : Type 0} (f : V → ℕ) (vs : List V) (v : V) → least_all f (vs ++ v ∷ []) ≡ least_all f vs + f v
 least_push f [] v = omega arith
@@ -26,8 +26,8 @@ module _ {V : Type 0} (F : Format V) (f : IsLawful F) where
       let e = texts_cut F f k r.0 s.0 (r.1 ++ l) s.1 v u r.3 s.3 (sym (append_assoc r.0 r.1 l) ∙ ap (λ x. x ++ l) (sym r.2) ∙ s.2) in
       reads_rest k r.1 l vs us r.4 (subst (λ c. ReadsAll (F.Reads k) c us) (sym e.1) s.4)
 
-  pub took_more : (k : ℕ) {old mid new : Position} {vs : List V} {v : V} → TookItems F k old mid vs → Took F k mid new v → TookItems F k old new (vs ++ v ∷ [])
-  took_more k {old} {mid} {new} {vs} {v} i t = record {
+  pub has_read_more : (k : ℕ) {old mid new : Position} {vs : List V} {v : V} → HasReadItems F k old mid vs → HasRead F k mid new v → HasReadItems F k old new (vs ++ v ∷ [])
+  has_read_more k {old} {mid} {new} {vs} {v} i t = record {
     taken = i.taken ++ t.taken;
     split = i.split ∙ ap (λ x. i.taken ++ x) t.split ∙ sym (append_assoc i.taken t.taken new.left);
     reads = reads_push (F.Reads k) i.taken t.taken vs v i.reads t.reads;
@@ -38,15 +38,15 @@ module _ {V : Type 0} (F : Format V) (f : IsLawful F) where
     at_most = omega (arith, i.at_most, t.at_most, length-append i.taken t.taken);
   }
 
-  pub took_shortens : (k : ℕ) {mid new : Position} {v : V} → Took F k mid new v → length new.left < length mid.left
-  took_shortens k {mid} {new} {v} t = omega (arith, ap length t.split, length-append t.taken new.left, text_some F f k t.taken v t.reads)
+  pub has_read_shortens : (k : ℕ) {mid new : Position} {v : V} → HasRead F k mid new v → length new.left < length mid.left
+  has_read_shortens k {mid} {new} {v} t = omega (arith, ap length t.split, length-append t.taken new.left, text_some F f k t.taken v t.reads)
 
   none_left : (k : ℕ) {l : List ℕ} {e : Error} → 0 < length l → (e ≢ Memory → (taken rest : List ℕ) (v : V) → l ≡ taken ++ rest → F.Reads k taken v → ⊥) → e ≢ Memory → (xs : List V) → ReadsAll (F.Reads k) l xs → ⊥
   none_left k some g m [] r = omega (arith, ap length r)
   none_left k some g m (x ∷ xs) r = g m r.0 r.1 x r.2 r.3
 
-  pub gave_up_items : (k : ℕ) {old mid new : Position} {vs : List V} {e : Error} → 0 < length mid.left → TookItems F k old mid vs → GaveUp F k mid new e → GaveUpRow (each F) k old new e
-  gave_up_items k {old} {mid} {new} {vs} {e} some i g = record {
+  pub has_refused_items : (k : ℕ) {old mid new : Position} {vs : List V} {e : Error} → 0 < length mid.left → HasReadItems F k old mid vs → HasRefused F k mid new e → HasRefusedComponents (each F) k old new e
+  has_refused_items k {old} {mid} {new} {vs} {e} some i g = record {
     kind = g.kind;
     none = λ m us r.
         let x = reads_rest k i.taken mid.left vs us i.reads (subst (λ c. ReadsAll (F.Reads k) c us) i.split r) in
@@ -55,7 +55,7 @@ module _ {V : Type 0} (F : Format V) (f : IsLawful F) where
     at_most = omega (arith, i.at_most, g.at_most, ap length i.split, length-append i.taken mid.left);
   }
 
-  pub no_memory_items : (k : ℕ) {old new : Position} {vs : List V} → TookItems F k old new vs → GaveUpRow (each F) k old new Memory
+  pub no_memory_items : (k : ℕ) {old new : Position} {vs : List V} → HasReadItems F k old new vs → HasRefusedComponents (each F) k old new Memory
   no_memory_items k {old} {new} {vs} i = record {
     kind = λ p. cc;
     none = λ m us r. m refl;
@@ -63,8 +63,8 @@ module _ {V : Type 0} (F : Format V) (f : IsLawful F) where
     at_most = omega (arith, i.at_most, ap length i.split, length-append i.taken new.left);
   }
 
-  pub took_all : (k : ℕ) {old new : Position} {vs : List V} → TookItems F k old new vs → new.left ≡ [] → TookRow (each F) k old new vs
-  took_all k {old} {new} {vs} i done =
+  pub has_read_all : (k : ℕ) {old new : Position} {vs : List V} → HasReadItems F k old new vs → new.left ≡ [] → HasReadComponents (each F) k old new vs
+  has_read_all k {old} {new} {vs} i done =
       let e : old.left ≡ i.taken = i.split ∙ ap (λ x. i.taken ++ x) done ∙ append-nil i.taken in
       record {
         reads = subst (λ c. ReadsAll (F.Reads k) c vs) (sym e) i.reads;

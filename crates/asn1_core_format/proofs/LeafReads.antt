@@ -4,14 +4,14 @@ use Rattle.std.proofs.Math.Seq.{take-length, drop-length}
 use Rattle.asn1_core_element.specs.Element.{element}
 use Rattle.asn1_core_element.specs.ElementLaws.{element_cut, element_long, element_same}
 use Rattle.asn1_core_element.specs.Position.{Position}
-use Rattle.asn1_core_element.specs.Reading.{TookElement, TookContents}
+use Rattle.asn1_core_element.specs.Reading.{HasReadElement, HasReadContents}
 use Rattle.asn1_core_element.specs.declared.error.Error.{Error}
 use Rattle.asn1_core_format.specs.Format.{Gives}
 use Rattle.asn1_core_format.specs.Leaf.{Spelling, leaf, GivesSpelled}
-use Rattle.asn1_core_format.specs.Rows.{GivesRow}
+use Rattle.asn1_core_format.specs.Components.{GivesComponents}
 use Rattle.asn1_core_format.specs.Tagged.{inside}
 
-module _ {T V : Type 0} (value : T → V) (S : Spelling V) (k tag : ℕ) {old new : Position} {c : List ℕ} (t : TookElement tag old new c) where
+module _ {T V : Type 0} (value : T → V) (S : Spelling V) (k tag : ℕ) {old new : Position} {c : List ℕ} (t : HasReadElement tag old new c) where
   pub leaf_given : (r : Result T Error) → GivesSpelled value S c r → Gives value (leaf tag S) k old new r
   leaf_given (Ok x) s = record {
     taken = element tag c;
@@ -32,11 +32,11 @@ module _ {T V : Type 0} (value : T → V) (S : Spelling V) (k tag : ℕ) {old ne
     at_most = omega (arith, t.headers);
   }
 
-module _ {T V : Type 0} (value : T → V) (S : Spelling V) (k tag : ℕ) {old new : Position} {n : ℕ} {c : List ℕ} (t : TookContents old new n c) (whole : n ≡ length old.left) where
+module _ {T V : Type 0} (value : T → V) (S : Spelling V) (k tag : ℕ) {old new : Position} {n : ℕ} {c : List ℕ} (t : HasReadContents old new n c) (whole : n ≡ length old.left) where
   all : c ≡ old.left
   all = t.contents_are ∙ ap (λ i. take i old.left) whole ∙ take-length old.left
 
-  pub leaf_contents_given : new.refused ≡ false → (r : Result T Error) → GivesSpelled value S c r → GivesRow value (inside tag (leaf tag S)) k old new r
+  pub leaf_contents_given : new.refused ≡ false → (r : Result T Error) → GivesSpelled value S c r → GivesComponents value (inside tag (leaf tag S)) k old new r
   leaf_contents_given g (Ok x) s = record {
     reads = (ap (element tag) (sym all ∙ s.is), s.valid);
     done = t.left ∙ ap (λ i. drop i old.left) whole ∙ drop-length old.left;

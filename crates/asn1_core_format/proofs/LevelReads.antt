@@ -5,14 +5,14 @@ use Rattle.asn1_core_element.specs.Position.{Position}
 use Rattle.asn1_core_element.specs.Reading.{RefusedElement}
 use Rattle.asn1_core_element.specs.declared.error.Error.{Error}
 use Rattle.asn1_core_element.specs.declared.error.Error.TheVariants.{TooDeep}
-use Rattle.asn1_core_format.specs.Format.{Format, Took, GaveUp, Gives}
-use Rattle.asn1_core_format.specs.Rows.{within, TookRow, GaveUpRow, GivesRow}
+use Rattle.asn1_core_format.specs.Format.{Format, HasRead, HasRefused, Gives}
+use Rattle.asn1_core_format.specs.Components.{within, HasReadComponents, HasRefusedComponents, GivesComponents}
 use Rattle.asn1_core_format.specs.Levels.{less, Still, levels}
 use Rattle.asn1_core_format.specs.LevelLaws.{IsStep, unroll, unroll_least}
 use Rattle.asn1_core_format.specs.Rolled.{rolled}
 
 -- no level is left
-pub none_left : {V : Type 0} (F : Format V) {k : ℕ} → k ≡ zero → (p : Position) → GaveUp (less F) k p p TooDeep
+pub none_left : {V : Type 0} (F : Format V) {k : ℕ} → k ≡ zero → (p : Position) → HasRefused (less F) k p p TooDeep
 none_left F e p = record {
   kind = λ q. cc;
   none = λ m taken rest v s r. subst (λ i. (less F).Reads i taken v) e r;
@@ -21,8 +21,8 @@ none_left F e p = record {
 }
 
 module _ {I : Type 0} {V : I → Type 0} (s : (i : I) → Still (V i)) (step : ((i : I) → Format (V i)) → (i : I) → Format (V i)) (p : IsStep s step) (i : I) (k : ℕ) where
-  pub took_level : {old new : Position} {v : V i} → Took (step (λ j. less (levels s step j)) i) k old new v → Took (levels s step i) k old new v
-  took_level {old} {new} {v} t = record {
+  pub has_read_level : {old new : Position} {v : V i} → HasRead (step (λ j. less (levels s step j)) i) k old new v → HasRead (levels s step i) k old new v
+  has_read_level {old} {new} {v} t = record {
     taken = t.taken;
     split = t.split;
     reads = (unroll s step p k i t.taken v).1 t.reads;
@@ -33,7 +33,7 @@ module _ {I : Type 0} {V : I → Type 0} (s : (i : I) → Still (V i)) (step : (
     at_most = t.at_most;
   }
 
-  pub refused_level : {old new : Position} {e : Error} → GaveUp (step (λ j. less (levels s step j)) i) k old new e → GaveUp (levels s step i) k old new e
+  pub refused_level : {old new : Position} {e : Error} → HasRefused (step (λ j. less (levels s step j)) i) k old new e → HasRefused (levels s step i) k old new e
   refused_level g = record {
     kind = g.kind;
     none = λ m taken rest v q r. g.none m taken rest v q ((unroll s step p k i taken v).0 r);
@@ -42,14 +42,14 @@ module _ {I : Type 0} {V : I → Type 0} (s : (i : I) → Still (V i)) (step : (
   }
 
 module _ {V W : Type 0} (out : V → W) (into : W → V) (F : Format W) (k : ℕ) where
-  pub took_rolled : {old new : Position} (v : V) → Took F k old new (out v) → Took (rolled out into F) k old new v
-  took_rolled v t = record { taken = t.taken; split = t.split; reads = t.reads; beyond = t.beyond; end = t.end; refused = t.refused; at_least = t.at_least; at_most = t.at_most }
+  pub has_read_rolled : {old new : Position} (v : V) → HasRead F k old new (out v) → HasRead (rolled out into F) k old new v
+  has_read_rolled v t = record { taken = t.taken; split = t.split; reads = t.reads; beyond = t.beyond; end = t.end; refused = t.refused; at_least = t.at_least; at_most = t.at_most }
 
-  pub refused_rolled : {old new : Position} {e : Error} → GaveUp F k old new e → GaveUp (rolled out into F) k old new e
+  pub refused_rolled : {old new : Position} {e : Error} → HasRefused F k old new e → HasRefused (rolled out into F) k old new e
   refused_rolled g = record { kind = g.kind; none = λ m taken rest v q r. g.none m taken rest (out v) q r; counts = g.counts; at_most = g.at_most }
 
 -- no element with the tag begins what is left
-pub unopened : {V : Type 0} (R : Format V) (k tag : ℕ) {old new : Position} {e : Error} → RefusedElement tag old new e → GaveUp (within tag R) k old new e
+pub unopened : {V : Type 0} (R : Format V) (k tag : ℕ) {old new : Position} {e : Error} → RefusedElement tag old new e → HasRefused (within tag R) k old new e
 unopened R k tag g = record {
   kind = g.long;
   none = λ m taken rest v s r. g.none r.0 rest (s ∙ ap (λ t. t ++ rest) r.1);
@@ -57,8 +57,8 @@ unopened R k tag g = record {
   at_most = omega (arith, g.headers);
 }
 
-pub alone_took : {V : Type 0} (F : Format V) (k : ℕ) {old new : Position} {v : V} → Took F k old new v → length new.left ≡ 0 → TookRow F k old new v
-alone_took F k {old} {new} {v} t none =
+pub alone_has_read : {V : Type 0} (F : Format V) (k : ℕ) {old new : Position} {v : V} → HasRead F k old new v → length new.left ≡ 0 → HasReadComponents F k old new v
+alone_has_read F k {old} {new} {v} t none =
     let d : new.left ≡ [] = nil_from_length new.left none in
     let e : old.left ≡ t.taken = t.split ∙ ap (λ x. t.taken ++ x) d ∙ append-nil t.taken in
     record {
@@ -72,8 +72,8 @@ alone_took F k {old} {new} {v} t none =
     }
 
 -- an error that `?` hands on
-pub gave : {T V : Type 0} (value : T → V) (F : Format V) (k : ℕ) {old new : Position} {r : Result T Error} {e : Error} → ((x : Error) × (r ≡ Err x) × (x ≡ e)) → GaveUp F k old new e → Gives value F k old new r
-gave value F k {old} {new} p g = subst (Gives value F k old new) (sym p.1) (subst (GaveUp F k old new) (sym p.2) g)
+pub has_refused : {T V : Type 0} (value : T → V) (F : Format V) (k : ℕ) {old new : Position} {r : Result T Error} {e : Error} → ((x : Error) × (r ≡ Err x) × (x ≡ e)) → HasRefused F k old new e → Gives value F k old new r
+has_refused value F k {old} {new} p g = subst (Gives value F k old new) (sym p.1) (subst (HasRefused F k old new) (sym p.2) g)
 
-pub gave_row : {T V : Type 0} (value : T → V) (F : Format V) (k : ℕ) {old new : Position} {r : Result T Error} {e : Error} → ((x : Error) × (r ≡ Err x) × (x ≡ e)) → GaveUpRow F k old new e → GivesRow value F k old new r
-gave_row value F k {old} {new} p g = subst (GivesRow value F k old new) (sym p.1) (subst (GaveUpRow F k old new) (sym p.2) g)
+pub has_refused_components : {T V : Type 0} (value : T → V) (F : Format V) (k : ℕ) {old new : Position} {r : Result T Error} {e : Error} → ((x : Error) × (r ≡ Err x) × (x ≡ e)) → HasRefusedComponents F k old new e → GivesComponents value F k old new r
+has_refused_components value F k {old} {new} p g = subst (GivesComponents value F k old new) (sym p.1) (subst (HasRefusedComponents F k old new) (sym p.2) g)

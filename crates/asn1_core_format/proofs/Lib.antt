@@ -1,4 +1,4 @@
-pub mod RowReads
+pub mod ComponentReads
 pub mod Items
 pub mod ItemWrites
 pub mod ItemTests

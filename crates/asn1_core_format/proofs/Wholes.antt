@@ -4,15 +4,15 @@ use Rattle.std.proofs.lemmas.List.{length-append}
 use Rattle.asn1_core_element.specs.Position.{Position}
 use Rattle.asn1_core_element.specs.declared.error.Error.{Error}
 use Rattle.asn1_core_element.specs.declared.error.Error.TheVariants.{Malformed}
-use Rattle.asn1_core_format.specs.Format.{Format, IsLawful, Took, GaveUp}
+use Rattle.asn1_core_format.specs.Format.{Format, IsLawful, HasRead, HasRefused}
 use Rattle.asn1_core_format.specs.Laws.{texts_cut}
 use Rattle.asn1_core_format.specs.Whole.{IsValueOf, HasNoValue, HeadersOfRefused, value_of}
 
 module _ {V : Type 0} (F : Format V) (k : ℕ) where
-  pub refused_input : {old new : Position} {e : Error} → GaveUp F k old new e → HasNoValue F k old.left e
+  pub refused_input : {old new : Position} {e : Error} → HasRefused F k old new e → HasNoValue F k old.left e
   refused_input {old} g = record { kind = g.kind; none = λ m v r. g.none m old.left [] v (sym (append-nil old.left)) r }
 
-  pub left_over : {old new : Position} {u : V} → IsLawful F → Took F k old new u → 0 < length new.left → HasNoValue F k old.left Malformed
+  pub left_over : {old new : Position} {u : V} → IsLawful F → HasRead F k old new u → 0 < length new.left → HasNoValue F k old.left Malformed
   left_over {old} {new} {u} f t some = record {
     kind = λ p. cc;
     none = λ m v r.
@@ -20,22 +20,22 @@ module _ {V : Type 0} (F : Format V) (k : ℕ) where
         omega (arith, ap length e.1, some);
   }
 
-  pub whole_input : {old new : Position} {v : V} → IsLawful F → Took F k old new v → new.left ≡ [] → IsValueOf F k old.left v
+  pub whole_input : {old new : Position} {v : V} → IsLawful F → HasRead F k old new v → new.left ≡ [] → IsValueOf F k old.left v
   whole_input {old} {new} {v} f t done =
       let e : old.left ≡ t.taken = t.split ∙ ap (λ x. t.taken ++ x) done ∙ append-nil t.taken in
       value_of F k old.left v f (subst (λ b. F.Reads k b v) (sym e) t.reads)
 
-  pub refused_headers : {old new : Position} {e : Error} → old.headers ≡ 0 → GaveUp F k old new e → HeadersOfRefused F k old.left e new.headers
+  pub refused_headers : {old new : Position} {e : Error} → old.headers ≡ 0 → HasRefused F k old new e → HeadersOfRefused F k old.left e new.headers
   refused_headers {old} {new} start g = record {
     at_most = omega (arith, start, g.at_most);
     at_least = λ m a x v p r. absurd (g.none m a x v p r);
   }
 
-  pub left_over_headers : {old new : Position} {u : V} {e : Error} → IsLawful F → old.headers ≡ 0 → Took F k old new u → HeadersOfRefused F k old.left e new.headers
+  pub left_over_headers : {old new : Position} {u : V} {e : Error} → IsLawful F → old.headers ≡ 0 → HasRead F k old new u → HeadersOfRefused F k old.left e new.headers
   left_over_headers {old} {new} {u} f start t = record {
     at_most = omega (arith, start, t.at_most, ap length t.split, length-append t.taken new.left);
     at_least = λ m a x v p r.
         let c = texts_cut F f k t.taken a new.left x u v t.reads r (sym t.split ∙ p) in
-        let s : u ≡ v = f.row.one_value k a u v (subst (λ b. F.Reads k b u) c.0 t.reads) r in
+        let s : u ≡ v = f.components.one_value k a u v (subst (λ b. F.Reads k b u) c.0 t.reads) r in
         omega (arith, start, t.at_least, ap F.least s);
   }

@@ -7,13 +7,13 @@ use Rattle.std.proofs.lemmas.Bool.{false_from_ne_true, and_parts, lt-leb}
 use Rattle.std.proofs.lemmas.Slice.Eq.{bytes_eq-Decides}
 use Rattle.asn1_core_element.specs.Element.{element, IsTagByte}
 use Rattle.asn1_core_element.specs.ElementLaws.{element_cut}
-use Rattle.asn1_core_format.specs.Format.{Format, IsLawful, IsLawfulRow}
+use Rattle.asn1_core_format.specs.Format.{Format, IsLawful, IsLawfulComponents}
 use Rattle.asn1_core_format.specs.Laws.{text_some}
 use Rattle.asn1_core_format.specs.Lists.{each}
 use Rattle.asn1_core_format.specs.ListLaws.{lawful_each}
 use Rattle.asn1_core_format.specs.Omitted.{omitted, is_default, IsDefault, lawful_omitted}
-use Rattle.asn1_core_format.specs.Rows.{nothing, within}
-use Rattle.asn1_core_format.specs.RowLaws.{lawful_nothing, lawful_within}
+use Rattle.asn1_core_format.specs.Components.{nothing, within}
+use Rattle.asn1_core_format.specs.ComponentLaws.{lawful_nothing, lawful_within}
 
 abbrev pub is_nil : {V : Type 0} → List V → Bool
 is_nil [] = true
@@ -38,7 +38,7 @@ module _ {V : Type 0} (tag : ℕ) (t : IsTagByte tag) (F : Format V) (f : IsLawf
   some_text : (k : ℕ) (v : V) (vs : List V) → (within tag (each F)).IsWellFormed k (v ∷ vs) → element tag (flat_map F.text (v ∷ vs)) ≡ element tag [] → ⊥
   some_text k v vs h e =
       let n : F.text v ++ flat_map F.text vs ≡ [] = (element_cut tag tag (F.text v ++ flat_map F.text vs) [] [] [] (ap (λ x. x ++ []) e)).1 in
-      omega (arith, ap length n, length-append (F.text v) (flat_map F.text vs), text_some F f k (F.text v) (F.normal v) (f.row.text_reads k v h.0))
+      omega (arith, ap length n, length-append (F.text v) (flat_map F.text vs), text_some F f k (F.text v) (F.normal v) (f.components.text_reads k v h.0))
 
   exact : (k : ℕ) (vs : List V) → (within tag (each F)).IsWellFormed k vs → (is_nil vs ≡ true) ↔ (element tag (flat_map F.text vs) ≡ element tag [])
   exact k [] h = (λ e. refl, λ e. refl)
@@ -47,7 +47,7 @@ module _ {V : Type 0} (tag : ℕ) (t : IsTagByte tag) (F : Format V) (f : IsLawf
   pub empty_default : IsDefault is_nil (element tag []) (within tag (each F))
   empty_default = record { normal = λ k. ([], refl, ([], refl, tt)); exact = exact }
 
-  pub lawful_set_or_none : IsLawfulRow (set_or_none tag F)
+  pub lawful_set_or_none : IsLawfulComponents (set_or_none tag F)
   lawful_set_or_none = lawful_omitted is_nil (element tag []) (within tag (each F)) nothing (lawful_within (each F) (lawful_each F f) tag t) lawful_nothing empty_default (λ u h e. e)
 
   -- the empty set is what is left out

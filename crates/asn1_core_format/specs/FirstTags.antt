@@ -90,12 +90,12 @@ is_inside (but a) b = false
 is_inside every b = false
 
 -- whether no tag is in both
-abbrev pub is_apart : Tags → Tags → Bool
-is_apart none b = true
-is_apart (one t) b = not (is_in b true t)
-is_apart (both a c) b = is_apart a b && is_apart c b
-is_apart (but a) b = is_inside b a
-is_apart every b = is_none b
+abbrev pub is_distinct : Tags → Tags → Bool
+is_distinct none b = true
+is_distinct (one t) b = not (is_in b true t)
+is_distinct (both a c) b = is_distinct a b && is_distinct c b
+is_distinct (but a) b = is_inside b a
+is_distinct every b = is_none b
 
 none_is : (a : Tags) → is_none a ≡ true → (t : ℕ) → IsIn a t → ⊥
 none_is none e t h = h
@@ -111,16 +111,16 @@ inside_is (both a c) b e t h = let p = and_parts _ _ e in elim h [ inl x ↦ ins
 inside_is (but a) b e t h = absurd (true≢false (sym e))
 inside_is every b e t h = absurd (true≢false (sym e))
 
-apart_is : (a b : Tags) → is_apart a b ≡ true → (t : ℕ) → IsIn a t → IsIn b t → ⊥
-apart_is none b e t h i = h
-apart_is (one u) b e t h i = is_not _ e ((may b u).0 (subst (IsIn b) h i))
-apart_is (both a c) b e t h i = let p = and_parts _ _ e in elim h [ inl x ↦ apart_is a b p.0 t x i | inr y ↦ apart_is c b p.1 t y i ]
-apart_is (but a) b e t h i = h (inside_is b a e t i)
-apart_is every b e t h i = none_is b e t i
+distinct_is : (a b : Tags) → is_distinct a b ≡ true → (t : ℕ) → IsIn a t → IsIn b t → ⊥
+distinct_is none b e t h i = h
+distinct_is (one u) b e t h i = is_not _ e ((may b u).0 (subst (IsIn b) h i))
+distinct_is (both a c) b e t h i = let p = and_parts _ _ e in elim h [ inl x ↦ distinct_is a b p.0 t x i | inr y ↦ distinct_is c b p.1 t y i ]
+distinct_is (but a) b e t h i = h (inside_is b a e t i)
+distinct_is every b e t h i = none_is b e t i
 
 -- the same, which computes too where nothing is known of the first and the second has none
 abbrev pub no_common : Tags → Tags → Bool
-no_common a b = is_none b || is_apart a b
+no_common a b = is_none b || is_distinct a b
 
 pub no_common_is : (a b : Tags) → no_common a b ≡ true → (t : ℕ) → IsIn a t → IsIn b t → ⊥
-no_common_is a b e t h i = elim (or_cases _ _ e) [ inl n ↦ none_is b n t i | inr d ↦ apart_is a b d t h i ]
+no_common_is a b e t h i = elim (or_cases _ _ e) [ inl n ↦ none_is b n t i | inr d ↦ distinct_is a b d t h i ]

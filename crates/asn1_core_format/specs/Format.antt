@@ -27,22 +27,22 @@ pub record Format (V : Type 0) : Type 1 where
   pub least : V → ℕ
 
 -- whether no tag is one of both, which is computed
-abbrev pub are_apart : {V W : Type 0} → Format V → Format W → Bool
-are_apart F R = no_common F.first.tags R.first.tags
+abbrev pub are_distinct : {V W : Type 0} → Format V → Format W → Bool
+are_distinct F R = no_common F.first.tags R.first.tags
 
-pub told : {V W : Type 0} (F : Format V) (R : Format W) → are_apart F R ≡ true → (t : ℕ) → F.IsTag t → R.IsTag t → ⊥
-told F R e t h i = no_common_is F.first.tags R.first.tags e t ((F.first.same t).0 h) ((R.first.same t).0 i)
+pub distinct_tags : {V W : Type 0} (F : Format V) (R : Format W) → are_distinct F R ≡ true → (t : ℕ) → F.IsTag t → R.IsTag t → ⊥
+distinct_tags F R e t h i = no_common_is F.first.tags R.first.tags e t ((F.first.same t).0 h) ((R.first.same t).0 i)
 
 -- the same of the rest, where a first test holds too
-pub told_both : {V W : Type 0} (F : Format V) (R : Format W) (c : Bool) → (c && are_apart F R) ≡ true → (c ≡ true) × ((t : ℕ) → F.IsTag t → R.IsTag t → ⊥)
-told_both F R c e = let p = and_parts c (are_apart F R) e in (p.0, told F R p.1)
+pub distinct_both : {V W : Type 0} (F : Format V) (R : Format W) (c : Bool) → (c && are_distinct F R) ≡ true → (c ≡ true) × ((t : ℕ) → F.IsTag t → R.IsTag t → ⊥)
+distinct_both F R c e = let p = and_parts c (are_distinct F R) e in (p.0, distinct_tags F R p.1)
 
 -- there are no bytes, or they begin with an element of one of these tags
 abbrev pub BeginsBy : (ℕ → Type 0) → List ℕ → Type 0
 BeginsBy IsTag b = (b ≡ []) ⊎ ((a : List ℕ) × (x : List ℕ) × (b ≡ a ++ x) × IsElement IsTag a)
 
 -- the laws of a body: a format whose encodings are all that is left of some contents
-pub record IsLawfulRow {V : Type 0} (R : Format V) : Type 0 where
+pub record IsLawfulComponents {V : Type 0} (R : Format V) : Type 0 where
   pub begins : (k : ℕ) (b : List ℕ) (v : V) → R.Reads k b v → BeginsBy R.IsTag b
   -- an encoding has one value
   pub one_value : (k : ℕ) (b : List ℕ) (v w : V) → R.Reads k b v → R.Reads k b w → v ≡ w
@@ -60,11 +60,11 @@ pub record IsLawfulRow {V : Type 0} (R : Format V) : Type 0 where
 
 -- the laws of a type: the same, and each encoding is one element with one of the type's tags
 pub record IsLawful {V : Type 0} (F : Format V) : Type 0 where
-  pub row : IsLawfulRow F
+  pub components : IsLawfulComponents F
   pub element : (k : ℕ) (b : List ℕ) (v : V) → F.Reads k b v → IsElement F.IsTag b
 
 -- reading took an encoding of v off the front, and counted its headers
-pub record Took {V : Type 0} (F : Format V) (k : ℕ) (old new : Position) (v : V) : Type 0 where
+pub record HasRead {V : Type 0} (F : Format V) (k : ℕ) (old new : Position) (v : V) : Type 0 where
   pub taken : List ℕ
   pub split : old.left ≡ taken ++ new.left
   pub reads : F.Reads k taken v
@@ -75,7 +75,7 @@ pub record Took {V : Type 0} (F : Format V) (k : ℕ) (old new : Position) (v : 
   pub at_most : 2 * new.headers ≤ 2 * old.headers + length taken
 
 -- reading gave up, since memory was refused or since no encoding begins the bytes that were left
-pub record GaveUp {V : Type 0} (F : Format V) (k : ℕ) (old new : Position) (e : Error) : Type 0 where
+pub record HasRefused {V : Type 0} (F : Format V) (k : ℕ) (old new : Position) (e : Error) : Type 0 where
   pub kind : e ≢ TooLong
   pub none : e ≢ Memory → (taken rest : List ℕ) (v : V) → old.left ≡ taken ++ rest → F.Reads k taken v → ⊥
   pub counts : old.headers ≤ new.headers
@@ -83,4 +83,4 @@ pub record GaveUp {V : Type 0} (F : Format V) (k : ℕ) (old new : Position) (e 
 
 -- what reading answers
 abbrev pub Gives : {T V : Type 0} → (T → V) → Format V → ℕ → Position → Position → Result T Error → Type 0
-Gives value F k old new r = MatchResult r (λ x. Took F k old new (value x)) (λ e. GaveUp F k old new e)
+Gives value F k old new r = MatchResult r (λ x. HasRead F k old new (value x)) (λ e. HasRefused F k old new e)

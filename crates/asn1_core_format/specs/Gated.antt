@@ -25,35 +25,35 @@ module _ {V : Type 0} (F : Format V) (f : IsLawful F) where
 
   one_at : (k : ℕ) (b : List ℕ) (v w : V) → (gated F).Reads k b v → (gated F).Reads k b w → v ≡ w
   one_at zero b v w r q = absurd r
-  one_at (suc k) b v w r q = f.row.one_value (suc k) b v w r q
+  one_at (suc k) b v w r q = f.components.one_value (suc k) b v w r q
 
   text_reads_at : (k : ℕ) (v : V) → (gated F).IsWellFormed k v → (gated F).Reads k (F.text v) (F.normal v)
   text_reads_at zero v h = absurd h
-  text_reads_at (suc k) v h = f.row.text_reads (suc k) v h
+  text_reads_at (suc k) v h = f.components.text_reads (suc k) v h
 
   text_normal_at : (k : ℕ) (v : V) → (gated F).IsWellFormed k v → (gated F).IsNormal k (F.text v)
   text_normal_at zero v h = absurd h
-  text_normal_at (suc k) v h = f.row.text_normal (suc k) v h
+  text_normal_at (suc k) v h = f.components.text_normal (suc k) v h
 
   normal_reads_at : (k : ℕ) (b : List ℕ) → (gated F).IsNormal k b → (v : V) × (gated F).Reads k b v
   normal_reads_at zero b n = absurd n
-  normal_reads_at (suc k) b n = f.row.normal_reads (suc k) b n
+  normal_reads_at (suc k) b n = f.components.normal_reads (suc k) b n
 
   fixed_at : (k : ℕ) (b : List ℕ) (v : V) → (gated F).Reads k b v → (F.text v ≡ b) ↔ (gated F).IsNormal k b
   fixed_at zero b v r = absurd r
-  fixed_at (suc k) b v r = f.row.fixed (suc k) b v r
+  fixed_at (suc k) b v r = f.components.fixed (suc k) b v r
 
   well_formed_at : (k : ℕ) (b : List ℕ) (v : V) → (gated F).Reads k b v → (gated F).IsWellFormed k v
   well_formed_at zero b v r = absurd r
-  well_formed_at (suc k) b v r = f.row.well_formed (suc k) b v r
+  well_formed_at (suc k) b v r = f.components.well_formed (suc k) b v r
 
   deeper_at : (k : ℕ) (b : List ℕ) (v : V) → (gated F).Reads k b v → (gated F).Reads (suc k) b v
   deeper_at zero b v r = absurd r
-  deeper_at (suc k) b v r = let e : suc k + 1 ≡ suc (suc k) = omega arith in subst (λ j. F.Reads j b v) e (f.row.deeper (suc k) b v r)
+  deeper_at (suc k) b v r = let e : suc k + 1 ≡ suc (suc k) = omega arith in subst (λ j. F.Reads j b v) e (f.components.deeper (suc k) b v r)
 
   pub lawful_gated : IsLawful (gated F)
   lawful_gated = record {
-    row = record {
+    components = record {
       begins = λ k b v r. begins_alone F.IsTag b (element_at k b v r);
       one_value = one_at;
       text_reads = text_reads_at;

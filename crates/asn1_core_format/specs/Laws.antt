@@ -2,7 +2,7 @@
 use Rattle.std.proofs.Common.{◌≡◌, ◌⊎◌, ◌↔◌, ℕ, zero, suc, ◌+◌, ◌-◌, ◌≤◌, List, [], ◌∷◌, ◌++◌, length, sym, ap, ◌∙◌, subst, inl, inr, arith, ⊎_elim, append-nil}
 use Rattle.asn1_core_element.specs.Element.{head, length_octets, IsElement}
 use Rattle.asn1_core_element.specs.ElementLaws.{elements_cut, element_long}
-use Rattle.asn1_core_format.specs.Format.{Format, BeginsBy, IsLawfulRow, IsLawful}
+use Rattle.asn1_core_format.specs.Format.{Format, BeginsBy, IsLawfulComponents, IsLawful}
 
 -- an element alone
 pub begins_alone : (S : ℕ → Type 0) (b : List ℕ) → IsElement S b → BeginsBy S b
@@ -36,12 +36,12 @@ begins_next S a x b p e =
     subst (NextIs S) (sym (e ∙ ap (λ y. y ++ x) q.2)) q.3
 
 -- bytes whose first is one of some tags begin with no other tag
-pub next_apart : (S T : ℕ → Type 0) (b : List ℕ) → ((t : ℕ) → S t → T t → ⊥) → NextIs S b → BeginsBy T b → ⊥
-next_apart S T [] apart h z = h
-next_apart S T (t ∷ b) apart h z =
+pub next_distinct : (S T : ℕ → Type 0) (b : List ℕ) → ((t : ℕ) → S t → T t → ⊥) → NextIs S b → BeginsBy T b → ⊥
+next_distinct S T [] distinct h z = h
+next_distinct S T (t ∷ b) distinct h z =
     ⊎_elim
     (λ (y : t ∷ b ≡ []). omega (arith, ap length y))
-    (λ (y : (c : List ℕ) × (x : List ℕ) × (t ∷ b ≡ c ++ x) × IsElement T c). apart t h (begins_next T y.0 y.1 (t ∷ b) y.3 y.2))
+    (λ (y : (c : List ℕ) × (x : List ℕ) × (t ∷ b ≡ c ++ x) × IsElement T c). distinct t h (begins_next T y.0 y.1 (t ∷ b) y.3 y.2))
     z
 
 module _ {V : Type 0} (F : Format V) (f : IsLawful F) where
@@ -55,15 +55,15 @@ module _ {V : Type 0} (F : Format V) (f : IsLawful F) where
 
   -- the encoding of what was read is an element too
   pub written_element : (k : ℕ) (b : List ℕ) (v : V) → F.Reads k b v → IsElement F.IsTag (F.text v)
-  written_element k b v r = f.element k (F.text v) (F.normal v) (f.row.text_reads k v (f.row.well_formed k b v r))
+  written_element k b v r = f.element k (F.text v) (F.normal v) (f.components.text_reads k v (f.components.well_formed k b v r))
 
   -- no accepted input is a proper beginning of another, and each has one value
   pub no_longer : (k : ℕ) (a b x : List ℕ) (u v : V) → F.Reads k a u → F.Reads k b v → a ++ x ≡ b → (a ≡ b) × (x ≡ []) × (u ≡ v)
   no_longer k a b x u v p q e =
       let s = texts_cut k a b x [] u v p q (e ∙ sym (append-nil b)) in
-      (s.0, s.1, f.row.one_value k a u v p (subst (λ c. F.Reads k c v) (sym s.0) q))
+      (s.0, s.1, f.components.one_value k a u v p (subst (λ c. F.Reads k c v) (sym s.0) q))
 
-module _ {V : Type 0} (F : Format V) (f : IsLawfulRow F) where
+module _ {V : Type 0} (F : Format V) (f : IsLawfulComponents F) where
   -- the normal value has the same encoding, and is its own normal value
   pub normal_value : (k : ℕ) (v : V) → F.IsWellFormed k v → (F.text (F.normal v) ≡ F.text v) × (F.normal (F.normal v) ≡ F.normal v)
   normal_value k v h =
@@ -91,7 +91,7 @@ pub record IsSameAt {V : Type 0} (F : Format V) (k j : ℕ) (b : List ℕ) (v : 
   pub only : (w : V) → F.Reads j b w → w ≡ v
   pub normal : F.IsNormal j b ↔ F.IsNormal k b
 
-module _ {V : Type 0} (F : Format V) (f : IsLawfulRow F) where
+module _ {V : Type 0} (F : Format V) (f : IsLawfulComponents F) where
   pub reads_deeper : (n k : ℕ) (b : List ℕ) (v : V) → F.Reads k b v → F.Reads (k + n) b v
   reads_deeper zero k b v r =
       let e : k ≡ k + 0 = omega arith in

@@ -13,7 +13,7 @@ module _ {V : Type 0} (tag : ℕ) (is_tag : IsTagByte tag) (S : Spelling V) (s :
 
   pub lawful_leaf : IsLawful (leaf tag S)
   lawful_leaf = record {
-    row = record {
+    components = record {
       begins = λ k b v r. begins_alone (λ t. t ≡ tag) b (leaf_element b (S.spell v) r.0);
       one_value = λ k b v w r q. s.one_value v w r.1 q.1 (element_same tag tag (S.spell v) (S.spell w) (sym r.0 ∙ q.0)).1;
       text_reads = λ k v h. (refl, h);

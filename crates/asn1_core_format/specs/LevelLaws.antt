@@ -49,7 +49,7 @@ map_tags S T b f e = record { tag = e.tag; contents = e.contents; is_tag = e.is_
 module _ {V : Type 0} (s : Still V) where
   lawful_none : IsLawful (always s no_grammar)
   lawful_none = record {
-    row = record {
+    components = record {
       begins = λ k b v r. absurd r;
       one_value = λ k b v w r q. absurd r;
       text_reads = λ k v h. absurd h;
@@ -65,14 +65,14 @@ module _ {V : Type 0} (s : Still V) where
   -- laws that hold of the grammar at each level, and a grammar that grows
   lawful_by_levels : (g : ℕ → Grammar V) → ((k : ℕ) → IsLawful (always s (g k))) → ((k : ℕ) (b : List ℕ) (v : V) → (g k).Reads b v → (g (suc k)).Reads b v) → IsLawful (by_levels s g)
   lawful_by_levels g l grows = record {
-    row = record {
-      begins = λ k. (l k).row.begins k;
-      one_value = λ k. (l k).row.one_value k;
-      text_reads = λ k. (l k).row.text_reads k;
-      text_normal = λ k. (l k).row.text_normal k;
-      normal_reads = λ k. (l k).row.normal_reads k;
-      fixed = λ k. (l k).row.fixed k;
-      well_formed = λ k. (l k).row.well_formed k;
+    components = record {
+      begins = λ k. (l k).components.begins k;
+      one_value = λ k. (l k).components.one_value k;
+      text_reads = λ k. (l k).components.text_reads k;
+      text_normal = λ k. (l k).components.text_normal k;
+      normal_reads = λ k. (l k).components.normal_reads k;
+      fixed = λ k. (l k).components.fixed k;
+      well_formed = λ k. (l k).components.well_formed k;
       deeper = λ k b v r. subst (λ j. (g j).Reads b v) (omega arith) (grows k b v r);
     };
     element = λ k. (l k).element k;
@@ -84,14 +84,14 @@ module _ {I : Type 0} {V : I → Type 0} (s : (i : I) → Still (V i)) (step : (
       let F : Format (V i) = step (λ j. always (s j) (g j)) i in
       let e : (j : ℕ) (b : List ℕ) (v : V i) → F.Reads k b v → IsElement (s i).IsTag b = λ j b v r. map_tags F.IsTag (s i).IsTag b (p.tags (λ _. g) i) (f.element k b v r) in
       record {
-        row = record {
+        components = record {
           begins = λ j b v r. begins_alone (s i).IsTag b (e j b v r);
-          one_value = λ j. f.row.one_value k;
-          text_reads = λ j v h. subst (λ b. F.Reads k b ((s i).normal v)) (p.text (λ _. g) i v) (subst (λ w. F.Reads k (F.text v) w) (p.normal (λ _. g) i v) (f.row.text_reads k v h));
-          text_normal = λ j v h. subst (F.IsNormal k) (p.text (λ _. g) i v) (f.row.text_normal k v h);
-          normal_reads = λ j. f.row.normal_reads k;
-          fixed = λ j b v r. (λ q. (f.row.fixed k b v r).0 (p.text (λ _. g) i v ∙ q), λ n. sym (p.text (λ _. g) i v) ∙ (f.row.fixed k b v r).1 n);
-          well_formed = λ j. f.row.well_formed k;
+          one_value = λ j. f.components.one_value k;
+          text_reads = λ j v h. subst (λ b. F.Reads k b ((s i).normal v)) (p.text (λ _. g) i v) (subst (λ w. F.Reads k (F.text v) w) (p.normal (λ _. g) i v) (f.components.text_reads k v h));
+          text_normal = λ j v h. subst (F.IsNormal k) (p.text (λ _. g) i v) (f.components.text_normal k v h);
+          normal_reads = λ j. f.components.normal_reads k;
+          fixed = λ j b v r. (λ q. (f.components.fixed k b v r).0 (p.text (λ _. g) i v ∙ q), λ n. sym (p.text (λ _. g) i v) ∙ (f.components.fixed k b v r).1 n);
+          well_formed = λ j. f.components.well_formed k;
           deeper = λ j b v r. r;
         };
         element = e;
@@ -117,7 +117,7 @@ module _ {I : Type 0} {V : I → Type 0} (s : (i : I) → Still (V i)) (step : (
       (λ m. up_to_each (λ q. IsLawful (always (s j) (q j))) g h (lawful_inside k j) (lawful_inside (suc k) j) k m)
       (λ m. up_to_grows Grows g h (λ _ _ _ x. x) (grows k) (λ _ _ _ x. x) k m j) in
       let x : (step F i).Reads k b v = (p.reads F k i b v).0 (subst (λ q. (step (λ j. always (s j) (q j)) i).Reads k b v) (sym (up_to_at g h k)) r) in
-      let y : (step F i).Reads (suc k) b v = subst (λ j. (step F i).Reads j b v) (omega arith) ((p.lawful F l i).row.deeper k b v x) in
+      let y : (step F i).Reads (suc k) b v = subst (λ j. (step F i).Reads j b v) (omega arith) ((p.lawful F l i).components.deeper k b v x) in
       subst (λ q. (step (λ j. always (s j) (q j)) i).Reads (suc k) b v) (up_to_next g h k) ((p.reads F (suc k) i b v).1 y)
 
   pub lawful_levels : (i : I) → IsLawful (levels s step i)
@@ -148,35 +148,35 @@ module _ {V : Type 0} (F : Format V) (f : IsLawful F) where
 
   less_one : (k : ℕ) (b : List ℕ) (v w : V) → (less F).Reads k b v → (less F).Reads k b w → v ≡ w
   less_one zero b v w r q = absurd r
-  less_one (suc k) b v w r q = f.row.one_value k b v w r q
+  less_one (suc k) b v w r q = f.components.one_value k b v w r q
 
   less_text_reads : (k : ℕ) (v : V) → (less F).IsWellFormed k v → (less F).Reads k (F.text v) (F.normal v)
   less_text_reads zero v h = absurd h
-  less_text_reads (suc k) v h = f.row.text_reads k v h
+  less_text_reads (suc k) v h = f.components.text_reads k v h
 
   less_text_normal : (k : ℕ) (v : V) → (less F).IsWellFormed k v → (less F).IsNormal k (F.text v)
   less_text_normal zero v h = absurd h
-  less_text_normal (suc k) v h = f.row.text_normal k v h
+  less_text_normal (suc k) v h = f.components.text_normal k v h
 
   less_normal_reads : (k : ℕ) (b : List ℕ) → (less F).IsNormal k b → (v : V) × (less F).Reads k b v
   less_normal_reads zero b n = absurd n
-  less_normal_reads (suc k) b n = f.row.normal_reads k b n
+  less_normal_reads (suc k) b n = f.components.normal_reads k b n
 
   less_fixed : (k : ℕ) (b : List ℕ) (v : V) → (less F).Reads k b v → (F.text v ≡ b) ↔ (less F).IsNormal k b
   less_fixed zero b v r = absurd r
-  less_fixed (suc k) b v r = f.row.fixed k b v r
+  less_fixed (suc k) b v r = f.components.fixed k b v r
 
   less_well_formed : (k : ℕ) (b : List ℕ) (v : V) → (less F).Reads k b v → (less F).IsWellFormed k v
   less_well_formed zero b v r = absurd r
-  less_well_formed (suc k) b v r = f.row.well_formed k b v r
+  less_well_formed (suc k) b v r = f.components.well_formed k b v r
 
   less_deeper : (k : ℕ) (b : List ℕ) (v : V) → (less F).Reads k b v → (less F).Reads (suc k) b v
   less_deeper zero b v r = absurd r
-  less_deeper (suc k) b v r = subst (λ j. F.Reads j b v) (omega arith) (f.row.deeper k b v r)
+  less_deeper (suc k) b v r = subst (λ j. F.Reads j b v) (omega arith) (f.components.deeper k b v r)
 
   pub lawful_less : IsLawful (less F)
   lawful_less = record {
-    row = record {
+    components = record {
       begins = λ k b v r. begins_alone F.IsTag b (less_element k b v r);
       one_value = less_one;
       text_reads = less_text_reads;

@@ -3,8 +3,8 @@ pub mod FirstTags
 pub mod Laws
 pub mod Leaf
 pub mod LeafLaws
-pub mod Rows
-pub mod RowLaws
+pub mod Components
+pub mod ComponentLaws
 pub mod Lists
 pub mod ListLaws
 pub mod Tagged

@@ -31,7 +31,7 @@ each F = record {
 }
 
 -- some items were read, one after another
-pub record TookItems {V : Type 0} (F : Format V) (k : ℕ) (old new : Position) (vs : List V) : Type 0 where
+pub record HasReadItems {V : Type 0} (F : Format V) (k : ℕ) (old new : Position) (vs : List V) : Type 0 where
   pub taken : List ℕ
   pub split : old.left ≡ taken ++ new.left
   pub reads : ReadsAll (F.Reads k) taken vs

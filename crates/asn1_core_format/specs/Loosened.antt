@@ -1,7 +1,7 @@
 -- A type with more than one spelling of a value: reading forgets which it was, and writing chooses one.
 use Rattle.std.specs.Prelude.{◌≡◌, ◌↔◌, ℕ, ◌≤◌, List}
 use Rattle.std.proofs.Common.{refl, sym, ap, ◌∙◌, subst}
-use Rattle.asn1_core_format.specs.Format.{Format, IsLawfulRow, IsLawful}
+use Rattle.asn1_core_format.specs.Format.{Format, IsLawfulComponents, IsLawful}
 
 -- The values V of what P spells as A: `read` is the value of a spelling, `written` how a value is spelled, `normal`
 -- what it is read again as, IsProper which values are so read, and IsWritten, over bytes alone, which encodings
@@ -36,7 +36,7 @@ loosened {A} {V} P L = record {
   least = L.least;
 }
 
-module _ {A V : Type 0} (P : Format A) (p : IsLawfulRow P) (L : Loosening A V) (l : IsLoosening P L) where
+module _ {A V : Type 0} (P : Format A) (p : IsLawfulComponents P) (L : Loosening A V) (l : IsLoosening P L) where
   -- what is read is well-formed as it is written
   rewritten : (k : ℕ) (b : List ℕ) (v : V) → (loosened P L).Reads k b v → P.IsWellFormed k (L.written v)
   rewritten k b v h = subst (λ x. P.IsWellFormed k (L.written x)) h.2 (l.kept k h.0 (p.well_formed k b h.0 h.1))
@@ -56,8 +56,8 @@ module _ {A V : Type 0} (P : Format A) (p : IsLawfulRow P) (L : Loosening A V) (
     λ n. ap (λ x. P.text (L.written x)) (sym h.2) ∙ ap P.text ((l.chosen k b h.0 h.1).0 n.1) ∙ (p.fixed k b h.0 h.1).1 n.0,
   )
 
-  pub lawful_loosened_row : IsLawfulRow (loosened P L)
-  lawful_loosened_row = record {
+  pub lawful_loosened_components : IsLawfulComponents (loosened P L)
+  lawful_loosened_components = record {
     begins = λ k b v h. p.begins k b h.0 h.1;
     one_value = λ k b v w h i. sym h.2 ∙ ap L.read (p.one_value k b h.0 i.0 h.1 i.1) ∙ i.2;
     text_reads = λ k v h. (P.normal (L.written v), p.text_reads k (L.written v) h.0, l.reread k v h.0 h.1);
@@ -70,6 +70,6 @@ module _ {A V : Type 0} (P : Format A) (p : IsLawfulRow P) (L : Loosening A V) (
 
 pub lawful_loosened : {A V : Type 0} (P : Format A) → IsLawful P → (L : Loosening A V) → IsLoosening P L → IsLawful (loosened P L)
 lawful_loosened P p L l = record {
-  row = lawful_loosened_row P p.row L l;
+  components = lawful_loosened_components P p.components L l;
   element = λ k b v h. p.element k b h.0 h.1;
 }

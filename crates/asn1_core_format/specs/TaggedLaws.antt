@@ -5,7 +5,7 @@ use Rattle.asn1_core_element.specs.Element.{element, retag, IsElement, IsTagByte
 use Rattle.asn1_core_element.specs.ElementLaws.{element_same, retag_element}
 use Rattle.asn1_core_format.specs.Format.{Format, IsLawful}
 use Rattle.asn1_core_format.specs.Laws.{begins_alone}
-use Rattle.asn1_core_format.specs.Rows.{within}
+use Rattle.asn1_core_format.specs.Components.{within}
 use Rattle.asn1_core_format.specs.Leaf.{Spelling, leaf}
 use Rattle.asn1_core_format.specs.Tagged.{IsTagged, implicit, context_tag}
 
@@ -24,10 +24,10 @@ module _ {V : Type 0} (tag inner : ℕ) (F : Format V) (f : IsLawful F) (g : IsT
     λ e.
         let w = g.written v in
         let d : w.0 ≡ s.0 = same b w.0 s.0 (sym e ∙ text_is v w.0 w.1) s.1 in
-        (s.0, s.1, (f.row.fixed k (element inner s.0) v s.2).0 (w.1 ∙ ap (element inner) d)),
+        (s.0, s.1, (f.components.fixed k (element inner s.0) v s.2).0 (w.1 ∙ ap (element inner) d)),
     λ n.
         let d : n.0 ≡ s.0 = same b n.0 s.0 n.1 s.1 in
-        text_is v s.0 ((f.row.fixed k (element inner s.0) v s.2).1 (subst (λ c. F.IsNormal k (element inner c)) d n.2)) ∙ sym s.1,
+        text_is v s.0 ((f.components.fixed k (element inner s.0) v s.2).1 (subst (λ c. F.IsNormal k (element inner c)) d n.2)) ∙ sym s.1,
   )
 
   implicit_element : (k : ℕ) (b : List ℕ) (v : V) → (implicit tag inner F).Reads k b v → IsElement (λ t. t ≡ tag) b
@@ -35,15 +35,15 @@ module _ {V : Type 0} (tag inner : ℕ) (F : Format V) (f : IsLawful F) (g : IsT
 
   pub lawful_implicit : IsLawful (implicit tag inner F)
   lawful_implicit = record {
-    row = record {
+    components = record {
       begins = λ k b v s. begins_alone (λ t. t ≡ tag) b (implicit_element k b v s);
-      one_value = λ k b v w s t. f.row.one_value k (element inner s.0) v w s.2 (subst (λ c. F.Reads k (element inner c) w) (same b t.0 s.0 t.1 s.1) t.2);
-      text_reads = λ k v h. let w = g.written v in (w.0, text_is v w.0 w.1, subst (λ x. F.Reads k x (F.normal v)) w.1 (f.row.text_reads k v h));
-      text_normal = λ k v h. let w = g.written v in (w.0, text_is v w.0 w.1, subst (F.IsNormal k) w.1 (f.row.text_normal k v h));
-      normal_reads = λ k b n. let v = f.row.normal_reads k (element inner n.0) n.2 in (v.0, (n.0, n.1, v.1));
+      one_value = λ k b v w s t. f.components.one_value k (element inner s.0) v w s.2 (subst (λ c. F.Reads k (element inner c) w) (same b t.0 s.0 t.1 s.1) t.2);
+      text_reads = λ k v h. let w = g.written v in (w.0, text_is v w.0 w.1, subst (λ x. F.Reads k x (F.normal v)) w.1 (f.components.text_reads k v h));
+      text_normal = λ k v h. let w = g.written v in (w.0, text_is v w.0 w.1, subst (F.IsNormal k) w.1 (f.components.text_normal k v h));
+      normal_reads = λ k b n. let v = f.components.normal_reads k (element inner n.0) n.2 in (v.0, (n.0, n.1, v.1));
       fixed = implicit_fixed;
-      well_formed = λ k b v s. f.row.well_formed k (element inner s.0) v s.2;
-      deeper = λ k b v s. (s.0, s.1, f.row.deeper k (element inner s.0) v s.2);
+      well_formed = λ k b v s. f.components.well_formed k (element inner s.0) v s.2;
+      deeper = λ k b v s. (s.0, s.1, f.components.deeper k (element inner s.0) v s.2);
     };
     element = implicit_element;
   }

@@ -5,7 +5,7 @@ use Rattle.std.proofs.Common.{refl, ap, ◌∙◌}
 use lib.Pointwise.{pointwise}
 use Rattle.asn1_core_element.specs.declared.error.Error.{Error}
 use Rattle.asn1_core_element.specs.declared.error.Error.TheVariants.{Memory}
-use Rattle.asn1_core_format.specs.Rows.{option_value}
+use Rattle.asn1_core_format.specs.Components.{option_value}
 
 -- the test is true exactly of the values of which the same is seen
 abbrev pub SeesEqual : {T V : Type 0} → (T → T → Bool) → (T → V) → Type 0

@@ -2,11 +2,11 @@
 
 ghost use Rattle.std.specs.Prelude.{◌≡◌, ◌⊎◌, ◌&&◌, Bool, true, false};
 ghost use Rattle.std.proofs.Common.{inl, inr};
-ghost use Rattle.asn1_core_format.specs.Eithers.{either, either_if_clear};
-ghost use Rattle.asn1_core_format.specs.Format.{Gives, IsLawful, are_apart};
+ghost use Rattle.asn1_core_format.specs.Eithers.{either, either_if_distinct};
+ghost use Rattle.asn1_core_format.specs.Format.{Gives, IsLawful, are_distinct};
 ghost use Rattle.asn1_core_format.specs.declared.eithers.Either.TheVariants.{First, Second};
 
-use crate::rows::{FirstTags, next_is};
+use crate::components::{FirstTags, next_is};
 use crate::traits::{DerDeserialize, DerSerialize};
 use asn1_core_element::{Error, Reader};
 use asn1_core_writers::{WriteError, Writer};
@@ -44,15 +44,15 @@ impl<A: DerSerialize, B: DerSerialize> DerSerialize for Either<A, B> {
 /// What is read as one of several alternatives, or as a type of its own.
 pub trait Alternatives: DerSerialize + Drop {
     /// Whether the first tags of each alternative are none of those of the alternatives after it.
-    ghost clear: { Bool } = { true };
+    ghost distinct: { Bool } = { true };
 
     /// Reads a value from the front of what is left, as `read` does.
     fn read_one(alloc: Global, r: &mut Reader<'_>, nest: u8) -> Result<Self, Error>
         requires sound { r.old.refused ≡ false }
-        requires told { clear ≡ true }
+        requires tags { distinct ≡ true }
         ensures { Gives Self.value Self.format nest r.old r.new result };
 
-    ghost laws: { clear ≡ true → IsLawful Self.DerSerialize.format };
+    ghost laws: { distinct ≡ true → IsLawful Self.DerSerialize.format };
 }
 
 impl<T: DerDeserialize> Alternatives for T {
@@ -64,7 +64,7 @@ impl<T: DerDeserialize> Alternatives for T {
 }
 
 impl<A: FirstTags, B: Alternatives> Alternatives for Either<A, B> {
-    ghost clear = { B.clear && are_apart A.format B.format };
+    ghost distinct = { B.distinct && are_distinct A.format B.format };
 
     fn read_one(alloc: Global, r: &mut Reader<'_>, nest: u8) -> Result<Self, Error> {
         if next_is::<A>(r) {
@@ -75,5 +75,5 @@ impl<A: FirstTags, B: Alternatives> Alternatives for Either<A, B> {
         Ok(Either::Second(second))
     }
 
-    ghost laws = { λ c. either_if_clear A.DerSerialize.format B.DerSerialize.format B.clear A.lawful B.laws c };
+    ghost laws = { λ c. either_if_distinct A.DerSerialize.format B.DerSerialize.format B.distinct A.lawful B.laws c };
 }

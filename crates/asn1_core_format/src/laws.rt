@@ -3,7 +3,7 @@
 ghost use Rattle.std.specs.Prelude.{◌≡◌, ◌↔◌, ◌+◌, ◌≤◌, ℕ, List, [], ◌++◌};
 ghost use Rattle.asn1_core_element.specs.Element.{IsTagByte};
 ghost use Rattle.asn1_core_format.specs.EmptySets.{set_or_none};
-ghost use Rattle.asn1_core_format.specs.Format.{IsLawful, IsLawfulRow};
+ghost use Rattle.asn1_core_format.specs.Format.{IsLawful, IsLawfulComponents};
 ghost use Rattle.asn1_core_format.specs.Gated.{gated};
 ghost use Rattle.asn1_core_format.specs.Laws.{IsSameAt};
 
@@ -46,5 +46,5 @@ pub fn gated_types_are_lawful<T: DerDeserialize>()
 /// A set at the end of contents, left out where it is empty, is lawful, under each tag.
 pub fn sets_left_out_are_lawful<T: DerDeserialize>(_tag: u8)
     requires tag { IsTagByte _tag }
-    ensures { IsLawfulRow (set_or_none _tag T.format) }
+    ensures { IsLawfulComponents (set_or_none _tag T.format) }
 {}

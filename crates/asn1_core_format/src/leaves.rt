@@ -5,7 +5,7 @@ ghost use Rattle.asn1_core_element.specs.declared.error.Error.TheVariants.{Memor
 ghost use Rattle.asn1_core_element.specs.Element.{IsTagByte};
 ghost use Rattle.asn1_core_format.specs.Format.{Gives};
 ghost use Rattle.asn1_core_format.specs.Leaf.{Spelling, leaf, GivesSpelled};
-ghost use Rattle.asn1_core_format.specs.Rows.{GivesRow};
+ghost use Rattle.asn1_core_format.specs.Components.{GivesComponents};
 ghost use Rattle.asn1_core_format.specs.Tagged.{inside};
 
 use asn1_core_element::element::contents_of;
@@ -48,7 +48,7 @@ pub fn read_leaf_contents<T: Leaf>(
     _tag: u8,
 ) -> Result<T, Error>
     requires { r.old.refused ≡ false }
-    ensures { GivesRow T.value (inside _tag (leaf _tag T.spelling)) _nest r.old r.new result }
+    ensures { GivesComponents T.value (inside _tag (leaf _tag T.spelling)) _nest r.old r.new result }
 {
     let contents = r.contents(r.left());
     T::from_contents(alloc, contents)

@@ -2,6 +2,7 @@
 //! parts of which such types are made. The definitions of formats are in `specs/`, the laws beside them.
 #![tactic(auto)]
 
+pub mod components;
 pub mod eithers;
 pub mod laws;
 pub mod leaves;
@@ -9,7 +10,6 @@ pub mod less;
 pub mod lists;
 pub mod numbers;
 pub mod recursive;
-pub mod rows;
 pub mod sequences;
 pub mod sets;
 pub mod tagged;
@@ -19,22 +19,22 @@ pub mod views;
 pub mod whole;
 pub mod within;
 
+pub use components::{
+    Alone, End, FirstTags, HasDefault, Maybe, MaybeRef, Omitted, OmittedRef, Part, ReadComponents,
+    WriteComponents, put_both,
+};
 pub use eithers::{Alternatives, Either};
 pub use leaves::{Leaf, read_leaf, read_leaf_contents};
 pub use less::Less;
 pub use recursive::{read_below_within, read_list_with};
-pub use rows::{
-    Alone, End, FirstTags, HasDefault, Maybe, MaybeRef, Omitted, OmittedRef, Part, ReadRow,
-    WriteRow, put_both,
-};
 pub use sequences::{Sequence, Task};
 pub use sets::{SetOrNone, is_left_out, read_set_below_with, read_set_or_none_with, read_set_with};
 pub use tagged::{DerTagged, read_retagged};
-pub use tails::{ReadRowWith, Tail, read_row_within_with};
+pub use tails::{ReadComponentsWith, Tail, read_within_with};
 pub use traits::{DerDeserialize, DerSerialize, MAX_NESTING, Ref};
 pub use views::{EqualByText, TryClone, Viewed};
 pub use whole::{
     from_bytes, from_bytes_counted, from_bytes_limited, from_bytes_located,
     from_bytes_located_limited, to_vec, write_to,
 };
-pub use within::{put_within, read_row_contents, read_within};
+pub use within::{put_within, read_inside, read_within};

@@ -6,7 +6,7 @@ ghost use Rattle.asn1_core_element.specs.declared.error.Error.TheVariants.{Memor
 ghost use Rattle.asn1_core_format.specs.Lists.{each};
 ghost use Rattle.asn1_core_format.specs.ListLaws.{lawful_each};
 
-use crate::rows::{ReadRow, WriteRow};
+use crate::components::{ReadComponents, WriteComponents};
 use crate::traits::{DerDeserialize, DerSerialize};
 use asn1_core_element::{Error, Reader};
 use asn1_core_writers::{WriteError, Writer};
@@ -91,14 +91,14 @@ fn room_for(len: usize, taken: usize, left: usize, most: usize) -> usize
 }
 
 /// Items, one after another.
-impl<T: DerSerialize> WriteRow for Vec<T> {
+impl<T: DerSerialize> WriteComponents for Vec<T> {
     ghost Value = { List T.Value };
 
     ghost value = { λ items. map T.value items.items };
 
     ghost format = { each T.format };
 
-    fn put_row<W: Writer>(&self, w: &mut W) -> Result<(), WriteError> {
+    fn put_components<W: Writer>(&self, w: &mut W) -> Result<(), WriteError> {
         if W::is_backward() {
             put_items_back(self.as_slice(), w)
         } else {
@@ -106,7 +106,7 @@ impl<T: DerSerialize> WriteRow for Vec<T> {
         }
     }
 
-    fn row_well_formed_at(&self, limit: u8) -> bool {
+    fn components_well_formed_at(&self, limit: u8) -> bool {
         for item in self {
             if !item.well_formed_at(limit) {
                 return false;
@@ -116,8 +116,8 @@ impl<T: DerSerialize> WriteRow for Vec<T> {
     }
 }
 
-impl<T: DerDeserialize> ReadRow for Vec<T> {
-    fn read_row(alloc: Global, r: &mut Reader<'_>, nest: u8) -> Result<Self, Error> {
+impl<T: DerDeserialize> ReadComponents for Vec<T> {
+    fn read_components(alloc: Global, r: &mut Reader<'_>, nest: u8) -> Result<Self, Error> {
         let mut items = Vec::new(alloc);
         let whole = r.left();
         'items: while r.left() > 0 {

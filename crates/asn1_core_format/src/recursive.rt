@@ -7,25 +7,25 @@ ghost use Rattle.asn1_core_format.specs.Calls.{MayBelow, GivesBelow};
 ghost use Rattle.asn1_core_format.specs.Format.{Gives, IsLawful};
 ghost use Rattle.asn1_core_format.specs.Levels.{less};
 ghost use Rattle.asn1_core_format.specs.Lists.{each};
-ghost use Rattle.asn1_core_format.specs.Rows.{GivesRow, within};
+ghost use Rattle.asn1_core_format.specs.Components.{GivesComponents, within};
 
+use crate::components::WriteComponents;
 use crate::lists::{NESTED_STEP, push_item};
-use crate::rows::WriteRow;
 use crate::traits::DerSerialize;
 use asn1_core_element::element::open_element;
 use asn1_core_element::{Error, Reader};
 use std::alloc::Global;
 
 /// Reads a body by `by`.
-pub(crate) fn read_row_by<R: WriteRow, F: Fn(&mut Reader<'_>) -> Result<R, Error>>(
+pub(crate) fn read_components_by<R: WriteComponents, F: Fn(&mut Reader<'_>) -> Result<R, Error>>(
     r: &mut Reader<'_>,
     _nest: u8,
     by: &F,
 ) -> Result<R, Error>
     requires sound { r.old.refused ≡ false }
     requires called { (s : _) → s.now.refused ≡ false → F.pre by.now s }
-    requires gives { (s : _) (x : _) (t : _) → F.post by.now s x t → GivesRow R.value R.format _nest s.now t.now x }
-    ensures { GivesRow R.value R.format _nest r.old r.new result }
+    requires gives { (s : _) (x : _) (t : _) → F.post by.now s x t → GivesComponents R.value R.format _nest s.now t.now x }
+    ensures { GivesComponents R.value R.format _nest r.old r.new result }
 {
     by(r)
 }
@@ -56,7 +56,7 @@ pub(crate) fn read_all_with<T: DerSerialize + Drop, F: Fn(&mut Reader<'_>) -> Re
     requires lawful { IsLawful T.format }
     requires called { (s : _) → s.now.refused ≡ false → F.pre by.now s }
     requires gives { (s : _) (x : _) (t : _) → F.post by.now s x t → Gives T.value T.format nest s.now t.now x }
-    ensures { GivesRow (λ v. map T.value v.items) (each T.format) nest r.old r.new result }
+    ensures { GivesComponents (λ v. map T.value v.items) (each T.format) nest r.old r.new result }
 {
     let mut items = Vec::new(alloc);
     let whole = r.left();

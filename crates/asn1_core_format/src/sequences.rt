@@ -4,16 +4,16 @@ ghost use Rattle.std.specs.Prelude.{◌≡◌, ◌↔◌, ℕ, List, IsTrue, fal
 ghost use Rattle.std.proofs.Common.{arith};
 ghost use Rattle.asn1_core_element.specs.Element.{element, retag};
 ghost use Rattle.asn1_core_format.specs.Asn1.{Contents as Body};
-ghost use Rattle.asn1_core_format.specs.Rows.{within, GivesRow};
-ghost use Rattle.asn1_core_format.specs.RowLaws.{lawful_within};
+ghost use Rattle.asn1_core_format.specs.Components.{within, GivesComponents};
+ghost use Rattle.asn1_core_format.specs.ComponentLaws.{lawful_within};
 ghost use Rattle.asn1_core_format.specs.TaggedLaws.{within_tagged};
 ghost use Rattle.asn1_core_format.specs.Views.{SeesEqual, Clones};
 
-use crate::rows::{ReadRow, WriteRow};
+use crate::components::{ReadComponents, WriteComponents};
 use crate::tagged::DerTagged;
 use crate::traits::{DerDeserialize, DerSerialize};
 use crate::views::{EqualByText, TryClone};
-use crate::within::{put_within, read_row_contents, read_within};
+use crate::within::{put_within, read_inside, read_within};
 use asn1_core_element::{Error, Reader};
 use asn1_core_writers::{WriteError, Writer};
 use std::alloc::Global;
@@ -27,9 +27,9 @@ pub trait Task {
     /// By the parts' encodings, and by at which levels they are well-formed.
     ghost does: { Self → Self → List ℕ → (ℕ → Type 0) → Self.Out → Type 0 };
 
-    fn run<R: WriteRow>(&mut self, row: &R) -> Self::Out
+    fn run<R: WriteComponents>(&mut self, components: &R) -> Self::Out
         requires { may self.old }
-        ensures { does self.old self.new (R.format.text (R.value row.now)) (λ k. R.format.IsWellFormed k (R.value row.now)) result };
+        ensures { does self.old self.new (R.format.text (R.value components.now)) (λ k. R.format.IsWellFormed k (R.value components.now)) result };
 }
 
 /// Writing, in an element with that tag.
@@ -46,8 +46,8 @@ impl<W: Writer> Task for Put<'_, W> {
 
     ghost does = { λ old new text _ r. (new.w.ghost_name ≡ old.w.ghost_name) × W.Takes (element old.tag text) old.w.now new.w.now r × ((own : ℕ) → W.Takes (retag old.tag (element own text)) old.w.now new.w.now r) };
 
-    fn run<R: WriteRow>(&mut self, row: &R) -> Result<(), WriteError> {
-        put_within(self.tag, row, self.w)
+    fn run<R: WriteComponents>(&mut self, components: &R) -> Result<(), WriteError> {
+        put_within(self.tag, components, self.w)
     }
 }
 
@@ -64,8 +64,8 @@ impl Task for Test {
 
     ghost does = { λ old _ _ formed r. IsTrue r ↔ formed old.limit };
 
-    fn run<R: WriteRow>(&mut self, row: &R) -> bool {
-        row.row_well_formed_at(self.limit)
+    fn run<R: WriteComponents>(&mut self, components: &R) -> bool {
+        components.components_well_formed_at(self.limit)
     }
 }
 
@@ -85,7 +85,7 @@ pub trait Sequence: PartialEq + Drop {
     /// Reads the parts, to the end of the open contents.
     fn read_parts(alloc: Global, r: &mut Reader<'_>, nest: u8) -> Result<Self, Error>
         requires { r.old.refused ≡ false }
-        ensures { GivesRow value asn1.format nest r.old r.new result };
+        ensures { GivesComponents value asn1.format nest r.old r.new result };
 
     /// Clones the parts. Refuses by `Memory` alone.
     fn clone_parts(&self, alloc: Global) -> Result<Self, Error>
@@ -98,42 +98,42 @@ pub trait Sequence: PartialEq + Drop {
 #[derive(Drop)]
 struct Contents<T>(T);
 
-impl<T: Sequence> WriteRow for Contents<T> {
+impl<T: Sequence> WriteComponents for Contents<T> {
     ghost Value = { T.asn1.Value };
 
     ghost value = { λ x. T.value x.0 };
 
     ghost format = { T.asn1.format };
 
-    fn put_row<W: Writer>(&self, w: &mut W) -> Result<(), WriteError> {
-        self.0.lend(&mut PutRow { w })
+    fn put_components<W: Writer>(&self, w: &mut W) -> Result<(), WriteError> {
+        self.0.lend(&mut PutComponents { w })
     }
 
-    fn row_well_formed_at(&self, limit: u8) -> bool {
+    fn components_well_formed_at(&self, limit: u8) -> bool {
         self.0.lend(&mut Test { limit })
     }
 }
 
 /// Writing, in no element.
 #[derive(Drop)]
-struct PutRow<'w, W> {
+struct PutComponents<'w, W> {
     w: &'w mut W,
 }
 
-impl<W: Writer> Task for PutRow<'_, W> {
+impl<W: Writer> Task for PutComponents<'_, W> {
     type Out = Result<(), WriteError>;
 
     ghost may = { λ s. W.MayTake s.w.now };
 
     ghost does = { λ old new text _ r. (new.w.ghost_name ≡ old.w.ghost_name) × W.Takes text old.w.now new.w.now r };
 
-    fn run<R: WriteRow>(&mut self, row: &R) -> Result<(), WriteError> {
-        row.put_row(self.w)
+    fn run<R: WriteComponents>(&mut self, components: &R) -> Result<(), WriteError> {
+        components.put_components(self.w)
     }
 }
 
-impl<T: Sequence> ReadRow for Contents<T> {
-    fn read_row(alloc: Global, r: &mut Reader<'_>, nest: u8) -> Result<Self, Error> {
+impl<T: Sequence> ReadComponents for Contents<T> {
+    fn read_components(alloc: Global, r: &mut Reader<'_>, nest: u8) -> Result<Self, Error> {
         Ok(Contents(T::read_parts(alloc, r, nest)?))
     }
 
@@ -158,8 +158,8 @@ impl<T: Sequence> DerSerialize for T {
 
 impl<T: Sequence> DerDeserialize for T {
     fn read(alloc: Global, r: &mut Reader<'_>, nest: u8) -> Result<Self, Error> {
-        let row: Contents<T> = read_within(alloc, r, nest, 0x30)?;
-        let Contents(value) = row;
+        let components: Contents<T> = read_within(alloc, r, nest, 0x30)?;
+        let Contents(value) = components;
         Ok(value)
     }
 
@@ -176,8 +176,8 @@ impl<T: Sequence> DerTagged for T {
     }
 
     fn read_contents(alloc: Global, r: &mut Reader<'_>, nest: u8) -> Result<Self, Error> {
-        let row: Contents<T> = read_row_contents(alloc, r, nest, 0x30)?;
-        let Contents(value) = row;
+        let components: Contents<T> = read_inside(alloc, r, nest, 0x30)?;
+        let Contents(value) = components;
         Ok(value)
     }
 

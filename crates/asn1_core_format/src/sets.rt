@@ -9,12 +9,12 @@ ghost use Rattle.asn1_core_format.specs.Laws.{NextIs};
 ghost use Rattle.asn1_core_format.specs.Levels.{less};
 ghost use Rattle.asn1_core_format.specs.Lists.{each};
 ghost use Rattle.asn1_core_format.specs.Omitted.{is_default};
-ghost use Rattle.asn1_core_format.specs.Rows.{GivesRow, within};
+ghost use Rattle.asn1_core_format.specs.Components.{GivesComponents, within};
 ghost use Rattle.asn1_core_format.specs.Sequences.{set_of};
 
+use crate::components::WriteComponents;
 use crate::lists::{NESTED_STEP, push_item};
 use crate::recursive::{read_below, read_list_with};
-use crate::rows::WriteRow;
 use crate::traits::DerSerialize;
 use crate::within::put_within;
 use asn1_core_element::element::open_element;
@@ -33,7 +33,7 @@ fn read_all_below_with<T: DerSerialize + Drop, F: Fn(&mut Reader<'_>, u8) -> Res
     requires lawful { IsLawful T.format }
     requires called { MayBelow (F.pre by.now) nest }
     requires gives { GivesBelow (F.post by.now) T.value T.format nest }
-    ensures { GivesRow (λ v. map T.value v.items) (each (less T.format)) nest r.old r.new result }
+    ensures { GivesComponents (λ v. map T.value v.items) (each (less T.format)) nest r.old r.new result }
 {
     let mut items = Vec::new(alloc);
     let whole = r.left();
@@ -56,7 +56,7 @@ pub fn read_set_with<T: DerSerialize + Drop, F: Fn(&mut Reader<'_>) -> Result<T,
     requires lawful { IsLawful T.format }
     requires called { (s : _) → s.now.refused ≡ false → F.pre by.now s }
     requires gives { (s : _) (x : _) (t : _) → F.post by.now s x t → Gives T.value T.format nest s.now t.now x }
-    ensures { GivesRow (λ v. map T.value v.items) (set_of T.format) nest r.old r.new result }
+    ensures { GivesComponents (λ v. map T.value v.items) (set_of T.format) nest r.old r.new result }
 {
     let items = read_list_with(alloc, r, nest, 0x31, by)?;
     if r.left() > 0 {
@@ -97,7 +97,7 @@ pub fn read_set_below_with<T: DerSerialize + Drop, F: Fn(&mut Reader<'_>, u8) ->
     requires lawful { IsLawful T.format }
     requires called { MayBelow (F.pre by.now) nest }
     requires gives { GivesBelow (F.post by.now) T.value T.format nest }
-    ensures { GivesRow (λ v. map T.value v.items) (set_of (less T.format)) nest r.old r.new result }
+    ensures { GivesComponents (λ v. map T.value v.items) (set_of (less T.format)) nest r.old r.new result }
 {
     let items = read_list_below_with(alloc, r, nest, 0x31, by)?;
     if r.left() > 0 {
@@ -110,22 +110,22 @@ pub fn read_set_below_with<T: DerSerialize + Drop, F: Fn(&mut Reader<'_>, u8) ->
 #[derive(Drop)]
 pub struct SetOrNone<T>(pub Vec<T>);
 
-impl<T: DerSerialize> WriteRow for SetOrNone<T> {
+impl<T: DerSerialize> WriteComponents for SetOrNone<T> {
     ghost Value = { List T.Value × Unit {0} };
 
     ghost value = { λ x. (map T.value x.0.items, tt) };
 
     ghost format = { set_or_none 0xA1 T.format };
 
-    fn put_row<W: Writer>(&self, w: &mut W) -> Result<(), WriteError> {
+    fn put_components<W: Writer>(&self, w: &mut W) -> Result<(), WriteError> {
         if self.0.is_empty() {
             return Ok(());
         }
         put_within(0xA1, &self.0, w)
     }
 
-    fn row_well_formed_at(&self, limit: u8) -> bool {
-        self.0.row_well_formed_at(limit)
+    fn components_well_formed_at(&self, limit: u8) -> bool {
+        self.0.components_well_formed_at(limit)
     }
 }
 
@@ -140,7 +140,7 @@ pub fn read_set_or_none_with<T: DerSerialize + Drop, F: Fn(&mut Reader<'_>) -> R
     requires lawful { IsLawful T.format }
     requires called { (s : _) → s.now.refused ≡ false → F.pre by.now s }
     requires gives { (s : _) (x : _) (t : _) → F.post by.now s x t → Gives T.value T.format nest s.now t.now x }
-    ensures { GivesRow (λ x. (map T.value x.0.items, tt)) (set_or_none 0xA1 T.format) nest r.old r.new result }
+    ensures { GivesComponents (λ x. (map T.value x.0.items, tt)) (set_or_none 0xA1 T.format) nest r.old r.new result }
 {
     if next_is_tag(r, 0xA1) {
         let items = read_list_with(alloc, r, nest, 0xA1, by)?;

@@ -3,7 +3,7 @@
 ghost use Rattle.std.specs.Prelude.{◌≡◌, ◌<◌, ℕ, false};
 ghost use Rattle.asn1_core_element.specs.Element.{IsTagByte, retag};
 ghost use Rattle.asn1_core_format.specs.Format.{Gives};
-ghost use Rattle.asn1_core_format.specs.Rows.{GivesRow};
+ghost use Rattle.asn1_core_format.specs.Components.{GivesComponents};
 ghost use Rattle.asn1_core_format.specs.Tagged.{IsTagged, inside, implicit, context_tag};
 ghost use Rattle.asn1_core_writers.specs.Sinks.{Emits};
 
@@ -42,7 +42,7 @@ pub trait DerTagged: DerDeserialize {
     /// Reads the open contents to their end, as those of an element with that tag.
     fn read_contents(alloc: Global, r: &mut Reader<'_>, nest: u8) -> Result<Self, Error>
         requires { r.old.refused ≡ false }
-        ensures { GivesRow Self.value (inside TAG Self.format) nest r.old r.new result };
+        ensures { GivesComponents Self.value (inside TAG Self.format) nest r.old r.new result };
 
     ghost tagged: { IsTagged TAG Self.DerSerialize.format };
 }

@@ -29,8 +29,8 @@ pub stripped : (s t : List ℕ) (r : Option (Bor (List ℕ))) → MatchOption r 
 stripped s t r m = strip_suffix_is Decides-eqb s t r m
 
 -- the last byte apart
-last_apart : (s : List ℕ) → 1 ≤ length s → s ≡ take (length s - 1) s ++ get_or s (length s - 1) 0 ∷ []
-last_apart s some =
+last_distinct : (s : List ℕ) → 1 ≤ length s → s ≡ take (length s - 1) s ++ get_or s (length s - 1) 0 ∷ []
+last_distinct s some =
     let n = length s - 1 in
     let rest : drop n s ≡ get_or s n 0 ∷ [] = drop-cons s n 0 (omega (arith, some)) ∙ ap (λ l. get_or s n 0 ∷ l) (drop_of_length-le s {i = suc n} (omega (arith, some))) in
     sym (take-append-drop n s) ∙ ap (λ l. take n s ++ l) rest
@@ -39,8 +39,8 @@ last_apart s some =
 pub same_last : (s b : List ℕ) (n : ℕ) → 1 ≤ length s → 1 ≤ length b → get_or b (length b - 1) 0 ≡ get_or s (length s - 1) 0 → IsLongestEnd (take (length s - 1) s) (take (length b - 1) b) n → IsLongestEnd s b n
 same_last s b n i j e h =
     let x = get_or s (length s - 1) 0 in
-    let t : take (length b - 1) b ++ x ∷ [] ≡ b = sym (last_apart b j ∙ ap (λ y. take (length b - 1) b ++ y ∷ []) e) in
-    subst (λ l. IsLongestEnd l b n) (sym (last_apart s i)) (subst (λ l. IsLongestEnd (take (length s - 1) s ++ x ∷ []) l n) t (longest_more _ (x ∷ []) _ n h))
+    let t : take (length b - 1) b ++ x ∷ [] ≡ b = sym (last_distinct b j ∙ ap (λ y. take (length b - 1) b ++ y ∷ []) e) in
+    subst (λ l. IsLongestEnd l b n) (sym (last_distinct s i)) (subst (λ l. IsLongestEnd (take (length s - 1) s ++ x ∷ []) l n) t (longest_more _ (x ∷ []) _ n h))
 
 -- where the last bytes differ it has none
 pub other_last : (s b : List ℕ) → 1 ≤ length s → 1 ≤ length b → (get_or b (length b - 1) 0 ≡ get_or s (length s - 1) 0 → ⊥) → IsLongestEnd s b (length b)

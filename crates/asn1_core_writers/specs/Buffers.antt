@@ -40,12 +40,12 @@ emits_sent text a e o p f g (Err x) fits s = record {
 }
 
 -- a sink a is borrowed, as b with no bytes waiting; it is c after the encoding, d once what waits was sent, e at last
-pub emits_buffered : {S N : Type 0} (held : S → Option (List ℕ)) (failed : S → ℕ) (text before rest : List ℕ) (a b c d e : S) (lent first second third : N) (r : Result (Unit {0}) WriteError)
-    → (2 ^ 64 ≤ length text → ⊥) → first ≡ lent → b ≡ a → before ≡ []
+pub emits_buffered : {S N : Type 0} (held : S → Option (List ℕ)) (failed : S → ℕ) (text before rest : List ℕ) (a b c d e : S) (entered first second third : N) (r : Result (Unit {0}) WriteError)
+    → (2 ^ 64 ≤ length text → ⊥) → first ≡ entered → b ≡ a → before ≡ []
     → (second ≡ first) × Passed text before rest (held b) (held c) (failed b) (failed c)
     → third ≡ second → Sends rest (held c) (held d) (failed c) (failed d) r
-    → (lent ≡ third → e ≡ d) → Emits text a e (held a) (held e) (failed a) (failed e) r
-emits_buffered held failed text before rest a b c d e lent first second third r fits n begun none k m s back =
+    → (entered ≡ third → e ≡ d) → Emits text a e (held a) (held e) (failed a) (failed e) r
+emits_buffered held failed text before rest a b c d e entered first second third r fits n begun none k m s back =
     let passed = subst (λ l. Passed text l rest (held b) (held c) (failed b) (failed c)) none k.1 in
     let sent = buffers_ended text rest (held b) (held c) (held d) (failed b) (failed c) (failed d) r passed s in
     let from = subst (λ x. Sends text (held x) (held d) (failed x) (failed d) r) begun sent in

@@ -15,9 +15,9 @@ pub record Comparison : Type 0 where
   pub before : Result (List ℕ) ℕ
   pub total : ℕ
 
-abbrev pub lent : Result (Bor (List ℕ)) ℕ → Result (List ℕ) ℕ
-lent (Ok b) = Ok b.now
-lent (Err n) = Err n
+abbrev pub borrowed : Result (Bor (List ℕ)) ℕ → Result (List ℕ) ℕ
+borrowed (Ok b) = Ok b.now
+borrowed (Err n) = Err n
 
 abbrev pub before_of : Result (List ℕ) ℕ → Option (List ℕ)
 before_of (Ok b) = Some b

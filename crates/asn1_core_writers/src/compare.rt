@@ -2,7 +2,7 @@
 
 ghost use Rattle.std.specs.Prelude.{◌≡◌, ◌↔◌, ℕ, [], Some, Ok, IsTrue, true};
 ghost use Rattle.std.proofs.Common.{rules};
-ghost use Rattle.asn1_core_writers.specs.Comparing.{Comparison, ComparesTo, IsBefore, IsLongestEnd, IsPlace, lent, before_of, place_of, compared_backward, compared_nothing};
+ghost use Rattle.asn1_core_writers.specs.Comparing.{Comparison, ComparesTo, IsBefore, IsLongestEnd, IsPlace, borrowed, before_of, place_of, compared_backward, compared_nothing};
 
 use crate::writer::{WriteError, Writer};
 use std::marker::Model;
@@ -17,11 +17,11 @@ pub struct Compare<'a> {
 }
 
 impl<'a> Model for Compare<'a> {
-    ghost use Rattle.asn1_core_writers.specs.Comparing.{Comparison, lent};
+    ghost use Rattle.asn1_core_writers.specs.Comparing.{Comparison, borrowed};
 
     ghost Value = { Comparison };
 
-    ghost view = { λ c. record { before = lent c.before; total = c.total } };
+    ghost view = { λ c. record { before = borrowed c.before; total = c.total } };
 }
 
 impl<'a> Compare<'a> {
@@ -85,8 +85,8 @@ fn before_longest_end(input: &[u8], bytes: &[u8]) -> usize
 
 /// What is before that end, if it is one. Only where it first differs are bytes compared one by one.
 fn without_end<'a>(before: Result<&'a [u8], usize>, end: &[u8]) -> Result<&'a [u8], usize>
-    ensures before { IsBefore end.now (before_of (lent before.entry)) (before_of (lent result)) }
-    ensures place { IsPlace end.now (lent before.entry) (lent result) }
+    ensures before { IsBefore end.now (before_of (borrowed before.entry)) (before_of (borrowed result)) }
+    ensures place { IsPlace end.now (borrowed before.entry) (borrowed result) }
 {
     let whole = before?;
     match whole.strip_suffix(end) {

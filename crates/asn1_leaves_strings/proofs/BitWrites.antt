@@ -35,9 +35,9 @@ sets : (bytes : List ℕ) (i at byte : ℕ) (value : Bool) → i / 8 < length by
 sets bytes i at byte value h is here others = record {
   count = length-set bytes (i / 8) byte;
   here = ap₂ bit_at (get_or-set_same bytes (i / 8) byte 0 h) (sym is) ∙ here;
-  others = λ j apart. ⊎_elim
+  others = λ j distinct. ⊎_elim
       (λ (same : j / 8 ≡ i / 8).
-      let k : 7 - j % 8 ≢ at = λ e. apart (omega arith) in
+      let k : 7 - j % 8 ≢ at = λ e. distinct (omega arith) in
       ap (λ b. bit_at b (7 - j % 8)) (ap (λ q. get_or (set bytes (i / 8) byte) q 0) same ∙ get_or-set_same bytes (i / 8) byte 0 h)
       ∙ others (7 - j % 8) (omega arith) k
       ∙ ap (λ q. bit_at (get_or bytes q 0) (7 - j % 8)) (sym same))
@@ -51,9 +51,9 @@ written bytes i k byte true h small at e =
     let old : ℕ = get_or bytes (i / 8) 0 in
     let low : k < 8 = omega arith in
     rw (e ∙ sym (byte_set old k true refl low))
-    (sets bytes i k _ true h at (bit_at_set_same w8 old k low) (λ j _ apart. bit_at_set_other w8 old k low j apart))
+    (sets bytes i k _ true h at (bit_at_set_same w8 old k low) (λ j _ distinct. bit_at_set_other w8 old k low j distinct))
 written bytes i k byte false h small at e =
     let old : ℕ = get_or bytes (i / 8) 0 in
     let low : k < 8 = omega arith in
     rw (e ∙ sym (byte_cleared old k false refl low small))
-    (sets bytes i k _ false h at (bit_at_clear_same w8 old k low) (λ j near apart. bit_at_clear_other w8 old k low j near apart))
+    (sets bytes i k _ false h at (bit_at_clear_same w8 old k low) (λ j near distinct. bit_at_clear_other w8 old k low j near distinct))

@@ -26,7 +26,7 @@ module _ {V : Type 0} (F : Format V) (k : ℕ) {b : List ℕ} {v : V} {x : Compa
         only = only_text F k r.only;
         long = omega (arith, h.total);
         same = (λ _. e, λ _. refl);
-        normal = (λ _. (f.row.fixed k b v r.reads).0 e, λ _. refl);
+        normal = (λ _. (f.components.fixed k b v r.reads).0 e, λ _. refl);
         end = tt;
       }
 
@@ -37,7 +37,7 @@ module _ {V : Type 0} (F : Format V) (k : ℕ) {b : List ℕ} {v : V} {x : Compa
     only = only_text F k r.only;
     long = omega (arith, h.total);
     same = (λ e. cc, λ e. absurd (s (same_text.1 e)));
-    normal = (λ e. cc, λ n. absurd (s (same_text.1 ((f.row.fixed k b v r.reads).1 n))));
+    normal = (λ e. cc, λ n. absurd (s (same_text.1 ((f.components.fixed k b v r.reads).1 n))));
     end = h.place;
   }
 

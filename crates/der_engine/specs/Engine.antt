@@ -62,7 +62,7 @@ Says K b (Refused e) mode w = SaysRefused K b e mode w
 Says K b _ mode w = ⊥
 
 -- the sink took all that is written of b
-pub record Told (K : Rewriting) (b : List ℕ) (outcome : Outcome) (mode : Mode) (old new : Option (List ℕ)) : Type 0 where
+pub record Distinct (K : Rewriting) (b : List ℕ) (outcome : Outcome) (mode : Mode) (old new : Option (List ℕ)) : Type 0 where
   pub written : List ℕ
   pub says : Says K b outcome mode written
   pub appended : Appends old new written
@@ -79,7 +79,7 @@ pub record CutShort (K : Rewriting) (b : List ℕ) (mode : Mode) (old new : Opti
 abbrev pub Leaves : {S : Type 0} → Rewriting → List ℕ → Outcome → Mode → (S → Option (List ℕ)) → S → S → Type 0
 Leaves K b ReadFailed mode held old new = new ≡ old
 Leaves K b WriteFailed mode held old new = CutShort K b mode (held old) (held new)
-Leaves K b outcome mode held old new = Told K b outcome mode (held old) (held new)
+Leaves K b outcome mode held old new = Distinct K b outcome mode (held old) (held new)
 
 -- what a run leaves in a sink
 pub record Runs {S : Type 0} (K : Rewriting) (mode : Mode) (coming : Option (List ℕ)) (held : S → Option (List ℕ)) (old new : S) (outcome : Outcome) : Type 0 where

@@ -27,8 +27,8 @@ pub record IsRewritten (K : Rewriting) (b old new : List ℕ) : Type 0 where
   pub only : (t : List ℕ) → K.To b t → t ≡ text
   pub appended : new ≡ old ++ text
 
-abbrev pub RewritesBehind : Rewriting → List ℕ → List ℕ → List ℕ → Result (Unit {0}) Error → Type 0
-RewritesBehind K b old new r = MatchResult r (λ _. IsRewritten K b old new) (λ e. IsRefusal K b e × (new ≡ old))
+abbrev pub RewritesAfter : Rewriting → List ℕ → List ℕ → List ℕ → Result (Unit {0}) Error → Type 0
+RewritesAfter K b old new r = MatchResult r (λ _. IsRewritten K b old new) (λ e. IsRefusal K b e × (new ≡ old))
 
 -- what is to be written, and with which outcome
 abbrev pub Answers : {A : Type 0} → (A → List ℕ) → Rewriting → List ℕ → Mode → Result (Outcome × A) Error → Type 0

@@ -2,7 +2,7 @@
 
 ghost use Rattle.std.specs.Prelude.{◌≡◌, ◌≤◌, List, ℕ};
 ghost use Rattle.der_engine.specs.Engine.{Rewriting};
-ghost use Rattle.der_engine.specs.Steps.{Checks, RewritesBehind};
+ghost use Rattle.der_engine.specs.Steps.{Checks, RewritesAfter};
 ghost use Rattle.der_engine.specs.Verdicts.{FindsEnd, Locates};
 
 use crate::verdict::{Verdict, check_of, end_of};
@@ -34,7 +34,7 @@ pub trait KindOfInput: Copy {
     /// What `rewrite_as_limited` is of the type that the kind names.
     fn rewrite(self, alloc: Global, limit: u8, input: &[u8], out: &mut Vec<u8>) -> Result<(), Error>
         requires { limit ≤ 64 }
-        ensures { RewritesBehind (rewriting_at self limit) input.now out.old.items out.new.items result };
+        ensures { RewritesAfter (rewriting_at self limit) input.now out.old.items out.new.items result };
 }
 
 /// What `check_as_limited` is of the type that a kind names.

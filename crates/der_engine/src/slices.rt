@@ -2,7 +2,7 @@
 
 ghost use Rattle.std.specs.Prelude.{◌≤◌};
 ghost use Rattle.der_engine.specs.Engine.{rewriting_at, rewriting_of};
-ghost use Rattle.der_engine.specs.Steps.{Checks, RewritesBehind};
+ghost use Rattle.der_engine.specs.Steps.{Checks, RewritesAfter};
 ghost use Rattle.der_engine.specs.Verdicts.{FindsEnd, Locates};
 
 use crate::verdict::{Verdict, check_of, end_of};
@@ -75,7 +75,7 @@ pub fn rewrite_as<T: DerDeserialize>(
     input: &[u8],
     out: &mut Vec<u8>,
 ) -> Result<(), Error>
-    ensures { RewritesBehind (rewriting_of T.format) input.now out.old.items out.new.items result }
+    ensures { RewritesAfter (rewriting_of T.format) input.now out.old.items out.new.items result }
 {
     rewrite_as_limited::<T>(alloc, MAX_NESTING, input, out)
 }
@@ -88,7 +88,7 @@ pub fn rewrite_as_limited<T: DerDeserialize>(
     out: &mut Vec<u8>,
 ) -> Result<(), Error>
     requires { limit ≤ 64 }
-    ensures { RewritesBehind (rewriting_at T.format limit) input.now out.old.items out.new.items result }
+    ensures { RewritesAfter (rewriting_at T.format limit) input.now out.old.items out.new.items result }
 {
     let value = from_bytes_limited::<T>(alloc, limit, input)?;
     value.write(alloc, out)

@@ -7,7 +7,7 @@ ghost use Rattle.std.proofs.Common.{arith, refl, rules};
 ghost use Rattle.asn1_core.specs.Der.{option_value, oid_from_test};
 ghost use Rattle.example_ticket.specs.Tickets.{token_oid, HolderValue, holder_value, holder, lawful_holder, ticket};
 
-use asn1_choices::{AnyOid, AnyOidRef, Arm, Chosen, Named, WriteChoice};
+use asn1_choices::{AnyOid, AnyOidRef, Alternative, Chosen, Named, WriteChoice};
 use asn1_core::prelude::*;
 use std::alloc::Global;
 
@@ -38,10 +38,10 @@ pub enum Holder {
     },
 }
 
-type HolderChoice = Either<Arm<Token, Alone<OctetStringAsn1>>, AnyOid<Alone<Asn1RawDer>>>;
+type HolderChoice = Either<Alternative<Token, Alone<OctetStringAsn1>>, AnyOid<Alone<Asn1RawDer>>>;
 
 type HolderRef<'a> = Either<
-    Arm<Token, Alone<Ref<'a, OctetStringAsn1>>>,
+    Alternative<Token, Alone<Ref<'a, OctetStringAsn1>>>,
     AnyOidRef<'a, Alone<Ref<'a, Asn1RawDer>>>,
 >;
 
@@ -50,7 +50,7 @@ impl Holder {
         ensures { ⟦<HolderRef<'static> as WriteChoice>⟧.value result ≡ holder_value self.now }
     {
         match self {
-            Holder::Token(octets) => Either::First(Arm::new(Alone(Ref(octets)))),
+            Holder::Token(octets) => Either::First(Alternative::new(Alone(Ref(octets)))),
             Holder::Unknown { type_id, value } => Either::Second(AnyOidRef(
                 type_id,
                 Alone(Ref(value)),
@@ -79,7 +79,7 @@ impl DerDeserialize for Holder {
     fn read(alloc: Global, r: &mut Reader<'_>, nest: u8) -> Result<Self, Error> {
         let Chosen(choice) = read_within::<Chosen<HolderChoice>>(alloc, r, nest, 0x30)?;
         match choice {
-            Either::First(arm) => Ok(Holder::Token(arm.into_row().0)),
+            Either::First(alternative) => Ok(Holder::Token(alternative.into_components().0)),
             Either::Second(other) => {
                 let AnyOid(type_id, Alone(value)) = other;
                 Ok(Holder::Unknown { type_id, value })

@@ -3,7 +3,7 @@ use Rattle.std.proofs.Common.{◌≡◌, ℕ, List, true, sym, ap, ◌∙◌, su
 use Rattle.asn1_core.specs.Der.{IsOid}
 use Rattle.x509_base.specs.Algorithms.{AlgorithmValue}
 use Rattle.x509_base.specs.AlgorithmLaws.{null_is_element}
-use Rattle.x509_base.specs.AlgorithmChoices.{arm_read}
+use Rattle.x509_base.specs.AlgorithmChoices.{alternative_read}
 use Rattle.pkcs12_algs.specs.Algorithms.{KnownOrRaw, known_or_raw, from_raw, IsKnown}
 use Rattle.pkcs12_algs.specs.Tables.{listing, are_oids}
 use Rattle.pkcs12_algs.specs.TableLaws.{one_listed, listing_is_table, valid_listed}
@@ -11,7 +11,7 @@ use Rattle.pkcs12_algs.specs.TableLaws.{one_listed, listing_is_table, valid_list
 module _ (oids : List (List ℕ)) where
   -- a known object identifier picks its alternative
   pub known_read : (x : KnownOrRaw oids) (o : List ℕ) (v : AlgorithmValue) → IsKnown oids x o → v.0 ≡ o → x ≡ from_raw oids v
-  known_read (inl a) o v h e = sym (ap (λ r. arm_read r v) (ap (listing oids).arm_of (e ∙ sym h) ∙ (listing_is_table oids).there a))
+  known_read (inl a) o v h e = sym (ap (λ r. alternative_read r v) (ap (listing oids).alternative_of (e ∙ sym h) ∙ (listing_is_table oids).there a))
   known_read (inr w) o v h e = absurd h
 
   pub same_known : (x y : KnownOrRaw oids) (o : List ℕ) → IsKnown oids x o → IsKnown oids y o → x ≡ y

@@ -1,2 +1,2 @@
-pub mod AlgorithmArms
+pub mod AlgorithmAlternatives
 pub mod KnownAlgorithms

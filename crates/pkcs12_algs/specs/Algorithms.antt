@@ -4,7 +4,7 @@ use Rattle.std.proofs.Common.{inl, inr}
 use Rattle.asn1_core.specs.Der.{from_one, Format}
 use Rattle.x509_base.specs.Algorithms.{AlgorithmValue}
 use Rattle.x509_base.specs.AlgorithmParts.{parts_of, algorithm_value}
-use Rattle.x509_base.specs.AlgorithmChoices.{arm_read, algorithm_choice}
+use Rattle.x509_base.specs.AlgorithmChoices.{alternative_read, algorithm_choice}
 use Rattle.x509_base.specs.declared.algorithms.RawAlgorithmIdentifier.{RawAlgorithmIdentifier}
 use Rattle.pkcs12_algs.specs.Tables.{Listed, listing}
 
@@ -20,7 +20,7 @@ raw_value a = algorithm_value (parts_of a)
 
 -- what an algorithm identifier is read as: a known algorithm, without its parameters, or any other as it is
 abbrev pub from_raw : (oids : List (List ℕ)) → AlgorithmValue → KnownOrRaw oids
-from_raw oids v = arm_read ((listing oids).arm_of v.0) v
+from_raw oids v = alternative_read ((listing oids).alternative_of v.0) v
 
 -- what an algorithm identifier without parameters is read as
 abbrev pub from_oid : (oids : List (List ℕ)) → List ℕ → KnownOrRaw oids

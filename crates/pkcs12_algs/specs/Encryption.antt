@@ -30,11 +30,11 @@ encryption_choice = known pbes2_oid pbes2_params (among pbe_table pbes1_params o
 
 pub lawful_encryption_choice : IsLawfulChoice encryption_choice
 lawful_encryption_choice =
-    lawful_known pbes2_oid pbes2_params (among pbe_table pbes1_params other_algorithm) lawful_pbes2_params.row
-    (lawful_among pbe_table pbes1_params other_algorithm pbe_is_table lawful_pbes1_params.row lawful_other_algorithm)
+    lawful_known pbes2_oid pbes2_params (among pbe_table pbes1_params other_algorithm) lawful_pbes2_params.components
+    (lawful_among pbe_table pbes1_params other_algorithm pbe_is_table lawful_pbes1_params.components lawful_other_algorithm)
 
 abbrev pub encryption_algorithm : Format EncryptionAlgorithmValue
-encryption_algorithm = sequence encryption_choice.row
+encryption_algorithm = sequence encryption_choice.components
 
 pub lawful_encryption_algorithm : IsLawful encryption_algorithm
 lawful_encryption_algorithm = search (der_laws, lawful_encryption_choice) depth 20

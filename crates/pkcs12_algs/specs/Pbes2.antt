@@ -15,8 +15,8 @@ use Rattle.x509_base.specs.OtherAlgorithms.{other_algorithm, lawful_other_algori
 use Rattle.pkcs12_algs.specs.Algorithms.{raw_value}
 use Rattle.pkcs12_algs.specs.Oids.{aes128_cbc_pad_oid, aes192_cbc_pad_oid, aes256_cbc_pad_oid, pbkdf2_oid}
 use Rattle.pkcs12_algs.specs.Pbkdf2.{Pbkdf2Value, pbkdf2_value, pbkdf2_params, lawful_pbkdf2_params}
-use Rattle.pkcs12_algs.specs.Tables.{table, arm_with}
-use Rattle.pkcs12_algs.specs.TableLaws.{is_table, valid_arm}
+use Rattle.pkcs12_algs.specs.Tables.{table, alternative_with}
+use Rattle.pkcs12_algs.specs.TableLaws.{is_table, valid_alternative}
 use Rattle.pkcs12_algs.specs.declared.pbes2.Pbes2AesCbcEncryption.{Pbes2AesCbcEncryption}
 use Rattle.pkcs12_algs.specs.declared.pbes2.Pbes2AesCbcEncryption.TheVariants.{Aes128, Aes192, Aes256}
 use Rattle.pkcs12_algs.specs.declared.pbes2.Pbes2EncryptionScheme.{Pbes2EncryptionScheme}
@@ -36,14 +36,14 @@ aes_kinds = Aes128 ∷ Aes192 ∷ Aes256 ∷ []
 abbrev pub aes_table : Table Pbes2AesCbcEncryption
 aes_table = table aes_oid aes_kinds
 
-found_aes : (a : Pbes2AesCbcEncryption) → arm_with aes_oid aes_kinds (aes_oid a) ≡ Some a
+found_aes : (a : Pbes2AesCbcEncryption) → alternative_with aes_oid aes_kinds (aes_oid a) ≡ Some a
 found_aes a = search rules
 
 pub aes_is_table : IsTable aes_table
 aes_is_table = is_table aes_oid aes_kinds found_aes
 
 pub aes_valid : (a : Pbes2AesCbcEncryption) → IsOid (aes_oid a)
-aes_valid a = valid_arm aes_oid aes_kinds refl (aes_oid a) a (found_aes a)
+aes_valid a = valid_alternative aes_oid aes_kinds refl (aes_oid a) a (found_aes a)
 
 -- PBKDF2 with its parameters, or any other function
 abbrev pub KdfValue : Type 0
@@ -57,10 +57,10 @@ abbrev pub kdf_choice : Choice KdfValue
 kdf_choice = known pbkdf2_oid pbkdf2_params other_algorithm
 
 pub lawful_kdf_choice : IsLawfulChoice kdf_choice
-lawful_kdf_choice = lawful_known pbkdf2_oid pbkdf2_params other_algorithm lawful_pbkdf2_params.row lawful_other_algorithm
+lawful_kdf_choice = lawful_known pbkdf2_oid pbkdf2_params other_algorithm lawful_pbkdf2_params.components lawful_other_algorithm
 
 abbrev pub kdf : Format KdfValue
-kdf = sequence kdf_choice.row
+kdf = sequence kdf_choice.components
 
 pub lawful_kdf : IsLawful kdf
 lawful_kdf = search (der_laws, lawful_kdf_choice) depth 20
@@ -77,10 +77,10 @@ abbrev pub scheme_choice : Choice SchemeValue
 scheme_choice = among aes_table octet_string other_algorithm
 
 pub lawful_scheme_choice : IsLawfulChoice scheme_choice
-lawful_scheme_choice = lawful_among aes_table octet_string other_algorithm aes_is_table lawful_octet_string.row lawful_other_algorithm
+lawful_scheme_choice = lawful_among aes_table octet_string other_algorithm aes_is_table lawful_octet_string.components lawful_other_algorithm
 
 abbrev pub scheme : Format SchemeValue
-scheme = sequence scheme_choice.row
+scheme = sequence scheme_choice.components
 
 pub lawful_scheme : IsLawful scheme
 lawful_scheme = search (der_laws, lawful_scheme_choice) depth 20

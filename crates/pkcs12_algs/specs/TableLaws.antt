@@ -8,30 +8,30 @@ use Rattle.std.proofs.lemmas.Slice.Eq.{bytes_eq-Decides}
 use Rattle.std.specs.Str.{bytes_eq}
 use Rattle.asn1_core.specs.Der.{IsOid, is_oid, oid_from_test}
 use Rattle.asn1_choices.specs.Tables.{IsTable}
-use Rattle.pkcs12_algs.specs.Tables.{arm_with, table, is_listed, Listed, listed_where, listing, are_oids}
+use Rattle.pkcs12_algs.specs.Tables.{alternative_with, table, is_listed, Listed, listed_where, listing, are_oids}
 
 module _ {A : Type 0} (oid_of : A → List ℕ) where
   found : (t : Bool) (b a : A) (o : List ℕ) (rest : Option A) → (t ≡ true → o ≡ oid_of b) → (rest ≡ Some a → oid_of a ≡ o) → (if t then Some b else rest) ≡ Some a → oid_of a ≡ o
   found true b a o rest h g e = let s : b ≡ a = cc in ap oid_of (sym s) ∙ sym (h refl)
   found false b a o rest h g e = g e
 
-  has_oid : (arms : List A) (o : List ℕ) (a : A) → arm_with oid_of arms o ≡ Some a → oid_of a ≡ o
+  has_oid : (alternatives : List A) (o : List ℕ) (a : A) → alternative_with oid_of alternatives o ≡ Some a → oid_of a ≡ o
   has_oid [] o a e = cc
-  has_oid (b ∷ arms) o a e = found (bytes_eq o (oid_of b)) b a o (arm_with oid_of arms o) (bytes_eq-Decides o (oid_of b)).0 (has_oid arms o a) e
+  has_oid (b ∷ alternatives) o a e = found (bytes_eq o (oid_of b)) b a o (alternative_with oid_of alternatives o) (bytes_eq-Decides o (oid_of b)).0 (has_oid alternatives o a) e
 
   -- alternatives of which each is found by its own object identifier are a table
-  pub is_table : (arms : List A) → ((a : A) → arm_with oid_of arms (oid_of a) ≡ Some a) → IsTable (table oid_of arms)
-  is_table arms there = record { there = there; back = has_oid arms }
+  pub is_table : (alternatives : List A) → ((a : A) → alternative_with oid_of alternatives (oid_of a) ≡ Some a) → IsTable (table oid_of alternatives)
+  is_table alternatives there = record { there = there; back = has_oid alternatives }
 
   valid_found : (t : Bool) (b a : A) (rest : Option A) → IsOid (oid_of b) → (rest ≡ Some a → IsOid (oid_of a)) → (if t then Some b else rest) ≡ Some a → IsOid (oid_of a)
   valid_found true b a rest h g e = let s : b ≡ a = cc in subst (λ x. IsOid (oid_of x)) s h
   valid_found false b a rest h g e = g e
 
-  pub valid_arm : (arms : List A) → are_oids (map oid_of arms) ≡ true → (o : List ℕ) (a : A) → arm_with oid_of arms o ≡ Some a → IsOid (oid_of a)
-  valid_arm [] h o a e = cc
-  valid_arm (b ∷ arms) h o a e =
-      let p = and_parts (is_oid (oid_of b)) (are_oids (map oid_of arms)) h in
-      valid_found (bytes_eq o (oid_of b)) b a (arm_with oid_of arms o) (oid_from_test (oid_of b) p.0) (valid_arm arms p.1 o a) e
+  pub valid_alternative : (alternatives : List A) → are_oids (map oid_of alternatives) ≡ true → (o : List ℕ) (a : A) → alternative_with oid_of alternatives o ≡ Some a → IsOid (oid_of a)
+  valid_alternative [] h o a e = cc
+  valid_alternative (b ∷ alternatives) h o a e =
+      let p = and_parts (is_oid (oid_of b)) (are_oids (map oid_of alternatives)) h in
+      valid_found (bytes_eq o (oid_of b)) b a (alternative_with oid_of alternatives o) (oid_from_test (oid_of b) p.0) (valid_alternative alternatives p.1 o a) e
 
 module _ (oids : List (List ℕ)) where
   -- that an object identifier is in the list has one proof

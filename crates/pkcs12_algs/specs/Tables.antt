@@ -6,12 +6,12 @@ use Rattle.asn1_core.specs.Der.{is_oid}
 use Rattle.asn1_choices.specs.Tables.{Table}
 
 -- the first of the alternatives with that object identifier
-abbrev pub arm_with : {A : Type 0} → (A → List ℕ) → List A → List ℕ → Option A
-arm_with oid_of [] o = None
-arm_with oid_of (a ∷ arms) o = if bytes_eq o (oid_of a) then Some a else arm_with oid_of arms o
+abbrev pub alternative_with : {A : Type 0} → (A → List ℕ) → List A → List ℕ → Option A
+alternative_with oid_of [] o = None
+alternative_with oid_of (a ∷ alternatives) o = if bytes_eq o (oid_of a) then Some a else alternative_with oid_of alternatives o
 
 abbrev pub table : {A : Type 0} → (A → List ℕ) → List A → Table A
-table oid_of arms = record { oid_of = oid_of; arm_of = arm_with oid_of arms }
+table oid_of alternatives = record { oid_of = oid_of; alternative_of = alternative_with oid_of alternatives }
 
 abbrev pub is_listed : List (List ℕ) → List ℕ → Bool
 is_listed [] o = false
@@ -26,7 +26,7 @@ listed_where oids o true e = Some (o, e)
 listed_where oids o false e = None
 
 abbrev pub listing : (oids : List (List ℕ)) → Table (Listed oids)
-listing oids = record { oid_of = λ a. a.0; arm_of = λ o. listed_where oids o (is_listed oids o) refl }
+listing oids = record { oid_of = λ a. a.0; alternative_of = λ o. listed_where oids o (is_listed oids o) refl }
 
 -- each of them is the contents octets of an object identifier
 abbrev pub are_oids : List (List ℕ) → Bool

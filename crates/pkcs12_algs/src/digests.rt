@@ -12,7 +12,7 @@ use crate::algorithms::{
     Algorithm, AlgorithmPart, AlgorithmRef, algorithm_from_raw, clone_algorithm, raw_of_algorithm,
 };
 use crate::oids::{SHA1, SHA224, SHA256, SHA384, SHA512};
-use crate::rows::{arm_by_rows, parts_by_rows};
+use crate::rows::{alternative_by_rows, parts_by_rows};
 use asn1_core::prelude::*;
 use std::alloc::Global;
 use std::fmt;
@@ -61,7 +61,7 @@ impl Algorithm for Pkcs12DigestAlgorithm {
     }
 
     fn known(octets: &[u8]) -> Option<Self> {
-        known_digests!(arm_by_rows(octets))
+        known_digests!(alternative_by_rows(octets))
     }
 
     fn other(raw: RawAlgorithmIdentifier) -> Self {

@@ -7,7 +7,7 @@ ghost use Rattle.pkcs12_algs.specs.EncryptionEqual.{encryption_algorithm_equal};
 use crate::oids::Pbes2;
 use crate::pbes1::{Pbes1AlgorithmKind, Pbes1Params};
 use crate::pbes2::Pbes2Params;
-use asn1_choices::{Among, Arm, Chosen, WriteChoice};
+use asn1_choices::{Among, Alternative, Chosen, WriteChoice};
 use asn1_core::prelude::*;
 use std::alloc::Global;
 use x509_base::RawAlgorithmIdentifier;
@@ -32,19 +32,19 @@ pub enum Pkcs12EncryptionAlgorithm {
 
 type Pbes1Ref<'a> = Among<Pbes1AlgorithmKind, Alone<&'a Pbes1Params>, &'a RawAlgorithmIdentifier>;
 
-type EncryptionRef<'a> = Either<Arm<Pbes2, Alone<&'a Pbes2Params>>, Pbes1Ref<'a>>;
+type EncryptionRef<'a> = Either<Alternative<Pbes2, Alone<&'a Pbes2Params>>, Pbes1Ref<'a>>;
 
 type Pbes1Choice = Among<Pbes1AlgorithmKind, Alone<Pbes1Params>, RawAlgorithmIdentifier>;
 
-type EncryptionChoice = Either<Arm<Pbes2, Alone<Pbes2Params>>, Pbes1Choice>;
+type EncryptionChoice = Either<Alternative<Pbes2, Alone<Pbes2Params>>, Pbes1Choice>;
 
 impl Pkcs12EncryptionAlgorithm {
     fn choice(&self) -> EncryptionRef<'_>
         ensures { ⟦<EncryptionRef<'static> as WriteChoice>⟧.value result ≡ encryption_algorithm_value self.now }
     {
         match self {
-            Self::Pbes1 { kind, params } => Either::Second(Among::Arm(*kind, Alone(params))),
-            Self::Pbes2(params) => Either::First(Arm::new(Alone(params))),
+            Self::Pbes1 { kind, params } => Either::Second(Among::Alternative(*kind, Alone(params))),
+            Self::Pbes2(params) => Either::First(Alternative::new(Alone(params))),
             Self::Unknown(raw) => Either::Second(Among::Other(raw)),
         }
     }
@@ -70,8 +70,8 @@ impl DerDeserialize for Pkcs12EncryptionAlgorithm {
     fn read(alloc: Global, r: &mut Reader<'_>, nest: u8) -> Result<Self, Error> {
         let Chosen(choice) = read_within::<Chosen<EncryptionChoice>>(alloc, r, nest, 0x30)?;
         match choice {
-            Either::First(arm) => Ok(Self::Pbes2(arm.into_row().0)),
-            Either::Second(Among::Arm(kind, Alone(params))) => Ok(Self::Pbes1 { kind, params }),
+            Either::First(alternative) => Ok(Self::Pbes2(alternative.into_components().0)),
+            Either::Second(Among::Alternative(kind, Alone(params))) => Ok(Self::Pbes1 { kind, params }),
             Either::Second(Among::Other(raw)) => Ok(Self::Unknown(raw)),
         }
     }

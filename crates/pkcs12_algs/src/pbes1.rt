@@ -10,7 +10,7 @@ ghost use Rattle.pkcs12_algs.specs.Names.{pbe_name};
 
 use crate::kinds::{Kind, oid_of_kind};
 use crate::oids::{SHA_AND_3_KEY_3_DES_CBC, SHA_AND_40_BIT_RC2_CBC};
-use crate::rows::{arm_by_rows, octets_by_rows};
+use crate::rows::{alternative_by_rows, octets_by_rows};
 use asn1_choices::OidTable;
 use asn1_core::prelude::*;
 use std::alloc::Global;
@@ -44,7 +44,7 @@ impl OidTable for Pbes1AlgorithmKind {
     }
 
     fn with_octets(octets: &[u8]) -> Option<Self> {
-        pbe_kinds!(arm_by_rows(octets))
+        pbe_kinds!(alternative_by_rows(octets))
     }
 
     ghost is_table = { pbe_is_table };

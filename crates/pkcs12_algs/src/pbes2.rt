@@ -12,8 +12,8 @@ ghost use Rattle.pkcs12_algs.specs.Names.{aes_name};
 use crate::kinds::{Kind, oid_of_kind};
 use crate::oids::{AES128_CBC_PAD, AES192_CBC_PAD, AES256_CBC_PAD, Pbkdf2};
 use crate::pbkdf2::Pbkdf2Params;
-use crate::rows::{arm_by_rows, octets_by_rows};
-use asn1_choices::{Among, Arm, Chosen, OidTable, WriteChoice};
+use crate::rows::{alternative_by_rows, octets_by_rows};
+use asn1_choices::{Among, Alternative, Chosen, OidTable, WriteChoice};
 use asn1_core::prelude::*;
 use std::alloc::Global;
 use std::fmt;
@@ -29,16 +29,16 @@ pub enum Pbes2KeyDerivationFunc {
     Unknown(RawAlgorithmIdentifier),
 }
 
-type KdfChoice = Either<Arm<Pbkdf2, Alone<Pbkdf2Params>>, RawAlgorithmIdentifier>;
+type KdfChoice = Either<Alternative<Pbkdf2, Alone<Pbkdf2Params>>, RawAlgorithmIdentifier>;
 
-type KdfRef<'a> = Either<Arm<Pbkdf2, Alone<&'a Pbkdf2Params>>, &'a RawAlgorithmIdentifier>;
+type KdfRef<'a> = Either<Alternative<Pbkdf2, Alone<&'a Pbkdf2Params>>, &'a RawAlgorithmIdentifier>;
 
 impl Pbes2KeyDerivationFunc {
     fn choice(&self) -> KdfRef<'_>
         ensures { ⟦<KdfRef<'static> as WriteChoice>⟧.value result ≡ kdf_value self.now }
     {
         match self {
-            Self::Pbkdf2(params) => Either::First(Arm::new(Alone(params))),
+            Self::Pbkdf2(params) => Either::First(Alternative::new(Alone(params))),
             Self::Unknown(raw) => Either::Second(raw),
         }
     }
@@ -64,7 +64,7 @@ impl DerDeserialize for Pbes2KeyDerivationFunc {
     fn read(alloc: Global, r: &mut Reader<'_>, nest: u8) -> Result<Self, Error> {
         let Chosen(choice) = read_within::<Chosen<KdfChoice>>(alloc, r, nest, 0x30)?;
         match choice {
-            Either::First(arm) => Ok(Self::Pbkdf2(arm.into_row().0)),
+            Either::First(alternative) => Ok(Self::Pbkdf2(alternative.into_components().0)),
             Either::Second(raw) => Ok(Self::Unknown(raw)),
         }
     }
@@ -116,7 +116,7 @@ impl OidTable for Pbes2AesCbcEncryption {
     }
 
     fn with_octets(octets: &[u8]) -> Option<Self> {
-        aes_kinds!(arm_by_rows(octets))
+        aes_kinds!(alternative_by_rows(octets))
     }
 
     ghost is_table = { aes_is_table };
@@ -196,7 +196,7 @@ impl Pbes2EncryptionScheme {
         ensures { ⟦<SchemeRef<'static> as WriteChoice>⟧.value result ≡ scheme_value self.now }
     {
         match self {
-            Self::AesCbc { kind, iv } => Among::Arm(*kind, Alone(iv)),
+            Self::AesCbc { kind, iv } => Among::Alternative(*kind, Alone(iv)),
             Self::Unknown(raw) => Among::Other(raw),
         }
     }
@@ -222,7 +222,7 @@ impl DerDeserialize for Pbes2EncryptionScheme {
     fn read(alloc: Global, r: &mut Reader<'_>, nest: u8) -> Result<Self, Error> {
         let Chosen(choice) = read_within::<Chosen<SchemeChoice>>(alloc, r, nest, 0x30)?;
         match choice {
-            Among::Arm(kind, Alone(iv)) => Ok(Self::AesCbc { kind, iv }),
+            Among::Alternative(kind, Alone(iv)) => Ok(Self::AesCbc { kind, iv }),
             Among::Other(raw) => Ok(Self::Unknown(raw)),
         }
     }

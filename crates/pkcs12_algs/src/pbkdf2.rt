@@ -8,7 +8,7 @@ ghost use Rattle.pkcs12_algs.specs.Equal.{pbkdf2_equal};
 use crate::algorithms::{AlgorithmPart, AlgorithmRef};
 use crate::prfs::Pbkdf2Prf;
 use asn1_core::prelude::*;
-use asn1_core_format::rows::next_is;
+use asn1_core_format::components::next_is;
 use std::alloc::Global;
 use x509_base::RawAlgorithmIdentifier;
 
@@ -120,8 +120,8 @@ type Pbkdf2Ref<'a> = Part<
 >;
 
 impl Pbkdf2Params {
-    fn row(&self) -> Pbkdf2Ref<'_>
-        ensures { ⟦<Pbkdf2Ref<'static> as WriteRow>⟧.value result ≡ ⟦<Pbkdf2Params as DerSerialize>⟧.value self.now }
+    fn components(&self) -> Pbkdf2Ref<'_>
+        ensures { ⟦<Pbkdf2Ref<'static> as WriteComponents>⟧.value result ≡ ⟦<Pbkdf2Params as DerSerialize>⟧.value self.now }
     {
         let prf = match &self.prf {
             Some(prf) => Some(AlgorithmRef(prf)),
@@ -145,11 +145,11 @@ impl DerSerialize for Pbkdf2Params {
     ghost format = { pbkdf2_params };
 
     fn put<W: Writer>(&self, w: &mut W) -> Result<(), WriteError> {
-        put_within(0x30, &self.row(), w)
+        put_within(0x30, &self.components(), w)
     }
 
     fn well_formed_at(&self, limit: u8) -> bool {
-        self.row().row_well_formed_at(limit)
+        self.components().components_well_formed_at(limit)
     }
 }
 

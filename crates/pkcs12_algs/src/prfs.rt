@@ -13,7 +13,7 @@ use crate::algorithms::{Algorithm, algorithm_from_raw, clone_algorithm, raw_of_a
 use crate::oids::{
     HMAC_WITH_SHA1, HMAC_WITH_SHA224, HMAC_WITH_SHA256, HMAC_WITH_SHA384, HMAC_WITH_SHA512,
 };
-use crate::rows::{arm_by_rows, parts_by_rows};
+use crate::rows::{alternative_by_rows, parts_by_rows};
 use asn1_core::prelude::*;
 use std::alloc::Global;
 use std::fmt;
@@ -71,7 +71,7 @@ impl Algorithm for Pbkdf2Prf {
     }
 
     fn known(octets: &[u8]) -> Option<Self> {
-        known_functions!(arm_by_rows(octets))
+        known_functions!(alternative_by_rows(octets))
     }
 
     fn other(raw: RawAlgorithmIdentifier) -> Self {

@@ -2,9 +2,9 @@
 
 /// The octets of an algorithm's row, or what it holds where it is unknown.
 macro_rules! parts_by_rows {
-    ($algorithm:expr, $($arm:ident = $octets:ident,)*) => {
+    ($algorithm:expr, $($alternative:ident = $octets:ident,)*) => {
         match $algorithm {
-            $(Self::$arm => Ok($octets),)*
+            $(Self::$alternative => Ok($octets),)*
             Self::Unknown(raw) => Err(raw),
         }
     };
@@ -12,23 +12,23 @@ macro_rules! parts_by_rows {
 
 /// The octets of a kind's row.
 macro_rules! octets_by_rows {
-    ($kind:expr, $($arm:ident = $octets:ident,)*) => {
+    ($kind:expr, $($alternative:ident = $octets:ident,)*) => {
         match $kind {
-            $(Self::$arm => $octets,)*
+            $(Self::$alternative => $octets,)*
         }
     };
 }
 
 /// The alternative whose row has these octets.
-macro_rules! arm_by_rows {
-    ($octets:expr, $($arm:ident = $row:ident,)*) => {
+macro_rules! alternative_by_rows {
+    ($octets:expr, $($alternative:ident = $row:ident,)*) => {
         match $octets {
-            $($row => Some(Self::$arm),)*
+            $($row => Some(Self::$alternative),)*
             _ => None,
         }
     };
 }
 
-pub(crate) use arm_by_rows;
+pub(crate) use alternative_by_rows;
 pub(crate) use octets_by_rows;
 pub(crate) use parts_by_rows;

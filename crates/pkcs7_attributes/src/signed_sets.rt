@@ -49,7 +49,7 @@ impl DerSerialize for AttributesAsSet<'_> {
     }
 
     fn well_formed_at(&self, limit: u8) -> bool {
-        self.0.0.0.row_well_formed_at(limit)
+        self.0.0.0.components_well_formed_at(limit)
     }
 }
 

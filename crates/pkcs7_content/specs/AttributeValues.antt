@@ -5,15 +5,15 @@
 -- certificate policies OCTET STRING (CONTAINING SEQUENCE OF CertPolicy)
 -- any others ANY
 use Rattle.std.specs.Prelude.{◌⊎◌, ℕ, List, ◌≡◌, map}
-use Rattle.asn1_core.specs.Der.{no_tag, Format, within, set_of, object_identifier, octet_string, raw, OidOctets, ElementOctets, IsLawful, IsLawfulRow, lawful_within, lawful_set, lawful_each, lawful_sequence, lawful_object_identifier, lawful_octet_string, lawful_raw, octets_of, sequence_of, either}
+use Rattle.asn1_core.specs.Der.{no_tag, Format, within, set_of, object_identifier, octet_string, raw, OidOctets, ElementOctets, IsLawful, IsLawfulComponents, lawful_within, lawful_set, lawful_each, lawful_sequence, lawful_object_identifier, lawful_octet_string, lawful_raw, octets_of, sequence_of, either}
 use Rattle.asn1_core.specs.Words as Words
 use Rattle.std.proofs.Common.{inl, inr, arith, refl}
-use Rattle.asn1_choices.specs.DefinedBy.{DefinedBy, arm, by_itself, only_written}
+use Rattle.asn1_choices.specs.DefinedBy.{DefinedBy, alternative, by_itself, only_written}
 use Rattle.pkcs7_content.specs.Policies.{ChainPolicyValue, chain_policy, CertPolicyValue, cert_policy, lawful_chain_policy, lawful_cert_policy, chain_policy_value, cert_policy_value}
 use Rattle.pkcs7_content.specs.Properties.{property_of, shape_of}
 use Rattle.pkcs7_content.specs.declared.trust_lists.properties.Shape.{Shape}
 use Rattle.pkcs7_content.specs.declared.trust_lists.properties.Shape.TheVariants.{Octets, Usages, ChainPolicies, CertPolicies, Raws}
-use Rattle.asn1_choices.specs.DefinedByLaws.{IsDefinedBy, itself, lawful_arm}
+use Rattle.asn1_choices.specs.DefinedByLaws.{IsDefinedBy, itself, lawful_alternative}
 use Rattle.asn1_core.specs.declared.lists.Asn1SetOf.{Asn1SetOf}
 use Rattle.asn1_core.specs.declared.octets.OctetStringAsn1.{OctetStringAsn1}
 use Rattle.asn1_core.specs.declared.containers.OctetStringAsn1Container.{OctetStringAsn1Container}
@@ -94,28 +94,28 @@ abbrev pub attribute_values : Format AttributeValues
 attribute_values = only_written (either (numbered octets_set) (either (numbered usages_set) (either chain_policies_set (either cert_policies_set raws_set))))
 
 -- the values of the property with that number, which are of that shape
-abbrev pub values_row : Shape → ℕ → Format AttributeValues
-values_row Octets n = arm attribute_values (by_itself (λ v. inl (n, v))) octets_set
-values_row Usages n = arm attribute_values (by_itself (λ v. inr (inl (n, v)))) usages_set
-values_row ChainPolicies n = arm attribute_values (by_itself (λ v. inr (inr (inl v)))) chain_policies_set
-values_row CertPolicies n = arm attribute_values (by_itself (λ v. inr (inr (inr (inl v))))) cert_policies_set
-values_row Raws n = arm attribute_values (by_itself (λ v. inr (inr (inr (inr v))))) raws_set
+abbrev pub values_components : Shape → ℕ → Format AttributeValues
+values_components Octets n = alternative attribute_values (by_itself (λ v. inl (n, v))) octets_set
+values_components Usages n = alternative attribute_values (by_itself (λ v. inr (inl (n, v)))) usages_set
+values_components ChainPolicies n = alternative attribute_values (by_itself (λ v. inr (inr (inl v)))) chain_policies_set
+values_components CertPolicies n = alternative attribute_values (by_itself (λ v. inr (inr (inr (inl v))))) cert_policies_set
+values_components Raws n = alternative attribute_values (by_itself (λ v. inr (inr (inr (inr v))))) raws_set
 
 -- the object identifier says which property it is, and so which values follow it
 abbrev pub values_defined_by : DefinedBy AttributeValues
-values_defined_by = record { text = attribute_values.text; row = λ o. values_row (shape_of (property_of o)) (property_of o) }
+values_defined_by = record { text = attribute_values.text; components = λ o. values_components (shape_of (property_of o)) (property_of o) }
 
 lawful_held : {V : Type 0} (F : Format V) → IsLawful F → IsLawful (within 0x04 F)
-lawful_held F f = lawful_within F f.row 0x04 (omega arith)
+lawful_held F f = lawful_within F f.components 0x04 (omega arith)
 
-lawful_values_row : (s : Shape) (n : ℕ) → IsLawfulRow (values_row s n)
-lawful_values_row Octets n = lawful_arm attribute_values _ octets_set (itself (λ a. refl) (λ a. refl) (λ a. refl)) (lawful_set _ lawful_octet_string).row
-lawful_values_row Usages n = lawful_arm attribute_values _ usages_set (itself (λ a. refl) (λ a. refl) (λ a. refl)) (lawful_set _ (lawful_held _ (lawful_sequence (lawful_each _ lawful_object_identifier)))).row
-lawful_values_row ChainPolicies n = lawful_arm attribute_values _ chain_policies_set (itself (λ a. refl) (λ a. refl) (λ a. refl)) (lawful_set _ (lawful_held _ lawful_chain_policy)).row
-lawful_values_row CertPolicies n = lawful_arm attribute_values _ cert_policies_set (itself (λ a. refl) (λ a. refl) (λ a. refl)) (lawful_set _ (lawful_held _ (lawful_sequence (lawful_each _ lawful_cert_policy)))).row
-lawful_values_row Raws n = lawful_arm attribute_values _ raws_set (itself (λ a. refl) (λ a. refl) (λ a. refl)) (lawful_set _ lawful_raw).row
+lawful_values_components : (s : Shape) (n : ℕ) → IsLawfulComponents (values_components s n)
+lawful_values_components Octets n = lawful_alternative attribute_values _ octets_set (itself (λ a. refl) (λ a. refl) (λ a. refl)) (lawful_set _ lawful_octet_string).components
+lawful_values_components Usages n = lawful_alternative attribute_values _ usages_set (itself (λ a. refl) (λ a. refl) (λ a. refl)) (lawful_set _ (lawful_held _ (lawful_sequence (lawful_each _ lawful_object_identifier)))).components
+lawful_values_components ChainPolicies n = lawful_alternative attribute_values _ chain_policies_set (itself (λ a. refl) (λ a. refl) (λ a. refl)) (lawful_set _ (lawful_held _ lawful_chain_policy)).components
+lawful_values_components CertPolicies n = lawful_alternative attribute_values _ cert_policies_set (itself (λ a. refl) (λ a. refl) (λ a. refl)) (lawful_set _ (lawful_held _ (lawful_sequence (lawful_each _ lawful_cert_policy)))).components
+lawful_values_components Raws n = lawful_alternative attribute_values _ raws_set (itself (λ a. refl) (λ a. refl) (λ a. refl)) (lawful_set _ lawful_raw).components
 
-written_alike : (s : Shape) (n : ℕ) (v : AttributeValues) → (values_row s n).text v ≡ attribute_values.text v
+written_alike : (s : Shape) (n : ℕ) (v : AttributeValues) → (values_components s n).text v ≡ attribute_values.text v
 written_alike Octets n v = refl
 written_alike Usages n v = refl
 written_alike ChainPolicies n v = refl
@@ -124,6 +124,6 @@ written_alike Raws n v = refl
 
 pub values_are_defined_by : IsDefinedBy values_defined_by
 values_are_defined_by = record {
-  lawful = λ o. lawful_values_row (shape_of (property_of o)) (property_of o);
+  lawful = λ o. lawful_values_components (shape_of (property_of o)) (property_of o);
   alike = λ o v. written_alike (shape_of (property_of o)) (property_of o) v;
 }

@@ -5,7 +5,7 @@ use Rattle.std.specs.Prelude.{◌⊎◌, ℕ, List, Option, Some, if◌then◌el
 use Rattle.asn1_core.specs.Der.{Format, sequence, part, optional, nothing, octet_string, option_value, Octets, OidOctets, octets_of, explicit, either}
 use Rattle.std.specs.Str.{bytes_eq}
 use Rattle.std.proofs.Common.{inl, inr}
-use Rattle.asn1_choices.specs.DefinedBy.{DefinedBy, any_defined_by, Arm, arm, by_itself, only_written}
+use Rattle.asn1_choices.specs.DefinedBy.{DefinedBy, any_defined_by, Alternative, alternative, by_itself, only_written}
 use Rattle.pkcs7_content.specs.IndirectData.{IndirectDataValue, indirect_data, indirect_data_value}
 use Rattle.pkcs7_content.specs.Oids.{data_oid, indirect_data_oid, trust_list_oid}
 use Rattle.pkcs7_content.specs.declared.contents.Kind.{Kind}
@@ -29,13 +29,13 @@ content_value (Content.CertificateTrustList x) = inr (inr (inr (ctl_value x)))
 abbrev pub content_values : Format ContentValues
 content_values = only_written (either indirect_data (either octet_string (either octet_string ctl)))
 
-abbrev pub ContentRow : Type 0
-ContentRow = Option ContentValues × Unit {0}
+abbrev pub ContentComponents : Type 0
+ContentComponents = Option ContentValues × Unit {0}
 
-abbrev pub content_row_value : Option (ExplicitContextTag0 ContentValue) → ContentRow
-content_row_value c = (option_value (λ x. content_value x.0) c, tt)
+abbrev pub content_components_value : Option (ExplicitContextTag0 ContentValue) → ContentComponents
+content_components_value c = (option_value (λ x. content_value x.0) c, tt)
 
-abbrev pub written_content : Format ContentRow
+abbrev pub written_content : Format ContentComponents
 written_content = optional (explicit 0 content_values) nothing
 
 abbrev pub content_kind : List ℕ → Kind
@@ -65,44 +65,44 @@ as_octets (inr (inr (inl x))) = inr (inl x)
 as_octets (inr (inr (inr x))) = inr (inr (inr x))
 
 -- plain octets, or none
-abbrev pub OctetsRow : Type 0
-OctetsRow = Option Octets × Unit {0}
+abbrev pub OctetsComponents : Type 0
+OctetsComponents = Option Octets × Unit {0}
 
-abbrev pub octets_row : Format OctetsRow
-octets_row = optional (explicit 0 octet_string) nothing
+abbrev pub octets_components : Format OctetsComponents
+octets_components = optional (explicit 0 octet_string) nothing
 
 -- Data and octets have the same encoding. It is read as data after id-data, and as octets after an object identifier
 -- that isn't known.
-abbrev pub to_data : Arm Octets ContentValues
+abbrev pub to_data : Alternative Octets ContentValues
 to_data = record { put = λ x. inr (inr (inl x)); brought = as_data }
 
-abbrev pub to_octets : Arm Octets ContentValues
+abbrev pub to_octets : Alternative Octets ContentValues
 to_octets = record { put = λ x. inr (inl x); brought = as_octets }
 
 -- the same for content that may be absent
-abbrev pub perhaps_in : Arm Octets ContentValues → Arm OctetsRow ContentRow
+abbrev pub perhaps_in : Alternative Octets ContentValues → Alternative OctetsComponents ContentComponents
 perhaps_in m = record { put = λ p. (option_value m.put p.0, p.1); brought = λ c. (option_value m.brought c.0, c.1) }
 
-abbrev pub data_arm : Arm OctetsRow ContentRow
-data_arm = perhaps_in to_data
+abbrev pub data_alternative : Alternative OctetsComponents ContentComponents
+data_alternative = perhaps_in to_data
 
-abbrev pub octets_arm : Arm OctetsRow ContentRow
-octets_arm = perhaps_in to_octets
+abbrev pub octets_alternative : Alternative OctetsComponents ContentComponents
+octets_alternative = perhaps_in to_octets
 
-abbrev pub content_row : Kind → Format ContentRow
-content_row IndirectData = arm written_content (by_itself (λ p. (Some (inl p.0), p.1))) (part (explicit 0 indirect_data) nothing)
-content_row TrustList = arm written_content (by_itself (λ p. (Some (inr (inr (inr p.0))), p.1))) (part (explicit 0 ctl) nothing)
-content_row PlainData = arm written_content data_arm octets_row
-content_row Foreign = arm written_content octets_arm octets_row
+abbrev pub content_components : Kind → Format ContentComponents
+content_components IndirectData = alternative written_content (by_itself (λ p. (Some (inl p.0), p.1))) (part (explicit 0 indirect_data) nothing)
+content_components TrustList = alternative written_content (by_itself (λ p. (Some (inr (inr (inr p.0))), p.1))) (part (explicit 0 ctl) nothing)
+content_components PlainData = alternative written_content data_alternative octets_components
+content_components Foreign = alternative written_content octets_alternative octets_components
 
-abbrev pub content_defined_by : DefinedBy ContentRow
-content_defined_by = record { text = written_content.text; row = λ o. content_row (content_kind o) }
+abbrev pub content_defined_by : DefinedBy ContentComponents
+content_defined_by = record { text = written_content.text; components = λ o. content_components (content_kind o) }
 
 abbrev pub EncapsulatedValue : Type 0
-EncapsulatedValue = OidOctets × ContentRow
+EncapsulatedValue = OidOctets × ContentComponents
 
 abbrev pub encapsulated_value : EncapsulatedContentInfo → EncapsulatedValue
-encapsulated_value x = (octets_of x.content_type.0, content_row_value x.content)
+encapsulated_value x = (octets_of x.content_type.0, content_components_value x.content)
 
 abbrev pub encapsulated : Format EncapsulatedValue
 encapsulated = sequence (any_defined_by content_defined_by)

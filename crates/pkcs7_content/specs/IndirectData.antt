@@ -3,17 +3,17 @@
 -- an SpcPeImageData or an SpcSipInfo
 -- SpcIndirectDataContent ::= SEQUENCE { data SpcAttributeTypeAndOptionalValue, messageDigest DigestInfo }
 use Rattle.std.specs.Prelude.{◌⊎◌, ℕ, List, ◌≡◌, if◌then◌else◌}
-use Rattle.asn1_core.specs.Der.{Format, sequence, part, nothing, OidOctets, IsLawful, IsLawfulRow, octets_of, der_laws, either, lawful_sequence}
+use Rattle.asn1_core.specs.Der.{Format, sequence, part, nothing, OidOctets, IsLawful, IsLawfulComponents, octets_of, der_laws, either, lawful_sequence}
 use Rattle.std.specs.Str.{bytes_eq}
 use Rattle.std.proofs.Common.{inl, inr, refl}
-use Rattle.asn1_choices.specs.DefinedBy.{DefinedBy, any_defined_by, arm, by_itself, no_arm, only_written}
+use Rattle.asn1_choices.specs.DefinedBy.{DefinedBy, any_defined_by, alternative, by_itself, no_alternative, only_written}
 use Rattle.x509_base.specs.Digests.{DigestInfoValue, digest_info, lawful_digest_info, digest_info_value}
 use Rattle.pkcs7_content.specs.Oids.{pe_image_oid, sip_info_oid}
 use Rattle.pkcs7_content.specs.PeImages.{PeImageValue, pe_image_data, pe_image_value}
 use Rattle.pkcs7_content.specs.SipInfos.{SipInfoValue, sip_info, lawful_sip_info, sip_info_value}
 use Rattle.pkcs7_content.specs.declared.indirect_data.Subject.{Subject}
 use Rattle.pkcs7_content.specs.declared.indirect_data.Subject.TheVariants.{PeImage, SipInfo, Foreign}
-use Rattle.asn1_choices.specs.DefinedByLaws.{IsDefinedBy, itself, lawful_arm, lawful_no_arm, lawful_any_defined_by}
+use Rattle.asn1_choices.specs.DefinedByLaws.{IsDefinedBy, itself, lawful_alternative, lawful_no_alternative, lawful_any_defined_by}
 use Rattle.pkcs7_content.specs.PeImageLaws.{lawful_pe_image_data}
 use Rattle.pkcs7_content.specs.declared.indirect_data.SpcAttributeAndOptionalValueValue.{SpcAttributeAndOptionalValueValue}
 use Rattle.pkcs7_content.specs.declared.indirect_data.SpcAttributeAndOptionalValueValue.TheVariants as Spc
@@ -34,13 +34,13 @@ spc_values = only_written (either pe_image_data sip_info)
 abbrev pub subject_of : List ℕ → Subject
 subject_of o = if bytes_eq o pe_image_oid then PeImage else if bytes_eq o sip_info_oid then SipInfo else Foreign
 
-abbrev pub spc_row : Subject → Format SpcValue
-spc_row PeImage = arm spc_values (by_itself inl) pe_image_data
-spc_row SipInfo = arm spc_values (by_itself inr) sip_info
-spc_row Foreign = no_arm spc_values
+abbrev pub spc_components : Subject → Format SpcValue
+spc_components PeImage = alternative spc_values (by_itself inl) pe_image_data
+spc_components SipInfo = alternative spc_values (by_itself inr) sip_info
+spc_components Foreign = no_alternative spc_values
 
 abbrev pub spc_defined_by : DefinedBy SpcValue
-spc_defined_by = record { text = spc_values.text; row = λ o. spc_row (subject_of o) }
+spc_defined_by = record { text = spc_values.text; components = λ o. spc_components (subject_of o) }
 
 abbrev pub SpcAttributeValue : Type 0
 SpcAttributeValue = OidOctets × SpcValue
@@ -60,18 +60,18 @@ indirect_data_value x = (spc_attribute_value x.spc_data, (digest_info_value x.me
 abbrev pub indirect_data : Format IndirectDataValue
 indirect_data = sequence (part spc_attribute (part digest_info nothing))
 
-lawful_spc_row : (s : Subject) → IsLawfulRow (spc_row s)
-lawful_spc_row PeImage = lawful_arm spc_values _ pe_image_data (itself (λ a. refl) (λ a. refl) (λ a. refl)) lawful_pe_image_data.row
-lawful_spc_row SipInfo = lawful_arm spc_values _ sip_info (itself (λ a. refl) (λ a. refl) (λ a. refl)) lawful_sip_info.row
-lawful_spc_row Foreign = lawful_no_arm spc_values
+lawful_spc_components : (s : Subject) → IsLawfulComponents (spc_components s)
+lawful_spc_components PeImage = lawful_alternative spc_values _ pe_image_data (itself (λ a. refl) (λ a. refl) (λ a. refl)) lawful_pe_image_data.components
+lawful_spc_components SipInfo = lawful_alternative spc_values _ sip_info (itself (λ a. refl) (λ a. refl) (λ a. refl)) lawful_sip_info.components
+lawful_spc_components Foreign = lawful_no_alternative spc_values
 
-written_alike : (s : Subject) (v : SpcValue) → (spc_row s).text v ≡ spc_values.text v
+written_alike : (s : Subject) (v : SpcValue) → (spc_components s).text v ≡ spc_values.text v
 written_alike PeImage v = refl
 written_alike SipInfo v = refl
 written_alike Foreign v = refl
 
 pub spc_is_defined_by : IsDefinedBy spc_defined_by
-spc_is_defined_by = record { lawful = λ o. lawful_spc_row (subject_of o); alike = λ o v. written_alike (subject_of o) v }
+spc_is_defined_by = record { lawful = λ o. lawful_spc_components (subject_of o); alike = λ o v. written_alike (subject_of o) v }
 
 pub lawful_spc_attribute : IsLawful spc_attribute
 lawful_spc_attribute = lawful_sequence (lawful_any_defined_by spc_defined_by spc_is_defined_by)

@@ -1,19 +1,19 @@
 -- The laws of what Authenticode says of a PE image.
 use Rattle.std.specs.Prelude.{◌≡◌, ◌↔◌, ℕ, ◌+◌, ◌≤◌, Bool, List, Option, Some, None, true, false}
 use Rattle.std.proofs.Common.{arith, refl, sym, ap, ◌∙◌, subst}
-use Rattle.asn1_core.specs.Der.{IsLawful, IsLawfulRow, lawful_sequence, followed_by, lawful_explicit, lawful_nothing, perhaps, element_same, begins_next, next_apart, IsLoosening, lawful_loosened, least_unless}
+use Rattle.asn1_core.specs.Der.{IsLawful, IsLawfulComponents, lawful_sequence, followed_by, lawful_explicit, lawful_nothing, perhaps, element_same, begins_next, next_distinct, IsLoosening, lawful_loosened, least_unless}
 use Rattle.std.specs.Str.{bytes_eq}
 use Rattle.std.proofs.lemmas.Slice.Eq.{bytes_eq-Decides}
 use Rattle.asn1_leaves.specs.Strings.{lawful_bit_string}
 use Rattle.asn1_leaves_strings.specs.Bits.{IsBits}
 use Rattle.x509_base.specs.SpcLinks.{LinkValue, lawful_spc_link}
-use Rattle.pkcs7_content.specs.PeImages.{default_flags, PeImageValue, file_row, pe_image_spelled, HasFlags, flags_written, pe_image_data}
+use Rattle.pkcs7_content.specs.PeImages.{default_flags, PeImageValue, file_components, pe_image_spelled, HasFlags, flags_written, pe_image_data}
 
-lawful_file_row : IsLawfulRow file_row
-lawful_file_row = followed_by (lawful_explicit (omega arith) lawful_spc_link) lawful_nothing
+lawful_file_components : IsLawfulComponents file_components
+lawful_file_components = followed_by (lawful_explicit (omega arith) lawful_spc_link) lawful_nothing
 
 pub lawful_pe_image_spelled : IsLawful pe_image_spelled
-lawful_pe_image_spelled = lawful_sequence (perhaps lawful_bit_string refl lawful_file_row)
+lawful_pe_image_spelled = lawful_sequence (perhaps lawful_bit_string refl lawful_file_components)
 
 pub default_is_bits : IsBits default_flags
 default_is_bits = (omega arith, λ e. cc)
@@ -30,7 +30,7 @@ flags_chosen k b (Some f, l) s = (
 flags_chosen k b (None, l) s = (
   λ w.
       let c = (element_same 0x30 0x30 w.0 s.0 (sym w.1 ∙ s.1)).1 in
-      absurd (next_apart (λ t. t ≡ 0x03) (λ t. t ≡ 0xA0) w.0 (λ t h e. omega arith) w.2 (lawful_file_row.begins k w.0 l (subst (λ x. file_row.Reads k x l) (sym c) s.2))),
+      absurd (next_distinct (λ t. t ≡ 0x03) (λ t. t ≡ 0xA0) w.0 (λ t h e. omega arith) w.2 (lawful_file_components.begins k w.0 l (subst (λ x. file_components.Reads k x l) (sym c) s.2))),
   λ e. (let h : Some default_flags ≡ None = ap (λ x. x.0) e in cc),
 )
 
@@ -48,9 +48,9 @@ flags_reached true k v e h = (
   (None, v.1),
   (tt, h.1),
   ap (λ f. (f, v.1)) (sym ((bytes_eq-Decides v.0 default_flags).0 e)),
-  ap (λ t. 1 + (least_unless t 1 + file_row.least v.1)) (sym e),
+  ap (λ t. 1 + (least_unless t 1 + file_components.least v.1)) (sym e),
 )
-flags_reached false k v e h = (flags_written.written v, h, refl, ap (λ t. 1 + (least_unless t 1 + file_row.least v.1)) (sym e))
+flags_reached false k v e h = (flags_written.written v, h, refl, ap (λ t. 1 + (least_unless t 1 + file_components.least v.1)) (sym e))
 
 pub flags_loosening : IsLoosening pe_image_spelled flags_written
 flags_loosening = record {

@@ -20,12 +20,12 @@ PeImageValue = BitStringOctets × (LinkValue × Unit {0})
 abbrev pub pe_image_value : SpcPeImageData → PeImageValue
 pe_image_value x = (contents_of x.flags.0.0, (link_value x.file.0, tt))
 
-abbrev pub file_row : Format (LinkValue × Unit {0})
-file_row = part (explicit 0 spc_link) nothing
+abbrev pub file_components : Format (LinkValue × Unit {0})
+file_components = part (explicit 0 spc_link) nothing
 
 -- with the flags as they are encoded, present or absent
 abbrev pub pe_image_spelled : Format (Option BitStringOctets × (LinkValue × Unit {0}))
-pe_image_spelled = sequence (optional bit_string file_row)
+pe_image_spelled = sequence (optional bit_string file_components)
 
 abbrev pub flags_or_default : Option BitStringOctets → BitStringOctets
 flags_or_default (Some flags) = flags
@@ -39,10 +39,10 @@ abbrev pub flags_written : Loosening (Option BitStringOctets × (LinkValue × Un
 flags_written = record {
   read = λ a. (flags_or_default a.0, a.1);
   written = λ v. (Some v.0, v.1);
-  normal = λ v. (v.0, file_row.normal v.1);
+  normal = λ v. (v.0, file_components.normal v.1);
   IsProper = λ _. Unit {0};
   IsWritten = HasFlags;
-  least = λ v. 1 + (least_unless (bytes_eq v.0 default_flags) 1 + file_row.least v.1);
+  least = λ v. 1 + (least_unless (bytes_eq v.0 default_flags) 1 + file_components.least v.1);
 }
 
 abbrev pub pe_image_data : Format PeImageValue

@@ -10,16 +10,16 @@ abbrev pub property_prefix : List ℕ
 property_prefix = arcs (1 ∷ 3 ∷ 6 ∷ 1 ∷ 4 ∷ 1 ∷ 311 ∷ 10 ∷ 11 ∷ [])
 
 -- the octet after the prefix, where there is exactly one, and else 0, which is no property
-abbrev pub octet_behind : List ℕ → List ℕ → ℕ
-octet_behind [] [] = 0
-octet_behind [] (n ∷ []) = n
-octet_behind [] (n ∷ m ∷ os) = 0
-octet_behind (p ∷ ps) [] = 0
-octet_behind (p ∷ ps) (o ∷ os) = if o == p then octet_behind ps os else 0
+abbrev pub octet_after : List ℕ → List ℕ → ℕ
+octet_after [] [] = 0
+octet_after [] (n ∷ []) = n
+octet_after [] (n ∷ m ∷ os) = 0
+octet_after (p ∷ ps) [] = 0
+octet_after (p ∷ ps) (o ∷ os) = if o == p then octet_after ps os else 0
 
 -- the number of an object identifier's property
 abbrev pub property_of : List ℕ → ℕ
-property_of o = octet_behind property_prefix o
+property_of o = octet_after property_prefix o
 
 -- the numbers of the properties that are known, as wincrypt.h gives them, and what the values of each are
 abbrev pub properties : List (ℕ × Shape)

@@ -1,10 +1,10 @@
 //! Encapsulated content (RFC 5652, 5.2).
 
 ghost use Rattle.std.specs.Prelude.{◌≡◌, ◌↔◌, Some, false, IsTrue, MatchResult};
-ghost use Rattle.asn1_core.specs.Der.{option_value, octets_of, GivesRow};
+ghost use Rattle.asn1_core.specs.Der.{option_value, octets_of, GivesComponents};
 ghost use Rattle.std.proofs.Common.{inl, inr};
 ghost use Rattle.asn1_core_element.specs.declared.error.Error.TheVariants.{Memory};
-ghost use Rattle.pkcs7_content.specs.Contents.{ContentValues, content_values, ContentRow, content_kind, IsPlain, octets_row, content_row, content_defined_by, EncapsulatedValue, encapsulated, content_value, content_row_value, encapsulated_value};
+ghost use Rattle.pkcs7_content.specs.Contents.{ContentValues, content_values, ContentComponents, content_kind, IsPlain, octets_components, content_components, content_defined_by, EncapsulatedValue, encapsulated, content_value, content_components_value, encapsulated_value};
 ghost use Rattle.pkcs7_content.specs.ContentLaws.{content_is_defined_by, lawful_encapsulated};
 ghost use Rattle.pkcs7_content.specs.Equal.{content_value_equal, encapsulated_equal};
 ghost use Rattle.pkcs7_content.specs.Oids.{data_oid};
@@ -62,7 +62,7 @@ pub enum ContentValue {
 impl ContentValue {
     /// Whether this is well-formed where the content type says that it is of that kind.
     fn fits(&self, kind: Kind, limit: u8) -> bool
-        ensures { IsTrue result ↔ (content_row kind).IsWellFormed limit (Some (content_value self.now), tt) }
+        ensures { IsTrue result ↔ (content_components kind).IsWellFormed limit (Some (content_value self.now), tt) }
     {
         match self {
             ContentValue::SpcIndirectDataContent(content) => {
@@ -131,9 +131,9 @@ type Tagged = ExplicitContextTag0<ContentValue>;
 struct Content(Option<Tagged>);
 
 impl AnyDefinedBy for Content {
-    ghost Value = { ContentRow };
+    ghost Value = { ContentComponents };
 
-    ghost value = { λ c. content_row_value c.0 };
+    ghost value = { λ c. content_components_value c.0 };
 
     ghost defined_by = { content_defined_by };
 
@@ -148,7 +148,7 @@ impl AnyDefinedBy for Content {
                 let Part(ExplicitContextTag0(content), End) = Part::<
                     ExplicitContextTag0<SpcIndirectDataContent>,
                     End,
-                >::read_row(alloc, r, nest)?;
+                >::read_components(alloc, r, nest)?;
                 let value = ContentValue::SpcIndirectDataContent(content);
                 Ok(Content(Some(ExplicitContextTag0(value))))
             }
@@ -156,7 +156,7 @@ impl AnyDefinedBy for Content {
                 let Part(ExplicitContextTag0(list), End) = Part::<
                     ExplicitContextTag0<Ctl>,
                     End,
-                >::read_row(alloc, r, nest)?;
+                >::read_components(alloc, r, nest)?;
                 let value = ContentValue::CertificateTrustList(list);
                 Ok(Content(Some(ExplicitContextTag0(value))))
             }
@@ -183,9 +183,9 @@ fn read_octets(
     nest: u8,
 ) -> Result<Option<OctetStringAsn1>, Error>
     requires { r.old.refused ≡ false }
-    ensures { GivesRow (λ x. (option_value (λ o. o.0.items) x, tt)) octets_row nest r.old r.new result }
+    ensures { GivesComponents (λ x. (option_value (λ o. o.0.items) x, tt)) octets_components nest r.old r.new result }
 {
-    let Maybe(tagged, End) = Maybe::<ExplicitContextTag0<OctetStringAsn1>, End>::read_row(
+    let Maybe(tagged, End) = Maybe::<ExplicitContextTag0<OctetStringAsn1>, End>::read_components(
         alloc, r, nest,
     )?;
     match tagged {
@@ -196,7 +196,7 @@ fn read_octets(
 
 /// Whether the content, or its absence, is well-formed after a content type with these contents octets.
 fn fits(content: &Option<Tagged>, oid: &[u8], limit: u8) -> bool
-    ensures { IsTrue result ↔ (content_defined_by.row oid.now).IsWellFormed limit (content_row_value content.now) }
+    ensures { IsTrue result ↔ (content_defined_by.components oid.now).IsWellFormed limit (content_components_value content.now) }
 {
     let kind = Kind::with_oid(oid);
     match content {
@@ -219,7 +219,7 @@ impl EncapsulatedContentInfo {
     /// as the alternative that the content type picks. Takes no memory.
     pub fn new(content_type: ObjectIdentifier, content: Option<Vec<u8>>) -> Self
         ensures content_type { result.content_type.0 ≡ content_type }
-        ensures content { content_row_value result.content ≡ (option_value (λ octets. inr (inr (inl octets.items))) content, tt) }
+        ensures content { content_components_value result.content ≡ (option_value (λ octets. inr (inr (inl octets.items))) content, tt) }
     {
         let content = match content {
             Some(octets) => Some(ExplicitContextTag0(ContentValue::Data(OctetStringAsn1(octets)))),

@@ -45,7 +45,7 @@ pub enum SpcAttributeAndOptionalValueValue {
 impl SpcAttributeAndOptionalValueValue {
     /// Whether this is well-formed after an object identifier with these contents octets.
     fn fits(&self, oid: &[u8], limit: u8) -> bool
-        ensures { IsTrue result ↔ (spc_defined_by.row oid.now).IsWellFormed limit (spc_value self.now) }
+        ensures { IsTrue result ↔ (spc_defined_by.components oid.now).IsWellFormed limit (spc_value self.now) }
     {
         let subject = Subject::with_oid(oid);
         match self {
@@ -96,11 +96,11 @@ impl AnyDefinedBy for SpcAttributeAndOptionalValueValue {
     ) -> Result<Self, Error> {
         match Subject::with_oid(oid) {
             Subject::PeImage => {
-                let Alone(image) = Alone::read_row(alloc, r, nest)?;
+                let Alone(image) = Alone::read_components(alloc, r, nest)?;
                 Ok(SpcAttributeAndOptionalValueValue::SpcPeImageData(image))
             }
             Subject::SipInfo => {
-                let Alone(info) = Alone::read_row(alloc, r, nest)?;
+                let Alone(info) = Alone::read_components(alloc, r, nest)?;
                 Ok(SpcAttributeAndOptionalValueValue::SpcSipInfo(info))
             }
             Subject::Foreign => Err(Error::Invalid),

@@ -77,7 +77,7 @@ pub struct SpcPeImageData {
     pub file: ExplicitContextTag0<SpcLink>,
 }
 
-type PeImageRow = Maybe<SpcPeImageFlags, Part<ExplicitContextTag0<SpcLink>, End>>;
+type PeImageComponents = Maybe<SpcPeImageFlags, Part<ExplicitContextTag0<SpcLink>, End>>;
 
 impl DerSerialize for SpcPeImageData {
     ghost Value = { PeImageValue };
@@ -97,8 +97,8 @@ impl DerSerialize for SpcPeImageData {
 
 impl DerDeserialize for SpcPeImageData {
     fn read(alloc: Global, r: &mut Reader<'_>, nest: u8) -> Result<Self, Error> {
-        let row: PeImageRow = read_within(alloc, r, nest, 0x30)?;
-        let fields_of!(spelled OPTIONAL, file) = row;
+        let components: PeImageComponents = read_within(alloc, r, nest, 0x30)?;
+        let fields_of!(spelled OPTIONAL, file) = components;
         match spelled {
             Some(flags) => Ok(SpcPeImageData { flags, file }),
             None => {

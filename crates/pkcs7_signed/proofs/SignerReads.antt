@@ -1,17 +1,17 @@
 -- Reading signers, what they hold and signed data, one level of them.
 use Rattle.std.proofs.Common.{◌≡◌, ℕ, List, map, length, Vec, Global, sym, ap, ◌∙◌, subst, rules, arith, length-append}
-use Rattle.asn1_core.specs.Der.{octets_of, Format, Position, Took, GaveUp, less, TookRow, GaveUpRow}
+use Rattle.asn1_core.specs.Der.{octets_of, Format, Position, HasRead, HasRefused, less, HasReadComponents, HasRefusedComponents}
 use Rattle.asn1_core.specs.declared.objects.ObjectIdentifierAsn1.{ObjectIdentifierAsn1}
 use Rattle.asn1_core_element.specs.declared.error.Error.{Error}
 use Rattle.asn1_core_element.specs.declared.error.Error.TheVariants.{Memory}
-use Rattle.asn1_core_format.proofs.LevelReads.{took_level, refused_level, took_rolled, refused_rolled}
+use Rattle.asn1_core_format.proofs.LevelReads.{has_read_level, refused_level, has_read_rolled, refused_rolled}
 use Rattle.pkcs7_content.specs.declared.versions.CmsVersion.{CmsVersion}
 use Rattle.pkcs7_signed.specs.declared.parts.algorithms.DigestAlgorithmIdentifier.{DigestAlgorithmIdentifier}
 use Rattle.pkcs7_signed.specs.declared.parts.algorithms.SignatureAlgorithmIdentifier.{SignatureAlgorithmIdentifier}
 use Rattle.pkcs7_attributes.specs.declared.attributes.Attributes.{Attributes}
 use Rattle.pkcs7_signed.specs.declared.parts.signers.SignatureValue.{SignatureValue}
 use Rattle.pkcs7_signed.specs.declared.parts.signers.SignerIdentifier.{SignerIdentifier}
-use Rattle.pkcs7_signed.specs.Rows.{signer_row, certificate_row, attribute_row, UnsignedValues, kind_of, values_row}
+use Rattle.pkcs7_signed.specs.Components.{signer_components, certificate_components, attribute_components, UnsignedValues, kind_of, values_components}
 use Rattle.pkcs7_signed.specs.Signers.{Value, signers, attributes, certificates, signer_out, signer_into, certificate_out, certificate_into, attribute_out, attribute_into, still, step, signer, attribute, certificate}
 use Rattle.pkcs7_signed.specs.SignerLaws.{signer_there, certificate_there, attribute_there, signer_step}
 use Rattle.pkcs7_signed.specs.Heads.{signer_parts_value}
@@ -25,23 +25,23 @@ use Rattle.pkcs7_signed.specs.declared.signers.UnsignedAttributes.{roll-Unsigned
 use Rattle.pkcs7_signed.specs.declared.signers.UnsignedAttributeValue.TheFolds.{the_lemmas}
 
 module _ (k : ℕ) {old new : Position} where
-  pub signer_took : (v : Value signers) → Took (signer_row attribute) k old new (signer_out v) → Took signer k old new v
-  signer_took v t = took_level {I = Unit {0}} {V = λ _. Value signers} still step signer_step tt k (took_rolled signer_out signer_into (signer_row attribute) k v t)
+  pub signer_has_read : (v : Value signers) → HasRead (signer_components attribute) k old new (signer_out v) → HasRead signer k old new v
+  signer_has_read v t = has_read_level {I = Unit {0}} {V = λ _. Value signers} still step signer_step tt k (has_read_rolled signer_out signer_into (signer_components attribute) k v t)
 
-  pub signer_refused : {e : Error} → GaveUp (signer_row attribute) k old new e → GaveUp signer k old new e
-  signer_refused g = refused_level {I = Unit {0}} {V = λ _. Value signers} still step signer_step tt k (refused_rolled signer_out signer_into (signer_row attribute) k g)
+  pub signer_refused : {e : Error} → HasRefused (signer_components attribute) k old new e → HasRefused signer k old new e
+  signer_refused g = refused_level {I = Unit {0}} {V = λ _. Value signers} still step signer_step tt k (refused_rolled signer_out signer_into (signer_components attribute) k g)
 
-  pub attribute_took : (v : Value attributes) → Took (attribute_row certificate (less signer)) k old new (attribute_out v) → Took attribute k old new v
-  attribute_took v t = took_rolled attribute_out attribute_into (attribute_row certificate (less signer)) k v t
+  pub attribute_has_read : (v : Value attributes) → HasRead (attribute_components certificate (less signer)) k old new (attribute_out v) → HasRead attribute k old new v
+  attribute_has_read v t = has_read_rolled attribute_out attribute_into (attribute_components certificate (less signer)) k v t
 
-  pub attribute_refused : {e : Error} → GaveUp (attribute_row certificate (less signer)) k old new e → GaveUp attribute k old new e
-  attribute_refused g = refused_rolled attribute_out attribute_into (attribute_row certificate (less signer)) k g
+  pub attribute_refused : {e : Error} → HasRefused (attribute_components certificate (less signer)) k old new e → HasRefused attribute k old new e
+  attribute_refused g = refused_rolled attribute_out attribute_into (attribute_components certificate (less signer)) k g
 
-  pub certificate_took : (v : Value certificates) → Took (certificate_row (less signer)) k old new (certificate_out v) → Took certificate k old new v
-  certificate_took v t = took_rolled certificate_out certificate_into (certificate_row (less signer)) k v t
+  pub certificate_has_read : (v : Value certificates) → HasRead (certificate_components (less signer)) k old new (certificate_out v) → HasRead certificate k old new v
+  certificate_has_read v t = has_read_rolled certificate_out certificate_into (certificate_components (less signer)) k v t
 
-  pub certificate_refused : {e : Error} → GaveUp (certificate_row (less signer)) k old new e → GaveUp certificate k old new e
-  certificate_refused g = refused_rolled certificate_out certificate_into (certificate_row (less signer)) k g
+  pub certificate_refused : {e : Error} → HasRefused (certificate_components (less signer)) k old new e → HasRefused certificate k old new e
+  certificate_refused g = refused_rolled certificate_out certificate_into (certificate_components (less signer)) k g
 
 -- what was read
 pub made_signer : (v : CmsVersion) (s : SignerIdentifier) (d : DigestAlgorithmIdentifier) (a : Attributes) (g : SignatureAlgorithmIdentifier) (o : SignatureValue) (us : Vec UnsignedAttribute Global) → signer_out (signer_value (roll-SignerInfo record { version = v; sid = s; digest_algorithm = d; signed_attrs = record { 0 = a }; signature_algorithm = g; signature = o; unsigned_attrs = record { 0 = roll-UnsignedAttributes record { 0 = us } } })) ≡ signer_parts_value v s d a g o (map attribute_value us.items, tt)
@@ -61,14 +61,14 @@ made_attribute o v =
 
 -- the values of an attribute, by the octets of its object identifier
 module _ {o p : List ℕ} (e : o ≡ p) {k : ℕ} {old new : Position} where
-  pub at_octets : {v : UnsignedValues (Value certificates) (Value signers)} → TookRow (values_row certificate (less signer) (kind_of o)) k old new v → TookRow (values_row certificate (less signer) (kind_of p)) k old new v
-  at_octets {v} t = subst (λ q. TookRow (values_row certificate (less signer) (kind_of q)) k old new v) e t
+  pub at_octets : {v : UnsignedValues (Value certificates) (Value signers)} → HasReadComponents (values_components certificate (less signer) (kind_of o)) k old new v → HasReadComponents (values_components certificate (less signer) (kind_of p)) k old new v
+  at_octets {v} t = subst (λ q. HasReadComponents (values_components certificate (less signer) (kind_of q)) k old new v) e t
 
-  pub refused_at_octets : {x : Error} → GaveUpRow (values_row certificate (less signer) (kind_of o)) k old new x → GaveUpRow (values_row certificate (less signer) (kind_of p)) k old new x
-  refused_at_octets {x} g = subst (λ q. GaveUpRow (values_row certificate (less signer) (kind_of q)) k old new x) e g
+  pub refused_at_octets : {x : Error} → HasRefusedComponents (values_components certificate (less signer) (kind_of o)) k old new x → HasRefusedComponents (values_components certificate (less signer) (kind_of p)) k old new x
+  refused_at_octets {x} g = subst (λ q. HasRefusedComponents (values_components certificate (less signer) (kind_of q)) k old new x) e g
 
 -- memory was refused after an encoding was read
-pub no_memory : {V : Type 0} (F : Format V) (k : ℕ) {old new : Position} {v : V} {e : Error} → Took F k old new v → e ≡ Memory → GaveUp F k old new e
+pub no_memory : {V : Type 0} (F : Format V) (k : ℕ) {old new : Position} {v : V} {e : Error} → HasRead F k old new v → e ≡ Memory → HasRefused F k old new e
 no_memory F k {old} {new} t m = record {
   kind = λ x. (let h = sym m ∙ x in cc);
   none = λ x taken rest v s r. x m;
@@ -76,8 +76,8 @@ no_memory F k {old} {new} t m = record {
   at_most = omega (arith, t.at_most, ap length t.split, length-append t.taken new.left);
 }
 
-pub no_memory_row : {V : Type 0} (R : Format V) (k : ℕ) {old new : Position} {v : V} {e : Error} → TookRow R k old new v → e ≡ Memory → GaveUpRow R k old new e
-no_memory_row R k {old} {new} t m = record {
+pub no_memory_components : {V : Type 0} (R : Format V) (k : ℕ) {old new : Position} {v : V} {e : Error} → HasReadComponents R k old new v → e ≡ Memory → HasRefusedComponents R k old new e
+no_memory_components R k {old} {new} t m = record {
   kind = λ x. (let h = sym m ∙ x in cc);
   none = λ x v r. x m;
   counts = omega (arith, t.at_least);

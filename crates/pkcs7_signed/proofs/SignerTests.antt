@@ -1,8 +1,8 @@
 -- Testing signers, what they hold and signed data, one level of them.
 use Rattle.std.proofs.Common.{◌≡◌, ◌↔◌, ℕ, zero, suc, IsTrue, false, List, [], ◌∷◌, map, refl, sym, subst, inl, inr, rules}
 use Rattle.asn1_core.specs.Der.{Format, nothing, set_of, less, set_or_none, unroll_formed}
-use Rattle.pkcs7_signed.specs.Parts.{SignerParts, signer_end, behind_signer, signer_parts, SignedParts, signed_end, behind_signed, signed_parts}
-use Rattle.pkcs7_signed.specs.Rows.{SignerRow, signer_row, UnsignedValues, IsOfKind, values_row}
+use Rattle.pkcs7_signed.specs.Parts.{SignerParts, signer_end, after_signer, signer_parts, SignedParts, signed_end, after_signed, signed_parts}
+use Rattle.pkcs7_signed.specs.Components.{SignerComponents, signer_components, UnsignedValues, IsOfKind, values_components}
 use Rattle.pkcs7_signed.specs.Signers.{Value, signers, attributes, certificates, still, step, signer, attribute, certificate, signed_data, signer_infos, unsigned_attributes, values}
 use Rattle.pkcs7_signed.specs.SignerLaws.{signer_step}
 use Rattle.pkcs7_signed.specs.SignerLevels.{parts_of_signer, attributes_in, parts_of_signed, out_signer, value_signed}
@@ -20,13 +20,13 @@ through p q = (λ h. q.0 (p.0 h), λ h. p.1 (q.1 h))
 
 -- the parts are well-formed, and so is what follows them
 module _ {R : Type 0} (F : Format R) (k : ℕ) where
-  signer_split : (p : SignerParts R) → ((signer_parts nothing).IsWellFormed k (signer_end p tt) × F.IsWellFormed k (behind_signer p)) ↔ (signer_parts F).IsWellFormed k p
+  signer_split : (p : SignerParts R) → ((signer_parts nothing).IsWellFormed k (signer_end p tt) × F.IsWellFormed k (after_signer p)) ↔ (signer_parts F).IsWellFormed k p
   signer_split p = (
     λ h. (h.0.0, (h.0.1.0, (h.0.1.1.0, (h.0.1.1.1.0, (h.0.1.1.1.1.0, (h.0.1.1.1.1.1.0, h.1)))))),
     λ h. ((h.0, (h.1.0, (h.1.1.0, (h.1.1.1.0, (h.1.1.1.1.0, (h.1.1.1.1.1.0, tt)))))), h.1.1.1.1.1.1),
   )
 
-  signed_split : (p : SignedParts R) → ((signed_parts nothing).IsWellFormed k (signed_end p tt) × F.IsWellFormed k (behind_signed p)) ↔ (signed_parts F).IsWellFormed k p
+  signed_split : (p : SignedParts R) → ((signed_parts nothing).IsWellFormed k (signed_end p tt) × F.IsWellFormed k (after_signed p)) ↔ (signed_parts F).IsWellFormed k p
   signed_split p = (
     λ h. (h.0.0, (h.0.1.0, (h.0.1.1.0, (h.0.1.1.1.0, (h.0.1.1.1.1.0, h.1))))),
     λ h. ((h.0, (h.1.0, (h.1.1.0, (h.1.1.1.0, (h.1.1.1.1.0, tt))))), h.1.1.1.1.1),
@@ -37,10 +37,10 @@ module _ (k : ℕ) (x : SignerInfo) {h : SignerParts (Unit {0})} (e : h ≡ part
   signer_is : ((signer_parts nothing).IsWellFormed k h × unsigned_attributes.IsWellFormed k (attributes_in x)) ↔ signer.IsWellFormed k (signer_value x)
   signer_is =
       let u = unroll_formed {I = Unit {0}} {V = λ _. Value signers} still step signer_step k tt (signer_value x) in
-      let r : SignerRow (Value attributes) = parts_of_signer x (attributes_in x, tt) in
-      let s : ((signer_parts nothing).IsWellFormed k (parts_of_signer x tt) × (set_or_none 0xA1 attribute).IsWellFormed k (attributes_in x, tt)) ↔ (signer_row attribute).IsWellFormed k r = signer_split (set_or_none 0xA1 attribute) k r in (
-        λ w. u.1 (subst ((signer_row attribute).IsWellFormed k) (sym (out_signer x)) (s.0 (subst ((signer_parts nothing).IsWellFormed k) e w.0, (w.1, tt)))),
-        λ w. let d = s.1 (subst ((signer_row attribute).IsWellFormed k) (out_signer x) (u.0 w)) in (subst ((signer_parts nothing).IsWellFormed k) (sym e) d.0, d.1.0),
+      let r : SignerComponents (Value attributes) = parts_of_signer x (attributes_in x, tt) in
+      let s : ((signer_parts nothing).IsWellFormed k (parts_of_signer x tt) × (set_or_none 0xA1 attribute).IsWellFormed k (attributes_in x, tt)) ↔ (signer_components attribute).IsWellFormed k r = signer_split (set_or_none 0xA1 attribute) k r in (
+        λ w. u.1 (subst ((signer_components attribute).IsWellFormed k) (sym (out_signer x)) (s.0 (subst ((signer_parts nothing).IsWellFormed k) e w.0, (w.1, tt)))),
+        λ w. let d = s.1 (subst ((signer_components attribute).IsWellFormed k) (out_signer x) (u.0 w)) in (subst ((signer_parts nothing).IsWellFormed k) (sym e) d.0, d.1.0),
       )
 
   pub signer_unformed : ((signer_parts nothing).IsWellFormed k h → ⊥) → IsTrue false ↔ signer.IsWellFormed k (signer_value x)
@@ -54,7 +54,7 @@ module _ (x : SignedData) {h : SignedParts (Unit {0})} (e : h ≡ parts_of_signe
   signed_is : (k : ℕ) → ((signed_parts nothing).IsWellFormed (suc k) h × signer_infos.IsWellFormed k (signers_value (out-SignedData x).signers_infos)) ↔ signed_data.IsWellFormed (suc k) (signed_value x)
   signed_is k =
       let r : SignedParts (List (Value signers)) = parts_of_signed x (signers_value (out-SignedData x).signers_infos) in
-      let s : ((signed_parts nothing).IsWellFormed (suc k) (parts_of_signed x tt) × (set_of (less signer)).IsWellFormed (suc k) (behind_signed r)) ↔ (signed_parts (set_of (less signer))).IsWellFormed (suc k) r = signed_split (set_of (less signer)) (suc k) r in (
+      let s : ((signed_parts nothing).IsWellFormed (suc k) (parts_of_signed x tt) × (set_of (less signer)).IsWellFormed (suc k) (after_signed r)) ↔ (signed_parts (set_of (less signer))).IsWellFormed (suc k) r = signed_split (set_of (less signer)) (suc k) r in (
         λ w. subst (signed_data.IsWellFormed (suc k)) (sym (value_signed x)) (s.0 (subst ((signed_parts nothing).IsWellFormed (suc k)) e w.0, w.1)),
         λ w. let d = s.1 (subst (signed_data.IsWellFormed (suc k)) (value_signed x) w) in (subst ((signed_parts nothing).IsWellFormed (suc k)) (sym e) d.0, d.1),
       )
@@ -74,13 +74,13 @@ abbrev Values : Type 0
 Values = UnsignedValues (Value certificates) (Value signers)
 
 module _ {A : Type 0} (put : A → Values) (P : A → Type 0) where
-  arm_formed : ((a b : A) → put a ≡ put b → a ≡ b) → (a : A) → P a ↔ ((b : A) × (put b ≡ put a) × P b)
-  arm_formed one a = (λ h. (a, refl, h), λ h. subst P (one h.0 a h.1) h.2)
+  alternative_formed : ((a b : A) → put a ≡ put b → a ≡ b) → (a : A) → P a ↔ ((b : A) × (put b ≡ put a) × P b)
+  alternative_formed one a = (λ h. (a, refl, h), λ h. subst P (one h.0 a h.1) h.2)
 
-pub of_kind : (k : ℕ) (i : Kind) (v : Values) → IsOfKind i v → values.IsWellFormed k v ↔ (values_row certificate (less signer) i).IsWellFormed k v
-of_kind k MsCounterSign (inl v) f = arm_formed (λ u. inl u) _ (λ a b e. cc) v
-of_kind k CounterSign (inr (inl v)) f = arm_formed (λ u. inr (inl u)) _ (λ a b e. cc) v
-of_kind k Foreign (inr (inr v)) f = arm_formed (λ u. inr (inr u)) _ (λ a b e. cc) v
+pub of_kind : (k : ℕ) (i : Kind) (v : Values) → IsOfKind i v → values.IsWellFormed k v ↔ (values_components certificate (less signer) i).IsWellFormed k v
+of_kind k MsCounterSign (inl v) f = alternative_formed (λ u. inl u) _ (λ a b e. cc) v
+of_kind k CounterSign (inr (inl v)) f = alternative_formed (λ u. inr (inl u)) _ (λ a b e. cc) v
+of_kind k Foreign (inr (inr v)) f = alternative_formed (λ u. inr (inr u)) _ (λ a b e. cc) v
 of_kind k MsCounterSign (inr (inl v)) f = absurd f
 of_kind k MsCounterSign (inr (inr v)) f = absurd f
 of_kind k CounterSign (inl v) f = absurd f
@@ -88,7 +88,7 @@ of_kind k CounterSign (inr (inr v)) f = absurd f
 of_kind k Foreign (inl v) f = absurd f
 of_kind k Foreign (inr (inl v)) f = absurd f
 
-pub not_of_kind : (k : ℕ) (i : Kind) (v : Values) → (IsOfKind i v → ⊥) → (values_row certificate (less signer) i).IsWellFormed k v → ⊥
+pub not_of_kind : (k : ℕ) (i : Kind) (v : Values) → (IsOfKind i v → ⊥) → (values_components certificate (less signer) i).IsWellFormed k v → ⊥
 not_of_kind k MsCounterSign (inl v) n h = n tt
 not_of_kind k MsCounterSign (inr v) n h = (let e = h.1 in cc)
 not_of_kind k CounterSign (inr (inl v)) n h = n tt

@@ -5,7 +5,7 @@
 --   STRING }
 use Rattle.std.specs.Prelude.{ℕ, List, Option}
 use Rattle.std.proofs.Common.{arith, refl}
-use Rattle.asn1_core.specs.Der.{Format, IsLawful, IsLawfulRow, sequence, part, optional, nothing, version, option_value, lawful_sequence, lawful_within, followed_by, perhaps, lawful_nothing, lawful_version_1, BitStringOctets, explicit, der_laws}
+use Rattle.asn1_core.specs.Der.{Format, IsLawful, IsLawfulComponents, sequence, part, optional, nothing, version, option_value, lawful_sequence, lawful_within, followed_by, perhaps, lawful_nothing, lawful_version_1, BitStringOctets, explicit, der_laws}
 use Rattle.asn1_leaves.specs.Strings.{bit_string, lawful_bit_string}
 use Rattle.asn1_leaves_strings.specs.Octets.{contents_of}
 use Rattle.x509_base.specs.Algorithms.{AlgorithmValue, algorithm_identifier}
@@ -33,8 +33,8 @@ ListValue = AlgorithmValue × (NameParts × (TimeValue × UpdatesValue))
 abbrev pub list_value : TbsCertList → ListValue
 list_value x = (algorithm_value x.signature, (name_parts x.issuer, (time_of x.this_update, (option_value time_of x.next_update, (option_value all_revoked_value x.revoked_certificates, (option_value extensions_value x.crl_extension.0, tt))))))
 
-abbrev pub list_row : Format ListValue
-list_row = part algorithm_identifier (part name (part time updates))
+abbrev pub list_components : Format ListValue
+list_components = part algorithm_identifier (part name (part time updates))
 
 abbrev pub TbsListValue : Type 0
 TbsListValue = Option ℕ × ListValue
@@ -43,13 +43,13 @@ abbrev pub tbs_list_value : TbsCertList → TbsListValue
 tbs_list_value x = (option_value number_of x.version, list_value x)
 
 abbrev pub tbs_list : Format TbsListValue
-tbs_list = sequence (optional (version 1) list_row)
+tbs_list = sequence (optional (version 1) list_components)
 
-lawful_updates : IsLawfulRow updates
+lawful_updates : IsLawfulComponents updates
 lawful_updates =
     perhaps lawful_time refl
     (perhaps lawful_all_revoked refl
-    (perhaps (lawful_within extensions lawful_extensions.row 0xA0 (omega arith)) refl lawful_nothing))
+    (perhaps (lawful_within extensions lawful_extensions.components 0xA0 (omega arith)) refl lawful_nothing))
 
 pub lawful_tbs_list : IsLawful tbs_list
 lawful_tbs_list =

@@ -46,21 +46,21 @@ signed_head_value x = signed_parts_value x.version x.digest_algorithms.now x.con
 appended : (a x t y : List ℕ) → x ++ t ≡ y → (a ++ x) ++ t ≡ a ++ y
 appended a x t y e = append_assoc a x t ∙ ap (λ z. a ++ z) e
 
-five_behind : (a b c d e t : List ℕ) → (a ++ (b ++ (c ++ (d ++ (e ++ []))))) ++ t ≡ a ++ (b ++ (c ++ (d ++ (e ++ t))))
-five_behind a b c d e t = appended a _ t _ (appended b _ t _ (appended c _ t _ (appended d _ t _ (appended e [] t t refl))))
+five_after : (a b c d e t : List ℕ) → (a ++ (b ++ (c ++ (d ++ (e ++ []))))) ++ t ≡ a ++ (b ++ (c ++ (d ++ (e ++ t))))
+five_after a b c d e t = appended a _ t _ (appended b _ t _ (appended c _ t _ (appended d _ t _ (appended e [] t t refl))))
 
-six_behind : (a b c d e f t : List ℕ) → (a ++ (b ++ (c ++ (d ++ (e ++ (f ++ [])))))) ++ t ≡ a ++ (b ++ (c ++ (d ++ (e ++ (f ++ t)))))
-six_behind a b c d e f t = appended a _ t _ (five_behind b c d e f t)
+six_after : (a b c d e f t : List ℕ) → (a ++ (b ++ (c ++ (d ++ (e ++ (f ++ [])))))) ++ t ≡ a ++ (b ++ (c ++ (d ++ (e ++ (f ++ t)))))
+six_after a b c d e f t = appended a _ t _ (five_after b c d e f t)
 
 module _ {R : Type 0} (F : Format R) (r : R) where
   pub signer_head_text : (p : SignerParts (Unit {0})) → (signer_parts nothing).text p ++ F.text r ≡ (signer_parts F).text (signer_end p r)
   signer_head_text p =
-      six_behind ((version 1).text p.0) (signer_id.text p.1.0) (algorithm_identifier.text p.1.1.0)
+      six_after ((version 1).text p.0) (signer_id.text p.1.0) (algorithm_identifier.text p.1.1.0)
       (text_unless (is_default attributes no_attributes p.1.1.1.0) (attributes.text p.1.1.1.0))
       (algorithm_identifier.text p.1.1.1.1.0) (octet_string.text p.1.1.1.1.1.0) (F.text r)
 
   pub signed_head_text : (p : SignedParts (Unit {0})) → (signed_parts nothing).text p ++ F.text r ≡ (signed_parts F).text (signed_end p r)
   signed_head_text p =
-      five_behind ((number_below 6).text p.0) (algorithms.text p.1.0) (encapsulated.text p.1.1.0)
+      five_after ((number_below 6).text p.0) (algorithms.text p.1.0) (encapsulated.text p.1.1.0)
       (text_unless (is_default certificate_set no_certificates p.1.1.1.0) (certificate_set.text p.1.1.1.0))
       (text_if revocations.text p.1.1.1.1.0) (F.text r)

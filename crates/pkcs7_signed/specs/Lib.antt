@@ -2,7 +2,7 @@ pub mod Oids
 pub mod Below
 pub mod Forest
 pub mod Parts
-pub mod Rows
+pub mod Components
 pub mod Signers
 pub mod SignerLaws
 pub mod Heads

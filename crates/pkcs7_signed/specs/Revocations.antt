@@ -17,11 +17,11 @@ OtherFormatValue = OidOctets × (Unit {0} × Unit {0})
 abbrev pub other_format_value : OtherRevocationInfoFormat → OtherFormatValue
 other_format_value x = (octets_of x.other_rev_info_format.0, (tt, tt))
 
-abbrev pub other_format_row : Format OtherFormatValue
-other_format_row = part object_identifier (part null_element nothing)
+abbrev pub other_format_components : Format OtherFormatValue
+other_format_components = part object_identifier (part null_element nothing)
 
 abbrev pub other_format : Format OtherFormatValue
-other_format = sequence other_format_row
+other_format = sequence other_format_components
 
 pub lawful_other_format : IsLawful other_format
 lawful_other_format = search der_laws depth 20
@@ -41,7 +41,7 @@ abbrev pub revocation : Format RevocationValue
 revocation = either certificate_list other_revocation
 
 lawful_other_revocation : IsLawful other_revocation
-lawful_other_revocation = lawful_implicit 0xA1 0x30 other_format lawful_other_format (within_tagged 0x30 (omega arith) other_format_row) (omega arith)
+lawful_other_revocation = lawful_implicit 0xA1 0x30 other_format lawful_other_format (within_tagged 0x30 (omega arith) other_format_components) (omega arith)
 
 pub lawful_revocation : IsLawful revocation
 lawful_revocation = or_else lawful_certificate_list refl lawful_other_revocation

@@ -10,7 +10,7 @@ use Rattle.pkcs7_content.specs.contracts.versions.CmsVersionPartialEq.TheImpl as
 use Rattle.pkcs7_attributes.specs.Equal.{attributes_equal as signed_attributes_equal}
 use Rattle.pkcs7_signed.specs.PartsEqual.{algorithms_equal, certificates_equal, revocations_equal, signer_id_equal}
 use Rattle.pkcs7_signed.specs.Heads.{elements}
-use Rattle.pkcs7_signed.specs.Rows.{UnsignedValues}
+use Rattle.pkcs7_signed.specs.Components.{UnsignedValues}
 use Rattle.pkcs7_signed.specs.Signers.{Value, signers, certificates, signer_out, signer_into, certificate_out, certificate_into, attribute_out, attribute_into}
 use Rattle.pkcs7_signed.specs.SignerLaws.{signer_there, certificate_there, attribute_there}
 use Rattle.pkcs7_signed.specs.SignerLevels.{value_signers, value_attributes, value_signed}
@@ -48,12 +48,12 @@ abbrev Tells : {T V : Type 0} → (T → T → Bool) → (T → V) → T → Typ
 Tells {T} eq value x = (y : T) → (eq x y ≡ true) ↔ (value x ≡ value y)
 
 -- lists of which each item is told from any other
-row_told : {T V : Type 0} (eq : T → T → Bool) (value : T → V) (xs : List T) → AllByRecursion (Tells eq value) xs → (ys : List T) → (pointwise eq xs ys ≡ true) ↔ (map value xs ≡ map value ys)
-row_told eq value [] a [] = (λ e. refl, λ e. refl)
-row_told eq value [] a (y ∷ ys) = (λ e. cc, λ e. cc)
-row_told eq value (x ∷ xs) a [] = (λ e. cc, λ e. cc)
-row_told eq value (x ∷ xs) a (y ∷ ys) =
-    let d = two_equal (a.0 y) (row_told eq value xs a.1 ys) in (
+components_told : {T V : Type 0} (eq : T → T → Bool) (value : T → V) (xs : List T) → AllByRecursion (Tells eq value) xs → (ys : List T) → (pointwise eq xs ys ≡ true) ↔ (map value xs ≡ map value ys)
+components_told eq value [] a [] = (λ e. refl, λ e. refl)
+components_told eq value [] a (y ∷ ys) = (λ e. cc, λ e. cc)
+components_told eq value (x ∷ xs) a [] = (λ e. cc, λ e. cc)
+components_told eq value (x ∷ xs) a (y ∷ ys) =
+    let d = two_equal (a.0 y) (components_told eq value xs a.1 ys) in (
       λ h. ap (λ p. p.0 ∷ p.1) (d.0 h),
       λ e.
           let h : value x ≡ value y = cc in
@@ -62,18 +62,18 @@ row_told eq value (x ∷ xs) a (y ∷ ys) =
     )
 
 list_told : {T V : Type 0} (eq : T → T → Bool) (value : T → V) {xs zs : List T} → zs ≡ xs → AllByRecursion (Tells eq value) xs → (ys : List T) → (pointwise eq zs ys ≡ true) ↔ (map value zs ≡ map value ys)
-list_told eq value e a ys = subst (λ zs. (pointwise eq zs ys ≡ true) ↔ (map value zs ≡ map value ys)) (sym e) (row_told eq value _ a ys)
+list_told eq value e a ys = subst (λ zs. (pointwise eq zs ys ≡ true) ↔ (map value zs ≡ map value ys)) (sym e) (components_told eq value _ a ys)
 
 -- what an attribute holds
-abbrev arm_of : UnsignedAttributeValue-F UnsignedAttributeValue Pkcs7Certificate SignedData SignerInfo SignersInfos UnsignedAttribute UnsignedAttributes → UnsignedValues (Value certificates) (Value signers)
-arm_of (UnsignedAttributeValue-F.MsCounterSign s) = inl (map certificate_value s.0.items)
-arm_of (UnsignedAttributeValue-F.CounterSign s) = inr (inl (map signer_value s.0.items))
-arm_of (UnsignedAttributeValue-F.Unknown s) = inr (inr (elements s.0))
+abbrev alternative_of : UnsignedAttributeValue-F UnsignedAttributeValue Pkcs7Certificate SignedData SignerInfo SignersInfos UnsignedAttribute UnsignedAttributes → UnsignedValues (Value certificates) (Value signers)
+alternative_of (UnsignedAttributeValue-F.MsCounterSign s) = inl (map certificate_value s.0.items)
+alternative_of (UnsignedAttributeValue-F.CounterSign s) = inr (inl (map signer_value s.0.items))
+alternative_of (UnsignedAttributeValue-F.Unknown s) = inr (inr (elements s.0))
 
-value_arm : (v : UnsignedAttributeValue) → values_value v ≡ arm_of (out-UnsignedAttributeValue v)
-value_arm (MsCounterSign' s k) = search (rules, the_lemmas, outs-MsCounterSign' s k)
-value_arm (CounterSign' s k) = search (rules, the_lemmas, outs-CounterSign' s k)
-value_arm (Unknown s) = search (rules, the_lemmas)
+value_alternative : (v : UnsignedAttributeValue) → values_value v ≡ alternative_of (out-UnsignedAttributeValue v)
+value_alternative (MsCounterSign' s k) = search (rules, the_lemmas, outs-MsCounterSign' s k)
+value_alternative (CounterSign' s k) = search (rules, the_lemmas, outs-CounterSign' s k)
+value_alternative (Unknown s) = search (rules, the_lemmas)
 
 attribute_told : (x : UnsignedAttribute) → Tells Values.ghosts.eq values_value (out-UnsignedAttribute x).value → Tells Attribute.ghosts.eq attribute_value x
 attribute_told x h y =
@@ -86,11 +86,11 @@ mutual
 
   pub values_equal : SeesEqual Values.ghosts.eq values_value
   values_equal (MsCounterSign' s k) (MsCounterSign' t l) =
-      told (Values.Laws.is _ _) (value_arm _) (value_arm _) (same_first (list_told Certificate.ghosts.eq certificate_value (items_shown-the_row-Pkcs7Certificate-0 s k) (all_certificates k) _))
+      told (Values.Laws.is _ _) (value_alternative _) (value_alternative _) (same_first (list_told Certificate.ghosts.eq certificate_value (items_shown-the_row-Pkcs7Certificate-0 s k) (all_certificates k) _))
   values_equal (CounterSign' s k) (CounterSign' t l) =
-      told (Values.Laws.is _ _) (value_arm _) (value_arm _) (same_second (same_first (list_told Signer.ghosts.eq signer_value (items_shown-the_row-SignerInfo-1 s k) (all_signers k) _)))
-  values_equal (Unknown s) (Unknown t) = told (Values.Laws.is _ _) (value_arm _) (value_arm _) (same_second (same_second (list_equal _ _ raw_equal s.0.items t.0.items)))
-  values_equal v w = told (Values.Laws.is _ _) (value_arm _) (value_arm _) (λ e. cc, λ e. cc)
+      told (Values.Laws.is _ _) (value_alternative _) (value_alternative _) (same_second (same_first (list_told Signer.ghosts.eq signer_value (items_shown-the_row-SignerInfo-1 s k) (all_signers k) _)))
+  values_equal (Unknown s) (Unknown t) = told (Values.Laws.is _ _) (value_alternative _) (value_alternative _) (same_second (same_second (list_equal _ _ raw_equal s.0.items t.0.items)))
+  values_equal v w = told (Values.Laws.is _ _) (value_alternative _) (value_alternative _) (λ e. cc, λ e. cc)
 
   pub certificate_equal : SeesEqual Certificate.ghosts.eq certificate_value
   certificate_equal (Pkcs7Certificate' o s) (Pkcs7Certificate' p t) =

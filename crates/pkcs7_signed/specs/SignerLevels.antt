@@ -6,7 +6,7 @@ use Rattle.asn1_core.specs.declared.lists.Asn1SetOf.{Asn1SetOf}
 use Rattle.asn1_core.specs.declared.raw.Asn1RawDer.{Asn1RawDer}
 use Rattle.pkcs7_signed.specs.Heads.{elements, signer_parts_value, signed_parts_value, signer_head_text, signed_head_text}
 use Rattle.pkcs7_signed.specs.Parts.{SignerParts, signer_parts, SignedParts, signed_parts, ending}
-use Rattle.pkcs7_signed.specs.Rows.{signer_row}
+use Rattle.pkcs7_signed.specs.Components.{signer_components}
 use Rattle.pkcs7_signed.specs.Signers.{Value, signers, attributes, signer_out, signer_into, certificate_out, certificate_into, attribute_out, attribute_into, still, step, signer, attribute, signed_data, signer_infos, unsigned_attributes}
 use Rattle.pkcs7_signed.specs.SignerLaws.{signer_there, certificate_there, attribute_there, signer_step}
 use Rattle.pkcs7_signed.specs.SignerValues.{values_value, certificate_value, signed_value, signer_value, signers_value, attribute_value, attributes_value}
@@ -71,12 +71,12 @@ pub out_signer : (x : SignerInfo) → signer_out (signer_value x) ≡ parts_of_s
 out_signer x = ap signer_out (value_signer x) ∙ signer_there _
 
 -- the encoding of a signer: without attributes, and with some
-text_signer : (x : SignerInfo) → (signer_row attribute).text (parts_of_signer x (attributes_in x, tt)) ≡ signer.text (signer_value x)
-text_signer x = ap (signer_row attribute).text (sym (out_signer x)) ∙ unroll_text {I = Unit {0}} {V = λ _. Value signers} still step signer_step tt (signer_value x)
+text_signer : (x : SignerInfo) → (signer_components attribute).text (parts_of_signer x (attributes_in x, tt)) ≡ signer.text (signer_value x)
+text_signer x = ap (signer_components attribute).text (sym (out_signer x)) ∙ unroll_text {I = Unit {0}} {V = λ _. Value signers} still step signer_step tt (signer_value x)
 
 module _ (x : SignerInfo) {h : SignerParts (Unit {0})} (e : h ≡ parts_of_signer x tt) where
   pub short_text : attributes_in x ≡ [] → element 0x30 ((signer_parts nothing).text h) ≡ signer.text (signer_value x)
-  short_text n = ap (λ p. element 0x30 ((signer_parts nothing).text p)) e ∙ ap (λ vs. (signer_row attribute).text (parts_of_signer x (vs, tt))) (sym n) ∙ text_signer x
+  short_text n = ap (λ p. element 0x30 ((signer_parts nothing).text p)) e ∙ ap (λ vs. (signer_components attribute).text (parts_of_signer x (vs, tt))) (sym n) ∙ text_signer x
 
   pub long_text : is_nil (attributes_in x) ≡ false → element 0x30 ((signer_parts nothing).text h ++ unsigned_attributes.text (attributes_in x)) ≡ signer.text (signer_value x)
   long_text n =

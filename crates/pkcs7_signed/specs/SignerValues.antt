@@ -3,7 +3,7 @@ use Rattle.std.specs.Prelude.{List}
 use Rattle.std.proofs.Common.{inl, inr}
 use Rattle.asn1_core.specs.Der.{octets_of}
 use Rattle.pkcs7_signed.specs.Heads.{elements, signer_parts_value, signed_parts_value}
-use Rattle.pkcs7_signed.specs.Rows.{UnsignedValues}
+use Rattle.pkcs7_signed.specs.Components.{UnsignedValues}
 use Rattle.pkcs7_signed.specs.Signers.{signers, attributes, certificates, Value, SignedValue, signer_into, certificate_into, attribute_into}
 use Rattle.pkcs7_signed.specs.declared.signers.Pkcs7Certificate.{Pkcs7Certificate, fold-Pkcs7Certificate}
 use Rattle.pkcs7_signed.specs.declared.signers.SignedData.{SignedData, fold-SignedData}

@@ -4,8 +4,8 @@ use Rattle.std.specs.Prelude.{◌≡◌, ℕ, List, [], map}
 use Rattle.std.proofs.Common.{inl, inr}
 use Rattle.asn1_core.specs.Der.{no_tag, one_tag, Format, nothing, raw, OidOctets, ElementOctets, set_of, implicit_set, Still, no_grammar, always, less, levels, rolled}
 use Rattle.pkcs7_signed.specs.Forest.{Forest, none, Node, nodes, forest, fold_node, same_node}
-use Rattle.pkcs7_signed.specs.Parts.{SignerParts, signer_end, behind_signer, signer_parts, SignedParts, signed_end, behind_signed, signed_parts}
-use Rattle.pkcs7_signed.specs.Rows.{SignerRow, signer_row, SignedRow, signed_row, CertificateRow, certificate_row, UnsignedValues, attribute_values, AttributeRow, attribute_row}
+use Rattle.pkcs7_signed.specs.Parts.{SignerParts, signer_end, after_signer, signer_parts, SignedParts, signed_end, after_signed, signed_parts}
+use Rattle.pkcs7_signed.specs.Components.{SignerComponents, signer_components, SignedComponents, signed_components, CertificateComponents, certificate_components, UnsignedValues, attribute_values, AttributeComponents, attribute_components}
 use Rattle.pkcs7_signed.specs.declared.signers.Kind.{Kind}
 use Rattle.pkcs7_signed.specs.declared.signers.Kind.TheVariants.{MsCounterSign, CounterSign, Foreign}
 
@@ -16,18 +16,18 @@ pub data Sort : Type 0 where
   certificates : Sort
   nothing_inside : Sort
 
-abbrev pub Arm : Sort → Type 0
-Arm signers = Unit {0}
-Arm attributes = Kind
-Arm certificates = Unit {0}
-Arm nothing_inside = ⊥
+abbrev pub Alternative : Sort → Type 0
+Alternative signers = Unit {0}
+Alternative attributes = Kind
+Alternative certificates = Unit {0}
+Alternative nothing_inside = ⊥
 
 abbrev pub InAttribute : Kind → Type 0
 InAttribute MsCounterSign = OidOctets
 InAttribute CounterSign = OidOctets
 InAttribute Foreign = OidOctets × List ElementOctets
 
-abbrev pub Plain : (i : Sort) → Arm i → Type 0
+abbrev pub Plain : (i : Sort) → Alternative i → Type 0
 Plain signers a = SignerParts (Unit {0})
 Plain attributes a = InAttribute a
 Plain certificates a = OidOctets × SignedParts (Unit {0})
@@ -38,55 +38,55 @@ attribute_holds MsCounterSign = certificates
 attribute_holds CounterSign = signers
 attribute_holds Foreign = nothing_inside
 
-abbrev pub holds : (i : Sort) → Arm i → Sort
+abbrev pub holds : (i : Sort) → Alternative i → Sort
 holds signers a = attributes
 holds attributes a = attribute_holds a
 holds certificates a = signers
 holds nothing_inside a = nothing_inside
 
 abbrev pub Trees : Sort → Type 0
-Trees = Forest Arm Plain holds
+Trees = Forest Alternative Plain holds
 
 abbrev pub Value : Sort → Type 0
-Value = Node Arm Plain holds
+Value = Node Alternative Plain holds
 
 abbrev pub list : {i : Sort} → Trees i → List (Value i)
-list = nodes Arm Plain holds
+list = nodes Alternative Plain holds
 
 abbrev pub trees : {i : Sort} → List (Value i) → Trees i
-trees = forest Arm Plain holds
+trees = forest Alternative Plain holds
 
-abbrev pub signer_out : Value signers → SignerRow (Value attributes)
+abbrev pub signer_out : Value signers → SignerComponents (Value attributes)
 signer_out v = signer_end v.1 (list v.2, tt)
 
-abbrev pub signer_into : SignerRow (Value attributes) → Value signers
-signer_into r = (tt, signer_end r tt, trees (behind_signer r).0)
+abbrev pub signer_into : SignerComponents (Value attributes) → Value signers
+signer_into r = (tt, signer_end r tt, trees (after_signer r).0)
 
-abbrev pub certificate_out : Value certificates → CertificateRow (Value signers)
+abbrev pub certificate_out : Value certificates → CertificateComponents (Value signers)
 certificate_out v = (v.1.0, signed_end v.1.1 (list v.2))
 
-abbrev pub certificate_into : CertificateRow (Value signers) → Value certificates
-certificate_into r = (tt, (r.0, signed_end r.1 tt), trees (behind_signed r.1))
+abbrev pub certificate_into : CertificateComponents (Value signers) → Value certificates
+certificate_into r = (tt, (r.0, signed_end r.1 tt), trees (after_signed r.1))
 
-abbrev pub attribute_out : Value attributes → AttributeRow (Value certificates) (Value signers)
+abbrev pub attribute_out : Value attributes → AttributeComponents (Value certificates) (Value signers)
 attribute_out (MsCounterSign, o, f) = (o, inl (list f))
 attribute_out (CounterSign, o, f) = (o, inr (inl (list f)))
 attribute_out (Foreign, p, f) = (p.0, inr (inr p.1))
 
-abbrev pub attribute_into : AttributeRow (Value certificates) (Value signers) → Value attributes
+abbrev pub attribute_into : AttributeComponents (Value certificates) (Value signers) → Value attributes
 attribute_into (o, inl vs) = (MsCounterSign, o, trees vs)
 attribute_into (o, inr (inl vs)) = (CounterSign, o, trees vs)
 attribute_into (o, inr (inr xs)) = (Foreign, (o, xs), none)
 
 -- the formats, over that of a signer a level down
 abbrev pub certificate_with : Format (Value signers) → Format (Value certificates)
-certificate_with F = rolled certificate_out certificate_into (certificate_row F)
+certificate_with F = rolled certificate_out certificate_into (certificate_components F)
 
 abbrev pub attribute_with : Format (Value signers) → Format (Value attributes)
-attribute_with F = rolled attribute_out attribute_into (attribute_row (certificate_with F) F)
+attribute_with F = rolled attribute_out attribute_into (attribute_components (certificate_with F) F)
 
 abbrev pub signer_with : Format (Value signers) → Format (Value signers)
-signer_with F = rolled signer_out signer_into (signer_row (attribute_with F))
+signer_with F = rolled signer_out signer_into (signer_components (attribute_with F))
 
 -- what is made of a node, from what was made of those inside: an encoding, a count
 abbrev pub as_text : Format (List ℕ)
@@ -95,21 +95,21 @@ as_text = always (record { text = λ t. t; normal = λ t. t; IsTag = λ _. ⊥; 
 abbrev pub as_count : Format ℕ
 as_count = always (record { text = λ _. []; normal = λ n. n; IsTag = λ _. ⊥; first = no_tag; least = λ n. n }) no_grammar
 
-abbrev pub attribute_of : {T : Type 0} (i : Kind) → InAttribute i → List T → AttributeRow T T
+abbrev pub attribute_of : {T : Type 0} (i : Kind) → InAttribute i → List T → AttributeComponents T T
 attribute_of MsCounterSign o ts = (o, inl ts)
 attribute_of CounterSign o ts = (o, inr (inl ts))
 attribute_of Foreign p ts = (p.0, inr (inr p.1))
 
-abbrev pub text_of : (i : Sort) (a : Arm i) → Plain i a → List (List ℕ) → List ℕ
-text_of signers a p ts = (signer_row as_text).text (signer_end p (ts, tt))
-text_of attributes a p ts = (attribute_row as_text as_text).text (attribute_of a p ts)
-text_of certificates a p ts = (certificate_row as_text).text (p.0, signed_end p.1 ts)
+abbrev pub text_of : (i : Sort) (a : Alternative i) → Plain i a → List (List ℕ) → List ℕ
+text_of signers a p ts = (signer_components as_text).text (signer_end p (ts, tt))
+text_of attributes a p ts = (attribute_components as_text as_text).text (attribute_of a p ts)
+text_of certificates a p ts = (certificate_components as_text).text (p.0, signed_end p.1 ts)
 text_of nothing_inside a p ts = []
 
-abbrev pub least_of : (i : Sort) (a : Arm i) → Plain i a → List ℕ → ℕ
-least_of signers a p ns = (signer_row as_count).least (signer_end p (ns, tt))
-least_of attributes a p ns = (attribute_row as_count as_count).least (attribute_of a p ns)
-least_of certificates a p ns = (certificate_row as_count).least (p.0, signed_end p.1 ns)
+abbrev pub least_of : (i : Sort) (a : Alternative i) → Plain i a → List ℕ → ℕ
+least_of signers a p ns = (signer_components as_count).least (signer_end p (ns, tt))
+least_of attributes a p ns = (attribute_components as_count as_count).least (attribute_of a p ns)
+least_of certificates a p ns = (certificate_components as_count).least (p.0, signed_end p.1 ns)
 least_of nothing_inside a p ns = 0
 
 abbrev pub normal_in_attribute : (i : Kind) → InAttribute i → InAttribute i
@@ -117,7 +117,7 @@ normal_in_attribute MsCounterSign o = o
 normal_in_attribute CounterSign o = o
 normal_in_attribute Foreign p = (p.0, map raw.normal p.1)
 
-abbrev pub normal_of : (i : Sort) (a : Arm i) → Plain i a → Plain i a
+abbrev pub normal_of : (i : Sort) (a : Alternative i) → Plain i a → Plain i a
 normal_of signers a p = (signer_parts nothing).normal p
 normal_of attributes a p = normal_in_attribute a p
 normal_of certificates a p = (p.0, (signed_parts nothing).normal p.1)
@@ -125,11 +125,11 @@ normal_of nothing_inside a p = p
 
 abbrev pub still : (i : Unit {0}) → Still (Value signers)
 still i = record {
-  text = fold_node Arm Plain holds text_of signers;
-  normal = same_node Arm Plain holds normal_of signers;
+  text = fold_node Alternative Plain holds text_of signers;
+  normal = same_node Alternative Plain holds normal_of signers;
   IsTag = λ t. t ≡ 0x30;
   first = one_tag 0x30;
-  least = fold_node Arm Plain holds least_of signers;
+  least = fold_node Alternative Plain holds least_of signers;
 }
 
 abbrev pub step : ((i : Unit {0}) → Format (Value signers)) → (i : Unit {0}) → Format (Value signers)
@@ -145,10 +145,10 @@ abbrev pub certificate : Format (Value certificates)
 certificate = certificate_with (less signer)
 
 abbrev pub SignedValue : Type 0
-SignedValue = SignedRow (Value signers)
+SignedValue = SignedComponents (Value signers)
 
 abbrev pub signed_data : Format SignedValue
-signed_data = signed_row (less signer)
+signed_data = signed_components (less signer)
 
 -- SignerInfos ::= SET OF SignerInfo
 abbrev pub signer_infos : Format (List (Value signers))

@@ -38,7 +38,7 @@ impl DerSerialize for SignerHead<'_> {
             self.version,
             Part(self.sid, Part(self.digest_algorithm, signed)),
         )
-        .put_row(w)
+        .put_components(w)
     }
 
     fn well_formed_at(&self, limit: u8) -> bool {
@@ -46,7 +46,7 @@ impl DerSerialize for SignerHead<'_> {
         let signed = OmittedRef(self.signed_attrs, signature);
         match self.version {
             CmsVersion::V1 => {
-                Part(self.sid, Part(self.digest_algorithm, signed)).row_well_formed_at(limit)
+                Part(self.sid, Part(self.digest_algorithm, signed)).components_well_formed_at(limit)
             }
             _ => false,
         }
@@ -73,12 +73,12 @@ impl DerSerialize for SignedHead<'_> {
     fn put<W: Writer>(&self, w: &mut W) -> Result<(), WriteError> {
         let certificates = OmittedRef(self.certificates, Maybe(self.crls.as_ref(), End));
         let content = Part(self.content_info, certificates);
-        Part(self.version, Part(self.digest_algorithms, content)).put_row(w)
+        Part(self.version, Part(self.digest_algorithms, content)).put_components(w)
     }
 
     fn well_formed_at(&self, limit: u8) -> bool {
         let certificates = OmittedRef(self.certificates, Maybe(self.crls.as_ref(), End));
         let content = Part(self.content_info, certificates);
-        Part(self.version, Part(self.digest_algorithms, content)).row_well_formed_at(limit)
+        Part(self.version, Part(self.digest_algorithms, content)).components_well_formed_at(limit)
     }
 }

@@ -3,12 +3,12 @@
 
 ghost use Rattle.std.specs.Prelude.{◌≡◌, ◌<◌, ℕ, List, map, false, MatchResult};
 ghost use Rattle.std.proofs.Common.{arith};
-ghost use Rattle.asn1_core.specs.Der.{set_or_none, Gives, kept, less, GivesRow, within, octets_of, set_of, only_oid, lawful_only_oid};
+ghost use Rattle.asn1_core.specs.Der.{set_or_none, Gives, kept, less, GivesComponents, within, octets_of, set_of, only_oid, lawful_only_oid};
 ghost use Rattle.asn1_core_element.specs.declared.error.Error.TheVariants.{Memory};
 ghost use Rattle.pkcs7_signed.specs.Below.{ReadsSigners};
 ghost use Rattle.pkcs7_signed.specs.Heads.{signed_parts_value};
 ghost use Rattle.pkcs7_signed.specs.Oids.{signed_data_oid};
-ghost use Rattle.pkcs7_signed.specs.Rows.{kind_of, values_row};
+ghost use Rattle.pkcs7_signed.specs.Components.{kind_of, values_components};
 ghost use Rattle.pkcs7_signed.specs.SignerLaws.{lawful_signer, lawful_attribute, lawful_certificate, lawful_signed_data, lawful_signer_infos, lawful_unsigned_attributes};
 ghost use Rattle.pkcs7_signed.specs.SignerValues.{signer_value, attribute_value, values_value, certificate_value, signed_value};
 ghost use Rattle.pkcs7_signed.specs.Signers.{Value, signers, signer, attribute, certificate, certificate_out, signed_data};
@@ -26,7 +26,7 @@ use crate::signers::{
 use asn1_core::prelude::*;
 use asn1_core_element::element::open_element;
 use asn1_core_format::{
-    SetOrNone, Tail, read_row_within_with, read_set_below_with, read_set_or_none_with,
+    SetOrNone, Tail, read_within_with, read_set_below_with, read_set_or_none_with,
     read_set_with,
 };
 use pkcs7_content::{CmsVersion, EncapsulatedContentInfo};
@@ -81,18 +81,18 @@ impl DerDeserialize for SignedDataType {
 #[derive(Drop)]
 struct SignersBelow(Asn1SetOf<SignerInfo>);
 
-impl WriteRow for SignersBelow {
+impl WriteComponents for SignersBelow {
     ghost Value = { List (Value signers) };
 
     ghost value = { λ x. map signer_value x.0.0.items };
 
     ghost format = { set_of (less signer) };
 
-    fn put_row<W: Writer>(&self, w: &mut W) -> Result<(), WriteError> {
+    fn put_components<W: Writer>(&self, w: &mut W) -> Result<(), WriteError> {
         self.0.put(w)
     }
 
-    fn row_well_formed_at(&self, limit: u8) -> bool {
+    fn components_well_formed_at(&self, limit: u8) -> bool {
         signers_formed_below(&self.0, limit)
     }
 }
@@ -129,7 +129,7 @@ fn read_signer_with<F: Fn(&mut Reader<'_>, u8) -> Result<Boxed<SignerInfo>, Erro
     requires below { ReadsSigners (F.pre by.now) (F.post by.now) nest }
     ensures { Gives signer_value signer nest r.old r.new result }
 {
-    let row = read_row_within_with::<SignerParts, _, _>(
+    let components = read_within_with::<SignerParts, _, _>(
         alloc,
         r,
         nest,
@@ -137,10 +137,10 @@ fn read_signer_with<F: Fn(&mut Reader<'_>, u8) -> Result<Boxed<SignerInfo>, Erro
         &|s: &mut Reader<'_>|
             requires sound { s.old.refused ≡ false }
             requires below { ReadsSigners (F.pre by.now) (F.post by.now) nest }
-            ensures { GivesRow (λ x. (map attribute_value x.0.items, tt)) (set_or_none 0xA1 attribute) nest s.old s.new result }
+            ensures { GivesComponents (λ x. (map attribute_value x.0.items, tt)) (set_or_none 0xA1 attribute) nest s.old s.new result }
         { read_unsigned_with(alloc, s, nest, by) },
     )?;
-    let Part(_, Part(sid, Part(digest_algorithm, Omitted(signed, rest)))) = row;
+    let Part(_, Part(sid, Part(digest_algorithm, Omitted(signed, rest)))) = components;
     let Part(signature_algorithm, Part(signature, Tail(SetOrNone(unsigned)))) = rest;
     Ok(SignerInfo {
         version: CmsVersion::V1,
@@ -162,7 +162,7 @@ fn read_unsigned_with<F: Fn(&mut Reader<'_>, u8) -> Result<Boxed<SignerInfo>, Er
 ) -> Result<SetOrNone<UnsignedAttribute>, Error>
     requires sound { r.old.refused ≡ false }
     requires below { ReadsSigners (F.pre by.now) (F.post by.now) nest }
-    ensures { GivesRow (λ x. (map attribute_value x.0.items, tt)) (set_or_none 0xA1 attribute) nest r.old r.new result }
+    ensures { GivesComponents (λ x. (map attribute_value x.0.items, tt)) (set_or_none 0xA1 attribute) nest r.old r.new result }
 {
     read_set_or_none_with(
         alloc,
@@ -204,7 +204,7 @@ fn read_values_with<F: Fn(&mut Reader<'_>, u8) -> Result<Boxed<SignerInfo>, Erro
 ) -> Result<UnsignedAttributeValue, Error>
     requires sound { r.old.refused ≡ false }
     requires below { ReadsSigners (F.pre by.now) (F.post by.now) nest }
-    ensures { GivesRow values_value (values_row certificate (less signer) (kind_of oid.now)) nest r.old r.new result }
+    ensures { GivesComponents values_value (values_components certificate (less signer) (kind_of oid.now)) nest r.old r.new result }
 {
     match Kind::with_oid(oid) {
         Kind::MsCounterSign => {
@@ -216,7 +216,7 @@ fn read_values_with<F: Fn(&mut Reader<'_>, u8) -> Result<Boxed<SignerInfo>, Erro
             Ok(UnsignedAttributeValue::CounterSign(Asn1SetOf(signers)))
         }
         Kind::Foreign => {
-            let Alone(elements) = Alone::<Asn1SetOf<Asn1RawDer>>::read_row(alloc, r, nest)?;
+            let Alone(elements) = Alone::<Asn1SetOf<Asn1RawDer>>::read_components(alloc, r, nest)?;
             Ok(UnsignedAttributeValue::Unknown(elements))
         }
     }
@@ -231,7 +231,7 @@ fn read_certificates_with<F: Fn(&mut Reader<'_>, u8) -> Result<Boxed<SignerInfo>
 ) -> Result<Vec<Pkcs7Certificate>, Error>
     requires sound { r.old.refused ≡ false }
     requires below { ReadsSigners (F.pre by.now) (F.post by.now) nest }
-    ensures { GivesRow (λ v. map certificate_value v.items) (set_of certificate) nest r.old r.new result }
+    ensures { GivesComponents (λ v. map certificate_value v.items) (set_of certificate) nest r.old r.new result }
 {
     let boxes = read_set_with(
         alloc,
@@ -256,7 +256,7 @@ fn read_signers_below<F: Fn(&mut Reader<'_>, u8) -> Result<Boxed<SignerInfo>, Er
 ) -> Result<Vec<SignerInfo>, Error>
     requires sound { r.old.refused ≡ false }
     requires below { ReadsSigners (F.pre by.now) (F.post by.now) nest }
-    ensures { GivesRow (λ v. map signer_value v.items) (set_of (less signer)) nest r.old r.new result }
+    ensures { GivesComponents (λ v. map signer_value v.items) (set_of (less signer)) nest r.old r.new result }
 {
     let boxes = read_set_below_with(alloc, r, nest, by)?;
     let signers = opened(alloc, boxes)?;
@@ -275,7 +275,7 @@ fn read_certificate_with<F: Fn(&mut Reader<'_>, u8) -> Result<Boxed<SignerInfo>,
     requires below { ReadsSigners (F.pre by.now) (F.post by.now) nest }
     ensures { Gives (λ b. certificate_value b.0.value) certificate nest r.old r.new result }
 {
-    let row = read_row_within_with::<CertificateParts, _, _>(
+    let components = read_within_with::<CertificateParts, _, _>(
         alloc,
         r,
         nest,
@@ -283,21 +283,21 @@ fn read_certificate_with<F: Fn(&mut Reader<'_>, u8) -> Result<Boxed<SignerInfo>,
         &|s: &mut Reader<'_>|
             requires sound { s.old.refused ≡ false }
             requires below { ReadsSigners (F.pre by.now) (F.post by.now) nest }
-            ensures { GivesRow (λ x. signed_value x.0.0.0.value) (within 0xA0 signed_data) nest s.old s.new result }
+            ensures { GivesComponents (λ x. signed_value x.0.0.0.value) (within 0xA0 signed_data) nest s.old s.new result }
         { read_held_with(alloc, s, nest, by) },
     )?;
-    let certificate = certificate_of(alloc, row)?;
+    let certificate = certificate_of(alloc, components)?;
     Ok(certificate)
 }
 
 /// Signed data with their content type, of their parts, in memory of their own. Refuses by `Memory` alone.
 #[inline(never)]
-fn certificate_of(alloc: Global, row: CertificateParts) -> Result<Boxed<Pkcs7Certificate>, Error>
+fn certificate_of(alloc: Global, components: CertificateParts) -> Result<Boxed<Pkcs7Certificate>, Error>
     ensures { MatchResult result
-        (λ b. certificate_out (certificate_value b.0.value) ≡ (octets_of row.0.0.0, signed_value row.1.0.0.0.0.value))
+        (λ b. certificate_out (certificate_value b.0.value) ≡ (octets_of components.0.0.0, signed_value components.1.0.0.0.0.value))
         (λ e. e ≡ Memory) }
 {
-    let Part(SignedDataType(oid), Tail(Alone(ExplicitContextTag0(signed)))) = row;
+    let Part(SignedDataType(oid), Tail(Alone(ExplicitContextTag0(signed)))) = components;
     let certificate = Pkcs7Certificate {
         oid,
         signed_data: ExplicitContextTag0(signed.open()),
@@ -315,7 +315,7 @@ fn read_held_with<F: Fn(&mut Reader<'_>, u8) -> Result<Boxed<SignerInfo>, Error>
 ) -> Result<Held, Error>
     requires sound { r.old.refused ≡ false }
     requires below { ReadsSigners (F.pre by.now) (F.post by.now) nest }
-    ensures { GivesRow (λ x. signed_value x.0.0.0.value) (within 0xA0 signed_data) nest r.old r.new result }
+    ensures { GivesComponents (λ x. signed_value x.0.0.0.value) (within 0xA0 signed_data) nest r.old r.new result }
 {
     let outer = open_element(r, 0xA0)?;
     let signed = read_signed_with(alloc, r, nest, by)?;
@@ -343,7 +343,7 @@ fn read_signed_with<F: Fn(&mut Reader<'_>, u8) -> Result<Boxed<SignerInfo>, Erro
     if nest == 0 {
         return Err(Error::TooDeep);
     }
-    let row = read_row_within_with::<SignedParts, _, _>(
+    let components = read_within_with::<SignedParts, _, _>(
         alloc,
         r,
         nest,
@@ -351,21 +351,21 @@ fn read_signed_with<F: Fn(&mut Reader<'_>, u8) -> Result<Boxed<SignerInfo>, Erro
         &|s: &mut Reader<'_>|
             requires sound { s.old.refused ≡ false }
             requires below { ReadsSigners (F.pre by.now) (F.post by.now) nest }
-            ensures { GivesRow (λ x. map signer_value x.0.0.items) (set_of (less signer)) nest s.old s.new result }
+            ensures { GivesComponents (λ x. map signer_value x.0.0.items) (set_of (less signer)) nest s.old s.new result }
         { read_signers_with(alloc, s, nest, by) },
     )?;
-    let signed = signed_of(alloc, row)?;
+    let signed = signed_of(alloc, components)?;
     Ok(signed)
 }
 
 /// Signed data of their parts, in memory of their own. Refuses by `Memory` alone.
 #[inline(never)]
-fn signed_of(alloc: Global, row: SignedParts) -> Result<Boxed<SignedData>, Error>
+fn signed_of(alloc: Global, components: SignedParts) -> Result<Boxed<SignedData>, Error>
     ensures { MatchResult result
-        (λ x. signed_value x.0.value ≡ signed_parts_value row.0 row.1.0 row.1.1.0.0.value row.1.1.1.0 row.1.1.1.1.0 (map signer_value row.1.1.1.1.1.0.0.0.items))
+        (λ x. signed_value x.0.value ≡ signed_parts_value components.0 components.1.0 components.1.1.0.0.value components.1.1.1.0 components.1.1.1.1.0 (map signer_value components.1.1.1.1.1.0.0.0.items))
         (λ e. e ≡ Memory) }
 {
-    let Part(version, Part(digest_algorithms, Part(content_info, rest))) = row;
+    let Part(version, Part(digest_algorithms, Part(content_info, rest))) = components;
     let Omitted(certificates, Maybe(crls, Tail(SignersBelow(signers)))) = rest;
     let signed = SignedData {
         version,
@@ -388,7 +388,7 @@ fn read_signers_with<F: Fn(&mut Reader<'_>, u8) -> Result<Boxed<SignerInfo>, Err
 ) -> Result<SignersBelow, Error>
     requires sound { r.old.refused ≡ false }
     requires below { ReadsSigners (F.pre by.now) (F.post by.now) nest }
-    ensures { GivesRow (λ x. map signer_value x.0.0.items) (set_of (less signer)) nest r.old r.new result }
+    ensures { GivesComponents (λ x. map signer_value x.0.0.items) (set_of (less signer)) nest r.old r.new result }
 {
     let signers = read_signers_below(alloc, r, nest, by)?;
     Ok(SignersBelow(Asn1SetOf(signers)))

@@ -2,7 +2,7 @@
 
 ghost use Rattle.std.specs.Prelude.{◌≡◌, ◌↔◌, IsTrue, List, [], map, false};
 ghost use Rattle.asn1_core.specs.Der.{octets_of, less, set_of};
-ghost use Rattle.pkcs7_signed.specs.Rows.{UnsignedValues, kind_of, IsOfKind};
+ghost use Rattle.pkcs7_signed.specs.Components.{UnsignedValues, kind_of, IsOfKind};
 ghost use Rattle.pkcs7_signed.specs.Heads.{signer_head_value, signed_head_value};
 ghost use Rattle.pkcs7_signed.specs.SignerLevels.{parts_of_signer, parts_of_signed};
 ghost use Rattle.pkcs7_signed.specs.Signers.{Value, signers, attributes, certificates, SignedValue, signer, attribute, certificate, signed_data, signer_infos, unsigned_attributes, values};
@@ -266,7 +266,7 @@ impl DerSerialize for UnsignedAttributeValue {
                 certificates_formed_at(certificates, limit)
             }
             UnsignedAttributeValue::CounterSign(signers) => signers_formed_below(signers, limit),
-            UnsignedAttributeValue::Unknown(elements) => elements.0.row_well_formed_at(limit),
+            UnsignedAttributeValue::Unknown(elements) => elements.0.components_well_formed_at(limit),
         }
     }
 }

@@ -50,5 +50,5 @@ module _ {V : Type 0} (F : Format V) (found : List AttributeValue) (n : (v : Opt
   no_only : (e : Error) → e ≡ Invalid → HasNoOnly F found e
   no_only e i = record { kind = λ t. (let x : Invalid ≡ TooLong = sym i ∙ t in cc); none = λ m. none_read }
 
-  pub gave_no_only : {T : Type 0} (value : T → V) {r : Result (Option T) Error} {e : Error} → ((x : Error) × (r ≡ Err x) × (x ≡ e)) → e ≡ Invalid → GivesOnly value F found r
-  gave_no_only value {r} {e} p i = subst (GivesOnly value F found) (sym p.1) (subst (HasNoOnly F found) (sym p.2) (no_only e i))
+  pub has_refused_no_only : {T : Type 0} (value : T → V) {r : Result (Option T) Error} {e : Error} → ((x : Error) × (r ≡ Err x) × (x ≡ e)) → e ≡ Invalid → GivesOnly value F found r
+  has_refused_no_only value {r} {e} p i = subst (GivesOnly value F found) (sym p.1) (subst (HasNoOnly F found) (sym p.2) (no_only e i))

@@ -7,23 +7,23 @@ use Rattle.asn1_choices.specs.Tables.{Table}
 use Rattle.x509_base.specs.Algorithms.{AlgorithmValue, algorithm_identifier, null, null_written}
 
 -- a known algorithm, or an algorithm identifier whose object identifier no alternative has
-abbrev pub arm_read : {A : Type 0} → Option A → AlgorithmValue → A ⊎ AlgorithmValue
-arm_read (Some a) v = inl a
-arm_read None v = inr v
+abbrev pub alternative_read : {A : Type 0} → Option A → AlgorithmValue → A ⊎ AlgorithmValue
+alternative_read (Some a) v = inl a
+alternative_read None v = inr v
 
 -- parameters are present, and after a known object identifier they are NULL
-abbrev pub HasArmParameters : {A : Type 0} → Table A → List ℕ → Type 0
-HasArmParameters T b = (o : List ℕ) × (p : List ℕ) × (b ≡ element 0x30 (element 0x06 o ++ p)) × (p ≢ []) × (IsSome (T.arm_of o) → p ≡ null)
+abbrev pub HasAlternativeParameters : {A : Type 0} → Table A → List ℕ → Type 0
+HasAlternativeParameters T b = (o : List ℕ) × (p : List ℕ) × (b ≡ element 0x30 (element 0x06 o ++ p)) × (p ≢ []) × (IsSome (T.alternative_of o) → p ≡ null)
 
-abbrev pub arm_written : {A : Type 0} → Table A → Loosening AlgorithmValue (A ⊎ AlgorithmValue)
-arm_written T = record {
-  read = λ v. arm_read (T.arm_of v.0) v;
+abbrev pub alternative_written : {A : Type 0} → Table A → Loosening AlgorithmValue (A ⊎ AlgorithmValue)
+alternative_written T = record {
+  read = λ v. alternative_read (T.alternative_of v.0) v;
   written = from_one (λ a. (T.oid_of a, (Some null, tt))) null_written.written;
   normal = map_one (λ a. a) null_written.normal;
-  IsProper = OneOf (λ _. Unit {0}) (λ v. T.arm_of v.0 ≡ None);
-  IsWritten = HasArmParameters T;
+  IsProper = OneOf (λ _. Unit {0}) (λ v. T.alternative_of v.0 ≡ None);
+  IsWritten = HasAlternativeParameters T;
   least = from_one (λ _. 2) algorithm_identifier.least;
 }
 
 abbrev pub algorithm_choice : {A : Type 0} → Table A → Format (A ⊎ AlgorithmValue)
-algorithm_choice T = loosened algorithm_identifier (arm_written T)
+algorithm_choice T = loosened algorithm_identifier (alternative_written T)

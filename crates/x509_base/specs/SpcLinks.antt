@@ -8,7 +8,7 @@ use Rattle.std.proofs.Common.{arith, inl, inr, refl}
 use Rattle.asn1_leaves.specs.Strings.{bmp_string, lawful_bmp_string, ia5_string, lawful_ia5_string}
 use Rattle.asn1_leaves_strings.specs.Bmp.{IsBmp}
 use Rattle.asn1_leaves_strings.specs.Ia5.{IsIa5}
-use Rattle.x509_base.specs.SpcObjects.{SerializedObjectValue, serialized_object_row, serialized_object, lawful_serialized_object}
+use Rattle.x509_base.specs.SpcObjects.{SerializedObjectValue, serialized_object_components, serialized_object, lawful_serialized_object}
 use Rattle.asn1_leaves_strings.specs.Octets.{octets_of_bmp, octets_of_ia5}
 use Rattle.x509_base.specs.declared.spc.links.SpcString.{SpcString}
 use Rattle.x509_base.specs.declared.spc.links.SpcString.TheVariants.{Unicode, Ancii}
@@ -72,7 +72,7 @@ pub lawful_url : IsLawful url
 lawful_url = lawful_implicit 0x80 0x16 ia5_string lawful_ia5_string (leaf_tagged 0x16 (omega arith) (kept IsIa5)) (omega arith)
 
 pub lawful_moniker : IsLawful moniker
-lawful_moniker = lawful_implicit 0xA1 0x30 serialized_object lawful_serialized_object (within_tagged 0x30 (omega arith) serialized_object_row) (omega arith)
+lawful_moniker = lawful_implicit 0xA1 0x30 serialized_object lawful_serialized_object (within_tagged 0x30 (omega arith) serialized_object_components) (omega arith)
 
 pub lawful_file : IsLawful file
 lawful_file = search (der_laws, lawful_spc_string) depth 20

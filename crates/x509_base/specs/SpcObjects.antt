@@ -7,15 +7,15 @@ use Rattle.std.proofs.Common.{arith}
 abbrev pub SerializedObjectValue : Type 0
 SerializedObjectValue = Octets × (Octets × Unit {0})
 
-abbrev pub serialized_object_row : Format SerializedObjectValue
-serialized_object_row = part octet_string (part octet_string nothing)
+abbrev pub serialized_object_components : Format SerializedObjectValue
+serialized_object_components = part octet_string (part octet_string nothing)
 
 abbrev pub serialized_object : Format SerializedObjectValue
-serialized_object = sequence serialized_object_row
+serialized_object = sequence serialized_object_components
 
 pub lawful_serialized_object : IsLawful serialized_object
 lawful_serialized_object =
-    lawful_within serialized_object_row (lawful_part octet_string _ lawful_octet_string (lawful_part octet_string nothing lawful_octet_string lawful_nothing)) 0x30 (omega arith)
+    lawful_within serialized_object_components (lawful_part octet_string _ lawful_octet_string (lawful_part octet_string nothing lawful_octet_string lawful_nothing)) 0x30 (omega arith)
 
 -- the class of page hashes, with its octets in the order that a serialized object has
 abbrev pub page_hash_class : List ℕ

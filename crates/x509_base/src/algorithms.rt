@@ -14,7 +14,7 @@ use asn1_core::OidRef;
 use asn1_core::prelude::*;
 use std::alloc::Global;
 
-type AlgorithmRow = Part<ObjectIdentifierAsn1, Maybe<Asn1RawDer, End>>;
+type AlgorithmComponents = Part<ObjectIdentifierAsn1, Maybe<Asn1RawDer, End>>;
 
 /// `AlgorithmIdentifier ::= SEQUENCE { algorithm OBJECT IDENTIFIER, parameters ANY DEFINED BY algorithm OPTIONAL }`,
 /// written as it is: absent parameters stay absent.
@@ -62,14 +62,14 @@ impl DerSerialize for AlgorithmIdentifier {
 
     fn well_formed_at(&self, limit: u8) -> bool {
         let parameters = Maybe(self.parameters.as_ref(), End);
-        Part(OidRef(&self.algorithm), parameters).row_well_formed_at(limit)
+        Part(OidRef(&self.algorithm), parameters).components_well_formed_at(limit)
     }
 }
 
 impl DerDeserialize for AlgorithmIdentifier {
     fn read(alloc: Global, r: &mut Reader<'_>, nest: u8) -> Result<Self, Error> {
-        let row: AlgorithmRow = read_within(alloc, r, nest, 0x30)?;
-        let Part(ObjectIdentifierAsn1(algorithm), Maybe(parameters, End)) = row;
+        let components: AlgorithmComponents = read_within(alloc, r, nest, 0x30)?;
+        let Part(ObjectIdentifierAsn1(algorithm), Maybe(parameters, End)) = components;
         Ok(Self {
             algorithm,
             parameters,
@@ -166,8 +166,8 @@ impl WriteChoice for RawAlgorithmIdentifier {
     fn put_choice<W: Writer>(&self, w: &mut W) -> Result<(), WriteError> {
         let oid = OidRef(self.algorithm());
         match self.parameters() {
-            Some(parameters) => Part(oid, Alone(parameters)).put_row(w),
-            None => Part(oid, Alone(Null)).put_row(w),
+            Some(parameters) => Part(oid, Alone(parameters)).put_components(w),
+            None => Part(oid, Alone(Null)).put_components(w),
         }
     }
 
@@ -177,10 +177,10 @@ impl WriteChoice for RawAlgorithmIdentifier {
 }
 
 impl ReadChoice for RawAlgorithmIdentifier {
-    fn read_behind(oid: &[u8], alloc: Global, r: &mut Reader<'_>, nest: u8) -> Result<Self, Error> {
+    fn read_after(oid: &[u8], alloc: Global, r: &mut Reader<'_>, nest: u8) -> Result<Self, Error> {
         let AnyOid(algorithm, Maybe(parameters, End)) = AnyOid::<
             Maybe<Asn1RawDer, End>,
-        >::read_behind(oid, alloc, r, nest)?;
+        >::read_after(oid, alloc, r, nest)?;
         Ok(Self::from_parts(algorithm, parameters))
     }
 

@@ -16,7 +16,7 @@ pub struct Extension {
     pub extn_value: OctetStringAsn1,
 }
 
-type ExtensionRow = Part<ObjectIdentifierAsn1, Omitted<DefaultFalse, Part<OctetStringAsn1, End>>>;
+type ExtensionComponents = Part<ObjectIdentifierAsn1, Omitted<DefaultFalse, Part<OctetStringAsn1, End>>>;
 
 impl DerSerialize for Extension {
     ghost Value = { ExtensionValue };
@@ -36,8 +36,8 @@ impl DerSerialize for Extension {
 
 impl DerDeserialize for Extension {
     fn read(alloc: Global, r: &mut Reader<'_>, nest: u8) -> Result<Self, Error> {
-        let row: ExtensionRow = read_within(alloc, r, nest, 0x30)?;
-        let fields_of!(extn_id, (DefaultFalse(critical)) DEFAULT, extn_value) = row;
+        let components: ExtensionComponents = read_within(alloc, r, nest, 0x30)?;
+        let fields_of!(extn_id, (DefaultFalse(critical)) DEFAULT, extn_value) = components;
         Ok(Extension {
             extn_id,
             critical,
@@ -74,7 +74,7 @@ impl DerSerialize for Extensions {
     }
 
     fn well_formed_at(&self, limit: u8) -> bool {
-        self.0.row_well_formed_at(limit)
+        self.0.components_well_formed_at(limit)
     }
 }
 

@@ -8,7 +8,7 @@ ghost use Rattle.x509_base.specs.Equal.{time_equal};
 ghost use Rattle.x509_base.specs.Times.{TimeValue, time, time_of, lawful_time};
 
 use asn1_core::prelude::*;
-use asn1_core_format::rows::next_is;
+use asn1_core_format::components::next_is;
 use asn1_leaves::{GeneralizedTimeAsn1, UTCTimeAsn1};
 use std::alloc::Global;
 

@@ -8,7 +8,7 @@ use Rattle.pkcs7_content.specs.Contents.{ContentValues, content_values}
 use Rattle.pkcs7_signed.specs.Certificates.{CertificateValue}
 use Rattle.pkcs7_attributes.specs.SignedSets.{attributes_as_set, some_attributes}
 use Rattle.pkcs7_signed.specs.SignerParts.{SignerIdValue}
-use Rattle.pkcs7_signed.specs.Parts.{SignerParts, behind_signed}
+use Rattle.pkcs7_signed.specs.Parts.{SignerParts, after_signed}
 use Rattle.pkcs7_signed.specs.Signers.{Value, signers, certificates, certificate, signer_out, certificate_out}
 use Rattle.x509_pkcs7.specs.Hashed.{content_is_element}
 use Rattle.x509_pkcs7.specs.Matches.{choice_octets}
@@ -43,7 +43,7 @@ of_signer SignatureAlgorithm s = Some (algorithm_identifier.text s.1.1.1.1.0)
 of_signer Signature s = Some s.1.1.1.1.1.0
 
 abbrev pub signers_in : Value certificates → List (Value signers)
-signers_in v = behind_signed (certificate_out v).1
+signers_in v = after_signed (certificate_out v).1
 
 abbrev pub certificates_in : Value certificates → List CertificateValue
 certificates_in v = (certificate_out v).1.1.1.1.0

@@ -5,7 +5,7 @@ use Rattle.asn1_core.specs.Der.{option_value}
 use Rattle.asn1_core_element.specs.ElementLaws.{element_same}
 use Rattle.asn1_core_element.specs.declared.error.Error.{Error}
 use Rattle.pkcs7_content.specs.Contents.{ContentValues, content_values, content_value}
-use Rattle.pkcs7_signed.specs.Parts.{behind_signed}
+use Rattle.pkcs7_signed.specs.Parts.{after_signed}
 use Rattle.pkcs7_signed.specs.SignerLevels.{out_certificate, out_signer, value_signed, value_signers, parts_of_signer, attributes_in}
 use Rattle.pkcs7_signed.specs.Signers.{Value, attributes, signer_out}
 use Rattle.pkcs7_signed.specs.SignerValues.{certificate_value, signer_value}
@@ -24,7 +24,7 @@ data_in x = (out-Pkcs7Certificate x).signed_data.0
 
 pub signers_are : (x : Pkcs7Certificate) → signers_in (certificate_value x) ≡ map signer_value (out-SignersInfos (out-SignedData (data_in x)).signers_infos).0.0.items
 signers_are x =
-    ap (λ r. behind_signed r.1) (out_certificate x) ∙ ap behind_signed (value_signed (data_in x))
+    ap (λ r. after_signed r.1) (out_certificate x) ∙ ap after_signed (value_signed (data_in x))
     ∙ value_signers (out-SignedData (data_in x)).signers_infos
 
 pub certificates_are : (x : Pkcs7Certificate) → certificates_in (certificate_value x) ≡ certificates_value (out-SignedData (data_in x)).certificates.0

@@ -4,7 +4,7 @@ use Rattle.std.specs.List.{flat_map}
 use Rattle.std.proofs.Common.{inl, inr}
 use Rattle.asn1_core.specs.Der.{option_value, Octets, ElementOctets}
 use Rattle.x509_pkcs12.specs.BagParts.{EncryptedKeyValue, encrypted_key_bag}
-use Rattle.x509_pkcs12.specs.Bags.{Bag, BagRow, bag_out, safe_bag}
+use Rattle.x509_pkcs12.specs.Bags.{Bag, BagComponents, bag_out, safe_bag}
 use Rattle.x509_pkcs12.specs.Selections.{certificate_of, x509_octets}
 use Rattle.x509_pkcs12.specs.Contents.{ContentInfoValue}
 use Rattle.x509_pkcs12.specs.Parsed.{parsed}
@@ -15,13 +15,13 @@ use Rattle.x509_containers.specs.declared.parts.stores.StorePart.{StorePart}
 use Rattle.x509_containers.specs.declared.parts.stores.StorePart.TheVariants.{Certificate, Key, EncryptedKey, WholeBag}
 
 -- the PrivateKeyInfo in a bag, as it is
-abbrev pub key_in : BagRow (List Bag) → Option ElementOctets
+abbrev pub key_in : BagComponents (List Bag) → Option ElementOctets
 key_in (inl bags) = None
 key_in (inr (inl key)) = Some key.0
 key_in (inr (inr other)) = None
 
 -- the EncryptedPrivateKeyInfo in a bag
-abbrev pub encrypted_key_in : BagRow (List Bag) → Option EncryptedKeyValue
+abbrev pub encrypted_key_in : BagComponents (List Bag) → Option EncryptedKeyValue
 encrypted_key_in (inl bags) = None
 encrypted_key_in (inr (inl key)) = None
 encrypted_key_in (inr (inr (inl key))) = Some key.0

@@ -4,7 +4,7 @@ use Rattle.std.proofs.Common.{refl, ap, ◌∙◌}
 use Rattle.asn1_core.specs.Der.{ElementOctets}
 use Rattle.x509_pkcs12.specs.Attributes.{AttributesValue, attributes_value}
 use Rattle.x509_pkcs12.specs.BagParts.{EncryptedKeyValue, encrypted_key_value}
-use Rattle.x509_pkcs12.specs.BagLevels.{value_row}
+use Rattle.x509_pkcs12.specs.BagLevels.{value_components}
 use Rattle.x509_pkcs12.specs.BagValues.{with_attributes, bag_value, kind_value}
 use Rattle.x509_pkcs12.specs.Bags.{bag_out}
 use Rattle.x509_pkcs12.specs.declared.safe_bags.bags.SafeBag.{SafeBag}
@@ -29,10 +29,10 @@ encrypted_key_kind (K.EncryptedKey x) n = refl
 encrypted_key_kind k n = refl
 
 pub key_field : (b : SafeBag) → key_in (bag_out (bag_value b)) ≡ key_of_kind b.kind
-key_field b = ap key_in (value_row b) ∙ key_kind b.kind (attributes_value b.attributes)
+key_field b = ap key_in (value_components b) ∙ key_kind b.kind (attributes_value b.attributes)
 
 pub encrypted_key_field : (b : SafeBag) → encrypted_key_in (bag_out (bag_value b)) ≡ encrypted_key_of_kind b.kind
-encrypted_key_field b = ap encrypted_key_in (value_row b) ∙ encrypted_key_kind b.kind (attributes_value b.attributes)
+encrypted_key_field b = ap encrypted_key_in (value_components b) ∙ encrypted_key_kind b.kind (attributes_value b.attributes)
 
 -- another kind
 pub no_key : (k : SafeBagKind) → ((x : _) → k ≡ K.Key x → ⊥) → key_of_kind k ≡ None

@@ -2,7 +2,7 @@
 
 ghost use Rattle.std.specs.Prelude.{◌≡◌, ◌≢◌, ◌↔◌, ◌+◌, ◌<◌, ◌≤◌, IsTrue, MatchOption};
 ghost use Rattle.der_engine.specs.Engine.{Runs, read_failures, write_failures};
-ghost use Rattle.der_engine.specs.Steps.{Checks, RewritesBehind};
+ghost use Rattle.der_engine.specs.Steps.{Checks, RewritesAfter};
 ghost use Rattle.der_engine.specs.Verdicts.{FindsEnd, Locates};
 ghost use Rattle.x509_containers.specs.Kinds.{rewriting_as, rewriting_at, word_of};
 
@@ -187,7 +187,7 @@ pub fn loose_end(alloc: Global, kind: Kind, input: &[u8]) -> Result<Option<usize
 
 /// Appends the encoding of the value of an input of the kind. A refusal leaves what the vector holds as it was.
 pub fn rewrite(alloc: Global, kind: Kind, input: &[u8], out: &mut Vec<u8>) -> Result<(), Error>
-    ensures { RewritesBehind (rewriting_as kind) input.now out.old.items out.new.items result }
+    ensures { RewritesAfter (rewriting_as kind) input.now out.old.items out.new.items result }
 {
     rewrite_limited(alloc, kind, MAX_NESTING, input, out)
 }
@@ -201,7 +201,7 @@ pub fn rewrite_limited(
     out: &mut Vec<u8>,
 ) -> Result<(), Error>
     requires { limit ≤ 64 }
-    ensures { RewritesBehind (rewriting_at kind limit) input.now out.old.items out.new.items result }
+    ensures { RewritesAfter (rewriting_at kind limit) input.now out.old.items out.new.items result }
 {
     kind.rewrite(alloc, limit, input, out)
 }

@@ -14,17 +14,17 @@ use Rattle.x509_pkcs12.specs.Pfxs.{PfxValue, pfx}
 abbrev EndsBy : List ℕ → List ℕ → Type 0
 EndsBy b y = (p : List ℕ) × (b ≡ p ++ y)
 
-ends_behind : (a c y : List ℕ) → EndsBy c y → EndsBy (a ++ c) y
-ends_behind a c y e = (a ++ e.0, ap (λ z. a ++ z) e.1 ∙ sym (append_assoc a e.0 y))
+ends_after : (a c y : List ℕ) → EndsBy c y → EndsBy (a ++ c) y
+ends_after a c y e = (a ++ e.0, ap (λ z. a ++ z) e.1 ∙ sym (append_assoc a e.0 y))
 
 ends_within : (tag : ℕ) (c y : List ℕ) → EndsBy c y → EndsBy (element tag c) y
-ends_within tag c y e = ends_behind (head tag (length c)) c y e
+ends_within tag c y e = ends_after (head tag (length c)) c y e
 
 auth_safe_ends : (o : List ℕ) → EndsBy (auth_safe_of o) o
 auth_safe_ends o =
     let string = ends_within 0x04 o o ([], refl) in
     let content = ends_within 0xA0 (element 0x04 o) o string in
-    let parts = ends_behind (element 0x06 data_oid) (element 0xA0 (element 0x04 o)) o content in
+    let parts = ends_after (element 0x06 data_oid) (element 0xA0 (element 0x04 o)) o content in
     ends_within 0x30 (element 0x06 data_oid ++ element 0xA0 (element 0x04 o)) o parts
 
 three : length (element 0x02 (integer_octets 3)) ≡ 3
@@ -67,8 +67,8 @@ module _ {b o : List ℕ} {w : PfxValue (List ℕ)} (p : Stands b o w) where
   ends =
       let a = auth_safe_ends o in
       let t : auth_safe_of o ++ p.covers.mac ≡ a.0 ++ (o ++ p.covers.mac) = ap (λ z. z ++ p.covers.mac) a.1 ∙ append_assoc a.0 o p.covers.mac in
-      let row = ends_behind (element 0x02 p.covers.version_octets) (auth_safe_of o ++ p.covers.mac) (o ++ p.covers.mac) (a.0, t) in
-      let e = ends_within 0x30 (element 0x02 p.covers.version_octets ++ (auth_safe_of o ++ p.covers.mac)) (o ++ p.covers.mac) row in
+      let components = ends_after (element 0x02 p.covers.version_octets) (auth_safe_of o ++ p.covers.mac) (o ++ p.covers.mac) (a.0, t) in
+      let e = ends_within 0x30 (element 0x02 p.covers.version_octets ++ (auth_safe_of o ++ p.covers.mac)) (o ++ p.covers.mac) components in
       (e.0, p.covers.is ∙ e.1)
 
   size_is : length b ≡ length ends.0 + (length o + length p.covers.mac)
@@ -82,11 +82,11 @@ module _ {b o : List ℕ} {w : PfxValue (List ℕ)} (p : Stands b o w) where
   -- the end of authSafe, by the header and its own length
   pub end_at : {header size : ℕ} → (get_or b 1 0 < 128 → header ≡ 2) → (128 ≤ get_or b 1 0 → header + 126 ≡ get_or b 1 0) → size ≡ length ((auth_safe raw).text w.1.0) → header + 3 + size + length p.covers.mac ≡ length b
   end_at {header} short long e =
-      let row : List ℕ = element 0x02 p.covers.version_octets ++ (auth_safe_of o ++ p.covers.mac) in
-      let first : get_or b 1 0 ≡ get_or (head 0x30 (length row) ++ row) 1 0 = ap (λ l. get_or l 1 0) p.covers.is in
-      let h : length (head 0x30 (length row)) ≡ header =
-      header_length 0x30 (length row) header row (λ l. short (omega (arith, first, l))) (λ l. omega (arith, first, long (omega (arith, first, l)))) in
-      omega (arith, h, p.version, e, ap length p.text, ap length p.covers.is, length-append (head 0x30 (length row)) row, length-append (element 0x02 p.covers.version_octets) (auth_safe_of o ++ p.covers.mac), length-append (auth_safe_of o) p.covers.mac)
+      let components : List ℕ = element 0x02 p.covers.version_octets ++ (auth_safe_of o ++ p.covers.mac) in
+      let first : get_or b 1 0 ≡ get_or (head 0x30 (length components) ++ components) 1 0 = ap (λ l. get_or l 1 0) p.covers.is in
+      let h : length (head 0x30 (length components)) ≡ header =
+      header_length 0x30 (length components) header components (λ l. short (omega (arith, first, l))) (λ l. omega (arith, first, long (omega (arith, first, l)))) in
+      omega (arith, h, p.version, e, ap length p.text, ap length p.covers.is, length-append (head 0x30 (length components)) components, length-append (element 0x02 p.covers.version_octets) (auth_safe_of o ++ p.covers.mac), length-append (auth_safe_of o) p.covers.mac)
 
   there : (start end : ℕ) → length ends.0 ≡ start → length o ≡ end - start → slice_range b start end ≡ o
   there start end s e =
@@ -107,7 +107,7 @@ module _ {b o : List ℕ} {w : PfxValue (List ℕ)} (p : Stands b o w) where
             mac = p.covers.mac;
             is = p.covers.is ∙ ap (λ z. element 0x30 (element 0x02 p.covers.version_octets ++ (auth_safe_of z ++ p.covers.mac))) (sym is);
           };
-          behind = ap (drop end) (ends.1 ∙ sym (append_assoc ends.0 o p.covers.mac)) ∙ drop_at (ends.0 ++ o) p.covers.mac end (omega (arith, length-append ends.0 o, q, size_is));
+          after = ap (drop end) (ends.1 ∙ sym (append_assoc ends.0 o p.covers.mac)) ∙ drop_at (ends.0 ++ o) p.covers.mac end (omega (arith, length-append ends.0 o, q, size_is));
           inside = (omega arith, omega (arith, q));
         };
       }

@@ -22,20 +22,20 @@ module _ {V : Type 0} (F : Format V) (f : IsLawful F) (k : ℕ) where
   any : (b : List ℕ) (v : V) → F.Reads k b v → IsElement IsTagByte b
   any b v r = let e = f.element k b v r in record { tag = e.tag; contents = e.contents; is_tag = e.is_tag; is = e.is; allowed = e.is_tag }
 
-  row_to : (b : List ℕ) (v : AuthSafeValue V) → (auth_safe_choice F).row.Reads k b v → (w : AuthSafeValue (List ℕ)) × (auth_safe_choice raw).row.Reads k b w × DataReadsAs (F.Reads k) w v
-  row_to b (inl v) s = (inl s.2.2.0, (s.0, s.1, (s.2.0, s.2.1, (s.2.2.0, s.2.2.1, (refl, any s.2.2.0 v s.2.2.2)))), s.2.2.2)
-  row_to b (inr p) s = (inr p, s, refl)
+  components_to : (b : List ℕ) (v : AuthSafeValue V) → (auth_safe_choice F).components.Reads k b v → (w : AuthSafeValue (List ℕ)) × (auth_safe_choice raw).components.Reads k b w × DataReadsAs (F.Reads k) w v
+  components_to b (inl v) s = (inl s.2.2.0, (s.0, s.1, (s.2.0, s.2.1, (s.2.2.0, s.2.2.1, (refl, any s.2.2.0 v s.2.2.2)))), s.2.2.2)
+  components_to b (inr p) s = (inr p, s, refl)
 
-  row_from : (b : List ℕ) (w : AuthSafeValue (List ℕ)) (v : AuthSafeValue V) → (auth_safe_choice raw).row.Reads k b w → DataReadsAs (F.Reads k) w v → (auth_safe_choice F).row.Reads k b v
-  row_from b (inl octets) (inl v) s q = (s.0, s.1, (s.2.0, s.2.1, (s.2.2.0, s.2.2.1, subst (λ y. F.Reads k y v) (sym s.2.2.2.0) q)))
-  row_from b (inl octets) (inr p) r q = absurd q
-  row_from b (inr p) (inl v) r q = absurd q
-  row_from b (inr p) (inr u) r q = subst (λ y. (auth_safe_choice F).row.Reads k b (inr y)) q r
+  components_from : (b : List ℕ) (w : AuthSafeValue (List ℕ)) (v : AuthSafeValue V) → (auth_safe_choice raw).components.Reads k b w → DataReadsAs (F.Reads k) w v → (auth_safe_choice F).components.Reads k b v
+  components_from b (inl octets) (inl v) s q = (s.0, s.1, (s.2.0, s.2.1, (s.2.2.0, s.2.2.1, subst (λ y. F.Reads k y v) (sym s.2.2.2.0) q)))
+  components_from b (inl octets) (inr p) r q = absurd q
+  components_from b (inr p) (inl v) r q = absurd q
+  components_from b (inr p) (inr u) r q = subst (λ y. (auth_safe_choice F).components.Reads k b (inr y)) q r
 
   pfx_to : (b : List ℕ) (v : PfxValue V) → (pfx F).Reads k b v → (w : PfxValue (List ℕ)) × (pfx raw).Reads k b w × ReadsAs (F.Reads k) w v
   pfx_to b v s =
       let a = s.2.4 in
-      let w = row_to a.3.0 v.1.0 a.3.2 in
+      let w = components_to a.3.0 v.1.0 a.3.2 in
       ((v.0, (w.0, v.1.1)), (s.0, s.1, (s.2.0, s.2.1, s.2.2, s.2.3, (a.0, a.1, a.2, (a.3.0, a.3.1, w.1), a.4))), record { version = refl; auth_safe = w.2; mac_data = refl })
 
   pfx_from : (b : List ℕ) (v : PfxValue V) → ((w : PfxValue (List ℕ)) × (pfx raw).Reads k b w × ReadsAs (F.Reads k) w v) → (pfx F).Reads k b v
@@ -44,7 +44,7 @@ module _ {V : Type 0} (F : Format V) (f : IsLawful F) (k : ℕ) where
       let a = s.2.4 in
       subst (λ l. (pfx F).Reads k b (l, (v.1.0, v.1.1))) h.2.version
       (subst (λ l. (pfx F).Reads k b (h.0.0, (v.1.0, l))) h.2.mac_data
-      (s.0, s.1, (s.2.0, s.2.1, s.2.2, s.2.3, (a.0, a.1, a.2, (a.3.0, a.3.1, row_from a.3.0 h.0.1.0 v.1.0 a.3.2 h.2.auth_safe), a.4))))
+      (s.0, s.1, (s.2.0, s.2.1, s.2.2, s.2.3, (a.0, a.1, a.2, (a.3.0, a.3.1, components_from a.3.0 h.0.1.0 v.1.0 a.3.2 h.2.auth_safe), a.4))))
 
   pub pfx_agrees : (b : List ℕ) (v : PfxValue V) → (pfx F).Reads k b v ↔ ((w : PfxValue (List ℕ)) × (pfx raw).Reads k b w × ReadsAs (F.Reads k) w v)
   pfx_agrees b v = (pfx_to b v, pfx_from b v)
@@ -53,7 +53,7 @@ module _ {V : Type 0} (F : Format V) (f : IsLawful F) (k : ℕ) where
   rewritten (n, (inl d, x)) (m, (inl u, y)) octets q e = record {
     written = F.text u;
     covers = data_covers F m u y;
-    survives = subst (λ o. (F.text u ≡ o) ↔ F.IsNormal k o) (same_some d octets e) (f.row.fixed k d u q.auth_safe);
+    survives = subst (λ o. (F.text u ≡ o) ↔ F.IsNormal k o) (same_some d octets e) (f.components.fixed k d u q.auth_safe);
   }
   rewritten (n, (inl d, x)) (m, (inr u, y)) octets q e = absurd q.auth_safe
   rewritten (n, (inr p, x)) v octets q e = absurd (let g : None ≡ Some octets = e in cc)

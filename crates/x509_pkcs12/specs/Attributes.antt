@@ -1,7 +1,7 @@
 -- PKCS12Attribute ::= SEQUENCE { attrId OBJECT IDENTIFIER, attrValues SET OF ANY } (RFC 7292, 4.2)
 -- friendlyName: SET (SIZE (1)) OF BMPString; localKeyId: SET (SIZE (1)) OF OCTET STRING (RFC 2985, 5.5)
 use Rattle.std.specs.Prelude.{◌⊎◌, List, Option, map}
-use Rattle.asn1_core.specs.Der.{Format, within, set_of, sequence, optional, nothing, octet_string, raw, octets_of, option_value, Octets, OidOctets, StringOctets, ElementOctets, IsLawful, IsLawfulRow, lawful_octet_string, der_laws, Choice, known, otherwise, IsLawfulChoice, lawful_known, lawful_otherwise, IsOid}
+use Rattle.asn1_core.specs.Der.{Format, within, set_of, sequence, optional, nothing, octet_string, raw, octets_of, option_value, Octets, OidOctets, StringOctets, ElementOctets, IsLawful, IsLawfulComponents, lawful_octet_string, der_laws, Choice, known, otherwise, IsLawfulChoice, lawful_known, lawful_otherwise, IsOid}
 use Rattle.std.proofs.Common.{inl, inr, Vec, Global}
 use Rattle.asn1_leaves.specs.Strings.{bmp_string, lawful_bmp_string}
 use Rattle.asn1_leaves_strings.specs.Octets.{octets_of_bmp}
@@ -36,7 +36,7 @@ abbrev pub attribute_choice : Choice AttributeValue
 attribute_choice = known (oid FRIENDLY_NAME) (set_of_one bmp_string) local_key_id
 
 abbrev pub pkcs12_attribute : Format AttributeValue
-pkcs12_attribute = sequence attribute_choice.row
+pkcs12_attribute = sequence attribute_choice.components
 
 -- the attributes of a bag: absent, or a set, which may be empty
 abbrev pub AttributesValue : Type 0
@@ -56,12 +56,12 @@ lawful_any_values = search der_laws depth 20
 
 pub lawful_attribute_choice : IsLawfulChoice attribute_choice
 lawful_attribute_choice =
-    lawful_known (oid FRIENDLY_NAME) (set_of_one bmp_string) local_key_id (lawful_set_of_one bmp_string lawful_bmp_string).row
-    (lawful_known (oid LOCAL_KEY_ID) (set_of_one octet_string) unknown_attribute (lawful_set_of_one octet_string lawful_octet_string).row
-    (lawful_otherwise IsOid any_values lawful_any_values.row))
+    lawful_known (oid FRIENDLY_NAME) (set_of_one bmp_string) local_key_id (lawful_set_of_one bmp_string lawful_bmp_string).components
+    (lawful_known (oid LOCAL_KEY_ID) (set_of_one octet_string) unknown_attribute (lawful_set_of_one octet_string lawful_octet_string).components
+    (lawful_otherwise IsOid any_values lawful_any_values.components))
 
 pub lawful_pkcs12_attribute : IsLawful pkcs12_attribute
 lawful_pkcs12_attribute = search (der_laws, lawful_attribute_choice) depth 20
 
-pub lawful_attributes : IsLawfulRow attributes
+pub lawful_attributes : IsLawfulComponents attributes
 lawful_attributes = search (der_laws, lawful_pkcs12_attribute) depth 20

@@ -13,11 +13,11 @@ abbrev pub auth_safe_choice : {V : Type 0} → Format V → Choice (AuthSafeValu
 auth_safe_choice F = known data_oid (data_content F) unknown_content
 
 abbrev pub auth_safe : {V : Type 0} → Format V → Format (AuthSafeValue V)
-auth_safe F = sequence (auth_safe_choice F).row
+auth_safe F = sequence (auth_safe_choice F).components
 
 module _ {V : Type 0} (F : Format V) where
   pub lawful_auth_safe_choice : IsLawful F → IsLawfulChoice (auth_safe_choice F)
-  lawful_auth_safe_choice f = lawful_known data_oid (data_content F) unknown_content (lawful_data_content F f).row lawful_unknown_content
+  lawful_auth_safe_choice f = lawful_known data_oid (data_content F) unknown_content (lawful_data_content F f).components lawful_unknown_content
 
   pub lawful_auth_safe : IsLawful F → IsLawful (auth_safe F)
-  lawful_auth_safe f = lawful_sequence (lawful_auth_safe_choice f).row
+  lawful_auth_safe f = lawful_sequence (lawful_auth_safe_choice f).components

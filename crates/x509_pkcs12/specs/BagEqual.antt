@@ -11,8 +11,8 @@ use Rattle.x509_pkcs12.specs.declared.parts.attributes.Pkcs12Attribute.{Pkcs12At
 use Rattle.x509_pkcs12.specs.declared.parts.oids.TheConstants.{X509_CERTIFICATE, X509_CRL}
 use Rattle.x509_pkcs12.specs.contracts.parts.attributes.Pkcs12AttributePartialEq.TheImpl as A
 use Rattle.x509_pkcs12.specs.Bags.{bag_out, bag_into}
-use Rattle.x509_pkcs12.specs.BagValues.{Kind, arm_or, with_attributes, bag_value, kind_value, contents_value}
-use Rattle.x509_pkcs12.specs.BagLevels.{value_bag, value_row, value_contents}
+use Rattle.x509_pkcs12.specs.BagValues.{Kind, alternative_or, with_attributes, bag_value, kind_value, contents_value}
+use Rattle.x509_pkcs12.specs.BagLevels.{value_bag, value_components, value_contents}
 use Rattle.x509_pkcs12.specs.declared.safe_bags.bags.SafeBag.{SafeBag}
 use Rattle.x509_pkcs12.specs.declared.safe_bags.bags.SafeBagKind.{SafeBagKind, Key, EncryptedKey, Certificate, Crl, Secret, SafeContents, Unknown}
 use Rattle.x509_pkcs12.specs.declared.safe_bags.bags.SafeBagKind.TheFolds.{the_lemmas}
@@ -47,7 +47,7 @@ last_parts v w n m e = (ap (λ p. (p.0, p.1.0)) e, ap (λ p. p.1.1) e)
 pair_parts : {V X : Type 0} {v w : V} {n m : AttributesValue} → ◌≡◌ {A = V × AttributesValue} (v, n) (w, m) → ◌≡◌ {A = V ⊎ X} (inl v) (inl w) × (n ≡ m)
 pair_parts e = (ap (λ p. inl p.0) e, ap (λ p. p.1) e)
 
-parts_or : {V X Y : Type 0} (f : AttributesValue → X → Y) → ((x y : X) (n m : AttributesValue) → f n x ≡ f m y → (x ≡ y) × (n ≡ m)) → (x y : V ⊎ X) (n m : AttributesValue) → arm_or n (f n) x ≡ arm_or m (f m) y → (x ≡ y) × (n ≡ m)
+parts_or : {V X Y : Type 0} (f : AttributesValue → X → Y) → ((x y : X) (n m : AttributesValue) → f n x ≡ f m y → (x ≡ y) × (n ≡ m)) → (x y : V ⊎ X) (n m : AttributesValue) → alternative_or n (f n) x ≡ alternative_or m (f m) y → (x ≡ y) × (n ≡ m)
 parts_or f h (inl v) (inl w) n m e = pair_parts cc
 parts_or f h (inl v) (inr y) n m e = absurd cc
 parts_or f h (inr x) (inl w) n m e = absurd cc
@@ -61,7 +61,7 @@ bag_by_kind x y d =
     along _ _ (BL.is x y) (two_equal d (attributes_equal x.attributes y.attributes))
     (λ p. value_bag x ∙ ap (λ q. bag_into (with_attributes q.0 q.1)) p ∙ sym (value_bag y))
     (λ e.
-    let s = same_parts (kind_value x.kind) (kind_value y.kind) (attributes_value x.attributes) (attributes_value y.attributes) (sym (value_row x) ∙ ap bag_out e ∙ value_row y) in
+    let s = same_parts (kind_value x.kind) (kind_value y.kind) (attributes_value x.attributes) (attributes_value y.attributes) (sym (value_components x) ∙ ap bag_out e ∙ value_components y) in
     ap (λ k. (k, attributes_value x.attributes)) s.0 ∙ ap (λ n. (kind_value y.kind, n)) s.1)
 
 -- two of one kind
@@ -90,15 +90,15 @@ mutual
       let shown : (C.out-SafeContents (SafeContents' s k)).0.items ≡ items-the_row-SafeBag _ k = search (rules, the_lemmas) in
       let left : contents_value (SafeContents' s k) ≡ map bag_value (items-the_row-SafeBag _ k) = value_contents (SafeContents' s k) ∙ ap (map bag_value) shown in
       along _ _ (SL.is (SafeContents' s k) d ∙ ap (λ xs. pointwise B.ghosts.eq xs (C.out-SafeContents d).0.items) shown)
-      (row_equal k (C.out-SafeContents d).0.items)
+      (components_equal k (C.out-SafeContents d).0.items)
       (λ p. left ∙ p ∙ sym (value_contents d)) (λ e. sym left ∙ e ∙ value_contents d)
 
-  row_equal : {n : _} (k : Row_of-SafeBag n) (ys : List SafeBag) → (pointwise B.ghosts.eq (items-the_row-SafeBag n k) ys ≡ true) ↔ (map bag_value (items-the_row-SafeBag n k) ≡ map bag_value ys)
-  row_equal end_of-SafeBag [] = (λ h. refl, λ p. refl)
-  row_equal end_of-SafeBag (y ∷ ys) = (λ h. absurd (true≢false (sym h)), λ p. absurd (let e : [] ≡ bag_value y ∷ map bag_value ys = p in cc))
-  row_equal (more_of-SafeBag kind attributes rest) [] = (λ h. absurd (true≢false (sym h)), λ p. absurd (let e : bag_value record { kind = kind; attributes = attributes } ∷ map bag_value (items-the_row-SafeBag _ rest) ≡ [] = p in cc))
-  row_equal (more_of-SafeBag kind attributes rest) (y ∷ ys) =
-      along _ _ refl (two_equal (bag_by_kind record { kind = kind; attributes = attributes } y (kind_equal kind y.kind)) (row_equal rest ys))
+  components_equal : {n : _} (k : Row_of-SafeBag n) (ys : List SafeBag) → (pointwise B.ghosts.eq (items-the_row-SafeBag n k) ys ≡ true) ↔ (map bag_value (items-the_row-SafeBag n k) ≡ map bag_value ys)
+  components_equal end_of-SafeBag [] = (λ h. refl, λ p. refl)
+  components_equal end_of-SafeBag (y ∷ ys) = (λ h. absurd (true≢false (sym h)), λ p. absurd (let e : [] ≡ bag_value y ∷ map bag_value ys = p in cc))
+  components_equal (more_of-SafeBag kind attributes rest) [] = (λ h. absurd (true≢false (sym h)), λ p. absurd (let e : bag_value record { kind = kind; attributes = attributes } ∷ map bag_value (items-the_row-SafeBag _ rest) ≡ [] = p in cc))
+  components_equal (more_of-SafeBag kind attributes rest) (y ∷ ys) =
+      along _ _ refl (two_equal (bag_by_kind record { kind = kind; attributes = attributes } y (kind_equal kind y.kind)) (components_equal rest ys))
       (λ p. ap (λ q. q.0 ∷ q.1) p) (λ e. pair_of _ _ _ _ e)
 
 pub bag_equal : (x y : SafeBag) → (B.ghosts.eq x y ≡ true) ↔ (bag_value x ≡ bag_value y)

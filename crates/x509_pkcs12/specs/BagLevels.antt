@@ -22,11 +22,11 @@ value_fold b = search (rules, the_lemmas)
 pub value_bag : (b : SafeBag) → bag_value b ≡ bag_into (with_attributes (kind_value b.kind) (attributes_value b.attributes))
 value_bag b = value_fold b ∙ ap (λ k. bag_into (with_attributes k (attributes_value b.attributes))) (value_kind b.kind)
 
-pub value_row : (b : SafeBag) → bag_out (bag_value b) ≡ with_attributes (kind_value b.kind) (attributes_value b.attributes)
-value_row b = ap bag_out (value_bag b) ∙ out_into (with_attributes (kind_value b.kind) (attributes_value b.attributes))
+pub value_components : (b : SafeBag) → bag_out (bag_value b) ≡ with_attributes (kind_value b.kind) (attributes_value b.attributes)
+value_components b = ap bag_out (value_bag b) ∙ out_into (with_attributes (kind_value b.kind) (attributes_value b.attributes))
 
 pub row_holder : (b : SafeBag) {c : C.SafeContents} → b.kind ≡ K.SafeContents c → bag_out (bag_value b) ≡ inl (contents_value c, attributes_value b.attributes)
-row_holder b e = value_row b ∙ ap (λ k. with_attributes (kind_value k) (attributes_value b.attributes)) e
+row_holder b e = value_components b ∙ ap (λ k. with_attributes (kind_value k) (attributes_value b.attributes)) e
 
 pub value_contents : (c : C.SafeContents) → contents_value c ≡ map bag_value (C.out-SafeContents c).0.items
 value_contents c = search (rules, the_lemmas)

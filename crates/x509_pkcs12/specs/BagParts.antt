@@ -28,7 +28,7 @@ any_value = otherwise IsOid (explicit 0 raw)
 
 -- a bag whose X.509 alternative has the object identifier with that number
 abbrev pub x509_bag : ℕ → Format OctetsOrAny
-x509_bag number = sequence (known (oid number) (explicit 0 octet_string) any_value).row
+x509_bag number = sequence (known (oid number) (explicit 0 octet_string) any_value).components
 
 abbrev pub certificate_bag : Format OctetsOrAny
 certificate_bag = x509_bag X509_CERTIFICATE
@@ -61,11 +61,11 @@ pub lawful_any : IsLawful (explicit 0 raw)
 lawful_any = search der_laws depth 20
 
 lawful_any_value : IsLawfulChoice any_value
-lawful_any_value = lawful_otherwise IsOid (explicit 0 raw) lawful_any.row
+lawful_any_value = lawful_otherwise IsOid (explicit 0 raw) lawful_any.components
 
 pub lawful_x509_bag : (number : ℕ) → IsLawful (x509_bag number)
 lawful_x509_bag number =
-    lawful_sequence (lawful_known (oid number) (explicit 0 octet_string) any_value lawful_octets.row lawful_any_value).row
+    lawful_sequence (lawful_known (oid number) (explicit 0 octet_string) any_value lawful_octets.components lawful_any_value).components
 
 pub lawful_secret_bag : IsLawful secret_bag
 lawful_secret_bag = search (der_laws, lawful_any) depth 20

@@ -4,7 +4,7 @@ use Rattle.std.proofs.Common.{inl, inr}
 use Rattle.asn1_core.specs.Der.{octets_of}
 use Rattle.x509_pkcs12.specs.Attributes.{AttributesValue, attributes_value}
 use Rattle.x509_pkcs12.specs.BagParts.{x509_value, secret_value, encrypted_key_value}
-use Rattle.x509_pkcs12.specs.Bags.{Bag, BagRow, bag_into}
+use Rattle.x509_pkcs12.specs.Bags.{Bag, BagComponents, bag_into}
 use Rattle.x509_pkcs12.specs.PlainBags.{PlainKind}
 use Rattle.x509_pkcs12.specs.declared.safe_bags.bags.SafeBag.{SafeBag, fold-SafeBag}
 use Rattle.x509_pkcs12.specs.declared.safe_bags.bags.SafeBagKind as K
@@ -17,12 +17,12 @@ abbrev pub Kind : Type 0
 Kind = List Bag ⊎ PlainKind
 
 -- a value with attributes, or that of another alternative
-abbrev pub arm_or : {V X Y : Type 0} → AttributesValue → (X → Y) → V ⊎ X → (V × AttributesValue) ⊎ Y
-arm_or n f (inl v) = inl (v, n)
-arm_or n f (inr x) = inr (f x)
+abbrev pub alternative_or : {V X Y : Type 0} → AttributesValue → (X → Y) → V ⊎ X → (V × AttributesValue) ⊎ Y
+alternative_or n f (inl v) = inl (v, n)
+alternative_or n f (inr x) = inr (f x)
 
-abbrev pub with_attributes : Kind → AttributesValue → BagRow (List Bag)
-with_attributes k n = arm_or n (arm_or n (arm_or n (arm_or n (arm_or n (arm_or n (λ v. (v.0, (v.1, n)))))))) k
+abbrev pub with_attributes : Kind → AttributesValue → BagComponents (List Bag)
+with_attributes k n = alternative_or n (alternative_or n (alternative_or n (alternative_or n (alternative_or n (alternative_or n (λ v. (v.0, (v.1, n)))))))) k
 
 -- by recursion
 abbrev kind_step : SafeBagKind-F Kind Bag (List Bag) → Kind

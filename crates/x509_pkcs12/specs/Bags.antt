@@ -6,23 +6,23 @@ use Rattle.std.proofs.Common.{inl, inr}
 use Rattle.x509_pkcs12.specs.Attributes.{AttributesValue, attributes}
 use Rattle.x509_pkcs12.specs.Oids.{oid}
 use Rattle.x509_pkcs12.specs.declared.parts.oids.TheConstants.{SAFE_CONTENTS_BAG}
-use Rattle.x509_pkcs12.specs.PlainBags.{bag_arm, PlainRow, plain_bags}
+use Rattle.x509_pkcs12.specs.PlainBags.{bag_alternative, PlainComponents, plain_bags}
 
 -- a bag, over a type V for the bags that it may hold
-abbrev pub BagRow : Type 0 → Type 0
-BagRow V = (V × AttributesValue) ⊎ PlainRow
+abbrev pub BagComponents : Type 0 → Type 0
+BagComponents V = (V × AttributesValue) ⊎ PlainComponents
 
-abbrev pub bag_choice : {V : Type 0} → Format V → Choice (BagRow V)
-bag_choice F = known (oid SAFE_CONTENTS_BAG) (bag_arm F) plain_bags
+abbrev pub bag_choice : {V : Type 0} → Format V → Choice (BagComponents V)
+bag_choice F = known (oid SAFE_CONTENTS_BAG) (bag_alternative F) plain_bags
 
-abbrev pub bag_row : {V : Type 0} → Format V → Format (BagRow V)
-bag_row F = sequence (bag_choice F).row
+abbrev pub bag_components : {V : Type 0} → Format V → Format (BagComponents V)
+bag_components F = sequence (bag_choice F).components
 
 -- the values
 mutual
   pub data Bag : Type 0 where
     holder : Bags → AttributesValue → Bag
-    plain : PlainRow → Bag
+    plain : PlainComponents → Bag
 
   pub data Bags : Type 0 where
     no_bags : Bags
@@ -36,26 +36,26 @@ abbrev pub bags_of : List Bag → Bags
 bags_of [] = no_bags
 bags_of (b ∷ bs) = more_bags b (bags_of bs)
 
-abbrev pub bag_out : Bag → BagRow (List Bag)
+abbrev pub bag_out : Bag → BagComponents (List Bag)
 bag_out (holder bs n) = inl (list_bags bs, n)
 bag_out (plain p) = inr p
 
-abbrev pub bag_into : BagRow (List Bag) → Bag
+abbrev pub bag_into : BagComponents (List Bag) → Bag
 bag_into (inl p) = holder (bags_of p.0) p.1
 bag_into (inr p) = plain p
 
 abbrev pub bag_with : Format (List Bag) → Format Bag
-bag_with F = rolled bag_out bag_into (bag_row F)
+bag_with F = rolled bag_out bag_into (bag_components F)
 
 abbrev pub bags_with : Format (List Bag) → Format (List Bag)
 bags_with F = sequence_of (bag_with F)
 
 -- what is written of a bag, over what was written of those inside: an encoding, a count
-abbrev pub step_text : BagRow (List ℕ) → List ℕ
-step_text = (bag_row (always (record { text = λ t. t; normal = λ t. t; IsTag = λ _. ⊥; first = no_tag; least = λ _. 0 }) no_grammar)).text
+abbrev pub step_text : BagComponents (List ℕ) → List ℕ
+step_text = (bag_components (always (record { text = λ t. t; normal = λ t. t; IsTag = λ _. ⊥; first = no_tag; least = λ _. 0 }) no_grammar)).text
 
-abbrev pub step_least : BagRow ℕ → ℕ
-step_least = (bag_row (always (record { text = λ _. []; normal = λ n. n; IsTag = λ _. ⊥; first = no_tag; least = λ n. n }) no_grammar)).least
+abbrev pub step_least : BagComponents ℕ → ℕ
+step_least = (bag_components (always (record { text = λ _. []; normal = λ n. n; IsTag = λ _. ⊥; first = no_tag; least = λ n. n }) no_grammar)).least
 
 abbrev mutual
   pub bag_text : Bag → List ℕ
@@ -78,7 +78,7 @@ abbrev mutual
 abbrev mutual
   pub bag_normal : Bag → Bag
   bag_normal (holder bs n) = holder (bags_normal bs) (attributes.normal n)
-  bag_normal (plain p) = plain (plain_bags.row.normal p)
+  bag_normal (plain p) = plain (plain_bags.components.normal p)
 
   pub bags_normal : Bags → Bags
   bags_normal no_bags = no_bags
@@ -103,5 +103,5 @@ safe_contents = levels {I = Unit {0}} {V = λ _. List Bag} still step tt
 abbrev pub safe_bag : Format Bag
 safe_bag = bag_with (less safe_contents)
 
-abbrev pub held_choice : Choice (BagRow (List Bag))
+abbrev pub held_choice : Choice (BagComponents (List Bag))
 held_choice = bag_choice (less safe_contents)

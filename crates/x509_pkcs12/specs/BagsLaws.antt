@@ -6,11 +6,11 @@ use Rattle.std.proofs.Common.{refl, ap, inl, inr, arith}
 use Rattle.x509_pkcs12.specs.Attributes.{attributes}
 use Rattle.x509_pkcs12.specs.Oids.{oid}
 use Rattle.x509_pkcs12.specs.declared.parts.oids.TheConstants.{SAFE_CONTENTS_BAG}
-use Rattle.x509_pkcs12.specs.PlainBags.{bag_arm, plain_bags, lawful_bag_arm, lawful_plain_bags}
-use Rattle.x509_pkcs12.specs.Bags.{BagRow, bag_choice, bag_row, Bag, holder, plain, Bags, no_bags, more_bags, list_bags, bags_of, bag_out, bag_into, bag_with, step_text, step_least, bag_text, bags_text, bag_normal, bags_normal, bag_least, bags_least, still, step, safe_contents, safe_bag}
+use Rattle.x509_pkcs12.specs.PlainBags.{bag_alternative, plain_bags, lawful_bag_alternative, lawful_plain_bags}
+use Rattle.x509_pkcs12.specs.Bags.{BagComponents, bag_choice, bag_components, Bag, holder, plain, Bags, no_bags, more_bags, list_bags, bags_of, bag_out, bag_into, bag_with, step_text, step_least, bag_text, bags_text, bag_normal, bags_normal, bag_least, bags_least, still, step, safe_contents, safe_bag}
 
 pub lawful_bag_choice : {V : Type 0} (F : Format V) → IsLawful F → IsLawfulChoice (bag_choice F)
-lawful_bag_choice F f = lawful_known (oid SAFE_CONTENTS_BAG) (bag_arm F) plain_bags (lawful_bag_arm F f) lawful_plain_bags
+lawful_bag_choice F f = lawful_known (oid SAFE_CONTENTS_BAG) (bag_alternative F) plain_bags (lawful_bag_alternative F f) lawful_plain_bags
 
 -- bags in a bag are a list
 pub list_bags_of : (bs : List Bag) → list_bags (bags_of bs) ≡ bs
@@ -21,7 +21,7 @@ pub of_list_bags : (bs : Bags) → bags_of (list_bags bs) ≡ bs
 of_list_bags no_bags = refl
 of_list_bags (more_bags b bs) = ap (more_bags b) (of_list_bags bs)
 
-pub out_into : (p : BagRow (List Bag)) → bag_out (bag_into p) ≡ p
+pub out_into : (p : BagComponents (List Bag)) → bag_out (bag_into p) ≡ p
 out_into (inl p) = ap (λ bs. inl (bs, p.1)) (list_bags_of p.0)
 out_into (inr p) = refl
 
@@ -32,7 +32,7 @@ into_out (plain p) = refl
 pub lawful_bag_with : (F : Format (List Bag)) → IsLawful F → IsLawful (bag_with F)
 lawful_bag_with F f =
     let c : IsLawfulChoice (bag_choice F) = lawful_bag_choice F f in
-    lawful_rolled bag_out bag_into out_into into_out (bag_row F) (lawful_within (bag_choice F).row c.row 0x30 (omega arith))
+    lawful_rolled bag_out bag_into out_into into_out (bag_components F) (lawful_within (bag_choice F).components c.components 0x30 (omega arith))
 
 -- what is the same at all levels
 bags_text_is : (bs : Bags) → flat_map bag_text (list_bags bs) ≡ bags_text bs

@@ -2,7 +2,7 @@
 -- (RFC 2315, 7) of pkcs7-data, an OCTET STRING around SafeContents; of pkcs7-encryptedData, an EncryptedData:
 -- EncryptedData ::= SEQUENCE { version Version (0), encryptedContentInfo EncryptedContentInfo } (RFC 2315, 13)
 use Rattle.std.specs.Prelude.{◌⊎◌, ℕ, List, Option}
-use Rattle.asn1_core.specs.Der.{Format, within, sequence, part, optional, nothing, raw, octets_of, option_value, OidOctets, ElementOctets, IsLawful, IsLawfulRow, version, lawful_within, lawful_raw, perhaps, lawful_nothing, explicit, der_laws, Choice, known, otherwise, IsLawfulChoice, lawful_known, lawful_otherwise, IsOid, lawful_explicit, lawful_sequence, followed_by, lawful_version_0}
+use Rattle.asn1_core.specs.Der.{Format, within, sequence, part, optional, nothing, raw, octets_of, option_value, OidOctets, ElementOctets, IsLawful, IsLawfulComponents, version, lawful_within, lawful_raw, perhaps, lawful_nothing, explicit, der_laws, Choice, known, otherwise, IsLawfulChoice, lawful_known, lawful_otherwise, IsOid, lawful_explicit, lawful_sequence, followed_by, lawful_version_0}
 use Rattle.std.proofs.Common.{inl, inr, arith, refl}
 use Rattle.x509_pkcs12.specs.Bags.{Bag, safe_contents}
 use Rattle.x509_pkcs12.specs.BagValues.{contents_value}
@@ -49,25 +49,25 @@ abbrev pub content_choice : Choice ContentInfoValue
 content_choice = known data_oid (data_content safe_contents) encrypted_or_unknown
 
 abbrev pub content_info : Format ContentInfoValue
-content_info = sequence content_choice.row
+content_info = sequence content_choice.components
 
 pub lawful_data_content : {V : Type 0} (F : Format V) → IsLawful F → IsLawful (data_content F)
-lawful_data_content F f = lawful_within (within 0x04 F) (lawful_within F f.row 0x04 (omega arith)).row 0xA0 (omega arith)
+lawful_data_content F f = lawful_within (within 0x04 F) (lawful_within F f.components 0x04 (omega arith)).components 0xA0 (omega arith)
 
 lawful_encrypted_content : IsLawful encrypted_content
 lawful_encrypted_content =
     lawful_explicit (omega arith) (lawful_sequence (followed_by lawful_version_0 (followed_by lawful_encrypted_contents lawful_nothing)))
 
-pub lawful_any_content : IsLawfulRow any_content
-lawful_any_content = perhaps (lawful_within raw lawful_raw.row 0xA0 (omega arith)) refl lawful_nothing
+pub lawful_any_content : IsLawfulComponents any_content
+lawful_any_content = perhaps (lawful_within raw lawful_raw.components 0xA0 (omega arith)) refl lawful_nothing
 
 pub lawful_unknown_content : IsLawfulChoice unknown_content
 lawful_unknown_content = lawful_otherwise IsOid any_content lawful_any_content
 
 pub lawful_content_choice : IsLawfulChoice content_choice
 lawful_content_choice =
-    lawful_known data_oid (data_content safe_contents) encrypted_or_unknown (lawful_data_content safe_contents lawful_safe_contents).row
-    (lawful_known (oid ENCRYPTED_DATA) encrypted_content unknown_content lawful_encrypted_content.row lawful_unknown_content)
+    lawful_known data_oid (data_content safe_contents) encrypted_or_unknown (lawful_data_content safe_contents lawful_safe_contents).components
+    (lawful_known (oid ENCRYPTED_DATA) encrypted_content unknown_content lawful_encrypted_content.components lawful_unknown_content)
 
 pub lawful_content_info : IsLawful content_info
 lawful_content_info = search (der_laws, lawful_content_choice) depth 20

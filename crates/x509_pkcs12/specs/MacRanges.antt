@@ -8,7 +8,7 @@ use Rattle.x509_pkcs12.specs.Pfxs.{PfxValue, pfx}
 -- follows authSafe
 pub record StandsAt (b : List ℕ) (start end : ℕ) : Type 0 where
   pub covers : Covers b (slice_range b start end)
-  pub behind : drop end b ≡ covers.mac
+  pub after : drop end b ≡ covers.mac
   pub inside : (start ≤ end) × (end ≤ length b)
 
 -- The octets in the range are the MAC octets of the raw PFX that the input is. Where there is no range it has none.

@@ -3,7 +3,7 @@ use Rattle.std.specs.Prelude.{◌≡◌, Bool, true, false, Option, Some, None}
 use Rattle.std.proofs.Common.{refl, ap, ◌∙◌}
 use Rattle.x509_pkcs12.specs.Attributes.{AttributesValue, attributes_value}
 use Rattle.x509_pkcs12.specs.BagParts.{OctetsOrAny, x509_value}
-use Rattle.x509_pkcs12.specs.BagLevels.{value_row}
+use Rattle.x509_pkcs12.specs.BagLevels.{value_components}
 use Rattle.x509_pkcs12.specs.BagValues.{with_attributes, bag_value, kind_value}
 use Rattle.x509_pkcs12.specs.Selections.{certificate_in, certificate_of, key_is_in, is_key, attributes_in}
 use Rattle.x509_pkcs12.specs.Bags.{bag_out}
@@ -38,10 +38,10 @@ no_certificate (K.Certificate x) other = absurd (other x refl)
 no_certificate k other = refl
 
 pub certificate_field : (b : SafeBag) → certificate_of (bag_value b) ≡ certificate_of_kind b.kind
-certificate_field b = ap certificate_in (value_row b) ∙ certificate_kind b.kind (attributes_value b.attributes)
+certificate_field b = ap certificate_in (value_components b) ∙ certificate_kind b.kind (attributes_value b.attributes)
 
 pub key_field : (b : SafeBag) → is_key (bag_value b) ≡ is_key_kind b.kind
-key_field b = ap key_is_in (value_row b) ∙ key_kind b.kind (attributes_value b.attributes)
+key_field b = ap key_is_in (value_components b) ∙ key_kind b.kind (attributes_value b.attributes)
 
 pub attributes_field : (b : SafeBag) → attributes_in (bag_out (bag_value b)) ≡ attributes_value b.attributes
-attributes_field b = ap attributes_in (value_row b) ∙ attributes_kind b.kind (attributes_value b.attributes)
+attributes_field b = ap attributes_in (value_components b) ∙ attributes_kind b.kind (attributes_value b.attributes)

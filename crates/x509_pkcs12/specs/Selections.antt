@@ -5,11 +5,11 @@ use Rattle.std.proofs.Common.{inl, inr}
 use Rattle.asn1_core.specs.Der.{Octets}
 use Rattle.x509_pkcs12.specs.Attributes.{AttributesValue}
 use Rattle.x509_pkcs12.specs.BagParts.{OctetsOrAny}
-use Rattle.x509_pkcs12.specs.Bags.{Bag, BagRow, bag_out}
+use Rattle.x509_pkcs12.specs.Bags.{Bag, BagComponents, bag_out}
 use Rattle.x509_pkcs12.specs.FirstAttributes.{local_key_id_of}
 
 -- the certificate in a bag
-abbrev pub certificate_in : BagRow (List Bag) → Option OctetsOrAny
+abbrev pub certificate_in : BagComponents (List Bag) → Option OctetsOrAny
 certificate_in (inl bags) = None
 certificate_in (inr (inl key)) = None
 certificate_in (inr (inr (inl key))) = None
@@ -29,7 +29,7 @@ x509_octets (Some (inr other)) = None
 x509_octets None = None
 
 -- a bag with a key, plain or encrypted
-abbrev pub key_is_in : BagRow (List Bag) → Bool
+abbrev pub key_is_in : BagComponents (List Bag) → Bool
 key_is_in (inl bags) = false
 key_is_in (inr (inl key)) = true
 key_is_in (inr (inr (inl key))) = true
@@ -38,7 +38,7 @@ key_is_in (inr (inr (inr other))) = false
 abbrev pub is_key : Bag → Bool
 is_key b = key_is_in (bag_out b)
 
-abbrev pub attributes_in : BagRow (List Bag) → AttributesValue
+abbrev pub attributes_in : BagComponents (List Bag) → AttributesValue
 attributes_in (inl bags) = bags.1
 attributes_in (inr (inl key)) = key.1
 attributes_in (inr (inr (inl key))) = key.1

@@ -10,7 +10,7 @@ ghost use Rattle.x509_pkcs12.specs.declared.auth_safes.AuthenticatedSafeContentI
 use crate::contents::{AnyContent, AnyContentRef};
 use crate::parts::oids::{Known, PKCS7_DATA};
 use crate::representations::{AuthenticatedSafeDataRepr, ReprRef};
-use asn1_choices::{AnyOid, AnyOidRef, Arm, Chosen, WriteChoice};
+use asn1_choices::{AnyOid, AnyOidRef, Alternative, Chosen, WriteChoice};
 use asn1_core::prelude::*;
 use std::alloc::Global;
 
@@ -29,12 +29,12 @@ pub enum AuthenticatedSafeContentInfo<R: AuthenticatedSafeDataRepr> {
 }
 
 type AuthSafeChoice<R> = Either<
-    Arm<Known<PKCS7_DATA>, Alone<ExplicitContextTag0<OctetStringAsn1Container<R>>>>,
+    Alternative<Known<PKCS7_DATA>, Alone<ExplicitContextTag0<OctetStringAsn1Container<R>>>>,
     AnyOid<AnyContent>,
 >;
 
 type AuthSafeRef<'a, R> = Either<
-    Arm<Known<PKCS7_DATA>, Alone<ExplicitContextTag0<OctetStringAsn1Container<ReprRef<'a, R>>>>>,
+    Alternative<Known<PKCS7_DATA>, Alone<ExplicitContextTag0<OctetStringAsn1Container<ReprRef<'a, R>>>>>,
     AnyOidRef<'a, AnyContentRef<'a>>,
 >;
 
@@ -45,7 +45,7 @@ impl<R: AuthenticatedSafeDataRepr> AuthenticatedSafeContentInfo<R> {
         match self {
             Self::Data(repr) => {
                 let data = ExplicitContextTag0(OctetStringAsn1Container(ReprRef::<R>(repr)));
-                Either::First(Arm::new(Alone(data)))
+                Either::First(Alternative::new(Alone(data)))
             }
             Self::Unknown {
                 content_type,
@@ -75,7 +75,7 @@ impl<R: AuthenticatedSafeDataRepr> DerDeserialize for AuthenticatedSafeContentIn
     fn read(alloc: Global, r: &mut Reader<'_>, nest: u8) -> Result<Self, Error> {
         let Chosen(choice) = read_within::<Chosen<AuthSafeChoice<R>>>(alloc, r, nest, 0x30)?;
         match choice {
-            Either::First(arm) => Ok(Self::Data(arm.into_row().0.0.0.into_repr())),
+            Either::First(alternative) => Ok(Self::Data(alternative.into_components().0.0.0.into_repr())),
             Either::Second(other) => {
                 let AnyOid(content_type, AnyContent(content)) = other;
                 Ok(Self::Unknown {

@@ -8,7 +8,7 @@ ghost use Rattle.x509_pkcs12.specs.ContentsEqual.{content_info_equal};
 use crate::parts::EncryptedSafeContents;
 use crate::parts::oids::{ENCRYPTED_DATA, Known, PKCS7_DATA};
 use crate::safe_bags::SafeContents;
-use asn1_choices::{AnyOid, AnyOidRef, Arm, Chosen, WriteChoice};
+use asn1_choices::{AnyOid, AnyOidRef, Alternative, Chosen, WriteChoice};
 use asn1_core::prelude::*;
 use std::alloc::Global;
 
@@ -31,21 +31,21 @@ pub enum SafeContentsContentInfo {
 #[derive(Drop)]
 pub(crate) struct AnyContentRef<'a>(pub &'a Option<Asn1RawDer>);
 
-impl WriteRow for AnyContentRef<'_> {
+impl WriteComponents for AnyContentRef<'_> {
     ghost Value = { AnyContentValue };
 
     ghost value = { λ x. (option_value (λ c. c.0.items) x.0.now, tt) };
 
     ghost format = { any_content };
 
-    fn put_row<W: Writer>(&self, w: &mut W) -> Result<(), WriteError> {
+    fn put_components<W: Writer>(&self, w: &mut W) -> Result<(), WriteError> {
         match self.0 {
             Some(content) => ExplicitContextTag0(content).put(w),
-            None => End.put_row(w),
+            None => End.put_components(w),
         }
     }
 
-    fn row_well_formed_at(&self, limit: u8) -> bool {
+    fn components_well_formed_at(&self, limit: u8) -> bool {
         match self.0 {
             Some(content) => content.well_formed_at(limit),
             None => true,
@@ -57,25 +57,25 @@ impl WriteRow for AnyContentRef<'_> {
 #[derive(Drop)]
 pub(crate) struct AnyContent(pub Option<Asn1RawDer>);
 
-impl WriteRow for AnyContent {
+impl WriteComponents for AnyContent {
     ghost Value = { AnyContentValue };
 
     ghost value = { λ x. (option_value (λ c. c.0.items) x.0, tt) };
 
     ghost format = { any_content };
 
-    fn put_row<W: Writer>(&self, w: &mut W) -> Result<(), WriteError> {
-        AnyContentRef(&self.0).put_row(w)
+    fn put_components<W: Writer>(&self, w: &mut W) -> Result<(), WriteError> {
+        AnyContentRef(&self.0).put_components(w)
     }
 
-    fn row_well_formed_at(&self, limit: u8) -> bool {
-        AnyContentRef(&self.0).row_well_formed_at(limit)
+    fn components_well_formed_at(&self, limit: u8) -> bool {
+        AnyContentRef(&self.0).components_well_formed_at(limit)
     }
 }
 
-impl ReadRow for AnyContent {
-    fn read_row(alloc: Global, r: &mut Reader<'_>, nest: u8) -> Result<Self, Error> {
-        let Maybe(tagged, End) = Maybe::<ExplicitContextTag0<Asn1RawDer>, End>::read_row(
+impl ReadComponents for AnyContent {
+    fn read_components(alloc: Global, r: &mut Reader<'_>, nest: u8) -> Result<Self, Error> {
+        let Maybe(tagged, End) = Maybe::<ExplicitContextTag0<Asn1RawDer>, End>::read_components(
             alloc, r, nest,
         )?;
         match tagged {
@@ -88,7 +88,7 @@ impl ReadRow for AnyContent {
 }
 
 /// `EncryptedData ::= SEQUENCE { version Version, encryptedContentInfo EncryptedContentInfo }` (RFC 2315, 13), tagged.
-type EncryptedRow = ExplicitContextTag0<
+type EncryptedComponents = ExplicitContextTag0<
     Asn1Sequence<Part<FixedVersion<0>, Part<EncryptedSafeContents, End>>>,
 >;
 
@@ -100,7 +100,7 @@ type EncryptedRef<'a> = ExplicitContextTag0<
 #[derive(Drop)]
 struct Asn1Sequence<R>(R);
 
-impl<R: WriteRow> DerSerialize for Asn1Sequence<R> {
+impl<R: WriteComponents> DerSerialize for Asn1Sequence<R> {
     ghost Value = { R.Value };
 
     ghost value = { λ x. R.value x.0 };
@@ -112,7 +112,7 @@ impl<R: WriteRow> DerSerialize for Asn1Sequence<R> {
     }
 
     fn well_formed_at(&self, limit: u8) -> bool {
-        self.0.row_well_formed_at(limit)
+        self.0.components_well_formed_at(limit)
     }
 }
 
@@ -125,13 +125,13 @@ impl<A: DerDeserialize, B: DerDeserialize> DerDeserialize for Asn1Sequence<Part<
 }
 
 type ContentChoice = Either<
-    Arm<Known<PKCS7_DATA>, Alone<ExplicitContextTag0<OctetStringAsn1Container<SafeContents>>>>,
-    Either<Arm<Known<ENCRYPTED_DATA>, Alone<EncryptedRow>>, AnyOid<AnyContent>>,
+    Alternative<Known<PKCS7_DATA>, Alone<ExplicitContextTag0<OctetStringAsn1Container<SafeContents>>>>,
+    Either<Alternative<Known<ENCRYPTED_DATA>, Alone<EncryptedComponents>>, AnyOid<AnyContent>>,
 >;
 
 type ContentRef<'a> = Either<
-    Arm<Known<PKCS7_DATA>, Alone<ExplicitContextTag0<OctetStringAsn1Container<&'a SafeContents>>>>,
-    Either<Arm<Known<ENCRYPTED_DATA>, Alone<EncryptedRef<'a>>>, AnyOidRef<'a, AnyContentRef<'a>>>,
+    Alternative<Known<PKCS7_DATA>, Alone<ExplicitContextTag0<OctetStringAsn1Container<&'a SafeContents>>>>,
+    Either<Alternative<Known<ENCRYPTED_DATA>, Alone<EncryptedRef<'a>>>, AnyOidRef<'a, AnyContentRef<'a>>>,
 >;
 
 impl SafeContentsContentInfo {
@@ -141,12 +141,12 @@ impl SafeContentsContentInfo {
         match self {
             Self::Data(bags) => {
                 let data = ExplicitContextTag0(OctetStringAsn1Container(bags));
-                Either::First(Arm::new(Alone(data)))
+                Either::First(Alternative::new(Alone(data)))
             }
             Self::EncryptedData(contents) => {
-                let row = Part(FixedVersion, Part(contents, End));
-                let data = ExplicitContextTag0(Asn1Sequence(row));
-                Either::Second(Either::First(Arm::new(Alone(data))))
+                let components = Part(FixedVersion, Part(contents, End));
+                let data = ExplicitContextTag0(Asn1Sequence(components));
+                Either::Second(Either::First(Alternative::new(Alone(data))))
             }
             Self::Unknown {
                 content_type,
@@ -179,9 +179,9 @@ impl DerDeserialize for SafeContentsContentInfo {
     fn read(alloc: Global, r: &mut Reader<'_>, nest: u8) -> Result<Self, Error> {
         let Chosen(choice) = read_within::<Chosen<ContentChoice>>(alloc, r, nest, 0x30)?;
         match choice {
-            Either::First(arm) => Ok(Self::Data(arm.into_row().0.0.0)),
-            Either::Second(Either::First(arm)) => {
-                let Part(FixedVersion, Part(contents, End)) = arm.into_row().0.0.0;
+            Either::First(alternative) => Ok(Self::Data(alternative.into_components().0.0.0)),
+            Either::Second(Either::First(alternative)) => {
+                let Part(FixedVersion, Part(contents, End)) = alternative.into_components().0.0.0;
                 Ok(Self::EncryptedData(contents))
             }
             Either::Second(Either::Second(other)) => {

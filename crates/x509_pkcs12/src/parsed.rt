@@ -30,7 +30,7 @@ impl DerSerialize for ParsedAuthenticatedSafeDataRepr {
     }
 
     fn well_formed_at(&self, limit: u8) -> bool {
-        self.contents.row_well_formed_at(limit)
+        self.contents.components_well_formed_at(limit)
     }
 }
 
@@ -76,7 +76,7 @@ impl AuthenticatedSafeDataRepr for ParsedAuthenticatedSafeDataRepr {
     }
 
     fn repr_well_formed_at(repr: &Vec<SafeContentsContentInfo>, limit: u8) -> bool {
-        repr.row_well_formed_at(limit)
+        repr.components_well_formed_at(limit)
     }
 
     ghost there = { λ x. refl };

@@ -38,7 +38,7 @@ impl<R: AuthenticatedSafeDataRepr> DerSerialize for Pfx<R> {
 
     fn well_formed_at(&self, limit: u8) -> bool {
         let rest = body_of!(self; auth_safe, mac_data OPTIONAL);
-        self.version == 3 && rest.row_well_formed_at(limit)
+        self.version == 3 && rest.components_well_formed_at(limit)
     }
 }
 

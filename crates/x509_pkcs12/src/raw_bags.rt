@@ -132,7 +132,7 @@ impl DerSerialize for RawSafeContents {
     }
 
     fn well_formed_at(&self, limit: u8) -> bool {
-        self.0.row_well_formed_at(limit)
+        self.0.components_well_formed_at(limit)
     }
 }
 

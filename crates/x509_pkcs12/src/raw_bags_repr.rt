@@ -38,7 +38,7 @@ impl DerSerialize for RawBagsAuthenticatedSafeDataRepr {
     }
 
     fn well_formed_at(&self, limit: u8) -> bool {
-        self.contents.row_well_formed_at(limit)
+        self.contents.components_well_formed_at(limit)
     }
 }
 
@@ -84,7 +84,7 @@ impl AuthenticatedSafeDataRepr for RawBagsAuthenticatedSafeDataRepr {
     }
 
     fn repr_well_formed_at(repr: &Vec<RawBagsContentInfo>, limit: u8) -> bool {
-        repr.row_well_formed_at(limit)
+        repr.components_well_formed_at(limit)
     }
 
     ghost there = { λ x. refl };

@@ -22,8 +22,8 @@ use Rattle.x509_pkcs7.specs.Matches.{IsNamedBy, NeedsExtensions, IsSigners}
 use Rattle.x509_pkcs7.specs.KeyIdentifiers.{explicit_extensions, lawful_explicit_extensions, has_tag, subject_key_identifier_oid, rest_of, AreExtensionsOf, extension_with, IsKeyIdOf, HasExtensions, HasNone, Answers}
 
 -- a `?` passes on why there is no answer
-pub gave_none : {T V : Type 0} (value : T → V) (P : List ElementOctets → V → Type 0) (rest : List ElementOctets) {r : Result T Error} {e : Error} → ((x : Error) × (r ≡ Err x) × (x ≡ e)) → HasNone P rest e → Answers value P rest r
-gave_none value P rest {r} {e} p h = subst (Answers value P rest) (sym p.1) (subst (HasNone P rest) (sym p.2) h)
+pub has_refused_none : {T V : Type 0} (value : T → V) (P : List ElementOctets → V → Type 0) (rest : List ElementOctets) {r : Result T Error} {e : Error} → ((x : Error) × (r ≡ Err x) × (x ≡ e)) → HasNone P rest e → Answers value P rest r
+has_refused_none value P rest {r} {e} p h = subst (Answers value P rest) (sym p.1) (subst (HasNone P rest) (sym p.2) h)
 
 some_same : {X : Type 0} {o : Option X} {a b : X} → o ≡ Some a → o ≡ Some b → a ≡ b
 some_same {X} {o} {a} {b} p q = let e : Some a ≡ Some b = sym p ∙ q in cc
@@ -47,7 +47,7 @@ module _ (rest : List ElementOctets) where
   no_extensions b c e f g h = record { there = some_none f; kind = h.kind; none = none_read b c e f g h }
 
   one_list : (xs ys : List ExtensionValue) → AreExtensionsOf rest (Some xs) → AreExtensionsOf rest (Some ys) → xs ≡ ys
-  one_list xs ys p q = lawful_explicit_extensions.row.one_value 64 q.0 xs ys (subst (λ b. explicit_extensions.Reads 64 b xs) (some_same p.1 q.1) p.2) q.2
+  one_list xs ys p q = lawful_explicit_extensions.components.one_value 64 q.0 xs ys (subst (λ b. explicit_extensions.Reads 64 b xs) (some_same p.1 q.1) p.2) q.2
 
   not_absent : (xs : List ExtensionValue) → AreExtensionsOf rest (Some xs) → AreExtensionsOf rest None → ⊥
   not_absent xs p n = some_none p.1 n
@@ -91,7 +91,7 @@ module _ (rest : List ElementOctets) where
   one_key : (v w : Octets) → IsKeyIdOf rest (Some v) → IsKeyIdOf rest (Some w) → v ≡ w
   one_key v w p q =
       let x : p.2 ≡ q.2 = some_same p.3 (same_first_one q.2 (record { es = q.0; are = q.1; first = q.3 }) p.0 p.1) in
-      lawful_octet_string.row.one_value 64 q.2.1.1.0 v w (subst (λ y. octet_string.Reads 64 y.1.1.0 v) x p.4) q.4
+      lawful_octet_string.components.one_value 64 q.2.1.1.0 v w (subst (λ y. octet_string.Reads 64 y.1.1.0 v) x p.4) q.4
 
   -- the key, and no other
   pub same_key : (b : Bool) (own key : Octets) → IsKeyIdOf rest (Some own) → (IsTrue b ↔ (own ≡ key)) → IsTrue b ↔ IsKeyIdOf rest (Some key)

@@ -40,11 +40,11 @@ OriginatorValue = Option (List CertificateValue) × (Option (List RevocationValu
 abbrev pub originator_value : OriginatorInfo → OriginatorValue
 originator_value x = (option_value (λ c. certificates_value c.0) x.certs.0, (option_value (λ c. revocations_value c.0) x.crls.0, tt))
 
-abbrev pub originator_row : Format OriginatorValue
-originator_row = optional (implicit 0xA0 0xA0 certificate_set) (optional (implicit 0xA1 0xA1 revocations) nothing)
+abbrev pub originator_components : Format OriginatorValue
+originator_components = optional (implicit 0xA0 0xA0 certificate_set) (optional (implicit 0xA1 0xA1 revocations) nothing)
 
 abbrev pub originator : Format OriginatorValue
-originator = sequence originator_row
+originator = sequence originator_components
 
 lawful_certs : IsLawful (implicit 0xA0 0xA0 certificate_set)
 lawful_certs = lawful_implicit 0xA0 0xA0 certificate_set lawful_certificate_set (within_tagged 0xA0 (omega arith) (each certificate_choice)) (omega arith)
@@ -65,7 +65,7 @@ lawful_unprotected : IsLawful (implicit 0xA1 0x31 attributes)
 lawful_unprotected = lawful_implicit 0xA1 0x31 attributes (lawful_set attribute lawful_attribute) (within_tagged 0x31 (omega arith) (each attribute)) (omega arith)
 
 lawful_originator_0 : IsLawful (implicit 0xA0 0x30 originator)
-lawful_originator_0 = lawful_implicit 0xA0 0x30 originator lawful_originator (within_tagged 0x30 (omega arith) originator_row) (omega arith)
+lawful_originator_0 = lawful_implicit 0xA0 0x30 originator lawful_originator (within_tagged 0x30 (omega arith) originator_components) (omega arith)
 
 -- over the values and the format of recipients
 abbrev pub EnvelopedValue : Type 0 → Type 0

@@ -7,7 +7,7 @@
 --   extensions [3] Extensions OPTIONAL }, with each element from issuerUniqueID on as it is
 use Rattle.std.specs.Prelude.{ℕ, List, Option, map}
 use Rattle.std.proofs.Common.{arith, rules, refl}
-use Rattle.asn1_core.specs.Der.{Format, IsLawful, IsLawfulRow, sequence, part, optional, nothing, each, explicit, raw, number_below, option_value, perhaps, lawful_sequence, lawful_within, lawful_number, der_laws, SeesEqual, ElementOctets, IntegerOctets, BitStringOctets}
+use Rattle.asn1_core.specs.Der.{Format, IsLawful, IsLawfulComponents, sequence, part, optional, nothing, each, explicit, raw, number_below, option_value, perhaps, lawful_sequence, lawful_within, lawful_number, der_laws, SeesEqual, ElementOctets, IntegerOctets, BitStringOctets}
 use Rattle.asn1_leaves.specs.Integers.{integer, lawful_integer}
 use Rattle.asn1_leaves.specs.Strings.{bit_string, lawful_bit_string}
 use Rattle.asn1_leaves.specs.contracts.bits.BitStringAsn1PartialEq.TheImpl as Bits
@@ -31,8 +31,8 @@ HeadValue = IntegerOctets × (AlgorithmValue × (NameParts × (ElementOctets × 
 abbrev pub head_value : TbsCertificateHead → HeadValue
 head_value x = (serial_number x.serial_number, (algorithm_value x.signature, (name_parts x.issuer, (x.validity.0.items, (name_parts x.subject, (x.subject_public_key_info.0.items, map (λ e. e.0.items) x.rest.items))))))
 
-abbrev pub head_row : Format HeadValue
-head_row = part integer (part algorithm_identifier (part name (part raw (part name (part raw (each raw))))))
+abbrev pub head_components : Format HeadValue
+head_components = part integer (part algorithm_identifier (part name (part raw (part name (part raw (each raw))))))
 
 abbrev pub TbsHeadValue : Type 0
 TbsHeadValue = Option ℕ × HeadValue
@@ -44,16 +44,16 @@ abbrev pub explicit_version : Format ℕ
 explicit_version = explicit 0 (number_below 3)
 
 abbrev pub tbs_head : Format TbsHeadValue
-tbs_head = sequence (optional explicit_version head_row)
+tbs_head = sequence (optional explicit_version head_components)
 
-lawful_head_row : IsLawfulRow head_row
-lawful_head_row = search (der_laws, lawful_integer, lawful_algorithm_identifier, lawful_name) depth 20
+lawful_head_components : IsLawfulComponents head_components
+lawful_head_components = search (der_laws, lawful_integer, lawful_algorithm_identifier, lawful_name) depth 20
 
 pub lawful_explicit_version : IsLawful explicit_version
-lawful_explicit_version = lawful_within (number_below 3) (lawful_number 3).row 0xA0 (omega arith)
+lawful_explicit_version = lawful_within (number_below 3) (lawful_number 3).components 0xA0 (omega arith)
 
 pub lawful_tbs_head : IsLawful tbs_head
-lawful_tbs_head = lawful_sequence (perhaps lawful_explicit_version refl lawful_head_row)
+lawful_tbs_head = lawful_sequence (perhaps lawful_explicit_version refl lawful_head_components)
 
 pub tbs_head_equal : SeesEqual TbsEq.ghosts.eq tbs_head_value
 tbs_head_equal x y = search x509_equal depth 20

@@ -18,7 +18,7 @@ abbrev pub explicit_extensions : Format (List ExtensionValue)
 explicit_extensions = explicit 3 extensions
 
 pub lawful_explicit_extensions : IsLawful explicit_extensions
-lawful_explicit_extensions = lawful_within extensions lawful_extensions.row 0xA3 (omega arith)
+lawful_explicit_extensions = lawful_within extensions lawful_extensions.components 0xA3 (omega arith)
 
 -- the element has that tag
 abbrev pub has_tag : ℕ → ElementOctets → Bool

@@ -4,7 +4,7 @@ use Rattle.std.proofs.Common.{inl, inr}
 use Rattle.std.specs.List.{flat_map}
 use Rattle.std.specs.Str.{bytes_eq}
 use Rattle.asn1_core.specs.Der.{arcs, octets_of, OidOctets, ElementOctets}
-use Rattle.pkcs7_signed.specs.Rows.{UnsignedValues}
+use Rattle.pkcs7_signed.specs.Components.{UnsignedValues}
 use Rattle.pkcs7_signed.specs.SignerValues.{values_value}
 use Rattle.pkcs7_signed.specs.declared.signers.SignerInfo.{SignerInfo, out-SignerInfo}
 use Rattle.pkcs7_signed.specs.declared.signers.UnsignedAttribute.{UnsignedAttribute, out-UnsignedAttribute}

@@ -5,7 +5,7 @@
 --   of id-signedData
 use Rattle.std.specs.Prelude.{ℕ, List, [], ◌∷◌, Option, map}
 use Rattle.std.proofs.Common.{arith, refl}
-use Rattle.asn1_core.specs.Der.{Format, IsLawful, IsLawfulRow, sequence, part, optional, nothing, number_below, set_of, explicit, implicit_set, raw, only_oid, arcs, option_value, ElementOctets, omitted, is_default, lawful_sequence, followed_by, perhaps, lawful_number, lawful_nothing, lawful_set, lawful_explicit, lawful_implicit_set, lawful_only_oid, lawful_raw, unless}
+use Rattle.asn1_core.specs.Der.{Format, IsLawful, IsLawfulComponents, sequence, part, optional, nothing, number_below, set_of, explicit, implicit_set, raw, only_oid, arcs, option_value, ElementOctets, omitted, is_default, lawful_sequence, followed_by, perhaps, lawful_number, lawful_nothing, lawful_set, lawful_explicit, lawful_implicit_set, lawful_only_oid, lawful_raw, unless}
 use Rattle.pkcs7_content.specs.Versions.{number_of}
 use Rattle.pkcs7_signed.specs.Algorithms.{algorithms_value, algorithms, lawful_algorithms}
 use Rattle.pkcs7_signed.specs.Certificates.{CertificateValue, certificates_value, certificate_set, lawful_certificate_set, no_certificates, no_certificates_left_out}
@@ -43,19 +43,19 @@ raw_signed_value value x = (
 )
 
 module _ {V : Type 0} where
-  abbrev pub sets_row : Format V → Format (SetsValue V)
-  sets_row F = omitted (is_default certificate_set no_certificates) no_certificates certificate_set (optional raw_revocations (part (set_of F) nothing))
+  abbrev pub sets_components : Format V → Format (SetsValue V)
+  sets_components F = omitted (is_default certificate_set no_certificates) no_certificates certificate_set (optional raw_revocations (part (set_of F) nothing))
 
   abbrev pub raw_signed : Format V → Format (RawSignedValue V)
-  raw_signed F = sequence (part (number_below 6) (part algorithms (part raw_encapsulated (sets_row F))))
+  raw_signed F = sequence (part (number_below 6) (part algorithms (part raw_encapsulated (sets_components F))))
 
-  lawful_sets_row : (F : Format V) → IsLawful F → IsLawfulRow (sets_row F)
-  lawful_sets_row F f =
+  lawful_sets_components : (F : Format V) → IsLawful F → IsLawfulComponents (sets_components F)
+  lawful_sets_components F f =
       unless lawful_certificate_set no_certificates_left_out refl
       (perhaps lawful_raw_revocations refl (followed_by (lawful_set F f) lawful_nothing))
 
   pub lawful_raw_signed : (F : Format V) → IsLawful F → IsLawful (raw_signed F)
-  lawful_raw_signed F f = lawful_sequence (followed_by (lawful_number 6) (followed_by lawful_algorithms (followed_by lawful_raw_encapsulated (lawful_sets_row F f))))
+  lawful_raw_signed F f = lawful_sequence (followed_by (lawful_number 6) (followed_by lawful_algorithms (followed_by lawful_raw_encapsulated (lawful_sets_components F f))))
 
 -- id-signedData (RFC 5652, 5.1)
 abbrev pub signed_data_oid : List ℕ

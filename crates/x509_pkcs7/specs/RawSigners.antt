@@ -4,7 +4,7 @@
 -- UnsignedAttributes ::= SET SIZE (1..MAX) OF Attribute (RFC 5652, 5.3)
 use Rattle.std.specs.Prelude.{ℕ, List, [], map}
 use Rattle.std.proofs.Common.{arith, refl}
-use Rattle.asn1_core.specs.Der.{Format, IsLawful, IsLawfulRow, sequence, part, nothing, number_below, octet_string, Octets, omitted, is_default, IsDefault, element, empty_left_out, implicit_set, lawful_implicit_set, lawful_sequence, followed_by, lawful_number, lawful_octet_string, lawful_nothing, unless}
+use Rattle.asn1_core.specs.Der.{Format, IsLawful, IsLawfulComponents, sequence, part, nothing, number_below, octet_string, Octets, omitted, is_default, IsDefault, element, empty_left_out, implicit_set, lawful_implicit_set, lawful_sequence, followed_by, lawful_number, lawful_octet_string, lawful_nothing, unless}
 use Rattle.pkcs7_content.specs.Versions.{number_of}
 use Rattle.pkcs7_attributes.specs.Attributes.{attributes_value, attributes, lawful_attributes, no_attributes, no_attributes_left_out}
 use Rattle.pkcs7_signed.specs.SignerParts.{SignerIdValue, signer_id_value, signer_id, lawful_signer_id}
@@ -35,13 +35,13 @@ no_unsigned_attributes_left_out = empty_left_out 0xA1 (omega arith) attribute la
 abbrev pub SignatureValues : Type 0
 SignatureValues = AlgorithmValue × (Octets × (List AttributeValue × Unit {0}))
 
-abbrev pub signature_row : Format SignatureValues
-signature_row =
+abbrev pub signature_components : Format SignatureValues
+signature_components =
     part algorithm_identifier (part octet_string
     (omitted (is_default unsigned_attributes no_unsigned_attributes) no_unsigned_attributes unsigned_attributes nothing))
 
-lawful_signature_row : IsLawfulRow signature_row
-lawful_signature_row =
+lawful_signature_components : IsLawfulComponents signature_components
+lawful_signature_components =
     followed_by lawful_algorithm_identifier (followed_by lawful_octet_string
     (unless lawful_unsigned_attributes no_unsigned_attributes_left_out refl lawful_nothing))
 
@@ -66,9 +66,9 @@ raw_signer_value x = (
 abbrev pub raw_signer : Format RawSignerValue
 raw_signer =
     sequence (part (number_below 6) (part signer_id (part algorithm_identifier
-    (omitted (is_default attributes no_attributes) no_attributes attributes signature_row))))
+    (omitted (is_default attributes no_attributes) no_attributes attributes signature_components))))
 
 pub lawful_raw_signer : IsLawful raw_signer
 lawful_raw_signer =
     lawful_sequence (followed_by (lawful_number 6) (followed_by lawful_signer_id (followed_by lawful_algorithm_identifier
-    (unless lawful_attributes no_attributes_left_out refl lawful_signature_row))))
+    (unless lawful_attributes no_attributes_left_out refl lawful_signature_components))))

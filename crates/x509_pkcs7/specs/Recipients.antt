@@ -55,11 +55,11 @@ KekRecipientValue = ℕ × (KekIdValue × (AlgorithmValue × (Octets × Unit {0}
 abbrev pub kek_recipient_value : KekRecipientInfo → KekRecipientValue
 kek_recipient_value x = (number_of x.version, (kek_id_value x.kek_id, (algorithm_value x.key_encryption_algorithm, (x.encrypted_key.0.items, tt))))
 
-abbrev pub kek_recipient_row : Format KekRecipientValue
-kek_recipient_row = part (number_below 6) (part kek_id (part algorithm_identifier (part octet_string nothing)))
+abbrev pub kek_recipient_components : Format KekRecipientValue
+kek_recipient_components = part (number_below 6) (part kek_id (part algorithm_identifier (part octet_string nothing)))
 
 abbrev pub kek_recipient : Format KekRecipientValue
-kek_recipient = sequence kek_recipient_row
+kek_recipient = sequence kek_recipient_components
 
 pub lawful_kek_recipient : IsLawful kek_recipient
 lawful_kek_recipient = search (der_laws, lawful_kek_id, lawful_algorithm_identifier) depth 20
@@ -71,4 +71,4 @@ abbrev pub recipient : Format KekRecipientValue
 recipient = implicit 0xA2 0x30 kek_recipient
 
 pub lawful_recipient : IsLawful recipient
-lawful_recipient = lawful_implicit 0xA2 0x30 kek_recipient lawful_kek_recipient (within_tagged 0x30 (omega arith) kek_recipient_row) (omega arith)
+lawful_recipient = lawful_implicit 0xA2 0x30 kek_recipient lawful_kek_recipient (within_tagged 0x30 (omega arith) kek_recipient_components) (omega arith)

@@ -7,7 +7,7 @@
 -- genTime may have a fraction of a second, so its contents octets are kept; so are the name and the parts of Accuracy.
 use Rattle.std.specs.Prelude.{ℕ, Bool, List, Option, map}
 use Rattle.std.proofs.Common.{arith, rules, ap, refl}
-use Rattle.asn1_core.specs.Der.{Format, IsLawful, IsLawfulRow, sequence, part, optional, omitted, is_default, nothing, explicit, implicit_set, sequence_of, raw, version, object_identifier, octets_of, option_value, leaf, any_octets, lawful_leaf, perhaps, followed_by, lawful_nothing, lawful_sequence, lawful_sequence_of, lawful_explicit, lawful_implicit_set, lawful_raw, lawful_version_1, lawful_object_identifier, der_equal, SeesEqual, two_equal, option_equal, with_end, Octets, OidOctets, ElementOctets, IntegerOctets, unless}
+use Rattle.asn1_core.specs.Der.{Format, IsLawful, IsLawfulComponents, sequence, part, optional, omitted, is_default, nothing, explicit, implicit_set, sequence_of, raw, version, object_identifier, octets_of, option_value, leaf, any_octets, lawful_leaf, perhaps, followed_by, lawful_nothing, lawful_sequence, lawful_sequence_of, lawful_explicit, lawful_implicit_set, lawful_raw, lawful_version_1, lawful_object_identifier, der_equal, SeesEqual, two_equal, option_equal, with_end, Octets, OidOctets, ElementOctets, IntegerOctets, unless}
 use Rattle.std.specs.Cmp.{booleans_Decides}
 use Rattle.asn1_core.specs.Equal.{oid_equal}
 use Rattle.asn1_core_format.specs.LeafLaws.{lawful_kept}
@@ -61,11 +61,11 @@ lawful_time_stamp_extensions = lawful_implicit_set (omega arith) lawful_extensio
 abbrev pub OptionsValue : Type 0
 OptionsValue = Option (List ElementOctets) × (Bool × (Option IntegerOctets × (Option ElementOctets × (Option (List ExtensionValue) × Unit {0}))))
 
-abbrev pub nonce_row : Format (Option IntegerOctets × (Option ElementOctets × (Option (List ExtensionValue) × Unit {0})))
-nonce_row = optional integer (optional authority (optional time_stamp_extensions nothing))
+abbrev pub nonce_components : Format (Option IntegerOctets × (Option ElementOctets × (Option (List ExtensionValue) × Unit {0})))
+nonce_components = optional integer (optional authority (optional time_stamp_extensions nothing))
 
 abbrev pub options : Format OptionsValue
-options = optional accuracy (omitted (is_default boolean explicit_false) explicit_false boolean nonce_row)
+options = optional accuracy (omitted (is_default boolean explicit_false) explicit_false boolean nonce_components)
 
 abbrev pub TstInfoValue : Type 0
 TstInfoValue = ℕ × (OidOctets × (DigestInfoValue × (IntegerOctets × (Octets × OptionsValue))))
@@ -79,11 +79,11 @@ tst_info_value x = (1, (octets_of x.policy.0, (digest_info_value x.message_impri
 abbrev pub tst_info : Format TstInfoValue
 tst_info = sequence (part (version 1) (part object_identifier (part digest_info (part integer (part generation_time options)))))
 
-lawful_nonce_row : IsLawfulRow nonce_row
-lawful_nonce_row = perhaps lawful_integer refl (perhaps lawful_authority refl (perhaps lawful_time_stamp_extensions refl lawful_nothing))
+lawful_nonce_components : IsLawfulComponents nonce_components
+lawful_nonce_components = perhaps lawful_integer refl (perhaps lawful_authority refl (perhaps lawful_time_stamp_extensions refl lawful_nothing))
 
-lawful_options : IsLawfulRow options
-lawful_options = perhaps lawful_accuracy refl (unless lawful_boolean false_left_out refl lawful_nonce_row)
+lawful_options : IsLawfulComponents options
+lawful_options = perhaps lawful_accuracy refl (unless lawful_boolean false_left_out refl lawful_nonce_components)
 
 pub lawful_tst_info : IsLawful tst_info
 lawful_tst_info =

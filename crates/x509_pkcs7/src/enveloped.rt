@@ -5,7 +5,7 @@ ghost use Rattle.std.proofs.Common.{arith};
 ghost use Rattle.asn1_core.specs.Der.{within_tagged, list_equal, option_equal, two_equal, with_end};
 ghost use Rattle.x509_base.specs.Equal.{attribute_equal};
 ghost use Rattle.x509_base.specs.Names.{attribute_value};
-ghost use Rattle.x509_pkcs7.specs.Enveloped.{EncryptedContentValue, encrypted_content_value, encrypted_content, lawful_encrypted_content, OriginatorValue, originator_value, originator_row, originator, lawful_originator, EnvelopedValue, enveloped_value, enveloped, lawful_enveloped};
+ghost use Rattle.x509_pkcs7.specs.Enveloped.{EncryptedContentValue, encrypted_content_value, encrypted_content, lawful_encrypted_content, OriginatorValue, originator_value, originator_components, originator, lawful_originator, EnvelopedValue, enveloped_value, enveloped, lawful_enveloped};
 ghost use Rattle.x509_pkcs7.specs.Equal.{version_equal, encrypted_content_equal, originator_equal};
 
 use crate::contents::ContentType;
@@ -135,14 +135,14 @@ impl DerTagged for OriginatorInfo {
     }
 
     fn read_contents(alloc: Global, r: &mut Reader<'_>, nest: u8) -> Result<Self, Error> {
-        let fields_of!(certs OPTIONAL, crls OPTIONAL) = read_row_contents(alloc, r, nest, 0x30)?;
+        let fields_of!(certs OPTIONAL, crls OPTIONAL) = read_inside(alloc, r, nest, 0x30)?;
         Ok(OriginatorInfo {
             certs: Optional(certs),
             crls: Optional(crls),
         })
     }
 
-    ghost tagged = { within_tagged 0x30 (Prim.omega arith) originator_row };
+    ghost tagged = { within_tagged 0x30 (Prim.omega arith) originator_components };
 }
 
 impl EqualByText for OriginatorInfo {

@@ -3,7 +3,7 @@
 ghost use Rattle.std.proofs.Common.{arith};
 ghost use Rattle.asn1_core.specs.Der.{within_tagged};
 ghost use Rattle.x509_pkcs7.specs.Equal.{other_key_equal, kek_id_equal, kek_recipient_equal, recipient_equal};
-ghost use Rattle.x509_pkcs7.specs.Recipients.{OtherKeyValue, other_key_value, other_key, lawful_other_key, KekIdValue, kek_id_value, kek_id, lawful_kek_id, KekRecipientValue, kek_recipient_value, kek_recipient_row, kek_recipient, lawful_kek_recipient, recipient_value, recipient, lawful_recipient};
+ghost use Rattle.x509_pkcs7.specs.Recipients.{OtherKeyValue, other_key_value, other_key, lawful_other_key, KekIdValue, kek_id_value, kek_id, lawful_kek_id, KekRecipientValue, kek_recipient_value, kek_recipient_components, kek_recipient, lawful_kek_recipient, recipient_value, recipient, lawful_recipient};
 
 use asn1_core::prelude::*;
 use asn1_leaves::GeneralizedTimeAsn1;
@@ -167,7 +167,7 @@ impl DerTagged for KekRecipientInfo {
 
     fn read_contents(alloc: Global, r: &mut Reader<'_>, nest: u8) -> Result<Self, Error> {
         let fields_of!(version, kek_id, key_encryption_algorithm, encrypted_key) =
-            read_row_contents(alloc, r, nest, 0x30)?;
+            read_inside(alloc, r, nest, 0x30)?;
         Ok(KekRecipientInfo {
             version,
             kek_id,
@@ -176,7 +176,7 @@ impl DerTagged for KekRecipientInfo {
         })
     }
 
-    ghost tagged = { within_tagged 0x30 (Prim.omega arith) kek_recipient_row };
+    ghost tagged = { within_tagged 0x30 (Prim.omega arith) kek_recipient_components };
 }
 
 impl EqualByText for KekRecipientInfo {

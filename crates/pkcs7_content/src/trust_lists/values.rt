@@ -2,7 +2,7 @@
 
 ghost use Rattle.std.specs.Prelude.{◌≡◌, ◌↔◌, IsTrue};
 ghost use Rattle.std.proofs.Common.{rules, inl, inr};
-ghost use Rattle.asn1_core.specs.Der.{GivesRow};
+ghost use Rattle.asn1_core.specs.Der.{GivesComponents};
 ghost use Rattle.pkcs7_content.specs.TrustListsEqual.{values_equal};
 ghost use Rattle.pkcs7_content.specs.AttributeValues.{AttributeValues, attribute_values, values_defined_by, values_are_defined_by, octets_in, usages_in, attribute_values_value};
 ghost use Rattle.pkcs7_content.specs.Properties.{shape_of};
@@ -118,7 +118,7 @@ impl CTLEntryAttributeValues {
 
     /// Whether these are well-formed values of an attribute whose object identifier has these contents octets.
     pub(crate) fn fits(&self, oid: &[u8], limit: u8) -> bool
-        ensures { IsTrue result ↔ (values_defined_by.row oid.now).IsWellFormed limit (attribute_values_value self.now) }
+        ensures { IsTrue result ↔ (values_defined_by.components oid.now).IsWellFormed limit (attribute_values_value self.now) }
     {
         let number = property_number(oid);
         let shape = Shape::of_property(number);
@@ -184,23 +184,23 @@ impl AnyDefinedBy for CTLEntryAttributeValues {
         let number = property_number(oid);
         match Shape::of_property(number) {
             Shape::Octets => {
-                let Alone(values) = Alone::read_row(alloc, r, nest)?;
+                let Alone(values) = Alone::read_components(alloc, r, nest)?;
                 Ok(octets_of_property(number, values))
             }
             Shape::Usages => {
-                let Alone(values) = Alone::read_row(alloc, r, nest)?;
+                let Alone(values) = Alone::read_components(alloc, r, nest)?;
                 Ok(usages_of_property(number, values))
             }
             Shape::ChainPolicies => {
-                let Alone(values) = Alone::read_row(alloc, r, nest)?;
+                let Alone(values) = Alone::read_components(alloc, r, nest)?;
                 Ok(CTLEntryAttributeValues::CertRootProgramChainPolicy(values))
             }
             Shape::CertPolicies => {
-                let Alone(values) = Alone::read_row(alloc, r, nest)?;
+                let Alone(values) = Alone::read_components(alloc, r, nest)?;
                 Ok(CTLEntryAttributeValues::CertRootProgramCertPoliciesPropId(values))
             }
             Shape::Raws => {
-                let Alone(values) = Alone::read_row(alloc, r, nest)?;
+                let Alone(values) = Alone::read_components(alloc, r, nest)?;
                 Ok(CTLEntryAttributeValues::Unknown(values))
             }
         }

@@ -80,7 +80,7 @@ impl DerSerialize for TbsCertList {
                     signature, issuer, this_update, next_update OPTIONAL,
                     revoked_certificates OPTIONAL, (tagged(&self.crl_extension.0)) OPTIONAL
                 );
-                after_version.row_well_formed_at(limit)
+                after_version.components_well_formed_at(limit)
             }
             Some(_) => false,
         }

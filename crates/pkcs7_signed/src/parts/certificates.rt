@@ -110,7 +110,7 @@ impl DerSerialize for CertificateSet {
     }
 
     fn well_formed_at(&self, limit: u8) -> bool {
-        self.0.row_well_formed_at(limit)
+        self.0.components_well_formed_at(limit)
     }
 }
 
@@ -132,7 +132,7 @@ impl DerTagged for CertificateSet {
     }
 
     fn read_contents(alloc: Global, r: &mut Reader<'_>, nest: u8) -> Result<Self, Error> {
-        Ok(CertificateSet(read_row_contents(alloc, r, nest, 0xA0)?))
+        Ok(CertificateSet(read_inside(alloc, r, nest, 0xA0)?))
     }
 
     ghost tagged = { within_tagged 0xA0 (Prim.omega arith) (each certificate_choice) };

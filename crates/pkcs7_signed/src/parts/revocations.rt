@@ -4,7 +4,7 @@ ghost use Rattle.std.specs.Prelude.{◌≡◌, List, []};
 ghost use Rattle.std.proofs.Common.{arith};
 ghost use Rattle.asn1_core.specs.Der.{each, within_tagged};
 ghost use Rattle.pkcs7_signed.specs.PartsEqual.{other_format_equal, revocation_equal, revocations_equal};
-ghost use Rattle.pkcs7_signed.specs.Revocations.{OtherFormatValue, other_format_value, other_format_row, other_format, lawful_other_format, RevocationValue, revocation_value, revocation, lawful_revocation, revocations_value, revocations, lawful_revocations};
+ghost use Rattle.pkcs7_signed.specs.Revocations.{OtherFormatValue, other_format_value, other_format_components, other_format, lawful_other_format, RevocationValue, revocation_value, revocation, lawful_revocation, revocations_value, revocations, lawful_revocations};
 
 use crate::parts::certificate_lists::CertificateList;
 use crate::parts::certificates::CertificateSet;
@@ -57,14 +57,14 @@ impl DerTagged for OtherRevocationInfoFormat {
     }
 
     fn read_contents(alloc: Global, r: &mut Reader<'_>, nest: u8) -> Result<Self, Error> {
-        let fields_of!(other_rev_info_format, (Null)) = read_row_contents(alloc, r, nest, 0x30)?;
+        let fields_of!(other_rev_info_format, (Null)) = read_inside(alloc, r, nest, 0x30)?;
         Ok(OtherRevocationInfoFormat {
             other_rev_info_format,
             other_rev_info: (),
         })
     }
 
-    ghost tagged = { within_tagged 0x30 (Prim.omega arith) other_format_row };
+    ghost tagged = { within_tagged 0x30 (Prim.omega arith) other_format_components };
 }
 
 impl EqualByText for OtherRevocationInfoFormat {
@@ -162,7 +162,7 @@ impl DerSerialize for RevocationInfoChoices {
     }
 
     fn well_formed_at(&self, limit: u8) -> bool {
-        self.0.row_well_formed_at(limit)
+        self.0.components_well_formed_at(limit)
     }
 }
 
@@ -186,7 +186,7 @@ impl DerTagged for RevocationInfoChoices {
     }
 
     fn read_contents(alloc: Global, r: &mut Reader<'_>, nest: u8) -> Result<Self, Error> {
-        Ok(RevocationInfoChoices(read_row_contents(alloc, r, nest, 0xA1)?))
+        Ok(RevocationInfoChoices(read_inside(alloc, r, nest, 0xA1)?))
     }
 
     ghost tagged = { within_tagged 0xA1 (Prim.omega arith) (each revocation) };

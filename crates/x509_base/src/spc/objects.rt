@@ -4,7 +4,7 @@ ghost use Rattle.std.specs.Prelude.{◌≡◌, [], MatchResult};
 ghost use Rattle.std.proofs.Common.{rules, arith};
 ghost use Rattle.asn1_core_element.specs.declared.error.Error.TheVariants.{Memory};
 ghost use Rattle.asn1_core.specs.Der.{octet_string, lawful_octet_string, within_tagged};
-ghost use Rattle.x509_base.specs.SpcObjects.{SerializedObjectValue, serialized_object_row, serialized_object, lawful_serialized_object, page_hash_class};
+ghost use Rattle.x509_base.specs.SpcObjects.{SerializedObjectValue, serialized_object_components, serialized_object, lawful_serialized_object, page_hash_class};
 
 use asn1_core::prelude::*;
 use std::alloc::Global;
@@ -117,14 +117,14 @@ impl DerTagged for SpcSerializedObject {
     }
 
     fn read_contents(alloc: Global, r: &mut Reader<'_>, nest: u8) -> Result<Self, Error> {
-        let fields_of!(class_id, serialized_data) = read_row_contents(alloc, r, nest, 0x30)?;
+        let fields_of!(class_id, serialized_data) = read_inside(alloc, r, nest, 0x30)?;
         Ok(SpcSerializedObject {
             class_id,
             serialized_data,
         })
     }
 
-    ghost tagged = { within_tagged 0x30 (Prim.omega arith) serialized_object_row };
+    ghost tagged = { within_tagged 0x30 (Prim.omega arith) serialized_object_components };
 }
 
 impl EqualByText for SpcSerializedObject {

@@ -8,7 +8,7 @@ ghost use Rattle.x509_pkcs12.specs.AttributesEqual.{attribute_equal};
 
 use crate::parts::oids::{FRIENDLY_NAME, Known, LOCAL_KEY_ID};
 use crate::parts::sets::{SetOfOne, SetRef};
-use asn1_choices::{AnyOid, AnyOidRef, Arm, Chosen, WriteChoice};
+use asn1_choices::{AnyOid, AnyOidRef, Alternative, Chosen, WriteChoice};
 use asn1_core::prelude::*;
 use asn1_leaves::{BmpString, BmpStringAsn1};
 use std::alloc::Global;
@@ -50,17 +50,17 @@ impl DerSerialize for BmpRef<'_> {
 }
 
 type AttributeChoice = Either<
-    Arm<Known<FRIENDLY_NAME>, Alone<SetOfOne<BmpStringAsn1>>>,
+    Alternative<Known<FRIENDLY_NAME>, Alone<SetOfOne<BmpStringAsn1>>>,
     Either<
-        Arm<Known<LOCAL_KEY_ID>, Alone<SetOfOne<OctetStringAsn1>>>,
+        Alternative<Known<LOCAL_KEY_ID>, Alone<SetOfOne<OctetStringAsn1>>>,
         AnyOid<Alone<Asn1SetOf<Asn1RawDer>>>,
     >,
 >;
 
 type AttributeRef<'a> = Either<
-    Arm<Known<FRIENDLY_NAME>, Alone<SetOfOne<BmpRef<'a>>>>,
+    Alternative<Known<FRIENDLY_NAME>, Alone<SetOfOne<BmpRef<'a>>>>,
     Either<
-        Arm<Known<LOCAL_KEY_ID>, Alone<SetOfOne<&'a OctetStringAsn1>>>,
+        Alternative<Known<LOCAL_KEY_ID>, Alone<SetOfOne<&'a OctetStringAsn1>>>,
         AnyOidRef<'a, Alone<SetRef<'a, Asn1RawDer>>>,
     >,
 >;
@@ -70,8 +70,8 @@ impl Pkcs12Attribute {
         ensures { ⟦<AttributeRef<'static> as WriteChoice>⟧.value result ≡ attribute_value self.now }
     {
         match self {
-            Self::FriendlyName(name) => Either::First(Arm::new(Alone(SetOfOne(BmpRef(name))))),
-            Self::LocalKeyId(id) => Either::Second(Either::First(Arm::new(Alone(SetOfOne(id))))),
+            Self::FriendlyName(name) => Either::First(Alternative::new(Alone(SetOfOne(BmpRef(name))))),
+            Self::LocalKeyId(id) => Either::Second(Either::First(Alternative::new(Alone(SetOfOne(id))))),
             Self::Unknown { oid, value } => {
                 Either::Second(Either::Second(AnyOidRef(oid, Alone(SetRef(value)))))
             }
@@ -99,8 +99,8 @@ impl DerDeserialize for Pkcs12Attribute {
     fn read(alloc: Global, r: &mut Reader<'_>, nest: u8) -> Result<Self, Error> {
         let Chosen(choice) = read_within::<Chosen<AttributeChoice>>(alloc, r, nest, 0x30)?;
         match choice {
-            Either::First(arm) => Ok(Self::FriendlyName(arm.into_row().0.0.0)),
-            Either::Second(Either::First(arm)) => Ok(Self::LocalKeyId(arm.into_row().0.0)),
+            Either::First(alternative) => Ok(Self::FriendlyName(alternative.into_components().0.0.0)),
+            Either::Second(Either::First(alternative)) => Ok(Self::LocalKeyId(alternative.into_components().0.0)),
             Either::Second(Either::Second(other)) => {
                 let AnyOid(oid, Alone(Asn1SetOf(value))) = other;
                 Ok(Self::Unknown { oid, value })
@@ -137,25 +137,25 @@ impl TryClone for Pkcs12Attribute {
 #[derive(Drop)]
 pub struct BagAttributes(pub Option<Vec<Pkcs12Attribute>>);
 
-impl WriteRow for BagAttributes {
+impl WriteComponents for BagAttributes {
     ghost Value = { AttributesValue };
 
     ghost value = { λ x. attributes_value x.0 };
 
     ghost format = { attributes };
 
-    fn put_row<W: Writer>(&self, w: &mut W) -> Result<(), WriteError> {
-        BagAttributesRef(&self.0).put_row(w)
+    fn put_components<W: Writer>(&self, w: &mut W) -> Result<(), WriteError> {
+        BagAttributesRef(&self.0).put_components(w)
     }
 
-    fn row_well_formed_at(&self, limit: u8) -> bool {
-        BagAttributesRef(&self.0).row_well_formed_at(limit)
+    fn components_well_formed_at(&self, limit: u8) -> bool {
+        BagAttributesRef(&self.0).components_well_formed_at(limit)
     }
 }
 
-impl ReadRow for BagAttributes {
-    fn read_row(alloc: Global, r: &mut Reader<'_>, nest: u8) -> Result<Self, Error> {
-        let Maybe(set, End) = Maybe::<Asn1SetOf<Pkcs12Attribute>, End>::read_row(alloc, r, nest)?;
+impl ReadComponents for BagAttributes {
+    fn read_components(alloc: Global, r: &mut Reader<'_>, nest: u8) -> Result<Self, Error> {
+        let Maybe(set, End) = Maybe::<Asn1SetOf<Pkcs12Attribute>, End>::read_components(alloc, r, nest)?;
         match set {
             Some(Asn1SetOf(items)) => Ok(BagAttributes(Some(items))),
             None => Ok(BagAttributes(None)),
@@ -169,23 +169,23 @@ impl ReadRow for BagAttributes {
 #[derive(Drop)]
 pub struct BagAttributesRef<'a>(pub &'a Option<Vec<Pkcs12Attribute>>);
 
-impl WriteRow for BagAttributesRef<'_> {
+impl WriteComponents for BagAttributesRef<'_> {
     ghost Value = { AttributesValue };
 
     ghost value = { λ x. attributes_value x.0.now };
 
     ghost format = { attributes };
 
-    fn put_row<W: Writer>(&self, w: &mut W) -> Result<(), WriteError> {
+    fn put_components<W: Writer>(&self, w: &mut W) -> Result<(), WriteError> {
         match self.0 {
             Some(items) => put_within(0x31, items, w),
-            None => End.put_row(w),
+            None => End.put_components(w),
         }
     }
 
-    fn row_well_formed_at(&self, limit: u8) -> bool {
+    fn components_well_formed_at(&self, limit: u8) -> bool {
         match self.0 {
-            Some(items) => items.row_well_formed_at(limit),
+            Some(items) => items.components_well_formed_at(limit),
             None => true,
         }
     }

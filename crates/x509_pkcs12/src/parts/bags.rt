@@ -6,7 +6,7 @@ ghost use Rattle.x509_pkcs12.specs.BagParts.{OctetsOrAny, x509_value, x509_bag, 
 ghost use Rattle.x509_pkcs12.specs.BagPartsEqual.{secret_equal, encrypted_key_equal};
 
 use crate::parts::oids::{Known, X509_CERTIFICATE, X509_CRL};
-use asn1_choices::{AnyOid, AnyOidRef, Arm, Chosen, WriteChoice};
+use asn1_choices::{AnyOid, AnyOidRef, Alternative, Chosen, WriteChoice};
 use asn1_core::OidRef;
 use asn1_core::prelude::*;
 use pkcs12_algs::Pkcs12EncryptionAlgorithm;
@@ -17,12 +17,12 @@ pub type KeyBag = Asn1RawDer;
 
 /// The octets of the type that `N` names, or an element of any other.
 type OctetsOrAny<N> = Either<
-    Arm<N, Alone<ExplicitContextTag0<OctetStringAsn1>>>,
+    Alternative<N, Alone<ExplicitContextTag0<OctetStringAsn1>>>,
     AnyOid<Alone<ExplicitContextTag0<Asn1RawDer>>>,
 >;
 
 type OctetsOrAnyRef<'a, N> = Either<
-    Arm<N, Alone<ExplicitContextTag0<&'a OctetStringAsn1>>>,
+    Alternative<N, Alone<ExplicitContextTag0<&'a OctetStringAsn1>>>,
     AnyOidRef<'a, Alone<ExplicitContextTag0<&'a Asn1RawDer>>>,
 >;
 
@@ -50,7 +50,7 @@ impl<const KNOWN: usize> X509Bag<KNOWN> {
         ensures { ⟦<OctetsOrAnyRef<'static, Known<KNOWN>> as WriteChoice>⟧.value result ≡ x509_value self.now }
     {
         match self {
-            Self::X509(octets) => Either::First(Arm::new(Alone(ExplicitContextTag0(octets)))),
+            Self::X509(octets) => Either::First(Alternative::new(Alone(ExplicitContextTag0(octets)))),
             Self::Unknown { type_id, value } => {
                 Either::Second(AnyOidRef(type_id, Alone(ExplicitContextTag0(value))))
             }
@@ -80,7 +80,7 @@ impl<const KNOWN: usize> DerDeserialize for X509Bag<KNOWN> {
             alloc, r, nest, 0x30,
         )?;
         match choice {
-            Either::First(arm) => Ok(Self::X509(arm.into_row().0.0)),
+            Either::First(alternative) => Ok(Self::X509(alternative.into_components().0.0)),
             Either::Second(other) => {
                 let AnyOid(type_id, Alone(ExplicitContextTag0(value))) = other;
                 Ok(Self::Unknown { type_id, value })

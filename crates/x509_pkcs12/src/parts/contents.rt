@@ -91,8 +91,8 @@ type ContentsRef<'a> = Part<
 >;
 
 impl EncryptedSafeContents {
-    fn row(&self) -> ContentsRef<'_>
-        ensures { ⟦<ContentsRef<'static> as WriteRow>⟧.value result ≡ ⟦<EncryptedSafeContents as DerSerialize>⟧.value self.now }
+    fn components(&self) -> ContentsRef<'_>
+        ensures { ⟦<ContentsRef<'static> as WriteComponents>⟧.value result ≡ ⟦<EncryptedSafeContents as DerSerialize>⟧.value self.now }
     {
         let content = match &self.encrypted_content {
             Some(octets) => Some(EncryptedRef(octets)),
@@ -110,11 +110,11 @@ impl DerSerialize for EncryptedSafeContents {
     ghost format = { encrypted_contents };
 
     fn put<W: Writer>(&self, w: &mut W) -> Result<(), WriteError> {
-        put_within(0x30, &self.row(), w)
+        put_within(0x30, &self.components(), w)
     }
 
     fn well_formed_at(&self, limit: u8) -> bool {
-        self.row().row_well_formed_at(limit)
+        self.components().components_well_formed_at(limit)
     }
 }
 

@@ -33,31 +33,31 @@ impl<T: DerDeserialize> DerDeserialize for SetOfOne<T> {
         Ok(SetOfOne(value))
     }
 
-    ghost lawful = { lawful_within T.DerSerialize.format T.lawful.row 0x31 (Prim.omega arith) };
+    ghost lawful = { lawful_within T.DerSerialize.format T.lawful.components 0x31 (Prim.omega arith) };
 }
 
 /// One encoding that fills the contents. None and two are invalid.
 #[derive(Drop)]
 struct Only<T>(T);
 
-impl<T: DerSerialize> WriteRow for Only<T> {
+impl<T: DerSerialize> WriteComponents for Only<T> {
     ghost Value = { T.Value };
 
     ghost value = { λ x. T.value x.0 };
 
     ghost format = { T.format };
 
-    fn put_row<W: Writer>(&self, w: &mut W) -> Result<(), WriteError> {
+    fn put_components<W: Writer>(&self, w: &mut W) -> Result<(), WriteError> {
         self.0.put(w)
     }
 
-    fn row_well_formed_at(&self, limit: u8) -> bool {
+    fn components_well_formed_at(&self, limit: u8) -> bool {
         self.0.well_formed_at(limit)
     }
 }
 
-impl<T: DerDeserialize> ReadRow for Only<T> {
-    fn read_row(alloc: Global, r: &mut Reader<'_>, nest: u8) -> Result<Self, Error> {
+impl<T: DerDeserialize> ReadComponents for Only<T> {
+    fn read_components(alloc: Global, r: &mut Reader<'_>, nest: u8) -> Result<Self, Error> {
         if r.left() == 0 {
             return Err(Error::Invalid);
         }
@@ -68,7 +68,7 @@ impl<T: DerDeserialize> ReadRow for Only<T> {
         Ok(Only(value))
     }
 
-    ghost lawful = { λ _. T.lawful.row };
+    ghost lawful = { λ _. T.lawful.components };
 }
 
 /// `SET OF T`, of borrowed items, for writing.
@@ -87,6 +87,6 @@ impl<T: DerSerialize> DerSerialize for SetRef<'_, T> {
     }
 
     fn well_formed_at(&self, limit: u8) -> bool {
-        self.0.row_well_formed_at(limit)
+        self.0.components_well_formed_at(limit)
     }
 }

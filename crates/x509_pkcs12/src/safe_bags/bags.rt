@@ -8,8 +8,8 @@ ghost use Rattle.asn1_core_format.specs.declared.eithers.Either.TheVariants.{Fir
 ghost use Rattle.x509_pkcs12.specs.Attributes.{attributes_value};
 ghost use Rattle.x509_pkcs12.specs.Oids.{oid};
 ghost use Rattle.x509_pkcs12.specs.declared.parts.oids.TheConstants.{KEY_BAG, SHROUDED_KEY_BAG, CERTIFICATE_BAG, CRL_BAG, SECRET_BAG, SAFE_CONTENTS_BAG};
-ghost use Rattle.x509_pkcs12.specs.PlainBags.{bag_arm};
-ghost use Rattle.x509_pkcs12.specs.Bags.{Bag, BagRow, bag_out, safe_bag, safe_contents, held_choice};
+ghost use Rattle.x509_pkcs12.specs.PlainBags.{bag_alternative};
+ghost use Rattle.x509_pkcs12.specs.Bags.{Bag, BagComponents, bag_out, safe_bag, safe_contents, held_choice};
 ghost use Rattle.x509_pkcs12.specs.BagEqual.{bag_equal, kind_equal, contents_equal};
 ghost use Rattle.x509_pkcs12.specs.BagsLaws.{lawful_safe_bag, lawful_safe_contents};
 ghost use Rattle.x509_pkcs12.specs.BagValues.{Kind, bag_value, kind_value, contents_value};
@@ -22,7 +22,7 @@ use crate::parts::{
     BagAttributes, BagAttributesRef, CertificateBag, CrlBag, EncryptedKeyBag, KeyBag,
     Pkcs12Attribute, SecretBag,
 };
-use asn1_choices::{AnyOid, Arm, WriteChoice, read_nested_or};
+use asn1_choices::{AnyOid, Alternative, WriteChoice, read_nested_or};
 use asn1_core::OidRef;
 use asn1_core::prelude::*;
 use asn1_core_element::element::open_element;
@@ -70,41 +70,41 @@ type Held<T> = Part<ExplicitContextTag0<T>, BagAttributes>;
 type Nested = Known<SAFE_CONTENTS_BAG>;
 
 /// A bag that holds no bags.
-type SecretOr = Either<Arm<Known<SECRET_BAG>, Held<SecretBag>>, AnyOid<Held<Asn1RawDer>>>;
+type SecretOr = Either<Alternative<Known<SECRET_BAG>, Held<SecretBag>>, AnyOid<Held<Asn1RawDer>>>;
 
-type CrlOr = Either<Arm<Known<CRL_BAG>, Held<CrlBag>>, SecretOr>;
+type CrlOr = Either<Alternative<Known<CRL_BAG>, Held<CrlBag>>, SecretOr>;
 
-type CertificateOr = Either<Arm<Known<CERTIFICATE_BAG>, Held<CertificateBag>>, CrlOr>;
+type CertificateOr = Either<Alternative<Known<CERTIFICATE_BAG>, Held<CertificateBag>>, CrlOr>;
 
-type ShroudedOr = Either<Arm<Known<SHROUDED_KEY_BAG>, Held<EncryptedKeyBag>>, CertificateOr>;
+type ShroudedOr = Either<Alternative<Known<SHROUDED_KEY_BAG>, Held<EncryptedKeyBag>>, CertificateOr>;
 
-type PlainBag = Either<Arm<Known<KEY_BAG>, Held<KeyBag>>, ShroudedOr>;
+type PlainBag = Either<Alternative<Known<KEY_BAG>, Held<KeyBag>>, ShroudedOr>;
 
 impl SafeBag {
     /// The bag that was read.
-    fn of_row(row: Either<(SafeContents, BagAttributes), PlainBag>) -> SafeBag
-        ensures { bag_out (bag_value result) ≡ elim row [ First p ↦ inl (contents_value p.0, attributes_value p.1.0) | Second c ↦ inr (⟦<PlainBag as WriteChoice>⟧.value c) ] }
+    fn of_components(components: Either<(SafeContents, BagAttributes), PlainBag>) -> SafeBag
+        ensures { bag_out (bag_value result) ≡ elim components [ First p ↦ inl (contents_value p.0, attributes_value p.1.0) | Second c ↦ inr (⟦<PlainBag as WriteChoice>⟧.value c) ] }
     {
-        match row {
+        match components {
             First((bags, attributes)) => made(SafeBagKind::SafeContents(bags), attributes),
-            Second(First(arm)) => {
-                let Part(ExplicitContextTag0(bag), attributes) = arm.into_row();
+            Second(First(alternative)) => {
+                let Part(ExplicitContextTag0(bag), attributes) = alternative.into_components();
                 made(SafeBagKind::Key(bag), attributes)
             }
-            Second(Second(First(arm))) => {
-                let Part(ExplicitContextTag0(bag), attributes) = arm.into_row();
+            Second(Second(First(alternative))) => {
+                let Part(ExplicitContextTag0(bag), attributes) = alternative.into_components();
                 made(SafeBagKind::EncryptedKey(bag), attributes)
             }
-            Second(Second(Second(First(arm)))) => {
-                let Part(ExplicitContextTag0(bag), attributes) = arm.into_row();
+            Second(Second(Second(First(alternative)))) => {
+                let Part(ExplicitContextTag0(bag), attributes) = alternative.into_components();
                 made(SafeBagKind::Certificate(bag), attributes)
             }
-            Second(Second(Second(Second(First(arm))))) => {
-                let Part(ExplicitContextTag0(bag), attributes) = arm.into_row();
+            Second(Second(Second(Second(First(alternative))))) => {
+                let Part(ExplicitContextTag0(bag), attributes) = alternative.into_components();
                 made(SafeBagKind::Crl(bag), attributes)
             }
-            Second(Second(Second(Second(Second(First(arm)))))) => {
-                let Part(ExplicitContextTag0(bag), attributes) = arm.into_row();
+            Second(Second(Second(Second(Second(First(alternative)))))) => {
+                let Part(ExplicitContextTag0(bag), attributes) = alternative.into_components();
                 made(SafeBagKind::Secret(bag), attributes)
             }
             Second(Second(Second(Second(Second(Second(other)))))) => {
@@ -145,21 +145,21 @@ fn put_bag<T: DerSerialize, W: Writer>(
     w: &mut W,
 ) -> Result<(), WriteError>
     requires { W.MayTake w.old }
-    ensures { W.Takes (element 0x06 (oid number) ++ (bag_arm T.format).text (T.value value.now, attributes_value attributes.now)) w.old w.new result }
+    ensures { W.Takes (element 0x06 (oid number) ++ (bag_alternative T.format).text (T.value value.now, attributes_value attributes.now)) w.old w.new result }
 {
-    let row = Part(ExplicitContextTag0(value), BagAttributesRef(attributes));
-    Part(KnownOid(octets_of_known(number)), row).put_row(w)
+    let components = Part(ExplicitContextTag0(value), BagAttributesRef(attributes));
+    Part(KnownOid(octets_of_known(number)), components).put_components(w)
 }
 
-impl WriteRow for SafeBag {
-    ghost Value = { BagRow (List Bag) };
+impl WriteComponents for SafeBag {
+    ghost Value = { BagComponents (List Bag) };
 
     ghost value = { λ b. bag_out (bag_value b) };
 
-    ghost format = { held_choice.row };
+    ghost format = { held_choice.components };
 
     #[cycle(put)]
-    fn put_row<W: Writer>(&self, w: &mut W) -> Result<(), WriteError> {
+    fn put_components<W: Writer>(&self, w: &mut W) -> Result<(), WriteError> {
         let attributes = &self.attributes;
         match &self.kind {
             SafeBagKind::Key(bag) => put_bag(KEY_BAG, bag, attributes, w),
@@ -171,13 +171,13 @@ impl WriteRow for SafeBag {
                 put_bag(SAFE_CONTENTS_BAG, &Less(bags), attributes, w)
             }
             SafeBagKind::Unknown { type_id, value } => {
-                let row = Part(ExplicitContextTag0(value), BagAttributesRef(attributes));
-                Part(OidRef(type_id), row).put_row(w)
+                let components = Part(ExplicitContextTag0(value), BagAttributesRef(attributes));
+                Part(OidRef(type_id), components).put_components(w)
             }
         }
     }
 
-    fn row_well_formed_at(&self, limit: u8) -> bool {
+    fn components_well_formed_at(&self, limit: u8) -> bool {
         self.well_formed_at(limit)
     }
 }
@@ -196,7 +196,7 @@ impl DerSerialize for SafeBag {
 
     #[cycle(formed)]
     fn well_formed_at(&self, limit: u8) -> bool {
-        if !BagAttributesRef(&self.attributes).row_well_formed_at(limit) {
+        if !BagAttributesRef(&self.attributes).components_well_formed_at(limit) {
             return false;
         }
         match &self.kind {
@@ -273,7 +273,7 @@ impl DerDeserialize for SafeBag {
     #[cycle(read)]
     fn read(alloc: Global, r: &mut Reader<'_>, nest: u8) -> Result<Self, Error> {
         let outer = open_element(r, 0x30)?;
-        let row = read_nested_or::<Nested, SafeContents, BagAttributes, PlainBag, _>(
+        let components = read_nested_or::<Nested, SafeContents, BagAttributes, PlainBag, _>(
             alloc,
             r,
             nest,
@@ -288,7 +288,7 @@ impl DerDeserialize for SafeBag {
             },
         )?;
         r.end(outer)?;
-        Ok(SafeBag::of_row(row))
+        Ok(SafeBag::of_components(components))
     }
 
     ghost lawful = { lawful_safe_bag };

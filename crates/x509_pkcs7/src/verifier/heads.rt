@@ -86,7 +86,7 @@ pub struct TbsCertificateHead {
     pub rest: Vec<Asn1RawDer>,
 }
 
-type HeadRow = Part<
+type HeadComponents = Part<
     CertificateSerialNumber,
     Part<
         AlgorithmIdentifier,
@@ -107,8 +107,8 @@ type HeadRef<'a> = Part<
 
 impl TbsCertificateHead {
     /// What follows the version.
-    fn row(&self) -> HeadRef<'_>
-        ensures { ◌≡◌ {A = HeadValue} (⟦<HeadRef<'static> as WriteRow>⟧.value result) (head_value self.now) }
+    fn components(&self) -> HeadRef<'_>
+        ensures { ◌≡◌ {A = HeadValue} (⟦<HeadRef<'static> as WriteComponents>⟧.value result) (head_value self.now) }
     {
         let key = Part(&self.subject_public_key_info, &self.rest);
         let validity = Part(&self.validity, Part(&self.subject, key));
@@ -125,18 +125,18 @@ impl DerSerialize for TbsCertificateHead {
     ghost format = { tbs_head };
 
     fn put<W: Writer>(&self, w: &mut W) -> Result<(), WriteError> {
-        put_within(0x30, &Maybe(tagged(self.version), self.row()), w)
+        put_within(0x30, &Maybe(tagged(self.version), self.components()), w)
     }
 
     fn well_formed_at(&self, limit: u8) -> bool {
-        Maybe(tagged(self.version), self.row()).row_well_formed_at(limit)
+        Maybe(tagged(self.version), self.components()).components_well_formed_at(limit)
     }
 }
 
 impl DerDeserialize for TbsCertificateHead {
     fn read(alloc: Global, r: &mut Reader<'_>, nest: u8) -> Result<Self, Error> {
-        let row: Maybe<ExplicitVersion, HeadRow> = read_within(alloc, r, nest, 0x30)?;
-        let Maybe(version, Part(serial_number, Part(signature, Part(issuer, rest)))) = row;
+        let components: Maybe<ExplicitVersion, HeadComponents> = read_within(alloc, r, nest, 0x30)?;
+        let Maybe(version, Part(serial_number, Part(signature, Part(issuer, rest)))) = components;
         let Part(validity, Part(subject, Part(subject_public_key_info, rest))) = rest;
         Ok(TbsCertificateHead {
             version: untagged(version),

@@ -80,7 +80,7 @@ impl DerSerialize for Accuracy {
     }
 
     fn well_formed_at(&self, limit: u8) -> bool {
-        self.0.row_well_formed_at(limit)
+        self.0.components_well_formed_at(limit)
     }
 }
 
@@ -169,7 +169,7 @@ impl DerSerialize for TimeStampExtensions {
     }
 
     fn well_formed_at(&self, limit: u8) -> bool {
-        self.0.row_well_formed_at(limit)
+        self.0.components_well_formed_at(limit)
     }
 }
 
@@ -214,13 +214,13 @@ pub struct TstInfo {
     pub extensions: Option<TimeStampExtensions>,
 }
 
-type NonceRow = Maybe<IntegerAsn1, Maybe<TimeStampAuthority, Maybe<TimeStampExtensions, End>>>;
+type NonceComponents = Maybe<IntegerAsn1, Maybe<TimeStampAuthority, Maybe<TimeStampExtensions, End>>>;
 
-type OptionsRow = Maybe<Accuracy, Omitted<DefaultFalse, NonceRow>>;
+type OptionsComponents = Maybe<Accuracy, Omitted<DefaultFalse, NonceComponents>>;
 
-type TstInfoRow = Part<
+type TstInfoComponents = Part<
     FixedVersion<1>,
-    Part<ObjectIdentifierAsn1, Part<DigestInfo, Part<IntegerAsn1, Part<GenTime, OptionsRow>>>>,
+    Part<ObjectIdentifierAsn1, Part<DigestInfo, Part<IntegerAsn1, Part<GenTime, OptionsComponents>>>>,
 >;
 
 type OptionsRef<'a> = Maybe<
@@ -242,15 +242,15 @@ type TstInfoRef<'a> = Part<
 impl TstInfo {
     /// What follows the time.
     fn options(&self) -> OptionsRef<'_>
-        ensures { ◌≡◌ {A = OptionsValue} (⟦<OptionsRef<'static> as WriteRow>⟧.value result) (options_value self.now) }
+        ensures { ◌≡◌ {A = OptionsValue} (⟦<OptionsRef<'static> as WriteComponents>⟧.value result) (options_value self.now) }
     {
         let tsa = Maybe(self.tsa.as_ref(), Maybe(self.extensions.as_ref(), End));
         let ordering = Omitted(DefaultFalse(self.ordering), Maybe(self.nonce.as_ref(), tsa));
         Maybe(self.accuracy.as_ref(), ordering)
     }
 
-    fn row(&self) -> TstInfoRef<'_>
-        ensures { ◌≡◌ {A = TstInfoValue} (⟦<TstInfoRef<'static> as WriteRow>⟧.value result) (tst_info_value self.now) }
+    fn components(&self) -> TstInfoRef<'_>
+        ensures { ◌≡◌ {A = TstInfoValue} (⟦<TstInfoRef<'static> as WriteComponents>⟧.value result) (tst_info_value self.now) }
     {
         let time = Part(&self.gen_time, self.options());
         let imprint = Part(&self.message_imprint, Part(&self.serial_number, time));
@@ -266,21 +266,21 @@ impl DerSerialize for TstInfo {
     ghost format = { tst_info };
 
     fn put<W: Writer>(&self, w: &mut W) -> Result<(), WriteError> {
-        put_within(0x30, &self.row(), w)
+        put_within(0x30, &self.components(), w)
     }
 
     fn well_formed_at(&self, limit: u8) -> bool {
-        self.row().row_well_formed_at(limit)
+        self.components().components_well_formed_at(limit)
     }
 }
 
 impl DerDeserialize for TstInfo {
     fn read(alloc: Global, r: &mut Reader<'_>, nest: u8) -> Result<Self, Error> {
-        let row: TstInfoRow = read_within(alloc, r, nest, 0x30)?;
+        let components: TstInfoComponents = read_within(alloc, r, nest, 0x30)?;
         let fields_of!(
             (_), policy, message_imprint, serial_number, gen_time, accuracy OPTIONAL,
             (DefaultFalse(ordering)) DEFAULT, nonce OPTIONAL, tsa OPTIONAL, extensions OPTIONAL
-        ) = row;
+        ) = components;
         Ok(TstInfo {
             policy,
             message_imprint,

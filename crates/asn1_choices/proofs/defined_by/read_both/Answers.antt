@@ -1,8 +1,8 @@
 use Rattle.std.proofs.Common.{rules}
-use Rattle.asn1_choices.proofs.DefinedByReads.{row_refused}
+use Rattle.asn1_choices.proofs.DefinedByReads.{components_refused}
 use Rattle.asn1_choices.proofs.defined_by.read_both.Goals as goal
 
 pub returns-in_err-value : goal.returns-in_err-value
 returns-in_err-value g c =
-    let r = row_refused g.P.AnyDefinedBy.defined_by c.in_ok-oid.ensures (rw c.octets.ensures.value at c.in_err-value.ensures) in
+    let r = components_refused g.P.AnyDefinedBy.defined_by c.in_ok-oid.ensures (rw c.octets.ensures.value at c.in_err-value.ensures) in
     search rules

@@ -1,8 +1,8 @@
 use Rattle.std.proofs.Common.{rules, arith}
 use Rattle.asn1_core_format.specs.Levels.{less}
 use Rattle.asn1_core_format.specs.LevelLaws.{lawful_less}
-use Rattle.asn1_core_format.proofs.LevelReads.{alone_took}
-use Rattle.asn1_core_format.proofs.RowReads.{within_refused, within_took, alone_refused, alone_left}
+use Rattle.asn1_core_format.proofs.LevelReads.{alone_has_read}
+use Rattle.asn1_core_format.proofs.ComponentReads.{within_refused, within_has_read, alone_refused, alone_left}
 use Rattle.asn1_core_format.proofs.recursive.read_below_within.Goals as goal
 
 pub returns-in_err-value : goal.returns-in_err-value
@@ -17,5 +17,5 @@ returns-then-left-gt0 g c =
 
 pub returns : goal.returns
 returns g c =
-    within_took (less g.T.DerSerialize.format) c.args.nest c.args.tag c.in_ok-outer.ensures
-    (alone_took (less g.T.DerSerialize.format) c.args.nest c.in_ok-value.ensures (omega (arith, c.left.ensures))) c.in_ok-end.ensures
+    within_has_read (less g.T.DerSerialize.format) c.args.nest c.args.tag c.in_ok-outer.ensures
+    (alone_has_read (less g.T.DerSerialize.format) c.args.nest c.in_ok-value.ensures (omega (arith, c.left.ensures))) c.in_ok-end.ensures

@@ -7,5 +7,5 @@ use Rattle.pkcs7_signed.proofs.reading.certificate_of.Goals as goal
 
 pub returns : goal.returns
 returns c =
-    let made = made_certificate c.args.row.0.0 c.open.result ∙ ap (λ s. (octets_of c.args.row.0.0.0, signed_value s)) c.open.ensures in
+    let made = made_certificate c.args.components.0.0 c.open.result ∙ ap (λ s. (octets_of c.args.components.0.0.0, signed_value s)) c.open.ensures in
     ap (λ x. certificate_out (certificate_value x)) c.in_ok-certificate.ensures ∙ made

@@ -1,8 +1,8 @@
 use Rattle.std.proofs.Common.{◌≡◌, ◌-◌, suc, sym, subst, arith}
 use Rattle.std.proofs.lemmas.Result.{err_from_is_err_and}
-use Rattle.asn1_core.specs.Der.{sequence, set_of, lawful_set, Took, less, lawful_less}
-use Rattle.asn1_core_format.proofs.LevelReads.{gave}
-use Rattle.asn1_core_format.proofs.GateReads.{took_gated, refused_gated}
+use Rattle.asn1_core.specs.Der.{sequence, set_of, lawful_set, HasRead, less, lawful_less}
+use Rattle.asn1_core_format.proofs.LevelReads.{has_refused}
+use Rattle.asn1_core_format.proofs.GateReads.{has_read_gated, refused_gated}
 use Rattle.pkcs7_signed.specs.Parts.{signed_parts}
 use Rattle.pkcs7_signed.specs.Signers.{signer, signed_data}
 use Rattle.pkcs7_signed.specs.SignerLaws.{lawful_signer}
@@ -10,22 +10,22 @@ use Rattle.pkcs7_signed.specs.SignerValues.{signed_value}
 use Rattle.pkcs7_signed.proofs.SignerReads.{no_memory}
 use Rattle.pkcs7_signed.proofs.reading.read_signed_with.Goals as goal
 
-pub read_row_within_with-requires-clause-lawful : goal.read_row_within_with-requires-clause-lawful
-read_row_within_with-requires-clause-lawful g c = (lawful_set (less signer) (lawful_less signer lawful_signer)).row
+pub read_within_with-requires-clause-lawful : goal.read_within_with-requires-clause-lawful
+read_within_with-requires-clause-lawful g c = (lawful_set (less signer) (lawful_less signer lawful_signer)).components
 
-pub returns-in_err-row : goal.returns-in_err-row
-returns-in_err-row g c =
+pub returns-in_err-components : goal.returns-in_err-components
+returns-in_err-components g c =
     let n : suc (c.args.nest - 1) ≡ c.args.nest = omega arith in
-    gave (λ x. signed_value x.0.value) signed_data c.args.nest (err_from_is_err_and c.from_residual.result c.from_residual.ensures.1) (refused_gated (sequence (signed_parts (set_of (less signer)))) n c.in_err-row.ensures)
+    has_refused (λ x. signed_value x.0.value) signed_data c.args.nest (err_from_is_err_and c.from_residual.result c.from_residual.ensures.1) (refused_gated (sequence (signed_parts (set_of (less signer)))) n c.in_err-components.ensures)
 
 pub returns-in_err-signed : goal.returns-in_err-signed
 returns-in_err-signed g c =
     let n : suc (c.args.nest - 1) ≡ c.args.nest = omega arith in
-    gave (λ x. signed_value x.0.value) signed_data c.args.nest (err_from_is_err_and c.from_residual-in_err-signed.result c.from_residual-in_err-signed.ensures.1)
-    (no_memory signed_data c.args.nest (took_gated (sequence (signed_parts (set_of (less signer)))) n c.in_ok-row.ensures) c.in_err-signed.ensures)
+    has_refused (λ x. signed_value x.0.value) signed_data c.args.nest (err_from_is_err_and c.from_residual-in_err-signed.result c.from_residual-in_err-signed.ensures.1)
+    (no_memory signed_data c.args.nest (has_read_gated (sequence (signed_parts (set_of (less signer)))) n c.in_ok-components.ensures) c.in_err-signed.ensures)
 
 pub returns : goal.returns
 returns g c =
     let n : suc (c.args.nest - 1) ≡ c.args.nest = omega arith in
-    let t = took_gated (sequence (signed_parts (set_of (less signer)))) n c.in_ok-row.ensures in
-    subst (Took signed_data c.args.nest c.args.r.now c.read_row_within_with.new.r) (sym c.in_ok-signed.ensures) t
+    let t = has_read_gated (sequence (signed_parts (set_of (less signer)))) n c.in_ok-components.ensures in
+    subst (HasRead signed_data c.args.nest c.args.r.now c.read_within_with.new.r) (sym c.in_ok-signed.ensures) t

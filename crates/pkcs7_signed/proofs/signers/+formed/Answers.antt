@@ -2,7 +2,7 @@ use Rattle.std.proofs.Common.{◌≡◌, ◌-◌, ◌↔◌, suc, IsTrue, false,
 use Rattle.std.proofs.lemmas.Bool.{iff_false}
 use Rattle.asn1_core.specs.Der.{octets_of, less, each, IsOid}
 use Rattle.asn1_core_format.proofs.ItemTests.{all_tested, one_failed}
-use Rattle.pkcs7_signed.specs.Rows.{kind_of, attribute_row, certificate_row}
+use Rattle.pkcs7_signed.specs.Components.{kind_of, attribute_components, certificate_components}
 use Rattle.pkcs7_signed.specs.Signers.{signer, attribute, certificate, signer_infos, unsigned_attributes, values}
 use Rattle.pkcs7_signed.specs.SignerLevels.{value_ms_counter_sign, value_counter_sign, value_unknown, value_signers, value_attributes, out_certificate, out_attribute}
 use Rattle.pkcs7_signed.specs.declared.signers.UnsignedAttribute.{out-UnsignedAttribute}
@@ -36,14 +36,14 @@ UnsignedAttributesDerSerialize::well_formed_at-returns m c =
 
 pub UnsignedAttributeDerSerialize::well_formed_at-returns-then-not-fits : goal.UnsignedAttributeDerSerialize::well_formed_at-returns-then-not-fits
 UnsignedAttributeDerSerialize::well_formed_at-returns-then-not-fits m c =
-    subst (λ v. IsTrue false ↔ (attribute_row certificate (less signer)).IsWellFormed c.args.limit v) (sym (out_attribute c.args.self.now))
+    subst (λ v. IsTrue false ↔ (attribute_components certificate (less signer)).IsWellFormed c.args.limit v) (sym (out_attribute c.args.self.now))
     (never (λ w. not_of_kind c.args.limit (kind_of (octets_of (out-UnsignedAttribute c.args.self.now).ty.0)) (values_value (out-UnsignedAttribute c.args.self.now).value) (iff_false c.fits.ensures c.if-not-fits.true) w.1))
 
 pub UnsignedAttributeDerSerialize::well_formed_at-returns : goal.UnsignedAttributeDerSerialize::well_formed_at-returns
 UnsignedAttributeDerSerialize::well_formed_at-returns m c =
     let o : IsOid (octets_of (out-UnsignedAttribute c.args.self.now).ty.0) = search rules in
     let f = of_kind c.args.limit (kind_of (octets_of (out-UnsignedAttribute c.args.self.now).ty.0)) (values_value (out-UnsignedAttribute c.args.self.now).value) (c.fits.ensures.0 c.if-not-fits.false) in
-    subst (λ v. IsTrue c.well_formed_at.result ↔ (attribute_row certificate (less signer)).IsWellFormed c.args.limit v) (sym (out_attribute c.args.self.now))
+    subst (λ v. IsTrue c.well_formed_at.result ↔ (attribute_components certificate (less signer)).IsWellFormed c.args.limit v) (sym (out_attribute c.args.self.now))
     (with_first o (through c.well_formed_at.ensures f))
 
 pub UnsignedAttributeValueDerSerialize::well_formed_at-returns-in-MsCounterSign : goal.UnsignedAttributeValueDerSerialize::well_formed_at-returns-in-MsCounterSign
@@ -56,16 +56,16 @@ UnsignedAttributeValueDerSerialize::well_formed_at-returns-in-CounterSign m c =
 
 pub UnsignedAttributeValueDerSerialize::well_formed_at-returns-in-Unknown : goal.UnsignedAttributeValueDerSerialize::well_formed_at-returns-in-Unknown
 UnsignedAttributeValueDerSerialize::well_formed_at-returns-in-Unknown m c =
-    subst (λ v. IsTrue c.row_well_formed_at.result ↔ values.IsWellFormed c.args.limit v) (sym (ap values_value c.in-Unknown.is ∙ value_unknown _)) c.row_well_formed_at.ensures
+    subst (λ v. IsTrue c.components_well_formed_at.result ↔ values.IsWellFormed c.args.limit v) (sym (ap values_value c.in-Unknown.is ∙ value_unknown _)) c.components_well_formed_at.ensures
 
 pub Pkcs7CertificateDerSerialize::well_formed_at-returns-then-not-is_oid_of : goal.Pkcs7CertificateDerSerialize::well_formed_at-returns-then-not-is_oid_of
 Pkcs7CertificateDerSerialize::well_formed_at-returns-then-not-is_oid_of m c =
-    subst (λ v. IsTrue false ↔ (certificate_row (less signer)).IsWellFormed c.args.limit v) (sym (out_certificate c.args.self.now))
+    subst (λ v. IsTrue false ↔ (certificate_components (less signer)).IsWellFormed c.args.limit v) (sym (out_certificate c.args.self.now))
     (never (λ w. iff_false c.is_oid_of.ensures c.if-not-is_oid_of.true w.0))
 
 pub Pkcs7CertificateDerSerialize::well_formed_at-returns : goal.Pkcs7CertificateDerSerialize::well_formed_at-returns
 Pkcs7CertificateDerSerialize::well_formed_at-returns m c =
-    subst (λ v. IsTrue c.well_formed_at.result ↔ (certificate_row (less signer)).IsWellFormed c.args.limit v) (sym (out_certificate c.args.self.now))
+    subst (λ v. IsTrue c.well_formed_at.result ↔ (certificate_components (less signer)).IsWellFormed c.args.limit v) (sym (out_certificate c.args.self.now))
     (with_first (c.is_oid_of.ensures.0 c.if-not-is_oid_of.false) c.well_formed_at.ensures)
 
 pub SignedDataDerSerialize::well_formed_at-returns-then-not-well_formed_at : goal.SignedDataDerSerialize::well_formed_at-returns-then-not-well_formed_at

@@ -1,7 +1,7 @@
 use Rattle.std.proofs.Common.{sym, ap, ◌∙◌, subst}
 use Rattle.std.proofs.lemmas.Bool.{iff_false}
 use Rattle.asn1_core.specs.Der.{less}
-use Rattle.pkcs7_signed.specs.Rows.{attribute_row, certificate_row}
+use Rattle.pkcs7_signed.specs.Components.{attribute_components, certificate_components}
 use Rattle.pkcs7_signed.specs.Signers.{signer, certificate, signer_infos, unsigned_attributes, values}
 use Rattle.pkcs7_signed.specs.SignerLevels.{value_ms_counter_sign, value_counter_sign, value_unknown, value_signers, value_attributes, text_signed, out_certificate, out_attribute, short_text, long_text, none_in, some_in}
 use Rattle.pkcs7_signed.specs.SignerValues.{values_value}
@@ -25,7 +25,7 @@ UnsignedAttributesDerSerialize::put-returns g m c =
 
 pub UnsignedAttributeDerSerialize::put-returns : goal.UnsignedAttributeDerSerialize::put-returns
 UnsignedAttributeDerSerialize::put-returns g m c =
-    subst (λ v. g.W.Writer.Takes ((attribute_row certificate (less signer)).text v) c.args.w.now c.put_within.new.w c.put_within.result) (sym (out_attribute c.args.self.now)) c.put_within.ensures.text
+    subst (λ v. g.W.Writer.Takes ((attribute_components certificate (less signer)).text v) c.args.w.now c.put_within.new.w c.put_within.result) (sym (out_attribute c.args.self.now)) c.put_within.ensures.text
 
 pub UnsignedAttributeValueDerSerialize::put-returns-in-MsCounterSign : goal.UnsignedAttributeValueDerSerialize::put-returns-in-MsCounterSign
 UnsignedAttributeValueDerSerialize::put-returns-in-MsCounterSign g m c =
@@ -41,7 +41,7 @@ UnsignedAttributeValueDerSerialize::put-returns-in-Unknown g m c =
 
 pub Pkcs7CertificateDerSerialize::put-returns : goal.Pkcs7CertificateDerSerialize::put-returns
 Pkcs7CertificateDerSerialize::put-returns g m c =
-    subst (λ v. g.W.Writer.Takes ((certificate_row (less signer)).text v) c.args.w.now c.put_within.new.w c.put_within.result) (sym (out_certificate c.args.self.now)) c.put_within.ensures.text
+    subst (λ v. g.W.Writer.Takes ((certificate_components (less signer)).text v) c.args.w.now c.put_within.new.w c.put_within.result) (sym (out_certificate c.args.self.now)) c.put_within.ensures.text
 
 pub SignedDataDerSerialize::put-returns : goal.SignedDataDerSerialize::put-returns
 SignedDataDerSerialize::put-returns g m c =

@@ -1,49 +1,49 @@
 use Rattle.std.proofs.Common.{rules, refl}
 use Rattle.asn1_core.specs.Der.{part, nothing, within}
 use Rattle.asn1_choices.specs.DefinedByLaws.{itself}
-use Rattle.asn1_choices.proofs.DefinedByReads.{arm_took, arm_refused, took_at, refused_at}
-use Rattle.pkcs7_content.specs.Contents.{written_content, octets_row, data_arm, octets_arm, content_row}
-use Rattle.pkcs7_content.specs.ContentLaws.{data_is_arm, octets_is_arm}
+use Rattle.asn1_choices.proofs.DefinedByReads.{alternative_has_read, alternative_refused, has_read_at, refused_at}
+use Rattle.pkcs7_content.specs.Contents.{written_content, octets_components, data_alternative, octets_alternative, content_components}
+use Rattle.pkcs7_content.specs.ContentLaws.{data_is_alternative, octets_is_alternative}
 use Rattle.pkcs7_content.specs.IndirectData.{indirect_data}
 use Rattle.pkcs7_content.specs.TrustLists.{ctl}
 use Rattle.pkcs7_content.proofs.contents.ContentAnyDefinedBy.read_defined_by.Goals as goal
 
 pub returns-in_err-content-in-IndirectData : goal.returns-in_err-content-in-IndirectData
 returns-in_err-content-in-IndirectData c =
-    let r = refused_at content_row c.in-IndirectData.ensures (arm_refused written_content _ (part (within 0xA0 indirect_data) nothing) c.in_err-content-in-IndirectData.ensures) in
+    let r = refused_at content_components c.in-IndirectData.ensures (alternative_refused written_content _ (part (within 0xA0 indirect_data) nothing) c.in_err-content-in-IndirectData.ensures) in
     search rules
 
 pub returns-in_err-list-in-TrustList : goal.returns-in_err-list-in-TrustList
 returns-in_err-list-in-TrustList c =
-    let r = refused_at content_row c.in-TrustList.ensures (arm_refused written_content _ (part (within 0xA0 ctl) nothing) c.in_err-list-in-TrustList.ensures) in
+    let r = refused_at content_components c.in-TrustList.ensures (alternative_refused written_content _ (part (within 0xA0 ctl) nothing) c.in_err-list-in-TrustList.ensures) in
     search rules
 
 pub returns-in_ok-content-in-IndirectData : goal.returns-in_ok-content-in-IndirectData
 returns-in_ok-content-in-IndirectData c =
-    took_at content_row c.in-IndirectData.ensures
-    (arm_took written_content _ (part (within 0xA0 indirect_data) nothing) (itself (λ a. refl) (λ a. refl) (λ a. refl)) c.in_ok-content-in-IndirectData.ensures)
+    has_read_at content_components c.in-IndirectData.ensures
+    (alternative_has_read written_content _ (part (within 0xA0 indirect_data) nothing) (itself (λ a. refl) (λ a. refl) (λ a. refl)) c.in_ok-content-in-IndirectData.ensures)
 
 pub returns-in_ok-list-in-TrustList : goal.returns-in_ok-list-in-TrustList
 returns-in_ok-list-in-TrustList c =
-    took_at content_row c.in-TrustList.ensures
-    (arm_took written_content _ (part (within 0xA0 ctl) nothing) (itself (λ a. refl) (λ a. refl) (λ a. refl)) c.in_ok-list-in-TrustList.ensures)
+    has_read_at content_components c.in-TrustList.ensures
+    (alternative_has_read written_content _ (part (within 0xA0 ctl) nothing) (itself (λ a. refl) (λ a. refl) (λ a. refl)) c.in_ok-list-in-TrustList.ensures)
 
 pub returns-in-Some : goal.returns-in-Some
 returns-in-Some c =
-    took_at content_row c.in-PlainData.ensures
-    (arm_took written_content data_arm octets_row data_is_arm (rw c.in-Some.is at c.in_ok-octets-in-PlainData.ensures))
+    has_read_at content_components c.in-PlainData.ensures
+    (alternative_has_read written_content data_alternative octets_components data_is_alternative (rw c.in-Some.is at c.in_ok-octets-in-PlainData.ensures))
 
 pub returns-in-None : goal.returns-in-None
 returns-in-None c =
-    took_at content_row c.in-PlainData.ensures
-    (arm_took written_content data_arm octets_row data_is_arm (rw c.in-None.is at c.in_ok-octets-in-PlainData.ensures))
+    has_read_at content_components c.in-PlainData.ensures
+    (alternative_has_read written_content data_alternative octets_components data_is_alternative (rw c.in-None.is at c.in_ok-octets-in-PlainData.ensures))
 
 pub returns-in-Some-2 : goal.returns-in-Some-2
 returns-in-Some-2 c =
-    took_at content_row c.in-Foreign.ensures
-    (arm_took written_content octets_arm octets_row octets_is_arm (rw c.in-Some-2.is at c.in_ok-octets-in-Foreign.ensures))
+    has_read_at content_components c.in-Foreign.ensures
+    (alternative_has_read written_content octets_alternative octets_components octets_is_alternative (rw c.in-Some-2.is at c.in_ok-octets-in-Foreign.ensures))
 
 pub returns-in-None-2 : goal.returns-in-None-2
 returns-in-None-2 c =
-    took_at content_row c.in-Foreign.ensures
-    (arm_took written_content octets_arm octets_row octets_is_arm (rw c.in-None-2.is at c.in_ok-octets-in-Foreign.ensures))
+    has_read_at content_components c.in-Foreign.ensures
+    (alternative_has_read written_content octets_alternative octets_components octets_is_alternative (rw c.in-None-2.is at c.in_ok-octets-in-Foreign.ensures))

@@ -10,7 +10,7 @@ use Rattle.x509_pkcs12.proofs.safe_bags.bags.+formed.Goals as goal
 pub SafeBagDerSerialize::well_formed_at-returns-in-SafeContents : goal.SafeBagDerSerialize::well_formed_at-returns-in-SafeContents
 SafeBagDerSerialize::well_formed_at-returns-in-SafeContents m c =
     let v = row_holder c.args.self.now c.in-SafeContents.is in
-    subst (λ w. IsTrue c.held_formed_at.result ↔ held_choice.row.IsWellFormed c.args.limit w) (sym v) (search rules)
+    subst (λ w. IsTrue c.held_formed_at.result ↔ held_choice.components.IsWellFormed c.args.limit w) (sym v) (search rules)
 
 pub SafeContentsDerSerialize::well_formed_at-returns-then-not-well_formed_at : goal.SafeContentsDerSerialize::well_formed_at-returns-then-not-well_formed_at
 SafeContentsDerSerialize::well_formed_at-returns-then-not-well_formed_at m c =

@@ -5,11 +5,11 @@ use Rattle.x509_pkcs12.specs.BagLevels.{row_holder, contents_text}
 use Rattle.x509_pkcs12.specs.BagValues.{contents_value}
 use Rattle.x509_pkcs12.proofs.safe_bags.bags.+put.Goals as goal
 
-pub SafeBagWriteRow::put_row-returns-in-SafeContents : goal.SafeBagWriteRow::put_row-returns-in-SafeContents
-SafeBagWriteRow::put_row-returns-in-SafeContents g m c =
+pub SafeBagWriteComponents::put_components-returns-in-SafeContents : goal.SafeBagWriteComponents::put_components-returns-in-SafeContents
+SafeBagWriteComponents::put_components-returns-in-SafeContents g m c =
     let v = row_holder c.args.self.now c.in-SafeContents.is in
-    let t : g.W.Writer.Takes (held_choice.row.text (inl (contents_value c.in-SafeContents.bags, attributes_value c.args.self.now.attributes))) c.args.w.now c.put_bag-in-SafeContents.new.w c.put_bag-in-SafeContents.result = search rules in
-    subst (λ x. g.W.Writer.Takes (held_choice.row.text x) c.args.w.now c.put_bag-in-SafeContents.new.w c.put_bag-in-SafeContents.result) (sym v) t
+    let t : g.W.Writer.Takes (held_choice.components.text (inl (contents_value c.in-SafeContents.bags, attributes_value c.args.self.now.attributes))) c.args.w.now c.put_bag-in-SafeContents.new.w c.put_bag-in-SafeContents.result = search rules in
+    subst (λ x. g.W.Writer.Takes (held_choice.components.text x) c.args.w.now c.put_bag-in-SafeContents.new.w c.put_bag-in-SafeContents.result) (sym v) t
 
 pub SafeContentsDerSerialize::put-returns : goal.SafeContentsDerSerialize::put-returns
 SafeContentsDerSerialize::put-returns g m c =

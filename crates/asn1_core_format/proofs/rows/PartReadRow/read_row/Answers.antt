@@ -1,8 +1,0 @@
-use Rattle.std.proofs.Common.{rules}
-use Rattle.asn1_core_format.proofs.RowReads.{rest_refused}
-use Rattle.asn1_core_format.proofs.rows.PartReadRow.read_row.Goals as goal
-
-pub returns-in_err-rest : goal.returns-in_err-rest
-returns-in_err-rest g c =
-    let r = rest_refused g.A.DerSerialize.format g.R.WriteRow.format g.met.A.DerDeserialize.lawful c.args.nest c.in_ok-first.ensures c.in_err-rest.ensures in
-    search rules
