@@ -73,7 +73,10 @@ impl<N: Named, R: WriteComponents, C: WriteChoice> WriteChoice for Either<Altern
 
     fn put_choice<W: Writer>(&self, w: &mut W) -> Result<(), WriteError> {
         match self {
-            Either::First(alternative) => Part(KnownOid(N::octets()), &alternative.components).put_components(w),
+            Either::First(alternative) => Part(
+                KnownOid(N::octets()),
+                &alternative.components,
+            ).put_components(w),
             Either::Second(other) => other.put_choice(w),
         }
     }
@@ -88,7 +91,8 @@ impl<N: Named, R: WriteComponents, C: WriteChoice> WriteChoice for Either<Altern
     }
 }
 
-impl<N: Named + Drop, R: ReadComponents, C: ReadChoice> ReadChoice for Either<Alternative<N, R>, C> {
+impl<N: Named + Drop, R: ReadComponents, C: ReadChoice> ReadChoice
+    for Either<Alternative<N, R>, C> {
     ghost distinct = { R.distinct && C.distinct };
 
     fn read_after(oid: &[u8], alloc: Global, r: &mut Reader<'_>, nest: u8) -> Result<Self, Error> {

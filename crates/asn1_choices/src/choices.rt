@@ -32,7 +32,7 @@ pub trait WriteChoice {
 
 /// A choice by object identifier that is read.
 pub trait ReadChoice: WriteChoice + Drop {
-    /// Whether the bodies of all alternatives are clear, as `ReadComponents` says.
+    /// Whether the first tags are distinct in the components of all alternatives, as `ReadComponents` says.
     ghost distinct: { Bool } = { true };
 
     /// Reads what follows an object identifier with these contents octets, to the end of the open contents.

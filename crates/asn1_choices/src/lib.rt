@@ -11,7 +11,7 @@ mod known_or_raw;
 mod nested;
 mod tables;
 
-pub use alternatives::{AnyOid, AnyOidRef, Alternative, Named};
+pub use alternatives::{Alternative, AnyOid, AnyOidRef, Named};
 pub use choices::{Chosen, ReadChoice, WriteChoice};
 pub use defined_by::{
     AnyDefinedBy, OidAnd, read_sequence_defined_by, sequences_defined_by_are_lawful,

@@ -48,7 +48,10 @@ impl<K: OidTable, R: WriteComponents, C: WriteChoice> WriteChoice for Among<K, R
 
     fn put_choice<W: Writer>(&self, w: &mut W) -> Result<(), WriteError> {
         match self {
-            Among::Alternative(kind, components) => Part(KnownOid(kind.octets()), components).put_components(w),
+            Among::Alternative(kind, components) => Part(
+                KnownOid(kind.octets()),
+                components,
+            ).put_components(w),
             Among::Other(other) => other.put_choice(w),
         }
     }

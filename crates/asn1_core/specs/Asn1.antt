@@ -1,16 +1,33 @@
--- The types of this crate as one expression each.
-use Rattle.std.specs.Prelude.{ℕ}
-use Rattle.asn1_core_format.specs.Numbers.{lawful_number}
-use Rattle.asn1_core.specs.Objects.{lawful_object_identifier}
-use Rattle.asn1_core.specs.Octets.{lawful_octet_string}
-pub use Rattle.asn1_core_format.specs.Asn1.{Asn1, asn1, Asn1Default, Parts, Distinct, all_distinct, Contents, end, ◌then◌, ◌OPTIONAL◌, ◌DEFAULT◌, contents, SEQUENCE, SEQUENCE_OF, EXPLICIT, CHOICE}
+-- The types of this crate in the notation of X.680.
+use Rattle.std.specs.Prelude.{◌≡◌, ◌^◌, ℕ, ltb, true}
+use Rattle.std.proofs.Common.{arith}
+use Rattle.std.proofs.lemmas.Bool.{ltb-true}
+use Rattle.asn1_core_format.specs.Numbers.{lawful_number, numbers_below}
+use Rattle.asn1_core_format.specs.TaggedLaws.{leaf_tagged}
+use Rattle.asn1_core.specs.Defaults.{number_octets, number_left_out}
+use Rattle.asn1_core.specs.Nulls.{lawful_null_element, no_contents}
+use Rattle.asn1_core.specs.Objects.{lawful_object_identifier, oid_octets}
+use Rattle.asn1_core.specs.Octets.{lawful_octet_string, any_octets}
+use Rattle.asn1_core.specs.Raw.{lawful_raw}
+pub use Rattle.asn1_core_format.specs.Asn1.{Asn1, asn1, asn1_tagged, Asn1Default, ComponentTypes, Distinct, all_distinct, Contents, end, ◌then◌, ◌OPTIONAL◌, ◌DEFAULT◌, contents, SEQUENCE, SEQUENCE_OF, SET_OF, EXPLICIT, IMPLICIT, CHOICE}
 
 abbrev pub OBJECT_IDENTIFIER : Asn1
-OBJECT_IDENTIFIER = asn1 lawful_object_identifier
+OBJECT_IDENTIFIER = asn1_tagged lawful_object_identifier 0x06 (leaf_tagged 0x06 (omega arith) oid_octets)
 
 abbrev pub OCTET_STRING : Asn1
-OCTET_STRING = asn1 lawful_octet_string
+OCTET_STRING = asn1_tagged lawful_octet_string 0x04 (leaf_tagged 0x04 (omega arith) any_octets)
+
+abbrev pub NULL : Asn1
+NULL = asn1_tagged lawful_null_element 0x05 (leaf_tagged 0x05 (omega arith) no_contents)
+
+-- any one element, kept as it is
+abbrev pub ANY : Asn1
+ANY = asn1 lawful_raw
 
 -- from 0 to below the bound
 abbrev pub INTEGER_BELOW : ℕ → Asn1
-INTEGER_BELOW bound = asn1 (lawful_number bound)
+INTEGER_BELOW bound = asn1_tagged (lawful_number bound) 0x02 (leaf_tagged 0x02 (omega arith) (numbers_below bound))
+
+-- INTEGER (0..255), with that number as its DEFAULT
+abbrev pub INTEGER_or : (d : ℕ) → ltb d (2 ^ 8) ≡ true → Asn1Default
+INTEGER_or d low = record { type = INTEGER_BELOW (2 ^ 8); text = number_octets d; left_out = number_left_out d (ltb-true d (2 ^ 8) low) }

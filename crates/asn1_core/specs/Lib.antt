@@ -9,3 +9,4 @@ pub mod Versions
 pub mod Der
 pub mod Tagged
 pub mod Asn1
+pub mod Defaults

@@ -3,6 +3,7 @@
 ghost use Rattle.std.proofs.Common.{arith};
 ghost use Rattle.asn1_core_format.specs.Components.{within};
 ghost use Rattle.asn1_core_format.specs.ComponentLaws.{lawful_within};
+ghost use Rattle.asn1_core_format.specs.TagNumbers.{explicit_context, lawful_explicit_context};
 
 use asn1_core_element::{Error, Reader};
 use asn1_core_format::{
@@ -155,5 +156,59 @@ impl<T: Viewed> Viewed for ExplicitContextTag2<T> {
 impl<T: TryClone> TryClone for ExplicitContextTag2<T> {
     fn try_clone(&self, alloc: Global) -> Result<Self, Error> {
         Ok(ExplicitContextTag2(self.0.try_clone(alloc)?))
+    }
+}
+
+/// `[N] EXPLICIT T`, for N up to 30, which a tag of one byte can have (X.690, 8.1.2.4). With a greater number no value is
+/// well-formed, and reading refuses all input as `Invalid`.
+#[derive(Debug, Drop, PartialEq, Eq)]
+pub struct Explicit<const N: u8, T>(pub T);
+
+impl<const N: u8, T: DerSerialize> DerSerialize for Explicit<N, T> {
+    ghost Value = { T.Value };
+
+    ghost value = { λ x. T.value x.0 };
+
+    ghost format = { explicit_context N T.format };
+
+    fn put<W: Writer>(&self, w: &mut W) -> Result<(), WriteError> {
+        put_within(0xA0 + N % 31, &Alone(Ref(&self.0)), w)
+    }
+
+    fn well_formed_at(&self, limit: u8) -> bool {
+        N < 31 && self.0.well_formed_at(limit)
+    }
+}
+
+impl<const N: u8, T: DerDeserialize> DerDeserialize for Explicit<N, T> {
+    #[tactic(auto, using(asn1_core_format::specs::TagNumbers::numbered_is_read, asn1_core_format::specs::TagNumbers::numbered_is_refused))]
+    fn read(alloc: Global, r: &mut Reader<'_>, nest: u8) -> Result<Self, Error> {
+        if N >= 31 {
+            return Err(Error::Invalid);
+        }
+        let Alone(value) = read_within::<Alone<T>>(alloc, r, nest, 0xA0 + N % 31)?;
+        Ok(Explicit(value))
+    }
+
+    ghost lawful = { lawful_explicit_context N T.lawful };
+}
+
+impl<const N: u8, T: DerDeserialize> FirstTags for Explicit<N, T> {
+    fn begins(tag: u8) -> bool {
+        tag == 0xA0 + N % 31
+    }
+}
+
+impl<const N: u8, T: Viewed> Viewed for Explicit<N, T> {
+    ghost View = { T.View };
+
+    ghost view = { λ x. T.view x.0 };
+
+    ghost equal = { λ x y. T.equal x.0 y.0 };
+}
+
+impl<const N: u8, T: TryClone> TryClone for Explicit<N, T> {
+    fn try_clone(&self, alloc: Global) -> Result<Self, Error> {
+        Ok(Explicit(self.0.try_clone(alloc)?))
     }
 }

@@ -1,9 +1,9 @@
 //! Implicit tags (X.690, 8.14): a context tag in place of the tag of the type under it, whose constructed bit stays.
 
-ghost use Rattle.std.specs.Prelude.{◌%◌};
 ghost use Rattle.std.proofs.Common.{arith};
 ghost use Rattle.asn1_core_format.specs.Tagged.{implicit, context_tag};
 ghost use Rattle.asn1_core_format.specs.TaggedLaws.{lawful_implicit, context_tag_is};
+ghost use Rattle.asn1_core_format.specs.TagNumbers.{implicit_context, lawful_implicit_context};
 
 use asn1_core_element::{Error, Reader};
 use asn1_core_format::tagged::context_tag_of;
@@ -109,7 +109,8 @@ impl<T: TryClone> TryClone for ImplicitContextTag1<T> {
     }
 }
 
-/// `[N] IMPLICIT T`, for N up to 30; a greater number counts as its remainder by 31.
+/// `[N] IMPLICIT T`, for N up to 30, which a tag of one byte can have (X.690, 8.1.2.4). With a greater number no value is
+/// well-formed, and reading refuses all input as `Invalid`.
 #[derive(Debug, Drop, PartialEq, Eq)]
 pub struct Implicit<const N: u8, T>(pub T);
 
@@ -118,27 +119,46 @@ impl<const N: u8, T: DerTagged> DerSerialize for Implicit<N, T> {
 
     ghost value = { λ x. T.value x.0 };
 
-    ghost format = { implicit (context_tag (N % 31) T.TAG) T.TAG T.format };
+    ghost format = { implicit_context N T.TAG T.format };
 
     fn put<W: Writer>(&self, w: &mut W) -> Result<(), WriteError> {
         self.0.put_as(context_tag_of::<T>(N % 31), w)
     }
 
     fn well_formed_at(&self, limit: u8) -> bool {
-        self.0.well_formed_at(limit)
+        N < 31 && self.0.well_formed_at(limit)
     }
 }
 
 impl<const N: u8, T: DerTagged> DerDeserialize for Implicit<N, T> {
+    #[tactic(auto, using(asn1_core_format::specs::TagNumbers::numbered_is_read, asn1_core_format::specs::TagNumbers::numbered_is_refused))]
     fn read(alloc: Global, r: &mut Reader<'_>, nest: u8) -> Result<Self, Error> {
-        Ok(Implicit(read_retagged(alloc, r, nest, context_tag_of::<T>(N % 31))?))
+        if N >= 31 {
+            return Err(Error::Invalid);
+        }
+        let value = read_retagged(alloc, r, nest, context_tag_of::<T>(N % 31))?;
+        Ok(Implicit(value))
     }
 
-    ghost lawful = { lawful_implicit (context_tag (N % 31) T.TAG) T.TAG T.DerSerialize.format T.lawful T.tagged (context_tag_is (N % 31) T.TAG (Prim.omega arith)) };
+    ghost lawful = { lawful_implicit_context N T.TAG T.lawful T.tagged };
 }
 
 impl<const N: u8, T: DerTagged> FirstTags for Implicit<N, T> {
     fn begins(tag: u8) -> bool {
         tag == context_tag_of::<T>(N % 31)
+    }
+}
+
+impl<const N: u8, T: Viewed> Viewed for Implicit<N, T> {
+    ghost View = { T.View };
+
+    ghost view = { λ x. T.view x.0 };
+
+    ghost equal = { λ x y. T.equal x.0 y.0 };
+}
+
+impl<const N: u8, T: TryClone> TryClone for Implicit<N, T> {
+    fn try_clone(&self, alloc: Global) -> Result<Self, Error> {
+        Ok(Implicit(self.0.try_clone(alloc)?))
     }
 }

@@ -3,6 +3,7 @@
 #![tactic(auto)]
 
 pub mod containers;
+pub mod defaults;
 pub mod explicit;
 pub mod implicit;
 pub mod lists;
@@ -31,8 +32,9 @@ pub use asn1_core_streams::{
 };
 pub use asn1_core_writers::{WriteError, Writer};
 pub use containers::{OctetStringAsn1Container, Optional};
-pub use explicit::{ExplicitContextTag0, ExplicitContextTag1, ExplicitContextTag2};
-pub use implicit::{ImplicitContextTag0, ImplicitContextTag1};
+pub use defaults::DefaultNumber;
+pub use explicit::{Explicit, ExplicitContextTag0, ExplicitContextTag1, ExplicitContextTag2};
+pub use implicit::{Implicit, ImplicitContextTag0, ImplicitContextTag1};
 pub use lists::{Asn1SequenceOf, Asn1SetOf};
 pub use nulls::Null;
 pub use objects::{KnownOid, ObjectIdentifierAsn1, OidRef};

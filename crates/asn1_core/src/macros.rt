@@ -101,31 +101,31 @@ macro_rules! clone_of {
     };
 }
 
-/// Lends the parts of a SEQUENCE, as the body of `Sequence::lend`: `lend_of!(self, task; Stamp { id, data, count
+/// Hands the components of a SEQUENCE to a task, as the body of `Sequence::with_components`: `with_components_of!(self, task; Stamp { id, data, count
 /// OPTIONAL })`. A field that is a part in a type of its own is in that type's parentheses, as `DefaultFalse(critical)
 /// DEFAULT`.
 ///
-/// `lend_of`, `parts_of` and `clones_of` take the same list, so a table can give it to all three: `macro_rules! stamp {
+/// `with_components_of`, `read_fields_of` and `clone_fields_of` take the same list, so a table can give it to all three: `macro_rules! stamp {
 /// ($by:ident($($by_what:ident),*)) => { $by!($($by_what),*; Stamp { id, data, count OPTIONAL }) }; }`, with bodies such
-/// as `stamp!(lend_of(self, task))`.
+/// as `stamp!(with_components_of(self, task))`.
 #[macro_export]
-macro_rules! lend_of {
+macro_rules! with_components_of {
     ($value:ident, $task:ident; $type:ident { $($parts:tt)* }) => {
         $task.run(&$crate::body_of!($value; $($parts)*))
     };
 }
 
-/// Reads the parts of a SEQUENCE, as the body of `Sequence::read_parts`: `parts_of!(alloc, r, nest; Stamp { id, data,
+/// Reads the parts of a SEQUENCE, as the body of `Sequence::read_fields`: `read_fields_of!(alloc, r, nest; Stamp { id, data,
 /// count OPTIONAL })`.
 #[macro_export]
-macro_rules! parts_of {
+macro_rules! read_fields_of {
     ($alloc:ident, $r:ident, $nest:ident; $type:ident { $($parts:tt)* }) => {{
         let $crate::fields_of!($($parts)*): $crate::types_of!($($parts)*) = $crate::prelude::ReadComponents::read_components($alloc, $r, $nest)?;
         Ok($crate::struct_of!($type; ; $($parts)*))
     }};
 }
 
-/// The types of the parts that `parts_of` reads, as far as the words say them.
+/// The types of the parts that `read_fields_of` reads, as far as the words say them.
 #[macro_export]
 macro_rules! types_of {
     () => { $crate::prelude::End };
@@ -143,7 +143,7 @@ macro_rules! types_of {
     };
 }
 
-/// The struct that `parts_of` makes, field by field.
+/// The struct that `read_fields_of` makes, field by field.
 #[macro_export]
 macro_rules! struct_of {
     ($type:ident; $($field:ident)*;) => { $type { $($field),* } };
@@ -155,18 +155,18 @@ macro_rules! struct_of {
     };
 }
 
-/// Clones the parts of a SEQUENCE, as the body of `Sequence::clone_parts`: `clones_of!(self, alloc; Stamp { id, data,
+/// Clones the parts of a SEQUENCE, as the body of `Sequence::clone_fields`: `clone_fields_of!(self, alloc; Stamp { id, data,
 /// count OPTIONAL })`. A field that is a part in a type of its own is copied.
 #[macro_export]
-macro_rules! clones_of {
+macro_rules! clone_fields_of {
     (@ $value:ident $alloc:ident $type:ident [$($made:tt)*]) => { Ok($type { $($made)* }) };
     (@ $value:ident $alloc:ident $type:ident [$($made:tt)*] $part:ident($field:ident) $word:ident $(, $($rest:tt)*)?) => {
-        $crate::clones_of!(@ $value $alloc $type [$($made)* $field: $value.$field,] $($($rest)*)?)
+        $crate::clone_fields_of!(@ $value $alloc $type [$($made)* $field: $value.$field,] $($($rest)*)?)
     };
     (@ $value:ident $alloc:ident $type:ident [$($made:tt)*] $field:ident $($word:ident)? $(, $($rest:tt)*)?) => {
-        $crate::clones_of!(@ $value $alloc $type [$($made)* $field: $value.$field.try_clone($alloc)?,] $($($rest)*)?)
+        $crate::clone_fields_of!(@ $value $alloc $type [$($made)* $field: $value.$field.try_clone($alloc)?,] $($($rest)*)?)
     };
     ($value:ident, $alloc:ident; $type:ident { $($parts:tt)* }) => {
-        $crate::clones_of!(@ $value $alloc $type [] $($parts)*)
+        $crate::clone_fields_of!(@ $value $alloc $type [] $($parts)*)
     };
 }

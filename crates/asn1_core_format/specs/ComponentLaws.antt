@@ -1,4 +1,4 @@
--- The laws of bodies (rows), of their parts, and of an element with a body in it.
+-- The laws of components, and of an element with components in it.
 use Rattle.std.specs.Prelude.{◌≡◌, ◌↔◌, ℕ, ◌+◌, ◌&&◌, Bool, true, List, ◌++◌, Option, None, Some}
 use Rattle.std.proofs.Common.{refl, sym, ap, ◌∙◌, subst, inl, inr}
 use Rattle.asn1_core_element.specs.Element.{element, IsElement, IsTagByte}
@@ -120,7 +120,7 @@ module _ {V W : Type 0} (F : Format V) (R : Format W) (f : IsLawful F) (r : IsLa
     deeper = optional_deeper;
   }
 
--- where the rest is clear, and the first tags tell the part from it
+-- where the first tags are distinct, of the part and in what follows
 pub optional_if_distinct : {V W : Type 0} (F : Format V) (R : Format W) (c : Bool) → IsLawful F → (c ≡ true → IsLawfulComponents R) → (c && are_distinct F R) ≡ true → IsLawfulComponents (optional F R)
 optional_if_distinct F R c f r e = let p = distinct_both F R c e in lawful_optional F R f (r p.0) p.1
 

@@ -1,4 +1,4 @@
--- Bodies (rows): what contents hold from one place to their end, as parts in order, some of which may be absent.
+-- Components: what contents hold from one place to their end, in order, some of which may be absent.
 use Rattle.std.specs.Prelude.{◌≡◌, ◌≢◌, ◌⊎◌, ℕ, ◌+◌, ◌*◌, ◌≤◌, false, List, [], ◌++◌, length, Option, None, Some, Result, MatchResult}
 use Rattle.asn1_core_element.specs.Element.{element}
 use Rattle.asn1_core_element.specs.Position.{Position}

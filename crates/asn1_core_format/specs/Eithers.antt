@@ -90,7 +90,7 @@ module _ {V W : Type 0} (F : Format V) (G : Format W) (f : IsLawful F) (g : IsLa
     element = either_element;
   }
 
--- where the other alternatives are clear, and the first tags tell the first from them
+-- where the first tags of all alternatives are distinct
 pub either_if_distinct : {V W : Type 0} (F : Format V) (G : Format W) (c : Bool) → IsLawful F → (c ≡ true → IsLawful G) → (c && are_distinct F G) ≡ true → IsLawful (either F G)
 either_if_distinct F G c f g e = let p = distinct_both F G c e in lawful_either F G f (g p.0) p.1
 

@@ -14,6 +14,7 @@ pub mod Omitted
 pub mod Choices
 pub mod Eithers
 pub mod Whole
+pub mod TagNumbers
 pub mod Sequences
 pub mod Levels
 pub mod LevelLaws

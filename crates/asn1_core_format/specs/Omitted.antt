@@ -134,7 +134,7 @@ module _ {V W : Type 0} (o : V → Bool) (d : List ℕ) (F : Format V) (R : Form
   pub omitted_is : (k : ℕ) (v : V) → F.Reads k d v → o v ≡ true
   omitted_is = omitted_value
 
--- where the rest is clear, and the first tags tell the part from it
+-- where the first tags are distinct, of the part and in what follows
 pub omitted_if_distinct : {V W : Type 0} (o : V → Bool) (d : List ℕ) (F : Format V) (R : Format W) (c : Bool) → IsLawful F → (c ≡ true → IsLawfulComponents R) → IsDefault o d F → (c && are_distinct F R) ≡ true → IsLawfulComponents (omitted o d F R)
 omitted_if_distinct o d F R c f r n e = let p = distinct_both F R c e in lawful_omitted o d F R f (r p.0) n p.1
 

@@ -48,6 +48,13 @@ module _ {V : Type 0} (tag inner : ℕ) (F : Format V) (f : IsLawful F) (g : IsT
     element = implicit_element;
   }
 
+pub implicit_tagged : {V : Type 0} (tag inner : ℕ) (F : Format V) → IsTagged inner F → IsTagByte tag → IsTagged tag (implicit tag inner F)
+implicit_tagged tag inner F g t = record {
+  is_tag = t;
+  tags = λ u. (λ e. e, λ e. e);
+  written = λ v. let w = g.written v in (w.0, ap (retag tag) w.1 ∙ retag_element tag inner w.0);
+}
+
 pub leaf_tagged : {V : Type 0} (tag : ℕ) → IsTagByte tag → (S : Spelling V) → IsTagged tag (leaf tag S)
 leaf_tagged tag t S = record { is_tag = t; tags = λ u. (λ e. e, λ e. e); written = λ v. (S.spell v, refl) }
 

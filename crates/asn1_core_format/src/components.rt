@@ -1,4 +1,4 @@
-//! Bodies (rows), which are what contents hold: parts in order, of which some may be absent.
+//! Components: what contents hold from one place to their end, in order. Some may be absent.
 
 ghost use Rattle.std.specs.Prelude.{◌≡◌, ◌↔◌, ◌++◌, ◌&&◌, ℕ, List, Option, Bool, IsTrue, true, false};
 ghost use Rattle.asn1_core_format.specs.Format.{Format, IsLawfulComponents, are_distinct};
@@ -33,7 +33,7 @@ pub trait WriteComponents {
 
 /// Parts that are read to the end of the open contents.
 pub trait ReadComponents: WriteComponents + Drop {
-    /// Whether the first tags of each part that may be absent are none of those that may follow it.
+    /// Whether the first tags of each component that may be absent are distinct from those that may follow it (X.680, 25.6).
     ghost distinct: { Bool } = { true };
 
     fn read_components(alloc: Global, r: &mut Reader<'_>, nest: u8) -> Result<Self, Error>

@@ -1,4 +1,4 @@
-//! SEQUENCEs (X.690, 8.9): types that are written as their parts in order, and read as these.
+//! SEQUENCEs (X.690, 8.9): types that are written as their components in order, and read as these.
 
 ghost use Rattle.std.specs.Prelude.{◌≡◌, ◌↔◌, ℕ, List, IsTrue, false};
 ghost use Rattle.std.proofs.Common.{arith};
@@ -18,13 +18,13 @@ use asn1_core_element::{Error, Reader};
 use asn1_core_writers::{WriteError, Writer};
 use std::alloc::Global;
 
-/// What is done with parts that are lent: writing, testing.
+/// What is done with the components of a SEQUENCE, by reference: writing, testing.
 pub trait Task {
     type Out;
 
     ghost may: { Self → Type 0 };
 
-    /// By the parts' encodings, and by at which levels they are well-formed.
+    /// What it did, by the encodings of the components, and by the levels at which these are well-formed.
     ghost does: { Self → Self → List ℕ → (ℕ → Type 0) → Self.Out → Type 0 };
 
     fn run<R: WriteComponents>(&mut self, components: &R) -> Self::Out
@@ -51,7 +51,7 @@ impl<W: Writer> Task for Put<'_, W> {
     }
 }
 
-/// Whether the parts are well-formed with at most so many levels.
+/// Whether the components are well-formed with at most so many levels.
 #[derive(Drop)]
 struct Test {
     limit: u8,
@@ -69,26 +69,26 @@ impl Task for Test {
     }
 }
 
-/// A SEQUENCE of parts, each optional or not. It has all traits of a type, with their laws, and may be under an implicit
-/// tag.
+/// A SEQUENCE of which each component may be OPTIONAL or have a DEFAULT. It has all traits of a type, with their laws, and
+/// may be under an implicit tag.
 pub trait Sequence: PartialEq + Drop {
     /// What the contents are, with their law, as specs/ gives it beside the ASN.1.
     ghost asn1: { Body };
 
     ghost value: { Self → asn1.Value };
 
-    /// Lends the parts.
-    fn lend<U: Task>(&self, task: &mut U) -> U::Out
+    /// Hands the components to a task, in order.
+    fn with_components<U: Task>(&self, task: &mut U) -> U::Out
         requires { U.may task.old }
         ensures { U.does task.old task.new (asn1.format.text (value self.now)) (λ k. asn1.format.IsWellFormed k (value self.now)) result };
 
-    /// Reads the parts, to the end of the open contents.
-    fn read_parts(alloc: Global, r: &mut Reader<'_>, nest: u8) -> Result<Self, Error>
+    /// Reads the components, to the end of the open contents.
+    fn read_fields(alloc: Global, r: &mut Reader<'_>, nest: u8) -> Result<Self, Error>
         requires { r.old.refused ≡ false }
         ensures { GivesComponents value asn1.format nest r.old r.new result };
 
-    /// Clones the parts. Refuses by `Memory` alone.
-    fn clone_parts(&self, alloc: Global) -> Result<Self, Error>
+    /// Clones the fields. Refuses by `Memory` only.
+    fn clone_fields(&self, alloc: Global) -> Result<Self, Error>
         ensures { Clones value self.now result };
 
     ghost equal: { SeesEqual Self.PartialEq.eq value };
@@ -106,11 +106,11 @@ impl<T: Sequence> WriteComponents for Contents<T> {
     ghost format = { T.asn1.format };
 
     fn put_components<W: Writer>(&self, w: &mut W) -> Result<(), WriteError> {
-        self.0.lend(&mut PutComponents { w })
+        self.0.with_components(&mut PutComponents { w })
     }
 
     fn components_well_formed_at(&self, limit: u8) -> bool {
-        self.0.lend(&mut Test { limit })
+        self.0.with_components(&mut Test { limit })
     }
 }
 
@@ -134,7 +134,7 @@ impl<W: Writer> Task for PutComponents<'_, W> {
 
 impl<T: Sequence> ReadComponents for Contents<T> {
     fn read_components(alloc: Global, r: &mut Reader<'_>, nest: u8) -> Result<Self, Error> {
-        Ok(Contents(T::read_parts(alloc, r, nest)?))
+        Ok(Contents(T::read_fields(alloc, r, nest)?))
     }
 
     ghost lawful = { λ _. T.asn1.law };
@@ -148,11 +148,11 @@ impl<T: Sequence> DerSerialize for T {
     ghost format = { within 0x30 T.asn1.format };
 
     fn put<W: Writer>(&self, w: &mut W) -> Result<(), WriteError> {
-        self.lend(&mut Put { tag: 0x30, w })
+        self.with_components(&mut Put { tag: 0x30, w })
     }
 
     fn well_formed_at(&self, limit: u8) -> bool {
-        self.lend(&mut Test { limit })
+        self.with_components(&mut Test { limit })
     }
 }
 
@@ -172,7 +172,7 @@ impl<T: Sequence> DerTagged for T {
     const TAG: u8 = 0x30;
 
     fn put_as<W: Writer>(&self, tag: u8, w: &mut W) -> Result<(), WriteError> {
-        self.lend(&mut Put { tag, w })
+        self.with_components(&mut Put { tag, w })
     }
 
     fn read_contents(alloc: Global, r: &mut Reader<'_>, nest: u8) -> Result<Self, Error> {
@@ -190,6 +190,6 @@ impl<T: Sequence> EqualByText for T {
 
 impl<T: Sequence> TryClone for T {
     fn try_clone(&self, alloc: Global) -> Result<Self, Error> {
-        self.clone_parts(alloc)
+        self.clone_fields(alloc)
     }
 }

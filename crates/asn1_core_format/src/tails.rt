@@ -1,4 +1,4 @@
-//! Bodies (rows) whose last part is read by a closure.
+//! Components of which the last is read by a closure.
 
 ghost use Rattle.std.specs.Prelude.{◌≡◌, ◌&&◌, Bool, false, true};
 ghost use Rattle.asn1_core_element.specs.Element.{IsTagByte};
@@ -17,7 +17,7 @@ use std::alloc::Global;
 
 /// Parts of which the last, `S`, is read by a closure.
 pub trait ReadComponentsWith<S: WriteComponents>: WriteComponents + Drop {
-    /// Whether the first tags of each part that may be absent are none of those that may follow it.
+    /// Whether the first tags of each component that may be absent are distinct from those that may follow it (X.680, 25.6).
     ghost distinct: { Bool } = { true };
 
     /// Reads the parts to the end of the open contents, the last of them by `by`.

@@ -23,16 +23,16 @@ impl Sequence for Stamp {
 
     ghost value = { stamp_value };
 
-    fn lend<U: Task>(&self, task: &mut U) -> U::Out {
-        lend_of!(self, task; Stamp { id, data, count OPTIONAL })
+    fn with_components<U: Task>(&self, task: &mut U) -> U::Out {
+        with_components_of!(self, task; Stamp { id, data, count OPTIONAL })
     }
 
-    fn read_parts(alloc: Global, r: &mut Reader<'_>, nest: u8) -> Result<Self, Error> {
-        parts_of!(alloc, r, nest; Stamp { id, data, count OPTIONAL })
+    fn read_fields(alloc: Global, r: &mut Reader<'_>, nest: u8) -> Result<Self, Error> {
+        read_fields_of!(alloc, r, nest; Stamp { id, data, count OPTIONAL })
     }
 
-    fn clone_parts(&self, alloc: Global) -> Result<Self, Error> {
-        clones_of!(self, alloc; Stamp { id, data, count OPTIONAL })
+    fn clone_fields(&self, alloc: Global) -> Result<Self, Error> {
+        clone_fields_of!(self, alloc; Stamp { id, data, count OPTIONAL })
     }
 
     ghost equal = { stamp_equal };

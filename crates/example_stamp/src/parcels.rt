@@ -33,16 +33,16 @@ impl Sequence for Parcel {
 
     ghost value = { λ x. (octets_of x.code.0, (x.fragile, (option_value (λ n. n) x.weight, (x.note.0.0.items, (map stamp_value x.stamps.0.items, tt))))) };
 
-    fn lend<U: Task>(&self, task: &mut U) -> U::Out {
-        parcel!(lend_of(self, task))
+    fn with_components<U: Task>(&self, task: &mut U) -> U::Out {
+        parcel!(with_components_of(self, task))
     }
 
-    fn read_parts(alloc: Global, r: &mut Reader<'_>, nest: u8) -> Result<Self, Error> {
-        parcel!(parts_of(alloc, r, nest))
+    fn read_fields(alloc: Global, r: &mut Reader<'_>, nest: u8) -> Result<Self, Error> {
+        parcel!(read_fields_of(alloc, r, nest))
     }
 
-    fn clone_parts(&self, alloc: Global) -> Result<Self, Error> {
-        parcel!(clones_of(self, alloc))
+    fn clone_fields(&self, alloc: Global) -> Result<Self, Error> {
+        parcel!(clone_fields_of(self, alloc))
     }
 
     ghost equal = { λ x y. Prim.search (der_equal, stamp_equal, rules) depth 20 };

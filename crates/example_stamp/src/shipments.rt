@@ -93,16 +93,16 @@ impl Sequence for Shipment {
 
     ghost value = { λ x. (octets_of x.code.0, (stamp_value x.first, (label_value x.label, (x.fragile, (option_value (λ n. n) x.weight, (option_value stamp_value x.second, (x.note.0.0.items, (map stamp_value x.stamps.0.items, tt)))))))) };
 
-    fn lend<U: Task>(&self, task: &mut U) -> U::Out {
-        shipment!(lend_of(self, task))
+    fn with_components<U: Task>(&self, task: &mut U) -> U::Out {
+        shipment!(with_components_of(self, task))
     }
 
-    fn read_parts(alloc: Global, r: &mut Reader<'_>, nest: u8) -> Result<Self, Error> {
-        shipment!(parts_of(alloc, r, nest))
+    fn read_fields(alloc: Global, r: &mut Reader<'_>, nest: u8) -> Result<Self, Error> {
+        shipment!(read_fields_of(alloc, r, nest))
     }
 
-    fn clone_parts(&self, alloc: Global) -> Result<Self, Error> {
-        shipment!(clones_of(self, alloc))
+    fn clone_fields(&self, alloc: Global) -> Result<Self, Error> {
+        shipment!(clone_fields_of(self, alloc))
     }
 
     ghost equal = { λ x y. two_equal (oid_equal x.code y.code) (two_equal (stamp_equal x.first y.first) (two_equal (label_equal x.label y.label) (two_equal (bool_equal x.fragile y.fragile) (two_equal (weight_equal x.weight y.weight) (two_equal (maybe_stamp_equal x.second y.second) (two_equal (octets_equal x.note.0 y.note.0) (with_end (stamps_equal x.stamps.0.items y.stamps.0.items)))))))) };

@@ -109,16 +109,16 @@ impl Sequence for Ticket {
 
     ghost value = { λ x. (x.serial, (option_value (λ n. n.0.0.items) x.note, (holder_value x.holder, tt))) };
 
-    fn lend<U: Task>(&self, task: &mut U) -> U::Out {
-        lend_of!(self, task; Ticket { serial, note OPTIONAL, holder })
+    fn with_components<U: Task>(&self, task: &mut U) -> U::Out {
+        with_components_of!(self, task; Ticket { serial, note OPTIONAL, holder })
     }
 
-    fn read_parts(alloc: Global, r: &mut Reader<'_>, nest: u8) -> Result<Self, Error> {
-        parts_of!(alloc, r, nest; Ticket { serial, note OPTIONAL, holder })
+    fn read_fields(alloc: Global, r: &mut Reader<'_>, nest: u8) -> Result<Self, Error> {
+        read_fields_of!(alloc, r, nest; Ticket { serial, note OPTIONAL, holder })
     }
 
-    fn clone_parts(&self, alloc: Global) -> Result<Self, Error> {
-        clones_of!(self, alloc; Ticket { serial, note OPTIONAL, holder })
+    fn clone_fields(&self, alloc: Global) -> Result<Self, Error> {
+        clone_fields_of!(self, alloc; Ticket { serial, note OPTIONAL, holder })
     }
 
     ghost equal = { Prim.search rules };
