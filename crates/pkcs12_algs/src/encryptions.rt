@@ -7,7 +7,7 @@ ghost use Rattle.pkcs12_algs.specs.EncryptionEqual.{encryption_algorithm_equal};
 use crate::oids::Pbes2;
 use crate::pbes1::{Pbes1AlgorithmKind, Pbes1Params};
 use crate::pbes2::Pbes2Params;
-use asn1_choices::{Among, Alternative, Chosen, WriteChoice};
+use asn1_choices::{Alternative, Among, Chosen, WriteChoice};
 use asn1_core::prelude::*;
 use std::alloc::Global;
 use x509_base::RawAlgorithmIdentifier;
@@ -30,9 +30,13 @@ pub enum Pkcs12EncryptionAlgorithm {
     Unknown(RawAlgorithmIdentifier),
 }
 
-type Pbes1Ref<'a> = Among<Pbes1AlgorithmKind, Alone<&'a Pbes1Params>, &'a RawAlgorithmIdentifier>;
+type Pbes1Ref<'a> = Among<
+    Pbes1AlgorithmKind,
+    Alone<Ref<'a, Pbes1Params>>,
+    &'a RawAlgorithmIdentifier,
+>;
 
-type EncryptionRef<'a> = Either<Alternative<Pbes2, Alone<&'a Pbes2Params>>, Pbes1Ref<'a>>;
+type EncryptionRef<'a> = Either<Alternative<Pbes2, Alone<Ref<'a, Pbes2Params>>>, Pbes1Ref<'a>>;
 
 type Pbes1Choice = Among<Pbes1AlgorithmKind, Alone<Pbes1Params>, RawAlgorithmIdentifier>;
 
@@ -43,8 +47,11 @@ impl Pkcs12EncryptionAlgorithm {
         ensures { ⟦<EncryptionRef<'static> as WriteChoice>⟧.value result ≡ encryption_algorithm_value self.now }
     {
         match self {
-            Self::Pbes1 { kind, params } => Either::Second(Among::Alternative(*kind, Alone(params))),
-            Self::Pbes2(params) => Either::First(Alternative::new(Alone(params))),
+            Self::Pbes1 { kind, params } => Either::Second(Among::Alternative(
+                *kind,
+                Alone(Ref(params)),
+            )),
+            Self::Pbes2(params) => Either::First(Alternative::new(Alone(Ref(params)))),
             Self::Unknown(raw) => Either::Second(Among::Other(raw)),
         }
     }
@@ -71,7 +78,10 @@ impl DerDeserialize for Pkcs12EncryptionAlgorithm {
         let Chosen(choice) = read_within::<Chosen<EncryptionChoice>>(alloc, r, nest, 0x30)?;
         match choice {
             Either::First(alternative) => Ok(Self::Pbes2(alternative.into_components().0)),
-            Either::Second(Among::Alternative(kind, Alone(params))) => Ok(Self::Pbes1 { kind, params }),
+            Either::Second(Among::Alternative(kind, Alone(params))) => Ok(Self::Pbes1 {
+                kind,
+                params,
+            }),
             Either::Second(Among::Other(raw)) => Ok(Self::Unknown(raw)),
         }
     }

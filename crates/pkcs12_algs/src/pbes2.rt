@@ -13,7 +13,7 @@ use crate::kinds::{Kind, oid_of_kind};
 use crate::oids::{AES128_CBC_PAD, AES192_CBC_PAD, AES256_CBC_PAD, Pbkdf2};
 use crate::pbkdf2::Pbkdf2Params;
 use crate::rows::{alternative_by_rows, octets_by_rows};
-use asn1_choices::{Among, Alternative, Chosen, OidTable, WriteChoice};
+use asn1_choices::{Alternative, Among, Chosen, OidTable, WriteChoice};
 use asn1_core::prelude::*;
 use std::alloc::Global;
 use std::fmt;
@@ -31,14 +31,17 @@ pub enum Pbes2KeyDerivationFunc {
 
 type KdfChoice = Either<Alternative<Pbkdf2, Alone<Pbkdf2Params>>, RawAlgorithmIdentifier>;
 
-type KdfRef<'a> = Either<Alternative<Pbkdf2, Alone<&'a Pbkdf2Params>>, &'a RawAlgorithmIdentifier>;
+type KdfRef<'a> = Either<
+    Alternative<Pbkdf2, Alone<Ref<'a, Pbkdf2Params>>>,
+    &'a RawAlgorithmIdentifier,
+>;
 
 impl Pbes2KeyDerivationFunc {
     fn choice(&self) -> KdfRef<'_>
         ensures { ⟦<KdfRef<'static> as WriteChoice>⟧.value result ≡ kdf_value self.now }
     {
         match self {
-            Self::Pbkdf2(params) => Either::First(Alternative::new(Alone(params))),
+            Self::Pbkdf2(params) => Either::First(Alternative::new(Alone(Ref(params)))),
             Self::Unknown(raw) => Either::Second(raw),
         }
     }
@@ -185,7 +188,7 @@ pub enum Pbes2EncryptionScheme {
 
 type SchemeRef<'a> = Among<
     Pbes2AesCbcEncryption,
-    Alone<&'a OctetStringAsn1>,
+    Alone<Ref<'a, OctetStringAsn1>>,
     &'a RawAlgorithmIdentifier,
 >;
 
@@ -196,7 +199,7 @@ impl Pbes2EncryptionScheme {
         ensures { ⟦<SchemeRef<'static> as WriteChoice>⟧.value result ≡ scheme_value self.now }
     {
         match self {
-            Self::AesCbc { kind, iv } => Among::Alternative(*kind, Alone(iv)),
+            Self::AesCbc { kind, iv } => Among::Alternative(*kind, Alone(Ref(iv))),
             Self::Unknown(raw) => Among::Other(raw),
         }
     }

@@ -251,8 +251,8 @@ impl DerSerialize for EncapsulatedContentInfo {
     ghost format = { encapsulated };
 
     fn put<W: Writer>(&self, w: &mut W) -> Result<(), WriteError> {
-        let content = Maybe(self.content.as_ref(), End);
-        put_within(0x30, &Part(&self.content_type, content), w)
+        let content = MaybeRef(&self.content, End);
+        put_within(0x30, &Part(Ref(&self.content_type), content), w)
     }
 
     fn well_formed_at(&self, limit: u8) -> bool {

@@ -143,7 +143,7 @@ impl DerSerialize for SpcAttributeAndOptionalValue {
     ghost format = { spc_attribute };
 
     fn put<W: Writer>(&self, w: &mut W) -> Result<(), WriteError> {
-        put_within(0x30, &Part(&self.ty, Alone(&self.value)), w)
+        put_within(0x30, &Part(Ref(&self.ty), Alone(Ref(&self.value))), w)
     }
 
     fn well_formed_at(&self, limit: u8) -> bool {

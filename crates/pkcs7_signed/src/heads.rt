@@ -71,13 +71,13 @@ impl DerSerialize for SignedHead<'_> {
     ghost format = { only_written (signed_parts nothing) };
 
     fn put<W: Writer>(&self, w: &mut W) -> Result<(), WriteError> {
-        let certificates = OmittedRef(self.certificates, Maybe(self.crls.as_ref(), End));
+        let certificates = OmittedRef(self.certificates, MaybeRef(&self.crls, End));
         let content = Part(self.content_info, certificates);
         Part(self.version, Part(self.digest_algorithms, content)).put_components(w)
     }
 
     fn well_formed_at(&self, limit: u8) -> bool {
-        let certificates = OmittedRef(self.certificates, Maybe(self.crls.as_ref(), End));
+        let certificates = OmittedRef(self.certificates, MaybeRef(&self.crls, End));
         let content = Part(self.content_info, certificates);
         Part(self.version, Part(self.digest_algorithms, content)).components_well_formed_at(limit)
     }

@@ -26,8 +26,7 @@ use crate::signers::{
 use asn1_core::prelude::*;
 use asn1_core_element::element::open_element;
 use asn1_core_format::{
-    SetOrNone, Tail, read_within_with, read_set_below_with, read_set_or_none_with,
-    read_set_with,
+    SetOrNone, Tail, read_set_below_with, read_set_or_none_with, read_set_with, read_within_with,
 };
 use pkcs7_content::{CmsVersion, EncapsulatedContentInfo};
 use std::alloc::Global;
@@ -292,7 +291,10 @@ fn read_certificate_with<F: Fn(&mut Reader<'_>, u8) -> Result<Boxed<SignerInfo>,
 
 /// Signed data with their content type, of their parts, in memory of their own. Refuses by `Memory` alone.
 #[inline(never)]
-fn certificate_of(alloc: Global, components: CertificateParts) -> Result<Boxed<Pkcs7Certificate>, Error>
+fn certificate_of(
+    alloc: Global,
+    components: CertificateParts,
+) -> Result<Boxed<Pkcs7Certificate>, Error>
     ensures { MatchResult result
         (λ b. certificate_out (certificate_value b.0.value) ≡ (octets_of components.0.0.0, signed_value components.1.0.0.0.0.value))
         (λ e. e ≡ Memory) }

@@ -169,7 +169,11 @@ impl DerSerialize for SignerInfo {
         if is_none(&self.unsigned_attrs.0.0) {
             return put_within(0x30, &Alone(self.head()), w);
         }
-        put_within(0x30, &Part(self.head(), Alone(&self.unsigned_attrs.0)), w)
+        put_within(
+            0x30,
+            &Part(self.head(), Alone(Ref(&self.unsigned_attrs.0))),
+            w,
+        )
     }
 
     #[cycle(formed)]
@@ -231,7 +235,7 @@ impl DerSerialize for UnsignedAttribute {
 
     #[cycle(put)]
     fn put<W: Writer>(&self, w: &mut W) -> Result<(), WriteError> {
-        put_within(0x30, &Part(&self.ty, Alone(&self.value)), w)
+        put_within(0x30, &Part(Ref(&self.ty), Alone(Ref(&self.value))), w)
     }
 
     #[cycle(formed)]
@@ -266,7 +270,9 @@ impl DerSerialize for UnsignedAttributeValue {
                 certificates_formed_at(certificates, limit)
             }
             UnsignedAttributeValue::CounterSign(signers) => signers_formed_below(signers, limit),
-            UnsignedAttributeValue::Unknown(elements) => elements.0.components_well_formed_at(limit),
+            UnsignedAttributeValue::Unknown(elements) => elements
+                .0
+                .components_well_formed_at(limit),
         }
     }
 }
@@ -280,7 +286,11 @@ impl DerSerialize for Pkcs7Certificate {
 
     #[cycle(put)]
     fn put<W: Writer>(&self, w: &mut W) -> Result<(), WriteError> {
-        put_within(0x30, &Part(&self.oid, Alone(&self.signed_data)), w)
+        put_within(
+            0x30,
+            &Part(Ref(&self.oid), Alone(Ref(&self.signed_data))),
+            w,
+        )
     }
 
     #[cycle(formed)]
@@ -301,7 +311,7 @@ impl DerSerialize for SignedData {
 
     #[cycle(put)]
     fn put<W: Writer>(&self, w: &mut W) -> Result<(), WriteError> {
-        put_within(0x30, &Part(self.head(), Alone(&self.signers_infos)), w)
+        put_within(0x30, &Part(self.head(), Alone(Ref(&self.signers_infos))), w)
     }
 
     #[cycle(formed)]

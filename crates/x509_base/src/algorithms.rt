@@ -56,12 +56,12 @@ impl DerSerialize for AlgorithmIdentifier {
     ghost format = { algorithm_identifier };
 
     fn put<W: Writer>(&self, w: &mut W) -> Result<(), WriteError> {
-        let parameters = Maybe(self.parameters.as_ref(), End);
+        let parameters = MaybeRef(&self.parameters, End);
         put_within(0x30, &Part(OidRef(&self.algorithm), parameters), w)
     }
 
     fn well_formed_at(&self, limit: u8) -> bool {
-        let parameters = Maybe(self.parameters.as_ref(), End);
+        let parameters = MaybeRef(&self.parameters, End);
         Part(OidRef(&self.algorithm), parameters).components_well_formed_at(limit)
     }
 }
@@ -166,7 +166,7 @@ impl WriteChoice for RawAlgorithmIdentifier {
     fn put_choice<W: Writer>(&self, w: &mut W) -> Result<(), WriteError> {
         let oid = OidRef(self.algorithm());
         match self.parameters() {
-            Some(parameters) => Part(oid, Alone(parameters)).put_components(w),
+            Some(parameters) => Part(oid, Alone(Ref(parameters))).put_components(w),
             None => Part(oid, Alone(Null)).put_components(w),
         }
     }

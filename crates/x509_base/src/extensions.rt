@@ -16,7 +16,10 @@ pub struct Extension {
     pub extn_value: OctetStringAsn1,
 }
 
-type ExtensionComponents = Part<ObjectIdentifierAsn1, Omitted<DefaultFalse, Part<OctetStringAsn1, End>>>;
+type ExtensionComponents = Part<
+    ObjectIdentifierAsn1,
+    Omitted<DefaultFalse, Part<OctetStringAsn1, End>>,
+>;
 
 impl DerSerialize for Extension {
     ghost Value = { ExtensionValue };

@@ -10,7 +10,7 @@ ghost use Rattle.x509_pkcs12.specs.declared.auth_safes.AuthenticatedSafeContentI
 use crate::contents::{AnyContent, AnyContentRef};
 use crate::parts::oids::{Known, PKCS7_DATA};
 use crate::representations::{AuthenticatedSafeDataRepr, ReprRef};
-use asn1_choices::{AnyOid, AnyOidRef, Alternative, Chosen, WriteChoice};
+use asn1_choices::{Alternative, AnyOid, AnyOidRef, Chosen, WriteChoice};
 use asn1_core::prelude::*;
 use std::alloc::Global;
 
@@ -34,7 +34,10 @@ type AuthSafeChoice<R> = Either<
 >;
 
 type AuthSafeRef<'a, R> = Either<
-    Alternative<Known<PKCS7_DATA>, Alone<ExplicitContextTag0<OctetStringAsn1Container<ReprRef<'a, R>>>>>,
+    Alternative<
+        Known<PKCS7_DATA>,
+        Alone<ExplicitContextTag0<OctetStringAsn1Container<ReprRef<'a, R>>>>,
+    >,
     AnyOidRef<'a, AnyContentRef<'a>>,
 >;
 
@@ -75,7 +78,9 @@ impl<R: AuthenticatedSafeDataRepr> DerDeserialize for AuthenticatedSafeContentIn
     fn read(alloc: Global, r: &mut Reader<'_>, nest: u8) -> Result<Self, Error> {
         let Chosen(choice) = read_within::<Chosen<AuthSafeChoice<R>>>(alloc, r, nest, 0x30)?;
         match choice {
-            Either::First(alternative) => Ok(Self::Data(alternative.into_components().0.0.0.into_repr())),
+            Either::First(alternative) => Ok(Self::Data(
+                alternative.into_components().0.0.0.into_repr(),
+            )),
             Either::Second(other) => {
                 let AnyOid(content_type, AnyContent(content)) = other;
                 Ok(Self::Unknown {

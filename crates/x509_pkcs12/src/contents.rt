@@ -8,7 +8,7 @@ ghost use Rattle.x509_pkcs12.specs.ContentsEqual.{content_info_equal};
 use crate::parts::EncryptedSafeContents;
 use crate::parts::oids::{ENCRYPTED_DATA, Known, PKCS7_DATA};
 use crate::safe_bags::SafeContents;
-use asn1_choices::{AnyOid, AnyOidRef, Alternative, Chosen, WriteChoice};
+use asn1_choices::{Alternative, AnyOid, AnyOidRef, Chosen, WriteChoice};
 use asn1_core::prelude::*;
 use std::alloc::Global;
 
@@ -93,7 +93,7 @@ type EncryptedComponents = ExplicitContextTag0<
 >;
 
 type EncryptedRef<'a> = ExplicitContextTag0<
-    Asn1Sequence<Part<FixedVersion<0>, Part<&'a EncryptedSafeContents, End>>>,
+    Asn1Sequence<Part<FixedVersion<0>, Part<Ref<'a, EncryptedSafeContents>, End>>>,
 >;
 
 /// A SEQUENCE of parts.
@@ -125,13 +125,22 @@ impl<A: DerDeserialize, B: DerDeserialize> DerDeserialize for Asn1Sequence<Part<
 }
 
 type ContentChoice = Either<
-    Alternative<Known<PKCS7_DATA>, Alone<ExplicitContextTag0<OctetStringAsn1Container<SafeContents>>>>,
+    Alternative<
+        Known<PKCS7_DATA>,
+        Alone<ExplicitContextTag0<OctetStringAsn1Container<SafeContents>>>,
+    >,
     Either<Alternative<Known<ENCRYPTED_DATA>, Alone<EncryptedComponents>>, AnyOid<AnyContent>>,
 >;
 
 type ContentRef<'a> = Either<
-    Alternative<Known<PKCS7_DATA>, Alone<ExplicitContextTag0<OctetStringAsn1Container<&'a SafeContents>>>>,
-    Either<Alternative<Known<ENCRYPTED_DATA>, Alone<EncryptedRef<'a>>>, AnyOidRef<'a, AnyContentRef<'a>>>,
+    Alternative<
+        Known<PKCS7_DATA>,
+        Alone<ExplicitContextTag0<OctetStringAsn1Container<Ref<'a, SafeContents>>>>,
+    >,
+    Either<
+        Alternative<Known<ENCRYPTED_DATA>, Alone<EncryptedRef<'a>>>,
+        AnyOidRef<'a, AnyContentRef<'a>>,
+    >,
 >;
 
 impl SafeContentsContentInfo {
@@ -140,11 +149,11 @@ impl SafeContentsContentInfo {
     {
         match self {
             Self::Data(bags) => {
-                let data = ExplicitContextTag0(OctetStringAsn1Container(bags));
+                let data = ExplicitContextTag0(OctetStringAsn1Container(Ref(bags)));
                 Either::First(Alternative::new(Alone(data)))
             }
             Self::EncryptedData(contents) => {
-                let components = Part(FixedVersion, Part(contents, End));
+                let components = Part(FixedVersion, Part(Ref(contents), End));
                 let data = ExplicitContextTag0(Asn1Sequence(components));
                 Either::Second(Either::First(Alternative::new(Alone(data))))
             }
@@ -181,7 +190,7 @@ impl DerDeserialize for SafeContentsContentInfo {
         match choice {
             Either::First(alternative) => Ok(Self::Data(alternative.into_components().0.0.0)),
             Either::Second(Either::First(alternative)) => {
-                let Part(FixedVersion, Part(contents, End)) = alternative.into_components().0.0.0;
+                let Part(FixedVersion, Part(Ref(contents), End)) = alternative.into_components().0.0.0;
                 Ok(Self::EncryptedData(contents))
             }
             Either::Second(Either::Second(other)) => {

@@ -166,8 +166,9 @@ impl DerTagged for KekRecipientInfo {
     }
 
     fn read_contents(alloc: Global, r: &mut Reader<'_>, nest: u8) -> Result<Self, Error> {
-        let fields_of!(version, kek_id, key_encryption_algorithm, encrypted_key) =
-            read_inside(alloc, r, nest, 0x30)?;
+        let fields_of!(version, kek_id, key_encryption_algorithm, encrypted_key) = read_inside(
+            alloc, r, nest, 0x30,
+        )?;
         Ok(KekRecipientInfo {
             version,
             kek_id,

@@ -25,7 +25,7 @@ impl DerSerialize for CTLEntryAttribute {
     ghost format = { entry_attribute };
 
     fn put<W: Writer>(&self, w: &mut W) -> Result<(), WriteError> {
-        put_within(0x30, &Part(&self.oid, Alone(&self.value)), w)
+        put_within(0x30, &Part(Ref(&self.oid), Alone(Ref(&self.value))), w)
     }
 
     fn well_formed_at(&self, limit: u8) -> bool {

@@ -8,7 +8,7 @@ ghost use Rattle.x509_pkcs12.specs.AttributesEqual.{attribute_equal};
 
 use crate::parts::oids::{FRIENDLY_NAME, Known, LOCAL_KEY_ID};
 use crate::parts::sets::{SetOfOne, SetRef};
-use asn1_choices::{AnyOid, AnyOidRef, Alternative, Chosen, WriteChoice};
+use asn1_choices::{Alternative, AnyOid, AnyOidRef, Chosen, WriteChoice};
 use asn1_core::prelude::*;
 use asn1_leaves::{BmpString, BmpStringAsn1};
 use std::alloc::Global;
@@ -70,8 +70,12 @@ impl Pkcs12Attribute {
         ensures { ⟦<AttributeRef<'static> as WriteChoice>⟧.value result ≡ attribute_value self.now }
     {
         match self {
-            Self::FriendlyName(name) => Either::First(Alternative::new(Alone(SetOfOne(BmpRef(name))))),
-            Self::LocalKeyId(id) => Either::Second(Either::First(Alternative::new(Alone(SetOfOne(id))))),
+            Self::FriendlyName(name) => Either::First(Alternative::new(Alone(SetOfOne(BmpRef(
+                name,
+            ))))),
+            Self::LocalKeyId(id) => Either::Second(Either::First(Alternative::new(Alone(SetOfOne(
+                id,
+            ))))),
             Self::Unknown { oid, value } => {
                 Either::Second(Either::Second(AnyOidRef(oid, Alone(SetRef(value)))))
             }
@@ -99,8 +103,12 @@ impl DerDeserialize for Pkcs12Attribute {
     fn read(alloc: Global, r: &mut Reader<'_>, nest: u8) -> Result<Self, Error> {
         let Chosen(choice) = read_within::<Chosen<AttributeChoice>>(alloc, r, nest, 0x30)?;
         match choice {
-            Either::First(alternative) => Ok(Self::FriendlyName(alternative.into_components().0.0.0)),
-            Either::Second(Either::First(alternative)) => Ok(Self::LocalKeyId(alternative.into_components().0.0)),
+            Either::First(alternative) => Ok(Self::FriendlyName(
+                alternative.into_components().0.0.0,
+            )),
+            Either::Second(Either::First(alternative)) => Ok(Self::LocalKeyId(
+                alternative.into_components().0.0,
+            )),
             Either::Second(Either::Second(other)) => {
                 let AnyOid(oid, Alone(Asn1SetOf(value))) = other;
                 Ok(Self::Unknown { oid, value })
@@ -155,7 +163,9 @@ impl WriteComponents for BagAttributes {
 
 impl ReadComponents for BagAttributes {
     fn read_components(alloc: Global, r: &mut Reader<'_>, nest: u8) -> Result<Self, Error> {
-        let Maybe(set, End) = Maybe::<Asn1SetOf<Pkcs12Attribute>, End>::read_components(alloc, r, nest)?;
+        let Maybe(set, End) = Maybe::<Asn1SetOf<Pkcs12Attribute>, End>::read_components(
+            alloc, r, nest,
+        )?;
         match set {
             Some(Asn1SetOf(items)) => Ok(BagAttributes(Some(items))),
             None => Ok(BagAttributes(None)),

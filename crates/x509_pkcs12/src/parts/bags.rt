@@ -6,7 +6,7 @@ ghost use Rattle.x509_pkcs12.specs.BagParts.{OctetsOrAny, x509_value, x509_bag, 
 ghost use Rattle.x509_pkcs12.specs.BagPartsEqual.{secret_equal, encrypted_key_equal};
 
 use crate::parts::oids::{Known, X509_CERTIFICATE, X509_CRL};
-use asn1_choices::{AnyOid, AnyOidRef, Alternative, Chosen, WriteChoice};
+use asn1_choices::{Alternative, AnyOid, AnyOidRef, Chosen, WriteChoice};
 use asn1_core::OidRef;
 use asn1_core::prelude::*;
 use pkcs12_algs::Pkcs12EncryptionAlgorithm;
@@ -22,8 +22,8 @@ type OctetsOrAny<N> = Either<
 >;
 
 type OctetsOrAnyRef<'a, N> = Either<
-    Alternative<N, Alone<ExplicitContextTag0<&'a OctetStringAsn1>>>,
-    AnyOidRef<'a, Alone<ExplicitContextTag0<&'a Asn1RawDer>>>,
+    Alternative<N, Alone<ExplicitContextTag0<Ref<'a, OctetStringAsn1>>>>,
+    AnyOidRef<'a, Alone<ExplicitContextTag0<Ref<'a, Asn1RawDer>>>>,
 >;
 
 /// `CertBag ::= SEQUENCE { certId BAG-TYPE.&id, certValue [0] EXPLICIT BAG-TYPE.&Type }` (RFC 7292, 4.2.3).
@@ -50,9 +50,9 @@ impl<const KNOWN: usize> X509Bag<KNOWN> {
         ensures { ⟦<OctetsOrAnyRef<'static, Known<KNOWN>> as WriteChoice>⟧.value result ≡ x509_value self.now }
     {
         match self {
-            Self::X509(octets) => Either::First(Alternative::new(Alone(ExplicitContextTag0(octets)))),
+            Self::X509(octets) => Either::First(Alternative::new(Alone(ExplicitContextTag0(Ref(octets))))),
             Self::Unknown { type_id, value } => {
-                Either::Second(AnyOidRef(type_id, Alone(ExplicitContextTag0(value))))
+                Either::Second(AnyOidRef(type_id, Alone(ExplicitContextTag0(Ref(value)))))
             }
         }
     }
@@ -123,11 +123,11 @@ impl DerSerialize for SecretBag {
     ghost format = { secret_bag };
 
     fn put<W: Writer>(&self, w: &mut W) -> Result<(), WriteError> {
-        put_of!(self, w; (OidRef(&self.type_id)), (ExplicitContextTag0(&self.value)))
+        put_of!(self, w; (OidRef(&self.type_id)), (ExplicitContextTag0(Ref(&self.value))))
     }
 
     fn well_formed_at(&self, limit: u8) -> bool {
-        formed_of!(self, limit; (OidRef(&self.type_id)), (ExplicitContextTag0(&self.value)))
+        formed_of!(self, limit; (OidRef(&self.type_id)), (ExplicitContextTag0(Ref(&self.value))))
     }
 }
 

@@ -87,7 +87,7 @@ pub struct EncryptedSafeContents {
 
 type ContentsRef<'a> = Part<
     DataType,
-    Part<&'a Pkcs12EncryptionAlgorithm, Maybe<EncryptedRef<'a>, End>>,
+    Part<Ref<'a, Pkcs12EncryptionAlgorithm>, Maybe<EncryptedRef<'a>, End>>,
 >;
 
 impl EncryptedSafeContents {
@@ -98,7 +98,7 @@ impl EncryptedSafeContents {
             Some(octets) => Some(EncryptedRef(octets)),
             None => None,
         };
-        Part(DataType, Part(&self.algorithm, Maybe(content, End)))
+        Part(DataType, Part(Ref(&self.algorithm), Maybe(content, End)))
     }
 }
 

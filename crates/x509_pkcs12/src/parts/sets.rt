@@ -19,7 +19,7 @@ impl<T: DerSerialize> DerSerialize for SetOfOne<T> {
     ghost format = { within 0x31 T.format };
 
     fn put<W: Writer>(&self, w: &mut W) -> Result<(), WriteError> {
-        put_within(0x31, &Alone(&self.0), w)
+        put_within(0x31, &Alone(Ref(&self.0)), w)
     }
 
     fn well_formed_at(&self, limit: u8) -> bool {

@@ -22,7 +22,7 @@ use crate::parts::{
     BagAttributes, BagAttributesRef, CertificateBag, CrlBag, EncryptedKeyBag, KeyBag,
     Pkcs12Attribute, SecretBag,
 };
-use asn1_choices::{AnyOid, Alternative, WriteChoice, read_nested_or};
+use asn1_choices::{Alternative, AnyOid, WriteChoice, read_nested_or};
 use asn1_core::OidRef;
 use asn1_core::prelude::*;
 use asn1_core_element::element::open_element;
@@ -76,7 +76,10 @@ type CrlOr = Either<Alternative<Known<CRL_BAG>, Held<CrlBag>>, SecretOr>;
 
 type CertificateOr = Either<Alternative<Known<CERTIFICATE_BAG>, Held<CertificateBag>>, CrlOr>;
 
-type ShroudedOr = Either<Alternative<Known<SHROUDED_KEY_BAG>, Held<EncryptedKeyBag>>, CertificateOr>;
+type ShroudedOr = Either<
+    Alternative<Known<SHROUDED_KEY_BAG>, Held<EncryptedKeyBag>>,
+    CertificateOr,
+>;
 
 type PlainBag = Either<Alternative<Known<KEY_BAG>, Held<KeyBag>>, ShroudedOr>;
 

@@ -24,7 +24,7 @@ impl DerSerialize for ExplicitVersion {
     ghost format = { explicit_version };
 
     fn put<W: Writer>(&self, w: &mut W) -> Result<(), WriteError> {
-        put_within(0xA0, &Alone(&self.0), w)
+        put_within(0xA0, &Alone(Ref(&self.0)), w)
     }
 
     fn well_formed_at(&self, limit: u8) -> bool {
@@ -100,7 +100,10 @@ type HeadRef<'a> = Part<
         &'a AlgorithmIdentifier,
         Part<
             &'a Name,
-            Part<&'a Asn1RawDer, Part<&'a Name, Part<&'a Asn1RawDer, &'a Vec<Asn1RawDer>>>>,
+            Part<
+                Ref<'a, Asn1RawDer>,
+                Part<Ref<'a, Name>, Part<Ref<'a, Asn1RawDer>, &'a Vec<Asn1RawDer>>>,
+            >,
         >,
     >,
 >;
@@ -110,10 +113,10 @@ impl TbsCertificateHead {
     fn components(&self) -> HeadRef<'_>
         ensures { ◌≡◌ {A = HeadValue} (⟦<HeadRef<'static> as WriteComponents>⟧.value result) (head_value self.now) }
     {
-        let key = Part(&self.subject_public_key_info, &self.rest);
-        let validity = Part(&self.validity, Part(&self.subject, key));
-        let issuer = Part(&self.issuer, validity);
-        Part(&self.serial_number, Part(&self.signature, issuer))
+        let key = Part(Ref(&self.subject_public_key_info), &self.rest);
+        let validity = Part(Ref(&self.validity), Part(Ref(&self.subject), key));
+        let issuer = Part(Ref(&self.issuer), validity);
+        Part(Ref(&self.serial_number), Part(Ref(&self.signature), issuer))
     }
 }
 

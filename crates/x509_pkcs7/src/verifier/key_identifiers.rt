@@ -29,7 +29,7 @@ impl DerSerialize for ExplicitExtensions {
     ghost format = { explicit_extensions };
 
     fn put<W: Writer>(&self, w: &mut W) -> Result<(), WriteError> {
-        put_within(0xA3, &Alone(&self.0), w)
+        put_within(0xA3, &Alone(Ref(&self.0)), w)
     }
 
     fn well_formed_at(&self, limit: u8) -> bool {

@@ -120,7 +120,7 @@ impl DerSerialize for TimeStampAuthority {
     ghost format = { authority };
 
     fn put<W: Writer>(&self, w: &mut W) -> Result<(), WriteError> {
-        put_within(0xA0, &Alone(&self.0), w)
+        put_within(0xA0, &Alone(Ref(&self.0)), w)
     }
 
     fn well_formed_at(&self, limit: u8) -> bool {
@@ -214,13 +214,19 @@ pub struct TstInfo {
     pub extensions: Option<TimeStampExtensions>,
 }
 
-type NonceComponents = Maybe<IntegerAsn1, Maybe<TimeStampAuthority, Maybe<TimeStampExtensions, End>>>;
+type NonceComponents = Maybe<
+    IntegerAsn1,
+    Maybe<TimeStampAuthority, Maybe<TimeStampExtensions, End>>,
+>;
 
 type OptionsComponents = Maybe<Accuracy, Omitted<DefaultFalse, NonceComponents>>;
 
 type TstInfoComponents = Part<
     FixedVersion<1>,
-    Part<ObjectIdentifierAsn1, Part<DigestInfo, Part<IntegerAsn1, Part<GenTime, OptionsComponents>>>>,
+    Part<
+        ObjectIdentifierAsn1,
+        Part<DigestInfo, Part<IntegerAsn1, Part<GenTime, OptionsComponents>>>,
+    >,
 >;
 
 type OptionsRef<'a> = Maybe<
@@ -235,7 +241,10 @@ type TstInfoRef<'a> = Part<
     FixedVersion<1>,
     Part<
         &'a ObjectIdentifierAsn1,
-        Part<&'a DigestInfo, Part<&'a IntegerAsn1, Part<&'a GenTime, OptionsRef<'a>>>>,
+        Part<
+            Ref<'a, DigestInfo>,
+            Part<Ref<'a, IntegerAsn1>, Part<Ref<'a, GenTime>, OptionsRef<'a>>>,
+        >,
     >,
 >;
 
@@ -244,17 +253,20 @@ impl TstInfo {
     fn options(&self) -> OptionsRef<'_>
         ensures { ◌≡◌ {A = OptionsValue} (⟦<OptionsRef<'static> as WriteComponents>⟧.value result) (options_value self.now) }
     {
-        let tsa = Maybe(self.tsa.as_ref(), Maybe(self.extensions.as_ref(), End));
-        let ordering = Omitted(DefaultFalse(self.ordering), Maybe(self.nonce.as_ref(), tsa));
-        Maybe(self.accuracy.as_ref(), ordering)
+        let tsa = MaybeRef(&self.tsa, MaybeRef(&self.extensions, End));
+        let ordering = Omitted(DefaultFalse(self.ordering), MaybeRef(&self.nonce, tsa));
+        MaybeRef(&self.accuracy, ordering)
     }
 
     fn components(&self) -> TstInfoRef<'_>
         ensures { ◌≡◌ {A = TstInfoValue} (⟦<TstInfoRef<'static> as WriteComponents>⟧.value result) (tst_info_value self.now) }
     {
-        let time = Part(&self.gen_time, self.options());
-        let imprint = Part(&self.message_imprint, Part(&self.serial_number, time));
-        Part(FixedVersion, Part(&self.policy, imprint))
+        let time = Part(Ref(&self.gen_time), self.options());
+        let imprint = Part(
+            Ref(&self.message_imprint),
+            Part(Ref(&self.serial_number), time),
+        );
+        Part(FixedVersion, Part(Ref(&self.policy), imprint))
     }
 }
 
