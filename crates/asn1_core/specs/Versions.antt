@@ -24,14 +24,14 @@ one_octet n h =
     let same : c.0 ≡ n = omega (arith, e) in
     sym (c.1 ∙ ap integer_octets same)
 
-lawful_only : (n : ℕ) → n < 128 → IsLawfulSpelling (only n)
+pub lawful_only : (n : ℕ) → n < 128 → IsLawfulSpelling (only n)
 lawful_only n l = record {
   one_value = λ v w h i e. h ∙ sym i;
   spelled = λ v h. ap integer_octets h ∙ one_octet n l;
   has_value = λ c h. (n, h ∙ sym (one_octet n l), refl);
 }
 
-lawful_version : (n : ℕ) → n < 128 → IsLawful (version n)
+pub lawful_version : (n : ℕ) → n < 128 → IsLawful (version n)
 lawful_version n l = lawful_leaf 0x02 (omega arith) (only n) (lawful_only n l)
 
 pub lawful_version_0 : IsLawful (version 0)

@@ -175,13 +175,14 @@ impl<const N: u8, T: DerSerialize> DerSerialize for Explicit<N, T> {
         put_within(0xA0 + N % 31, &Alone(Ref(&self.0)), w)
     }
 
+    #[tactic(auto, using(asn1_core_format::specs::TagNumbers::numbered_is_formed))]
     fn well_formed_at(&self, limit: u8) -> bool {
         N < 31 && self.0.well_formed_at(limit)
     }
 }
 
 impl<const N: u8, T: DerDeserialize> DerDeserialize for Explicit<N, T> {
-    #[tactic(auto, using(asn1_core_format::specs::TagNumbers::numbered_is_read, asn1_core_format::specs::TagNumbers::numbered_is_refused))]
+    #[tactic(auto, using(asn1_core_format::specs::TagNumbers::numbered_is_read, asn1_core_format::specs::TagNumbers::numbered_too_high))]
     fn read(alloc: Global, r: &mut Reader<'_>, nest: u8) -> Result<Self, Error> {
         if N >= 31 {
             return Err(Error::Invalid);

@@ -125,13 +125,14 @@ impl<const N: u8, T: DerTagged> DerSerialize for Implicit<N, T> {
         self.0.put_as(context_tag_of::<T>(N % 31), w)
     }
 
+    #[tactic(auto, using(asn1_core_format::specs::TagNumbers::numbered_is_formed))]
     fn well_formed_at(&self, limit: u8) -> bool {
         N < 31 && self.0.well_formed_at(limit)
     }
 }
 
 impl<const N: u8, T: DerTagged> DerDeserialize for Implicit<N, T> {
-    #[tactic(auto, using(asn1_core_format::specs::TagNumbers::numbered_is_read, asn1_core_format::specs::TagNumbers::numbered_is_refused))]
+    #[tactic(auto, using(asn1_core_format::specs::TagNumbers::numbered_is_read, asn1_core_format::specs::TagNumbers::numbered_too_high))]
     fn read(alloc: Global, r: &mut Reader<'_>, nest: u8) -> Result<Self, Error> {
         if N >= 31 {
             return Err(Error::Invalid);

@@ -2,6 +2,7 @@
 //! octet strings, numbers, object identifiers, raw elements, and wrappers for every lawful type.
 #![tactic(auto)]
 
+pub mod booleans;
 pub mod containers;
 pub mod defaults;
 pub mod explicit;
@@ -31,6 +32,7 @@ pub use asn1_core_streams::{
     ReadError, Sink, Source, StdSink, StdSource, WriteFailed, read_all, send,
 };
 pub use asn1_core_writers::{WriteError, Writer};
+pub use booleans::DefaultFalse;
 pub use containers::{OctetStringAsn1Container, Optional};
 pub use defaults::DefaultNumber;
 pub use explicit::{Explicit, ExplicitContextTag0, ExplicitContextTag1, ExplicitContextTag2};

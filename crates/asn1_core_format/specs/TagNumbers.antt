@@ -1,43 +1,81 @@
 -- Context tags of any number that a tag of one byte can have (X.690, 8.1.2.4): 0 to 30. A greater number takes a tag of
 -- several bytes, which nothing here reads or writes: a type with such a tag has no encodings and no well-formed values.
-use Rattle.std.specs.Prelude.{◌≡◌, ◌≢◌, ℕ, ◌+◌, ◌<◌, ◌%◌, List, Result, MatchResult}
-use Rattle.std.proofs.Common.{arith}
+use Rattle.std.specs.Prelude.{◌≡◌, ◌≢◌, ◌↔◌, ℕ, ◌+◌, ◌<◌, ◌≤◌, ◌%◌, ◌&&◌, ltb, Bool, true, false, List, IsTrue}
+use Rattle.std.proofs.Common.{arith, sym}
+use Rattle.std.proofs.lemmas.Bool.{lt-ltb, le-ltb, true≢false}
 use Rattle.asn1_core_element.specs.Element.{IsTagByte}
 use Rattle.asn1_core_element.specs.Position.{Position}
 use Rattle.asn1_core_element.specs.declared.error.Error.{Error}
+use Rattle.asn1_core_element.specs.declared.error.Error.TheVariants.{Invalid}
 use Rattle.asn1_core_format.specs.Format.{Format, IsLawful, HasRead, HasRefused}
 use Rattle.asn1_core_format.specs.Components.{within}
 use Rattle.asn1_core_format.specs.ComponentLaws.{lawful_within}
 use Rattle.asn1_core_format.specs.Tagged.{IsTagged, implicit, context_tag}
 use Rattle.asn1_core_format.specs.TaggedLaws.{lawful_implicit, implicit_tagged, context_tag_is, within_tagged}
 
--- F, where a tag of one byte can have the number
+abbrev pub only_if : Bool → Type 0 → Type 0
+only_if true P = P
+only_if false P = ⊥
+
+-- F, where a tag of one byte can have the number: `numbered 0 F` is F
 abbrev pub numbered : {V : Type 0} → ℕ → Format V → Format V
 numbered n F = record {
   text = F.text;
-  IsWellFormed = λ k v. (n < 31) × F.IsWellFormed k v;
-  Reads = λ k b v. (n < 31) × F.Reads k b v;
-  IsNormal = λ k b. (n < 31) × F.IsNormal k b;
+  IsWellFormed = λ k v. only_if (ltb n 31) (F.IsWellFormed k v);
+  Reads = λ k b v. only_if (ltb n 31) (F.Reads k b v);
+  IsNormal = λ k b. only_if (ltb n 31) (F.IsNormal k b);
   normal = F.normal;
   IsTag = F.IsTag;
   first = F.first;
   least = F.least;
 }
 
-pub lawful_numbered : {V : Type 0} (n : ℕ) (F : Format V) → (n < 31 → IsLawful F) → IsLawful (numbered n F)
-lawful_numbered n F f = record {
-  components = record {
-    begins = λ k b v r. (f r.0).components.begins k b v r.1;
-    one_value = λ k b v w r s. (f r.0).components.one_value k b v w r.1 s.1;
-    text_reads = λ k v h. (h.0, (f h.0).components.text_reads k v h.1);
-    text_normal = λ k v h. (h.0, (f h.0).components.text_normal k v h.1);
-    normal_reads = λ k b m. let v = (f m.0).components.normal_reads k b m.1 in (v.0, (m.0, v.1));
-    fixed = λ k b v r. let e = (f r.0).components.fixed k b v r.1 in (λ t. (r.0, e.0 t), λ m. e.1 m.1);
-    well_formed = λ k b v r. (r.0, (f r.0).components.well_formed k b v r.1);
-    deeper = λ k b v r. (r.0, (f r.0).components.deeper k b v r.1);
-  };
-  element = λ k b v r. (f r.0).element k b v r.1;
+only : {V : Type 0} → Bool → Format V → Format V
+only b F = record {
+  text = F.text;
+  IsWellFormed = λ k v. only_if b (F.IsWellFormed k v);
+  Reads = λ k x v. only_if b (F.Reads k x v);
+  IsNormal = λ k x. only_if b (F.IsNormal k x);
+  normal = F.normal;
+  IsTag = F.IsTag;
+  first = F.first;
+  least = F.least;
 }
+
+lawful_only : {V : Type 0} (b : Bool) (F : Format V) → IsLawful F → IsLawful (only b F)
+unfolding only
+lawful_only true F f = record { components = f.components; element = f.element }
+lawful_only false F f = record {
+  components = record {
+    begins = λ k x v r. absurd r;
+    one_value = λ k x v w r s. absurd r;
+    text_reads = λ k v h. absurd h;
+    text_normal = λ k v h. absurd h;
+    normal_reads = λ k x m. absurd m;
+    fixed = λ k x v r. absurd r;
+    well_formed = λ k x v r. absurd r;
+    deeper = λ k x v r. absurd r;
+  };
+  element = λ k x v r. absurd r;
+}
+
+pub lawful_numbered : {V : Type 0} (n : ℕ) (F : Format V) → IsLawful F → IsLawful (numbered n F)
+unfolding only
+lawful_numbered n F f = lawful_only (ltb n 31) F f
+
+low : {P : Type 0} (n : ℕ) → n < 31 → P → only_if (ltb n 31) P
+low n l p = rw (lt-ltb n 31 l) p
+
+not_high : {P : Type 0} (b : Bool) → only_if b P → P
+not_high true p = p
+not_high false p = absurd p
+
+high : (P : Type 0) (n : ℕ) → 31 ≤ n → only_if (ltb n 31) P → ⊥
+high P n h p = rw (le-ltb n 31 h) at p
+
+formed : {P : Type 0} (t b : Bool) → IsTrue b ↔ P → IsTrue (t && b) ↔ only_if t P
+formed true b e = e
+formed false b e = (λ h. absurd (true≢false (sym h)), λ h. absurd h)
 
 pub numbered_tagged : {V : Type 0} (n tag : ℕ) (F : Format V) → IsTagged tag F → IsTagged tag (numbered n F)
 numbered_tagged n tag F g = record { is_tag = g.is_tag; tags = g.tags; written = g.written }
@@ -47,7 +85,7 @@ pub numbered_is_read : {V : Type 0} (n : ℕ) (F : Format V) {k : ℕ} {old new 
 numbered_is_read n F l r = record {
   taken = r.taken;
   split = r.split;
-  reads = (l, r.reads);
+  reads = low n l r.reads;
   beyond = r.beyond;
   end = r.end;
   refused = r.refused;
@@ -58,10 +96,22 @@ numbered_is_read n F l r = record {
 pub numbered_is_refused : {V : Type 0} (n : ℕ) (F : Format V) {k : ℕ} {old new : Position} {e : Error} → HasRefused F k old new e → HasRefused (numbered n F) k old new e
 numbered_is_refused n F r = record {
   kind = r.kind;
-  none = λ m taken rest v s p. r.none m taken rest v s p.1;
+  none = λ m taken rest v s p. r.none m taken rest v s (not_high (ltb n 31) p);
   counts = r.counts;
   at_most = r.at_most;
 }
+
+-- nothing is read where the number is greater
+pub numbered_too_high : {V : Type 0} (n : ℕ) (F : Format V) {k : ℕ} {at : Position} → 31 ≤ n → HasRefused (numbered n F) k at at Invalid
+numbered_too_high n F h = record {
+  kind = λ e. cc;
+  none = λ m taken rest v s p. high _ n h p;
+  counts = omega arith;
+  at_most = omega arith;
+}
+
+pub numbered_is_formed : {P : Type 0} (n : ℕ) (b : Bool) → IsTrue b ↔ P → IsTrue (ltb n 31 && b) ↔ only_if (ltb n 31) P
+numbered_is_formed {P} n b e = formed (ltb n 31) b e
 
 -- `[n] EXPLICIT`: an element with that tag around the whole encoding
 abbrev pub explicit_tag : ℕ → ℕ
@@ -74,7 +124,7 @@ pub explicit_tag_is : (n : ℕ) → IsTagByte (explicit_tag n)
 explicit_tag_is n = omega arith
 
 pub lawful_explicit_context : {V : Type 0} (n : ℕ) {F : Format V} → IsLawful F → IsLawful (explicit_context n F)
-lawful_explicit_context n {F} f = lawful_numbered n (within (explicit_tag n) F) (λ l. lawful_within F f.components (explicit_tag n) (explicit_tag_is n))
+lawful_explicit_context n {F} f = lawful_numbered n (within (explicit_tag n) F) (lawful_within F f.components (explicit_tag n) (explicit_tag_is n))
 
 -- `[n] IMPLICIT`: that tag in place of the type's own
 abbrev pub implicit_context : {V : Type 0} → ℕ → ℕ → Format V → Format V
@@ -84,7 +134,7 @@ pub implicit_tag_is : (n inner : ℕ) → IsTagByte (context_tag (n % 31) inner)
 implicit_tag_is n inner = context_tag_is (n % 31) inner (omega arith)
 
 pub lawful_implicit_context : {V : Type 0} (n inner : ℕ) {F : Format V} → IsLawful F → IsTagged inner F → IsLawful (implicit_context n inner F)
-lawful_implicit_context n inner {F} f g = lawful_numbered n (implicit (context_tag (n % 31) inner) inner F) (λ l. lawful_implicit (context_tag (n % 31) inner) inner F f g (implicit_tag_is n inner))
+lawful_implicit_context n inner {F} f g = lawful_numbered n (implicit (context_tag (n % 31) inner) inner F) (lawful_implicit (context_tag (n % 31) inner) inner F f g (implicit_tag_is n inner))
 
 pub explicit_context_tagged : {V : Type 0} (n : ℕ) (F : Format V) → IsTagged (explicit_tag n) (explicit_context n F)
 explicit_context_tagged n F = numbered_tagged n (explicit_tag n) (within (explicit_tag n) F) (within_tagged (explicit_tag n) (explicit_tag_is n) F)

@@ -1,3 +1,4 @@
 pub mod Integers
 pub mod Strings
 pub mod Times
+pub mod Asn1

@@ -1,4 +1,3 @@
-pub mod Booleans
 pub mod Stamps
 pub mod Parcels
 pub mod Shipments

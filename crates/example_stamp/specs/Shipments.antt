@@ -1,7 +1,6 @@
 use Rattle.std.specs.Prelude.{◌^◌}
 use Rattle.std.proofs.Common.{refl, inl, inr}
-use Rattle.asn1_core.specs.Asn1.{Asn1, Contents, contents, ◌then◌, ◌OPTIONAL◌, ◌DEFAULT◌, end, OBJECT_IDENTIFIER, OCTET_STRING, INTEGER_BELOW, EXPLICIT, SEQUENCE, SEQUENCE_OF, CHOICE}
-use Rattle.example_stamp.specs.Booleans.{BOOLEAN_or_false}
+use Rattle.asn1_core.specs.Asn1.{BOOLEAN_or_FALSE, Asn1, Contents, contents, ◌then◌, ◌OPTIONAL◌, ◌DEFAULT◌, end, OBJECT_IDENTIFIER, OCTET_STRING, INTEGER_BELOW, EXPLICIT, SEQUENCE, SEQUENCE_OF, CHOICE}
 use Rattle.example_stamp.specs.Stamps.{stamp}
 use Rattle.example_stamp.specs.declared.shipments.Label.{Label}
 use Rattle.example_stamp.specs.declared.shipments.Label.TheVariants.{Name, Number}
@@ -18,5 +17,5 @@ label_value (Number n) = inr n
 --   weight INTEGER (0..4294967295) OPTIONAL, second Stamp OPTIONAL, note [0] EXPLICIT OCTET STRING, stamps SEQUENCE OF Stamp }
 abbrev pub shipment : Contents
 shipment =
-    contents (OBJECT_IDENTIFIER then SEQUENCE stamp then label then BOOLEAN_or_false DEFAULT
+    contents (OBJECT_IDENTIFIER then SEQUENCE stamp then label then BOOLEAN_or_FALSE DEFAULT
     INTEGER_BELOW (2 ^ 32) OPTIONAL SEQUENCE stamp OPTIONAL EXPLICIT 0 OCTET_STRING then SEQUENCE_OF (SEQUENCE stamp) then end) refl

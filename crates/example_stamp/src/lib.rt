@@ -3,7 +3,6 @@
 
 ghost use Rattle.example_stamp.specs.Stamps.{stamp, stamp_value, stamp_equal};
 
-pub mod booleans;
 pub mod parcels;
 pub mod shipments;
 

@@ -7,7 +7,6 @@ ghost use Rattle.example_stamp.specs.Stamps.{stamp_value, stamp_equal};
 ghost use Rattle.example_stamp.specs.Parcels.{parcel};
 
 use crate::Stamp;
-use crate::booleans::DefaultFalse;
 use asn1_core::prelude::*;
 use std::alloc::Global;
 

@@ -8,7 +8,6 @@ ghost use Rattle.example_stamp.specs.Shipments.{label, label_value, shipment};
 ghost use Rattle.example_stamp.specs.ShipmentEqual.{label_equal, maybe_stamp_equal, bool_equal, weight_equal, stamps_equal};
 
 use crate::Stamp;
-use crate::booleans::DefaultFalse;
 use asn1_core::prelude::*;
 use std::alloc::Global;
 

@@ -6,7 +6,7 @@ use Rattle.std.proofs.Common.{refl}
 use Rattle.asn1_core.specs.Der.{Format, IsLawful, sequence, part, nothing, object_identifier, octet_string, octets_of, Octets, OidOctets, lawful_sequence, followed_by, lawful_nothing, lawful_object_identifier, lawful_octet_string, sequence_of, der_laws, omitted, is_default, unless}
 use Rattle.x509_base.specs.declared.extensions.Extension.{Extension}
 use Rattle.x509_base.specs.declared.extensions.Extensions.{Extensions}
-use Rattle.x509_base.specs.Booleans.{boolean, lawful_boolean, explicit_false, false_left_out}
+use Rattle.asn1_core.specs.Booleans.{boolean, lawful_boolean, explicit_false, false_left_out}
 
 abbrev pub ExtensionValue : Type 0
 ExtensionValue = OidOctets × (Bool × (Octets × Unit {0}))

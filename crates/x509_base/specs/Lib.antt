@@ -4,7 +4,6 @@ pub mod AlgorithmLaws
 pub mod OtherAlgorithms
 pub mod AlgorithmChoices
 pub mod AlgorithmChoiceLaws
-pub mod Booleans
 pub mod Digests
 pub mod Extensions
 pub mod Names

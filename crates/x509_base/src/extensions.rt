@@ -4,7 +4,6 @@ ghost use Rattle.std.specs.Prelude.{List};
 ghost use Rattle.x509_base.specs.Equal.{extension_equal, extensions_equal};
 ghost use Rattle.x509_base.specs.Extensions.{ExtensionValue, extension_value, extension, extensions_value, extensions, lawful_extension, lawful_extensions};
 
-use crate::booleans::DefaultFalse;
 use asn1_core::prelude::*;
 use std::alloc::Global;
 

@@ -4,7 +4,6 @@
 
 pub mod algorithms;
 pub mod attributes_by_oid;
-pub mod booleans;
 pub mod digests;
 pub mod extensions;
 pub mod names;
@@ -13,8 +12,8 @@ pub mod times;
 pub mod versions;
 
 pub use algorithms::{AlgorithmIdentifier, RawAlgorithmIdentifier};
+pub use asn1_core::DefaultFalse;
 pub use attributes_by_oid::{FirstAttribute, first_attribute, only_value, only_value_as};
-pub use booleans::DefaultFalse;
 pub use digests::{DigestInfo, SubjectKeyIdentifier};
 pub use extensions::{Extension, Extensions};
 pub use names::{Attribute, Name, NameValue};

@@ -12,7 +12,7 @@ use Rattle.std.specs.Cmp.{booleans_Decides}
 use Rattle.asn1_core.specs.Equal.{oid_equal}
 use Rattle.asn1_core_format.specs.LeafLaws.{lawful_kept}
 use Rattle.asn1_leaves.specs.Integers.{integer, lawful_integer}
-use Rattle.x509_base.specs.Booleans.{boolean, lawful_boolean, explicit_false, false_left_out}
+use Rattle.asn1_core.specs.Booleans.{boolean, lawful_boolean, explicit_false, false_left_out}
 use Rattle.x509_base.specs.Digests.{DigestInfoValue, digest_info_value, digest_info, lawful_digest_info}
 use Rattle.x509_base.specs.Equal.{extension_equal}
 use Rattle.x509_base.specs.Extensions.{ExtensionValue, extension_value, extension, lawful_extension}

@@ -4,7 +4,12 @@ use Rattle.std.specs.Str.{bytes_eq}
 use Rattle.std.proofs.Common.{refl, sym, ap, inl, inr, arith, ◌&&◌}
 use Rattle.std.proofs.lemmas.Bool.{false_from_ne_true, and_parts}
 use Rattle.std.proofs.lemmas.Slice.Eq.{bytes_eq-Decides}
-use Rattle.asn1_core.specs.Der.{element, element_same, Format, IsLawful, Spelling, leaf, lawful_leaf, is_default, IsDefault}
+use Rattle.asn1_core_element.specs.Element.{element}
+use Rattle.asn1_core_element.specs.ElementLaws.{element_same}
+use Rattle.asn1_core_format.specs.Format.{Format, IsLawful}
+use Rattle.asn1_core_format.specs.Leaf.{Spelling, leaf}
+use Rattle.asn1_core_format.specs.LeafLaws.{lawful_leaf}
+use Rattle.asn1_core_format.specs.Omitted.{is_default, IsDefault}
 
 abbrev pub boolean_octets : Bool → List ℕ
 boolean_octets true = 0xFF ∷ []

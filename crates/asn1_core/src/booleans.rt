@@ -2,10 +2,11 @@
 
 ghost use Rattle.std.specs.Prelude.{Bool};
 ghost use Rattle.std.proofs.Common.{arith};
-ghost use Rattle.x509_base.specs.Booleans.{booleans, boolean, lawful_boolean, explicit_false, is_false, false_left_out, false_reads};
+ghost use Rattle.asn1_core.specs.Booleans.{booleans, boolean, lawful_boolean, explicit_false, is_false, false_left_out, false_reads};
 
-use asn1_core::prelude::*;
-use asn1_leaves::IntegerAsn1;
+use asn1_core_element::{Error, Reader};
+use asn1_core_format::{DerDeserialize, DerSerialize, FirstTags, HasDefault, Leaf, read_leaf};
+use asn1_core_writers::{WriteError, Writer, put_element};
 use std::alloc::Global;
 
 /// `BOOLEAN DEFAULT FALSE`: one octet, `FF` for TRUE (X.690, 8.2 and 11.1). FALSE is left out where it is an `Omitted` part.
