@@ -2,11 +2,8 @@
 use Rattle.std.specs.Prelude.{◌≡◌, ◌≢◌, ◌↔◌, ℕ, List, [], ◌++◌, Option, Some, None}
 use Rattle.std.proofs.Common.{refl, sym, ap, ◌∙◌, arith, append-nil, length}
 use Rattle.asn1_core.specs.Der.{element, IsElement, IsTagByte, element_cut, element_same, element_long, IsLawful, nothing, optional, lawful_nothing, lawful_part, lawful_optional, lawful_within, IsLoosening, lawful_loosened, object_identifier, lawful_object_identifier, raw, lawful_raw}
+pub use Rattle.x509_base.specs.Algorithms.{lawful_algorithm_identifier}
 use Rattle.x509_base.specs.Algorithms.{AlgorithmValue, algorithm_identifier, null, or_null, HasParameters, null_written, raw_algorithm_identifier}
-
-pub lawful_algorithm_identifier : IsLawful algorithm_identifier
-lawful_algorithm_identifier =
-    lawful_within _ (lawful_part object_identifier _ lawful_object_identifier (lawful_optional raw nothing lawful_raw lawful_nothing (λ t h e. e))) 0x30 (omega arith)
 
 pub null_is_element : IsElement IsTagByte null
 null_is_element = record { tag = 0x05; contents = []; is_tag = omega arith; is = refl; allowed = omega arith }

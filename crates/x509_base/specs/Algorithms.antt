@@ -1,15 +1,23 @@
 -- AlgorithmIdentifier ::= SEQUENCE { algorithm OBJECT IDENTIFIER, parameters ANY DEFINED BY algorithm OPTIONAL }
 --   (RFC 5280, 4.1.1.2)
 use Rattle.std.specs.Prelude.{◌≡◌, ◌≢◌, ℕ, List, [], ◌++◌, Option, Some, None}
-use Rattle.asn1_core.specs.Der.{OidOctets, ElementOctets, element, Format, nothing, part, optional, Loosening, loosened, object_identifier, raw, sequence}
+use Rattle.std.proofs.Common.{refl}
+use Rattle.asn1_core.specs.Asn1.{Contents, contents, ◌then◌, ◌OPTIONAL◌, end, OBJECT_IDENTIFIER, ANY}
+use Rattle.asn1_core.specs.Der.{element, Format, IsLawful, Loosening, loosened, sequence, lawful_sequence}
+
+-- written as it is: absent parameters stay absent
+abbrev pub algorithm_contents : Contents
+algorithm_contents = contents (OBJECT_IDENTIFIER then ANY OPTIONAL end) refl
 
 -- the object identifier, and the parameters
 abbrev pub AlgorithmValue : Type 0
-AlgorithmValue = OidOctets × (Option ElementOctets × Unit {0})
+AlgorithmValue = algorithm_contents.Value
 
--- written as it is: absent parameters stay absent
 abbrev pub algorithm_identifier : Format AlgorithmValue
-algorithm_identifier = sequence (part object_identifier (optional raw nothing))
+algorithm_identifier = sequence algorithm_contents.format
+
+pub lawful_algorithm_identifier : IsLawful algorithm_identifier
+lawful_algorithm_identifier = lawful_sequence algorithm_contents.law
 
 -- NULL
 abbrev pub null : List ℕ

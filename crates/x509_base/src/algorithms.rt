@@ -3,11 +3,11 @@
 ghost use Rattle.std.specs.Prelude.{◌≡◌, Some};
 ghost use Rattle.std.proofs.Common.{rules, arith};
 ghost use Rattle.asn1_core.specs.Der.{option_value};
-ghost use Rattle.x509_base.specs.Algorithms.{AlgorithmValue, algorithm_identifier, raw_algorithm_identifier, null};
+ghost use Rattle.x509_base.specs.Algorithms.{AlgorithmValue, algorithm_contents, algorithm_identifier, raw_algorithm_identifier, null};
 ghost use Rattle.x509_base.specs.AlgorithmParts.{algorithm_of, parameters_of, parts_of, algorithm_value};
 ghost use Rattle.x509_base.specs.Equal.{algorithm_equal};
 ghost use Rattle.x509_base.specs.OtherAlgorithms.{other_algorithm, lawful_other_algorithm};
-ghost use Rattle.x509_base.specs.AlgorithmLaws.{lawful_algorithm_identifier, lawful_raw_algorithm_identifier};
+ghost use Rattle.x509_base.specs.AlgorithmLaws.{lawful_raw_algorithm_identifier};
 
 use asn1_choices::{AnyOid, ReadChoice, WriteChoice};
 use asn1_core::OidRef;
@@ -48,27 +48,17 @@ impl AlgorithmIdentifier {
     }
 }
 
-impl DerSerialize for AlgorithmIdentifier {
-    ghost Value = { AlgorithmValue };
+impl Sequence for AlgorithmIdentifier {
+    ghost asn1 = { algorithm_contents };
 
     ghost value = { algorithm_value };
 
-    ghost format = { algorithm_identifier };
-
-    fn put<W: Writer>(&self, w: &mut W) -> Result<(), WriteError> {
-        let parameters = MaybeRef(&self.parameters, End);
-        put_within(0x30, &Part(OidRef(&self.algorithm), parameters), w)
+    fn with_components<U: Task>(&self, task: &mut U) -> U::Out {
+        task.run(&Part(OidRef(&self.algorithm), MaybeRef(&self.parameters, End)))
     }
 
-    fn well_formed_at(&self, limit: u8) -> bool {
-        let parameters = MaybeRef(&self.parameters, End);
-        Part(OidRef(&self.algorithm), parameters).components_well_formed_at(limit)
-    }
-}
-
-impl DerDeserialize for AlgorithmIdentifier {
-    fn read(alloc: Global, r: &mut Reader<'_>, nest: u8) -> Result<Self, Error> {
-        let components: AlgorithmComponents = read_within(alloc, r, nest, 0x30)?;
+    fn read_fields(alloc: Global, r: &mut Reader<'_>, nest: u8) -> Result<Self, Error> {
+        let components: AlgorithmComponents = ReadComponents::read_components(alloc, r, nest)?;
         let Part(ObjectIdentifierAsn1(algorithm), Maybe(parameters, End)) = components;
         Ok(Self {
             algorithm,
@@ -76,23 +66,11 @@ impl DerDeserialize for AlgorithmIdentifier {
         })
     }
 
-    ghost lawful = { lawful_algorithm_identifier };
-}
-
-impl FirstTags for AlgorithmIdentifier {
-    fn begins(tag: u8) -> bool {
-        tag == 0x30
-    }
-}
-
-impl EqualByText for AlgorithmIdentifier {
-    ghost equal_by_text = { algorithm_equal };
-}
-
-impl TryClone for AlgorithmIdentifier {
-    fn try_clone(&self, alloc: Global) -> Result<Self, Error> {
+    fn clone_fields(&self, alloc: Global) -> Result<Self, Error> {
         clone_of!(self, alloc; Self { algorithm, parameters })
     }
+
+    ghost equal = { algorithm_equal };
 }
 
 /// An algorithm identifier whose absent parameters are read as absent, and written as NULL.

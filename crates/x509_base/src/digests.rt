@@ -1,8 +1,9 @@
 //! Digests, and the identifier of a key (RFC 2315, 9.4; RFC 5280, 4.2.1.2).
 
 ghost use Rattle.std.proofs.Common.{rules, arith};
-ghost use Rattle.asn1_core.specs.Der.{any_octets, octet_string, lawful_octet_string, leaf_tagged};
-ghost use Rattle.x509_base.specs.Digests.{DigestInfoValue, digest_info, lawful_digest_info};
+ghost use Rattle.asn1_core.specs.Der.{der_equal, any_octets, octet_string, lawful_octet_string, leaf_tagged};
+ghost use Rattle.x509_base.specs.Equal.{algorithm_equal};
+ghost use Rattle.x509_base.specs.Digests.{digest_info_contents, digest_info_value};
 
 use crate::algorithms::AlgorithmIdentifier;
 use asn1_core::prelude::*;
@@ -15,38 +16,24 @@ pub struct DigestInfo {
     pub digest: OctetStringAsn1,
 }
 
-impl DerSerialize for DigestInfo {
-    ghost Value = { DigestInfoValue };
+impl Sequence for DigestInfo {
+    ghost asn1 = { digest_info_contents };
 
-    ghost value = { λ x. (⟦<AlgorithmIdentifier as DerSerialize>⟧.value x.oid, (⟦<OctetStringAsn1 as DerSerialize>⟧.value x.digest, tt)) };
+    ghost value = { digest_info_value };
 
-    ghost format = { digest_info };
-
-    fn put<W: Writer>(&self, w: &mut W) -> Result<(), WriteError> {
-        put_of!(self, w; oid, digest)
+    fn with_components<U: Task>(&self, task: &mut U) -> U::Out {
+        with_components_of!(self, task; DigestInfo { oid, digest })
     }
 
-    fn well_formed_at(&self, limit: u8) -> bool {
-        formed_of!(self, limit; oid, digest)
-    }
-}
-
-impl DerDeserialize for DigestInfo {
-    fn read(alloc: Global, r: &mut Reader<'_>, nest: u8) -> Result<Self, Error> {
-        read_of!(alloc, r, nest; DigestInfo { oid, digest })
+    fn read_fields(alloc: Global, r: &mut Reader<'_>, nest: u8) -> Result<Self, Error> {
+        read_fields_of!(alloc, r, nest; DigestInfo { oid, digest })
     }
 
-    ghost lawful = { lawful_digest_info };
-}
-
-impl EqualByText for DigestInfo {
-    ghost equal_by_text = { Prim.search rules };
-}
-
-impl TryClone for DigestInfo {
-    fn try_clone(&self, alloc: Global) -> Result<Self, Error> {
-        clone_of!(self, alloc; DigestInfo { oid, digest })
+    fn clone_fields(&self, alloc: Global) -> Result<Self, Error> {
+        clone_fields_of!(self, alloc; DigestInfo { oid, digest })
     }
+
+    ghost equal = { λ x y. Prim.search (der_equal, algorithm_equal, rules) depth 20 };
 }
 
 /// `SubjectKeyIdentifier ::= OCTET STRING`

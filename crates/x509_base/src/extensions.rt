@@ -1,8 +1,10 @@
 //! Extensions (RFC 5280, 4.2).
 
 ghost use Rattle.std.specs.Prelude.{List};
+ghost use Rattle.std.proofs.Common.{arith};
+ghost use Rattle.asn1_core.specs.Der.{each, within_tagged};
 ghost use Rattle.x509_base.specs.Equal.{extension_equal, extensions_equal};
-ghost use Rattle.x509_base.specs.Extensions.{ExtensionValue, extension_value, extension, extensions_value, extensions, lawful_extension, lawful_extensions};
+ghost use Rattle.x509_base.specs.Extensions.{ExtensionValue, extension_value, extension_contents, extension, extensions_value, extensions, lawful_extensions};
 
 use asn1_core::prelude::*;
 use std::alloc::Global;
@@ -15,49 +17,24 @@ pub struct Extension {
     pub extn_value: OctetStringAsn1,
 }
 
-type ExtensionComponents = Part<
-    ObjectIdentifierAsn1,
-    Omitted<DefaultFalse, Part<OctetStringAsn1, End>>,
->;
-
-impl DerSerialize for Extension {
-    ghost Value = { ExtensionValue };
+impl Sequence for Extension {
+    ghost asn1 = { extension_contents };
 
     ghost value = { extension_value };
 
-    ghost format = { extension };
-
-    fn put<W: Writer>(&self, w: &mut W) -> Result<(), WriteError> {
-        put_of!(self, w; extn_id, (DefaultFalse(self.critical)) DEFAULT, extn_value)
+    fn with_components<U: Task>(&self, task: &mut U) -> U::Out {
+        with_components_of!(self, task; Extension { extn_id, DefaultFalse(critical) DEFAULT, extn_value })
     }
 
-    fn well_formed_at(&self, limit: u8) -> bool {
-        formed_of!(self, limit; extn_id, (DefaultFalse(self.critical)) DEFAULT, extn_value)
-    }
-}
-
-impl DerDeserialize for Extension {
-    fn read(alloc: Global, r: &mut Reader<'_>, nest: u8) -> Result<Self, Error> {
-        let components: ExtensionComponents = read_within(alloc, r, nest, 0x30)?;
-        let fields_of!(extn_id, (DefaultFalse(critical)) DEFAULT, extn_value) = components;
-        Ok(Extension {
-            extn_id,
-            critical,
-            extn_value,
-        })
+    fn read_fields(alloc: Global, r: &mut Reader<'_>, nest: u8) -> Result<Self, Error> {
+        read_fields_of!(alloc, r, nest; Extension { extn_id, DefaultFalse(critical) DEFAULT, extn_value })
     }
 
-    ghost lawful = { lawful_extension };
-}
-
-impl EqualByText for Extension {
-    ghost equal_by_text = { extension_equal };
-}
-
-impl TryClone for Extension {
-    fn try_clone(&self, alloc: Global) -> Result<Self, Error> {
-        clone_of!(self, alloc; Extension { extn_id, extn_value; critical })
+    fn clone_fields(&self, alloc: Global) -> Result<Self, Error> {
+        clone_fields_of!(self, alloc; Extension { extn_id, DefaultFalse(critical) DEFAULT, extn_value })
     }
+
+    ghost equal = { extension_equal };
 }
 
 /// `Extensions ::= SEQUENCE OF Extension`
@@ -88,10 +65,20 @@ impl DerDeserialize for Extensions {
     ghost lawful = { lawful_extensions };
 }
 
-impl FirstTags for Extensions {
-    fn begins(tag: u8) -> bool {
-        tag == 0x30
+impl DerTagged for Extensions {
+    ghost TAG = { 0x30 };
+
+    const TAG: u8 = 0x30;
+
+    fn put_as<W: Writer>(&self, tag: u8, w: &mut W) -> Result<(), WriteError> {
+        put_within(tag, &self.0, w)
     }
+
+    fn read_contents(alloc: Global, r: &mut Reader<'_>, nest: u8) -> Result<Self, Error> {
+        Ok(Extensions(read_inside(alloc, r, nest, 0x30)?))
+    }
+
+    ghost tagged = { within_tagged 0x30 (Prim.omega arith) (each extension) };
 }
 
 impl EqualByText for Extensions {

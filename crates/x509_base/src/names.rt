@@ -1,7 +1,9 @@
 //! Names and attributes (RFC 5280, 4.1.2.4; RFC 5652, 5.3).
 
+ghost use Rattle.std.proofs.Common.{arith};
+ghost use Rattle.asn1_core.specs.Der.{each, set_of, within_tagged};
 ghost use Rattle.x509_base.specs.Equal.{name_value_equal, name_equal, attribute_equal};
-ghost use Rattle.x509_base.specs.Names.{NameValueValue, name_value_value, name_value, NameParts, name_parts, name, AttributeValue, attribute_value, attribute, lawful_name_value, lawful_name, lawful_attribute};
+ghost use Rattle.x509_base.specs.Names.{name_value_contents, name_value, name_value_value, NameParts, name_parts, name, attribute_contents, attribute_value, lawful_name};
 
 use asn1_core::prelude::*;
 use std::alloc::Global;
@@ -13,38 +15,24 @@ pub struct NameValue {
     pub value: Asn1RawDer,
 }
 
-impl DerSerialize for NameValue {
-    ghost Value = { NameValueValue };
+impl Sequence for NameValue {
+    ghost asn1 = { name_value_contents };
 
     ghost value = { name_value_value };
 
-    ghost format = { name_value };
-
-    fn put<W: Writer>(&self, w: &mut W) -> Result<(), WriteError> {
-        put_of!(self, w; ty, value)
+    fn with_components<U: Task>(&self, task: &mut U) -> U::Out {
+        with_components_of!(self, task; NameValue { ty, value })
     }
 
-    fn well_formed_at(&self, limit: u8) -> bool {
-        formed_of!(self, limit; ty, value)
-    }
-}
-
-impl DerDeserialize for NameValue {
-    fn read(alloc: Global, r: &mut Reader<'_>, nest: u8) -> Result<Self, Error> {
-        read_of!(alloc, r, nest; NameValue { ty, value })
+    fn read_fields(alloc: Global, r: &mut Reader<'_>, nest: u8) -> Result<Self, Error> {
+        read_fields_of!(alloc, r, nest; NameValue { ty, value })
     }
 
-    ghost lawful = { lawful_name_value };
-}
-
-impl EqualByText for NameValue {
-    ghost equal_by_text = { name_value_equal };
-}
-
-impl TryClone for NameValue {
-    fn try_clone(&self, alloc: Global) -> Result<Self, Error> {
-        clone_of!(self, alloc; NameValue { ty, value })
+    fn clone_fields(&self, alloc: Global) -> Result<Self, Error> {
+        clone_fields_of!(self, alloc; NameValue { ty, value })
     }
+
+    ghost equal = { name_value_equal };
 }
 
 /// `Name ::= SEQUENCE OF SET OF AttributeTypeAndValue`
@@ -75,10 +63,20 @@ impl DerDeserialize for Name {
     ghost lawful = { lawful_name };
 }
 
-impl FirstTags for Name {
-    fn begins(tag: u8) -> bool {
-        tag == 0x30
+impl DerTagged for Name {
+    ghost TAG = { 0x30 };
+
+    const TAG: u8 = 0x30;
+
+    fn put_as<W: Writer>(&self, tag: u8, w: &mut W) -> Result<(), WriteError> {
+        self.0.put_as(tag, w)
     }
+
+    fn read_contents(alloc: Global, r: &mut Reader<'_>, nest: u8) -> Result<Self, Error> {
+        Ok(Name(Asn1SequenceOf::read_contents(alloc, r, nest)?))
+    }
+
+    ghost tagged = { within_tagged 0x30 (Prim.omega arith) (each (set_of name_value)) };
 }
 
 impl EqualByText for Name {
@@ -98,36 +96,22 @@ pub struct Attribute {
     pub value: Asn1SetOf<Asn1RawDer>,
 }
 
-impl DerSerialize for Attribute {
-    ghost Value = { AttributeValue };
+impl Sequence for Attribute {
+    ghost asn1 = { attribute_contents };
 
     ghost value = { attribute_value };
 
-    ghost format = { attribute };
-
-    fn put<W: Writer>(&self, w: &mut W) -> Result<(), WriteError> {
-        put_of!(self, w; ty, value)
+    fn with_components<U: Task>(&self, task: &mut U) -> U::Out {
+        with_components_of!(self, task; Attribute { ty, value })
     }
 
-    fn well_formed_at(&self, limit: u8) -> bool {
-        formed_of!(self, limit; ty, value)
-    }
-}
-
-impl DerDeserialize for Attribute {
-    fn read(alloc: Global, r: &mut Reader<'_>, nest: u8) -> Result<Self, Error> {
-        read_of!(alloc, r, nest; Attribute { ty, value })
+    fn read_fields(alloc: Global, r: &mut Reader<'_>, nest: u8) -> Result<Self, Error> {
+        read_fields_of!(alloc, r, nest; Attribute { ty, value })
     }
 
-    ghost lawful = { lawful_attribute };
-}
-
-impl EqualByText for Attribute {
-    ghost equal_by_text = { attribute_equal };
-}
-
-impl TryClone for Attribute {
-    fn try_clone(&self, alloc: Global) -> Result<Self, Error> {
-        clone_of!(self, alloc; Attribute { ty, value })
+    fn clone_fields(&self, alloc: Global) -> Result<Self, Error> {
+        clone_fields_of!(self, alloc; Attribute { ty, value })
     }
+
+    ghost equal = { attribute_equal };
 }

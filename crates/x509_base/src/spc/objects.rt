@@ -1,10 +1,10 @@
 //! Serialized objects, and the identifiers of their classes.
 
 ghost use Rattle.std.specs.Prelude.{◌≡◌, [], MatchResult};
-ghost use Rattle.std.proofs.Common.{rules, arith};
+ghost use Rattle.std.proofs.Common.{rules};
 ghost use Rattle.asn1_core_element.specs.declared.error.Error.TheVariants.{Memory};
-ghost use Rattle.asn1_core.specs.Der.{octet_string, lawful_octet_string, within_tagged};
-ghost use Rattle.x509_base.specs.SpcObjects.{SerializedObjectValue, serialized_object_components, serialized_object, lawful_serialized_object, page_hash_class};
+ghost use Rattle.asn1_core.specs.Der.{octet_string, lawful_octet_string};
+ghost use Rattle.x509_base.specs.SpcObjects.{serialized_object_contents, serialized_object_value, page_hash_class};
 
 use asn1_core::prelude::*;
 use std::alloc::Global;
@@ -83,56 +83,22 @@ impl SpcSerializedObject {
     }
 }
 
-impl DerSerialize for SpcSerializedObject {
-    ghost Value = { SerializedObjectValue };
+impl Sequence for SpcSerializedObject {
+    ghost asn1 = { serialized_object_contents };
 
-    ghost value = { λ x. (x.class_id.0.0.items, (x.serialized_data.0.items, tt)) };
+    ghost value = { serialized_object_value };
 
-    ghost format = { serialized_object };
-
-    fn put<W: Writer>(&self, w: &mut W) -> Result<(), WriteError> {
-        put_of!(self, w; class_id, serialized_data)
+    fn with_components<U: Task>(&self, task: &mut U) -> U::Out {
+        with_components_of!(self, task; SpcSerializedObject { class_id, serialized_data })
     }
 
-    fn well_formed_at(&self, limit: u8) -> bool {
-        formed_of!(self, limit; class_id, serialized_data)
-    }
-}
-
-impl DerDeserialize for SpcSerializedObject {
-    fn read(alloc: Global, r: &mut Reader<'_>, nest: u8) -> Result<Self, Error> {
-        read_of!(alloc, r, nest; SpcSerializedObject { class_id, serialized_data })
+    fn read_fields(alloc: Global, r: &mut Reader<'_>, nest: u8) -> Result<Self, Error> {
+        read_fields_of!(alloc, r, nest; SpcSerializedObject { class_id, serialized_data })
     }
 
-    ghost lawful = { lawful_serialized_object };
-}
-
-impl DerTagged for SpcSerializedObject {
-    ghost TAG = { 0x30 };
-
-    const TAG: u8 = 0x30;
-
-    fn put_as<W: Writer>(&self, tag: u8, w: &mut W) -> Result<(), WriteError> {
-        put_within(tag, &body_of!(self; class_id, serialized_data), w)
+    fn clone_fields(&self, alloc: Global) -> Result<Self, Error> {
+        clone_fields_of!(self, alloc; SpcSerializedObject { class_id, serialized_data })
     }
 
-    fn read_contents(alloc: Global, r: &mut Reader<'_>, nest: u8) -> Result<Self, Error> {
-        let fields_of!(class_id, serialized_data) = read_inside(alloc, r, nest, 0x30)?;
-        Ok(SpcSerializedObject {
-            class_id,
-            serialized_data,
-        })
-    }
-
-    ghost tagged = { within_tagged 0x30 (Prim.omega arith) serialized_object_components };
-}
-
-impl EqualByText for SpcSerializedObject {
-    ghost equal_by_text = { Prim.search rules };
-}
-
-impl TryClone for SpcSerializedObject {
-    fn try_clone(&self, alloc: Global) -> Result<Self, Error> {
-        clone_of!(self, alloc; SpcSerializedObject { class_id, serialized_data })
-    }
+    ghost equal = { Prim.search rules };
 }
