@@ -40,7 +40,7 @@ impl WriteComponents for AnyContentRef<'_> {
 
     fn put_components<W: Writer>(&self, w: &mut W) -> Result<(), WriteError> {
         match self.0 {
-            Some(content) => ExplicitContextTag0(content).put(w),
+            Some(content) => ExplicitContextTag0(Ref(content)).put(w),
             None => End.put_components(w),
         }
     }
@@ -190,7 +190,7 @@ impl DerDeserialize for SafeContentsContentInfo {
         match choice {
             Either::First(alternative) => Ok(Self::Data(alternative.into_components().0.0.0)),
             Either::Second(Either::First(alternative)) => {
-                let Part(FixedVersion, Part(Ref(contents), End)) = alternative.into_components().0.0.0;
+                let Part(FixedVersion, Part(contents, End)) = alternative.into_components().0.0.0;
                 Ok(Self::EncryptedData(contents))
             }
             Either::Second(Either::Second(other)) => {

@@ -50,7 +50,9 @@ impl<const KNOWN: usize> X509Bag<KNOWN> {
         ensures { ⟦<OctetsOrAnyRef<'static, Known<KNOWN>> as WriteChoice>⟧.value result ≡ x509_value self.now }
     {
         match self {
-            Self::X509(octets) => Either::First(Alternative::new(Alone(ExplicitContextTag0(Ref(octets))))),
+            Self::X509(octets) => Either::First(Alternative::new(Alone(ExplicitContextTag0(Ref(
+                octets,
+            ))))),
             Self::Unknown { type_id, value } => {
                 Either::Second(AnyOidRef(type_id, Alone(ExplicitContextTag0(Ref(value)))))
             }

@@ -27,7 +27,7 @@ use asn1_core::OidRef;
 use asn1_core::prelude::*;
 use asn1_core_element::element::open_element;
 use asn1_core_format::Either::{self, First, Second};
-use asn1_core_format::{Less, read_list_with};
+use asn1_core_format::read_list_with;
 use std::alloc::Global;
 
 /// `SafeBag ::= SEQUENCE { bagId BAG-TYPE.&id, bagValue [0] EXPLICIT BAG-TYPE.&Type, bagAttributes SET OF
@@ -150,7 +150,10 @@ fn put_bag<T: DerSerialize, W: Writer>(
     requires { W.MayTake w.old }
     ensures { W.Takes (element 0x06 (oid number) ++ (bag_alternative T.format).text (T.value value.now, attributes_value attributes.now)) w.old w.new result }
 {
-    let components = Part(ExplicitContextTag0(value), BagAttributesRef(attributes));
+    let components = Part(
+        ExplicitContextTag0(Ref(value)),
+        BagAttributesRef(attributes),
+    );
     Part(KnownOid(octets_of_known(number)), components).put_components(w)
 }
 
@@ -170,11 +173,12 @@ impl WriteComponents for SafeBag {
             SafeBagKind::Certificate(bag) => put_bag(CERTIFICATE_BAG, bag, attributes, w),
             SafeBagKind::Crl(bag) => put_bag(CRL_BAG, bag, attributes, w),
             SafeBagKind::Secret(bag) => put_bag(SECRET_BAG, bag, attributes, w),
-            SafeBagKind::SafeContents(bags) => {
-                put_bag(SAFE_CONTENTS_BAG, &Less(bags), attributes, w)
-            }
+            SafeBagKind::SafeContents(bags) => put_bag(SAFE_CONTENTS_BAG, bags, attributes, w),
             SafeBagKind::Unknown { type_id, value } => {
-                let components = Part(ExplicitContextTag0(value), BagAttributesRef(attributes));
+                let components = Part(
+                    ExplicitContextTag0(Ref(value)),
+                    BagAttributesRef(attributes),
+                );
                 Part(OidRef(type_id), components).put_components(w)
             }
         }
