@@ -161,11 +161,11 @@ pub trait DerDeserialize: DerSerialize + Drop {
     ghost lawful: { IsLawful Self.DerSerialize.format };
 }
 
-/// A borrowed value, as a part for writing.
+/// A reference to a value, as a part for writing.
 #[derive(Drop)]
-pub struct Ref<'a, T>(pub &'a T);
+pub struct Ref<R>(pub R);
 
-impl<T: DerSerialize> DerSerialize for Ref<'_, T> {
+impl<T: DerSerialize> DerSerialize for Ref<&T> {
     ghost Value = { T.Value };
 
     ghost value = { λ x. T.value x.0.now };

@@ -3,7 +3,7 @@
 use crate::rounds::{Stop, expect, has_text, is_made, is_written, names};
 use crate::texts;
 use std::alloc::Global;
-use x509_containers::prelude::ReadRow;
+use x509_containers::prelude::ReadComponents;
 use x509_containers::{
     Asn1SetOf, BitString, BitStringAsn1, BmpString, CertificateSet, CmsVersion, ContentInfo,
     DigestAlgorithmIdentifiers, EncapsulatedContentInfo, Error, ExplicitContextTag0, File,
@@ -163,7 +163,7 @@ pub fn of_contents(rt: &HostRuntime) -> Result<(), Stop> {
 
 /// The certificates, one after another, as signed data that hold them alone.
 fn bundle_of(alloc: Global, certificates: &[u8]) -> Result<Pkcs7Certificate, Error> {
-    let certificates = Vec::read_row(alloc, &mut Reader::new(certificates), MAX_NESTING)?;
+    let certificates = Vec::read_components(alloc, &mut Reader::new(certificates), MAX_NESTING)?;
     Ok(Pkcs7Certificate {
         oid: ObjectIdentifierAsn1(ObjectIdentifier::from_text(alloc, "1.2.840.113549.1.7.2")?),
         signed_data: ExplicitContextTag0(SignedData {
@@ -179,7 +179,7 @@ fn bundle_of(alloc: Global, certificates: &[u8]) -> Result<Pkcs7Certificate, Err
 
 /// Signed data made by fields: what docs/USING.md quotes.
 pub fn of_certificates(rt: &HostRuntime) -> Result<(), Stop> {
-    names(rt, "read_row, from_text and new_pkcs7_data", "signed data")?;
+    names(rt, "read_components, from_text and new_pkcs7_data", "signed data")?;
     is_made(bundle_of(rt.alloc(), texts::CERTIFICATES), texts::BUNDLE)
 }
 

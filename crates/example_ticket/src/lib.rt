@@ -41,8 +41,8 @@ pub enum Holder {
 type HolderChoice = Either<Alternative<Token, Alone<OctetStringAsn1>>, AnyOid<Alone<Asn1RawDer>>>;
 
 type HolderRef<'a> = Either<
-    Alternative<Token, Alone<Ref<'a, OctetStringAsn1>>>,
-    AnyOidRef<'a, Alone<Ref<'a, Asn1RawDer>>>,
+    Alternative<Token, Alone<Ref<&'a OctetStringAsn1>>>,
+    AnyOidRef<'a, Alone<Ref<&'a Asn1RawDer>>>,
 >;
 
 impl Holder {

@@ -32,11 +32,11 @@ pub enum Pkcs12EncryptionAlgorithm {
 
 type Pbes1Ref<'a> = Among<
     Pbes1AlgorithmKind,
-    Alone<Ref<'a, Pbes1Params>>,
+    Alone<Ref<&'a Pbes1Params>>,
     &'a RawAlgorithmIdentifier,
 >;
 
-type EncryptionRef<'a> = Either<Alternative<Pbes2, Alone<Ref<'a, Pbes2Params>>>, Pbes1Ref<'a>>;
+type EncryptionRef<'a> = Either<Alternative<Pbes2, Alone<Ref<&'a Pbes2Params>>>, Pbes1Ref<'a>>;
 
 type Pbes1Choice = Among<Pbes1AlgorithmKind, Alone<Pbes1Params>, RawAlgorithmIdentifier>;
 

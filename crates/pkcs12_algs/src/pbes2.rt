@@ -32,7 +32,7 @@ pub enum Pbes2KeyDerivationFunc {
 type KdfChoice = Either<Alternative<Pbkdf2, Alone<Pbkdf2Params>>, RawAlgorithmIdentifier>;
 
 type KdfRef<'a> = Either<
-    Alternative<Pbkdf2, Alone<Ref<'a, Pbkdf2Params>>>,
+    Alternative<Pbkdf2, Alone<Ref<&'a Pbkdf2Params>>>,
     &'a RawAlgorithmIdentifier,
 >;
 
@@ -188,7 +188,7 @@ pub enum Pbes2EncryptionScheme {
 
 type SchemeRef<'a> = Among<
     Pbes2AesCbcEncryption,
-    Alone<Ref<'a, OctetStringAsn1>>,
+    Alone<Ref<&'a OctetStringAsn1>>,
     &'a RawAlgorithmIdentifier,
 >;
 

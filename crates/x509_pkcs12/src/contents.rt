@@ -93,7 +93,7 @@ type EncryptedComponents = ExplicitContextTag0<
 >;
 
 type EncryptedRef<'a> = ExplicitContextTag0<
-    Asn1Sequence<Part<FixedVersion<0>, Part<Ref<'a, EncryptedSafeContents>, End>>>,
+    Asn1Sequence<Part<FixedVersion<0>, Part<Ref<&'a EncryptedSafeContents>, End>>>,
 >;
 
 /// A SEQUENCE of parts.
@@ -135,7 +135,7 @@ type ContentChoice = Either<
 type ContentRef<'a> = Either<
     Alternative<
         Known<PKCS7_DATA>,
-        Alone<ExplicitContextTag0<OctetStringAsn1Container<Ref<'a, SafeContents>>>>,
+        Alone<ExplicitContextTag0<OctetStringAsn1Container<Ref<&'a SafeContents>>>>,
     >,
     Either<
         Alternative<Known<ENCRYPTED_DATA>, Alone<EncryptedRef<'a>>>,

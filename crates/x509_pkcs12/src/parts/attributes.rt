@@ -60,7 +60,7 @@ type AttributeChoice = Either<
 type AttributeRef<'a> = Either<
     Alternative<Known<FRIENDLY_NAME>, Alone<SetOfOne<BmpRef<'a>>>>,
     Either<
-        Alternative<Known<LOCAL_KEY_ID>, Alone<SetOfOne<Ref<'a, OctetStringAsn1>>>>,
+        Alternative<Known<LOCAL_KEY_ID>, Alone<SetOfOne<Ref<&'a OctetStringAsn1>>>>,
         AnyOidRef<'a, Alone<SetRef<'a, Asn1RawDer>>>,
     >,
 >;

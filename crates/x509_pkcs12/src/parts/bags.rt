@@ -22,8 +22,8 @@ type OctetsOrAny<N> = Either<
 >;
 
 type OctetsOrAnyRef<'a, N> = Either<
-    Alternative<N, Alone<ExplicitContextTag0<Ref<'a, OctetStringAsn1>>>>,
-    AnyOidRef<'a, Alone<ExplicitContextTag0<Ref<'a, Asn1RawDer>>>>,
+    Alternative<N, Alone<ExplicitContextTag0<Ref<&'a OctetStringAsn1>>>>,
+    AnyOidRef<'a, Alone<ExplicitContextTag0<Ref<&'a Asn1RawDer>>>>,
 >;
 
 /// `CertBag ::= SEQUENCE { certId BAG-TYPE.&id, certValue [0] EXPLICIT BAG-TYPE.&Type }` (RFC 7292, 4.2.3).

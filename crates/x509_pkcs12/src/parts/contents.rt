@@ -87,7 +87,7 @@ pub struct EncryptedSafeContents {
 
 type ContentsRef<'a> = Part<
     DataType,
-    Part<Ref<'a, Pkcs12EncryptionAlgorithm>, Maybe<EncryptedRef<'a>, End>>,
+    Part<Ref<&'a Pkcs12EncryptionAlgorithm>, Maybe<EncryptedRef<'a>, End>>,
 >;
 
 impl EncryptedSafeContents {

@@ -101,8 +101,8 @@ type HeadRef<'a> = Part<
         Part<
             &'a Name,
             Part<
-                Ref<'a, Asn1RawDer>,
-                Part<Ref<'a, Name>, Part<Ref<'a, Asn1RawDer>, &'a Vec<Asn1RawDer>>>,
+                Ref<&'a Asn1RawDer>,
+                Part<Ref<&'a Name>, Part<Ref<&'a Asn1RawDer>, &'a Vec<Asn1RawDer>>>,
             >,
         >,
     >,

@@ -242,8 +242,8 @@ type TstInfoRef<'a> = Part<
     Part<
         &'a ObjectIdentifierAsn1,
         Part<
-            Ref<'a, DigestInfo>,
-            Part<Ref<'a, IntegerAsn1>, Part<Ref<'a, GenTime>, OptionsRef<'a>>>,
+            Ref<&'a DigestInfo>,
+            Part<Ref<&'a IntegerAsn1>, Part<Ref<&'a GenTime>, OptionsRef<'a>>>,
         >,
     >,
 >;
