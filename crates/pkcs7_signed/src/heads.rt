@@ -1,7 +1,7 @@
 //! Signers and signed data without what holds further signers, borrowed, as they are written and tested.
 
-ghost use Rattle.std.specs.Prelude.{◌≡◌, List};
-ghost use Rattle.asn1_core.specs.Der.{nothing};
+ghost use Rattle.std.specs.Prelude.{◌≡◌, ◌++◌, List};
+ghost use Rattle.asn1_core.specs.Der.{nothing, element};
 ghost use Rattle.asn1_choices.specs.DefinedBy.{only_written};
 ghost use Rattle.pkcs7_signed.specs.Parts.{SignerParts, signer_parts, SignedParts, signed_parts};
 ghost use Rattle.pkcs7_signed.specs.Heads.{signer_head_value, signed_head_value};
@@ -32,21 +32,30 @@ impl DerSerialize for SignerHead<'_> {
     ghost format = { only_written (signer_parts nothing) };
 
     fn put<W: Writer>(&self, w: &mut W) -> Result<(), WriteError> {
-        let signature = Part(self.signature_algorithm, Part(self.signature, End));
+        let signature = Part(
+            Ref(self.signature_algorithm),
+            Part(Ref(self.signature), End),
+        );
         let signed = OmittedRef(self.signed_attrs, signature);
         Part(
             self.version,
-            Part(self.sid, Part(self.digest_algorithm, signed)),
+            Part(Ref(self.sid), Part(Ref(self.digest_algorithm), signed)),
         )
         .put_components(w)
     }
 
     fn well_formed_at(&self, limit: u8) -> bool {
-        let signature = Part(self.signature_algorithm, Part(self.signature, End));
+        let signature = Part(
+            Ref(self.signature_algorithm),
+            Part(Ref(self.signature), End),
+        );
         let signed = OmittedRef(self.signed_attrs, signature);
         match self.version {
             CmsVersion::V1 => {
-                Part(self.sid, Part(self.digest_algorithm, signed)).components_well_formed_at(limit)
+                Part(
+                    Ref(self.sid),
+                    Part(Ref(self.digest_algorithm), signed),
+                ).components_well_formed_at(limit)
             }
             _ => false,
         }
@@ -71,14 +80,28 @@ impl DerSerialize for SignedHead<'_> {
     ghost format = { only_written (signed_parts nothing) };
 
     fn put<W: Writer>(&self, w: &mut W) -> Result<(), WriteError> {
-        let certificates = OmittedRef(self.certificates, MaybeRef(&self.crls, End));
-        let content = Part(self.content_info, certificates);
-        Part(self.version, Part(self.digest_algorithms, content)).put_components(w)
+        let certificates = OmittedRef(self.certificates, MaybeRef(self.crls, End));
+        let content = Part(Ref(self.content_info), certificates);
+        Part(self.version, Part(Ref(self.digest_algorithms), content)).put_components(w)
     }
 
     fn well_formed_at(&self, limit: u8) -> bool {
-        let certificates = OmittedRef(self.certificates, MaybeRef(&self.crls, End));
-        let content = Part(self.content_info, certificates);
-        Part(self.version, Part(self.digest_algorithms, content)).components_well_formed_at(limit)
+        let certificates = OmittedRef(self.certificates, MaybeRef(self.crls, End));
+        let content = Part(Ref(self.content_info), certificates);
+        Part(self.version, Part(Ref(self.digest_algorithms), content)).components_well_formed_at(
+            limit,
+        )
     }
+}
+
+/// Writes a SEQUENCE of two parts. The second may hold signers: this function is outside of their cycle of calls.
+pub(crate) fn put_two<A: DerSerialize, B: DerSerialize, W: Writer>(
+    first: &A,
+    second: &B,
+    w: &mut W,
+) -> Result<(), WriteError>
+    requires { W.MayTake w.old }
+    ensures { W.Takes (element 0x30 (A.format.text (A.value first.now) ++ B.format.text (B.value second.now))) w.old w.new result }
+{
+    put_within(0x30, &Part(Ref(first), Alone(Ref(second))), w)
 }

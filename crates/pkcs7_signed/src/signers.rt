@@ -9,7 +9,7 @@ ghost use Rattle.pkcs7_signed.specs.Signers.{Value, signers, attributes, certifi
 ghost use Rattle.pkcs7_signed.specs.SignerValues.{signer_value, signers_value, attribute_value, attributes_value, values_value, certificate_value, signed_value};
 ghost use Rattle.pkcs7_signed.specs.declared.signers.UnsignedAttributes.{out-UnsignedAttributes};
 
-use crate::heads::{SignedHead, SignerHead};
+use crate::heads::{SignedHead, SignerHead, put_two};
 use crate::oids::{COUNTERSIGNATURE, MS_COUNTER_SIGN, SIGNED_DATA};
 use crate::parts::{
     Attributes, CertificateSet, DigestAlgorithmIdentifier, DigestAlgorithmIdentifiers,
@@ -169,11 +169,7 @@ impl DerSerialize for SignerInfo {
         if is_none(&self.unsigned_attrs.0.0) {
             return put_within(0x30, &Alone(self.head()), w);
         }
-        put_within(
-            0x30,
-            &Part(self.head(), Alone(Ref(&self.unsigned_attrs.0))),
-            w,
-        )
+        put_two(&self.head(), &self.unsigned_attrs.0, w)
     }
 
     #[cycle(formed)]
@@ -235,7 +231,7 @@ impl DerSerialize for UnsignedAttribute {
 
     #[cycle(put)]
     fn put<W: Writer>(&self, w: &mut W) -> Result<(), WriteError> {
-        put_within(0x30, &Part(Ref(&self.ty), Alone(Ref(&self.value))), w)
+        put_two(&self.ty, &self.value, w)
     }
 
     #[cycle(formed)]
@@ -286,11 +282,7 @@ impl DerSerialize for Pkcs7Certificate {
 
     #[cycle(put)]
     fn put<W: Writer>(&self, w: &mut W) -> Result<(), WriteError> {
-        put_within(
-            0x30,
-            &Part(Ref(&self.oid), Alone(Ref(&self.signed_data))),
-            w,
-        )
+        put_two(&self.oid, &self.signed_data, w)
     }
 
     #[cycle(formed)]
@@ -311,7 +303,7 @@ impl DerSerialize for SignedData {
 
     #[cycle(put)]
     fn put<W: Writer>(&self, w: &mut W) -> Result<(), WriteError> {
-        put_within(0x30, &Part(self.head(), Alone(Ref(&self.signers_infos))), w)
+        put_two(&self.head(), &self.signers_infos, w)
     }
 
     #[cycle(formed)]

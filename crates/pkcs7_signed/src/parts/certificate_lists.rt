@@ -40,11 +40,11 @@ fn version_of(read: Option<FixedVersion<1>>) -> Option<Version>
 }
 
 /// The extensions in their tag, where there are any.
-fn tagged(extensions: &Option<Extensions>) -> Option<ExplicitContextTag0<&Extensions>>
-    ensures { option_value (λ x. extensions_value x.0.now) result ≡ option_value extensions_value extensions.now }
+fn tagged(extensions: &Option<Extensions>) -> Option<ExplicitContextTag0<Ref<&Extensions>>>
+    ensures { option_value (λ x. extensions_value x.0.0.now) result ≡ option_value extensions_value extensions.now }
 {
     match extensions {
-        Some(extensions) => Some(ExplicitContextTag0(extensions)),
+        Some(extensions) => Some(ExplicitContextTag0(Ref(extensions))),
         None => None,
     }
 }

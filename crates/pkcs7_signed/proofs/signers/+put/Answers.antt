@@ -13,7 +13,7 @@ SignerInfoDerSerialize::put-returns-then-is_none g m c =
 
 pub SignerInfoDerSerialize::put-returns : goal.SignerInfoDerSerialize::put-returns
 SignerInfoDerSerialize::put-returns g m c =
-    subst (λ t. g.W.Writer.Takes t c.args.w.now c.put_within-2.new.w c.put_within-2.result) (long_text c.args.self.now c.head-2.ensures (some_in c.args.self.now (iff_false c.is_none.ensures c.if-is_none.false))) c.put_within-2.ensures.text
+    subst (λ t. g.W.Writer.Takes t c.args.w.now c.put_two.new.w c.put_two.result) (long_text c.args.self.now c.head-2.ensures (some_in c.args.self.now (iff_false c.is_none.ensures c.if-is_none.false))) c.put_two.ensures
 
 pub SignersInfosDerSerialize::put-returns : goal.SignersInfosDerSerialize::put-returns
 SignersInfosDerSerialize::put-returns g m c =
@@ -25,7 +25,7 @@ UnsignedAttributesDerSerialize::put-returns g m c =
 
 pub UnsignedAttributeDerSerialize::put-returns : goal.UnsignedAttributeDerSerialize::put-returns
 UnsignedAttributeDerSerialize::put-returns g m c =
-    subst (λ v. g.W.Writer.Takes ((attribute_components certificate (less signer)).text v) c.args.w.now c.put_within.new.w c.put_within.result) (sym (out_attribute c.args.self.now)) c.put_within.ensures.text
+    subst (λ v. g.W.Writer.Takes ((attribute_components certificate (less signer)).text v) c.args.w.now c.put_two.new.w c.put_two.result) (sym (out_attribute c.args.self.now)) c.put_two.ensures
 
 pub UnsignedAttributeValueDerSerialize::put-returns-in-MsCounterSign : goal.UnsignedAttributeValueDerSerialize::put-returns-in-MsCounterSign
 UnsignedAttributeValueDerSerialize::put-returns-in-MsCounterSign g m c =
@@ -41,8 +41,8 @@ UnsignedAttributeValueDerSerialize::put-returns-in-Unknown g m c =
 
 pub Pkcs7CertificateDerSerialize::put-returns : goal.Pkcs7CertificateDerSerialize::put-returns
 Pkcs7CertificateDerSerialize::put-returns g m c =
-    subst (λ v. g.W.Writer.Takes ((certificate_components (less signer)).text v) c.args.w.now c.put_within.new.w c.put_within.result) (sym (out_certificate c.args.self.now)) c.put_within.ensures.text
+    subst (λ v. g.W.Writer.Takes ((certificate_components (less signer)).text v) c.args.w.now c.put_two.new.w c.put_two.result) (sym (out_certificate c.args.self.now)) c.put_two.ensures
 
 pub SignedDataDerSerialize::put-returns : goal.SignedDataDerSerialize::put-returns
 SignedDataDerSerialize::put-returns g m c =
-    subst (λ t. g.W.Writer.Takes t c.args.w.now c.put_within.new.w c.put_within.result) (text_signed c.args.self.now c.head.ensures) c.put_within.ensures.text
+    subst (λ t. g.W.Writer.Takes t c.args.w.now c.put_two.new.w c.put_two.result) (text_signed c.args.self.now c.head.ensures) c.put_two.ensures
