@@ -1,7 +1,7 @@
 //! What Authenticode says of a file that a subject interface package signs.
 
 ghost use Rattle.pkcs7_content.specs.Equal.{sip_info_equal};
-ghost use Rattle.pkcs7_content.specs.SipInfos.{SipInfoValue, sip_info, lawful_sip_info, sip_info_value};
+ghost use Rattle.pkcs7_content.specs.SipInfos.{sip_info_contents, sip_info_value};
 
 use asn1_core::prelude::*;
 use asn1_leaves::IntegerAsn1;
@@ -20,42 +20,30 @@ pub struct SpcSipInfo {
     reserved5: IntegerAsn1,
 }
 
-impl DerSerialize for SpcSipInfo {
-    ghost Value = { SipInfoValue };
+macro_rules! sip_info {
+    ($by:ident($($with:ident),*)) => {
+        $by!($($with),*; SpcSipInfo {
+            version, uuid, reserved1, reserved2, reserved3, reserved4, reserved5
+        })
+    };
+}
+
+impl Sequence for SpcSipInfo {
+    ghost asn1 = { sip_info_contents };
 
     ghost value = { sip_info_value };
 
-    ghost format = { sip_info };
-
-    fn put<W: Writer>(&self, w: &mut W) -> Result<(), WriteError> {
-        put_of!(self, w; version, uuid, reserved1, reserved2, reserved3, reserved4, reserved5)
+    fn with_components<U: Task>(&self, task: &mut U) -> U::Out {
+        sip_info!(with_components_of(self, task))
     }
 
-    fn well_formed_at(&self, limit: u8) -> bool {
-        formed_of!(self, limit;
-            version, uuid, reserved1, reserved2, reserved3, reserved4, reserved5
-        )
-    }
-}
-
-impl DerDeserialize for SpcSipInfo {
-    fn read(alloc: Global, r: &mut Reader<'_>, nest: u8) -> Result<Self, Error> {
-        read_of!(alloc, r, nest; SpcSipInfo {
-            version, uuid, reserved1, reserved2, reserved3, reserved4, reserved5
-        })
+    fn read_fields(alloc: Global, r: &mut Reader<'_>, nest: u8) -> Result<Self, Error> {
+        sip_info!(read_fields_of(alloc, r, nest))
     }
 
-    ghost lawful = { lawful_sip_info };
-}
-
-impl EqualByText for SpcSipInfo {
-    ghost equal_by_text = { sip_info_equal };
-}
-
-impl TryClone for SpcSipInfo {
-    fn try_clone(&self, alloc: Global) -> Result<Self, Error> {
-        clone_of!(self, alloc; SpcSipInfo {
-            version, uuid, reserved1, reserved2, reserved3, reserved4, reserved5
-        })
+    fn clone_fields(&self, alloc: Global) -> Result<Self, Error> {
+        sip_info!(clone_fields_of(self, alloc))
     }
+
+    ghost equal = { sip_info_equal };
 }
