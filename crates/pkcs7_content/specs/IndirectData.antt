@@ -1,13 +1,13 @@
 -- What Authenticode signs.
 -- SpcAttributeTypeAndOptionalValue ::= SEQUENCE { type OBJECT IDENTIFIER, value ANY DEFINED BY type }, the value being
 -- an SpcPeImageData or an SpcSipInfo
--- SpcIndirectDataContent ::= SEQUENCE { data SpcAttributeTypeAndOptionalValue, messageDigest DigestInfo }
 use Rattle.std.specs.Prelude.{◌⊎◌, ℕ, List, ◌≡◌, if◌then◌else◌}
-use Rattle.asn1_core.specs.Der.{Format, sequence, part, nothing, OidOctets, IsLawful, IsLawfulComponents, octets_of, der_laws, either, lawful_sequence}
+use Rattle.asn1_core.specs.Asn1.{asn1, Contents, contents, ◌then◌, end}
+use Rattle.asn1_core.specs.Der.{Format, sequence, OidOctets, IsLawful, IsLawfulComponents, octets_of, either, lawful_sequence}
 use Rattle.std.specs.Str.{bytes_eq}
 use Rattle.std.proofs.Common.{inl, inr, refl}
 use Rattle.asn1_choices.specs.DefinedBy.{DefinedBy, any_defined_by, alternative, by_itself, no_alternative, only_written}
-use Rattle.x509_base.specs.Digests.{DigestInfoValue, digest_info, lawful_digest_info, digest_info_value}
+use Rattle.x509_base.specs.Digests.{lawful_digest_info, digest_info_value}
 use Rattle.pkcs7_content.specs.Oids.{pe_image_oid, sip_info_oid}
 use Rattle.pkcs7_content.specs.PeImages.{PeImageValue, pe_image_data, pe_image_value}
 use Rattle.pkcs7_content.specs.SipInfos.{SipInfoValue, sip_info, lawful_sip_info, sip_info_value}
@@ -51,15 +51,6 @@ spc_attribute_value x = (octets_of x.ty.0, spc_value x.value)
 abbrev pub spc_attribute : Format SpcAttributeValue
 spc_attribute = sequence (any_defined_by spc_defined_by)
 
-abbrev pub IndirectDataValue : Type 0
-IndirectDataValue = SpcAttributeValue × (DigestInfoValue × Unit {0})
-
-abbrev pub indirect_data_value : SpcIndirectDataContent → IndirectDataValue
-indirect_data_value x = (spc_attribute_value x.spc_data, (digest_info_value x.message_digest, tt))
-
-abbrev pub indirect_data : Format IndirectDataValue
-indirect_data = sequence (part spc_attribute (part digest_info nothing))
-
 lawful_spc_components : (s : Subject) → IsLawfulComponents (spc_components s)
 lawful_spc_components PeImage = lawful_alternative spc_values _ pe_image_data (itself (λ a. refl) (λ a. refl) (λ a. refl)) lawful_pe_image_data.components
 lawful_spc_components SipInfo = lawful_alternative spc_values _ sip_info (itself (λ a. refl) (λ a. refl) (λ a. refl)) lawful_sip_info.components
@@ -76,5 +67,18 @@ spc_is_defined_by = record { lawful = λ o. lawful_spc_components (subject_of o)
 pub lawful_spc_attribute : IsLawful spc_attribute
 lawful_spc_attribute = lawful_sequence (lawful_any_defined_by spc_defined_by spc_is_defined_by)
 
+-- SpcIndirectDataContent ::= SEQUENCE { data SpcAttributeTypeAndOptionalValue, messageDigest DigestInfo }
+abbrev pub indirect_data_contents : Contents
+indirect_data_contents = contents (asn1 lawful_spc_attribute then asn1 lawful_digest_info then end) refl
+
+abbrev pub IndirectDataValue : Type 0
+IndirectDataValue = indirect_data_contents.Value
+
+abbrev pub indirect_data : Format IndirectDataValue
+indirect_data = sequence indirect_data_contents.format
+
 pub lawful_indirect_data : IsLawful indirect_data
-lawful_indirect_data = search (der_laws, lawful_spc_attribute, lawful_digest_info) depth 20
+lawful_indirect_data = lawful_sequence indirect_data_contents.law
+
+abbrev pub indirect_data_value : SpcIndirectDataContent → IndirectDataValue
+indirect_data_value x = (spc_attribute_value x.spc_data, (digest_info_value x.message_digest, tt))

@@ -1,24 +1,20 @@
 -- Certificate trust lists, with the parts that are read.
--- Attribute ::= SEQUENCE { type OBJECT IDENTIFIER, values SET OF ANY DEFINED BY type }
--- TrustedSubject ::= SEQUENCE { subjectIdentifier OCTET STRING, subjectAttributes SET OF Attribute }
--- CertificateTrustList ::= SEQUENCE { subjectUsage SEQUENCE OF OBJECT IDENTIFIER, sequenceNumber INTEGER,
---   thisUpdate UTCTime, subjectAlgorithm AlgorithmIdentifier, trustedSubjects SEQUENCE OF TrustedSubject }
-use Rattle.std.specs.Prelude.{List, map}
-use Rattle.asn1_core.specs.Der.{Format, IsLawful, sequence, part, nothing, set_of, object_identifier, octet_string, Octets, OidOctets, IntegerOctets, octets_of, sequence_of, der_laws, lawful_sequence}
-use Rattle.asn1_leaves.specs.Integers.{integer, lawful_integer}
-use Rattle.asn1_leaves.specs.Times.{utc_time, lawful_utc_time}
-use Rattle.asn1_leaves_times.specs.declared.calendar.Moment.{Moment}
+use Rattle.std.specs.Prelude.{map}
+use Rattle.std.proofs.Common.{refl}
+use Rattle.asn1_core.specs.Asn1.{asn1, Contents, contents, ◌then◌, end, OBJECT_IDENTIFIER, OCTET_STRING, SEQUENCE, SEQUENCE_OF, SET_OF}
+use Rattle.asn1_core.specs.Der.{Format, IsLawful, sequence, lawful_sequence, OidOctets, octets_of}
+use Rattle.asn1_leaves.specs.Asn1.{INTEGER, UTC_TIME}
+use Rattle.asn1_leaves_times.specs.Times.{moment_of}
 use Rattle.asn1_choices.specs.DefinedBy.{any_defined_by}
 use Rattle.asn1_choices.specs.DefinedByLaws.{lawful_any_defined_by}
-use Rattle.x509_base.specs.Algorithms.{AlgorithmValue, algorithm_identifier}
 use Rattle.x509_base.specs.AlgorithmLaws.{lawful_algorithm_identifier}
+use Rattle.x509_base.specs.AlgorithmParts.{algorithm_value}
 use Rattle.pkcs7_content.specs.AttributeValues.{AttributeValues, values_defined_by, values_are_defined_by, attribute_values_value}
 use Rattle.pkcs7_content.specs.declared.trust_lists.attributes.CTLEntryAttribute.{CTLEntryAttribute}
 use Rattle.pkcs7_content.specs.declared.trust_lists.entries.CTLEntry.{CTLEntry}
-use Rattle.asn1_leaves_times.specs.Times.{moment_of}
-use Rattle.x509_base.specs.AlgorithmParts.{algorithm_value}
 use Rattle.pkcs7_content.specs.declared.trust_lists.entries.Ctl.{Ctl}
 
+-- Attribute ::= SEQUENCE { type OBJECT IDENTIFIER, values SET OF ANY DEFINED BY type }
 abbrev pub EntryAttributeValue : Type 0
 EntryAttributeValue = OidOctets × AttributeValues
 
@@ -31,26 +27,31 @@ entry_attribute = sequence (any_defined_by values_defined_by)
 pub lawful_entry_attribute : IsLawful entry_attribute
 lawful_entry_attribute = lawful_sequence (lawful_any_defined_by values_defined_by values_are_defined_by)
 
-abbrev pub EntryValue : Type 0
-EntryValue = Octets × (List EntryAttributeValue × Unit {0})
+-- TrustedSubject ::= SEQUENCE { subjectIdentifier OCTET STRING, subjectAttributes SET OF Attribute }
+abbrev pub entry_contents : Contents
+entry_contents = contents (OCTET_STRING then SET_OF (asn1 lawful_entry_attribute) then end) refl
 
-abbrev pub entry_value : CTLEntry → EntryValue
+abbrev pub entry : Format entry_contents.Value
+entry = sequence entry_contents.format
+
+abbrev pub entry_value : CTLEntry → entry_contents.Value
 entry_value x = (x.cert_fingerprint.0.items, (map entry_attribute_value x.attributes.0.items, tt))
 
-abbrev pub entry : Format EntryValue
-entry = sequence (part octet_string (part (set_of entry_attribute) nothing))
-
-pub lawful_entry : IsLawful entry
-lawful_entry = search (der_laws, lawful_entry_attribute) depth 20
+-- CertificateTrustList ::= SEQUENCE { subjectUsage SEQUENCE OF OBJECT IDENTIFIER, sequenceNumber INTEGER,
+--   thisUpdate UTCTime, subjectAlgorithm AlgorithmIdentifier, trustedSubjects SEQUENCE OF TrustedSubject }
+abbrev pub ctl_contents : Contents
+ctl_contents =
+    contents (SEQUENCE_OF OBJECT_IDENTIFIER then INTEGER then UTC_TIME then asn1 lawful_algorithm_identifier then
+    SEQUENCE_OF (SEQUENCE entry_contents) then end) refl
 
 abbrev pub CtlValue : Type 0
-CtlValue = List OidOctets × (IntegerOctets × (Moment × (AlgorithmValue × (List EntryValue × Unit {0}))))
+CtlValue = ctl_contents.Value
+
+abbrev pub ctl : Format CtlValue
+ctl = sequence ctl_contents.format
+
+pub lawful_ctl : IsLawful ctl
+lawful_ctl = lawful_sequence ctl_contents.law
 
 abbrev pub ctl_value : Ctl → CtlValue
 ctl_value x = (map (λ o. octets_of o.0) x.signers.0.items, (x.sequence_number.0.items, (moment_of x.effective_date.0, (algorithm_value x.digest_algorithm, (map entry_value x.crl_entries.0.items, tt)))))
-
-abbrev pub ctl : Format CtlValue
-ctl = sequence (part (sequence_of object_identifier) (part integer (part utc_time (part algorithm_identifier (part (sequence_of entry) nothing)))))
-
-pub lawful_ctl : IsLawful ctl
-lawful_ctl = search (der_laws, lawful_integer, lawful_utc_time, lawful_algorithm_identifier, lawful_entry) depth 20

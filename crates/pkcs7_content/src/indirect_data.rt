@@ -2,7 +2,7 @@
 
 ghost use Rattle.std.specs.Prelude.{◌≡◌, ◌↔◌, IsTrue};
 ghost use Rattle.pkcs7_content.specs.Equal.{spc_value_equal, spc_attribute_equal, indirect_data_equal};
-ghost use Rattle.pkcs7_content.specs.IndirectData.{SpcValue, spc_values, subject_of, spc_defined_by, SpcAttributeValue, spc_attribute, IndirectDataValue, indirect_data, spc_is_defined_by, lawful_spc_attribute, lawful_indirect_data, spc_value, spc_attribute_value, indirect_data_value};
+ghost use Rattle.pkcs7_content.specs.IndirectData.{SpcValue, spc_values, subject_of, spc_defined_by, SpcAttributeValue, spc_attribute, indirect_data_contents, spc_is_defined_by, lawful_spc_attribute, spc_value, spc_attribute_value, indirect_data_value};
 
 use crate::oids::{PE_IMAGE, SIP_INFO};
 use crate::pe_images::SpcPeImageData;
@@ -178,36 +178,22 @@ pub struct SpcIndirectDataContent {
     pub message_digest: DigestInfo,
 }
 
-impl DerSerialize for SpcIndirectDataContent {
-    ghost Value = { IndirectDataValue };
+impl Sequence for SpcIndirectDataContent {
+    ghost asn1 = { indirect_data_contents };
 
     ghost value = { indirect_data_value };
 
-    ghost format = { indirect_data };
-
-    fn put<W: Writer>(&self, w: &mut W) -> Result<(), WriteError> {
-        put_of!(self, w; spc_data, message_digest)
+    fn with_components<U: Task>(&self, task: &mut U) -> U::Out {
+        with_components_of!(self, task; SpcIndirectDataContent { spc_data, message_digest })
     }
 
-    fn well_formed_at(&self, limit: u8) -> bool {
-        formed_of!(self, limit; spc_data, message_digest)
-    }
-}
-
-impl DerDeserialize for SpcIndirectDataContent {
-    fn read(alloc: Global, r: &mut Reader<'_>, nest: u8) -> Result<Self, Error> {
-        read_of!(alloc, r, nest; SpcIndirectDataContent { spc_data, message_digest })
+    fn read_fields(alloc: Global, r: &mut Reader<'_>, nest: u8) -> Result<Self, Error> {
+        read_fields_of!(alloc, r, nest; SpcIndirectDataContent { spc_data, message_digest })
     }
 
-    ghost lawful = { lawful_indirect_data };
-}
-
-impl EqualByText for SpcIndirectDataContent {
-    ghost equal_by_text = { indirect_data_equal };
-}
-
-impl TryClone for SpcIndirectDataContent {
-    fn try_clone(&self, alloc: Global) -> Result<Self, Error> {
-        clone_of!(self, alloc; SpcIndirectDataContent { spc_data, message_digest })
+    fn clone_fields(&self, alloc: Global) -> Result<Self, Error> {
+        clone_fields_of!(self, alloc; SpcIndirectDataContent { spc_data, message_digest })
     }
+
+    ghost equal = { indirect_data_equal };
 }

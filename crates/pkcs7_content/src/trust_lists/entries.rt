@@ -1,7 +1,7 @@
 //! Trust lists and their entries.
 
 ghost use Rattle.pkcs7_content.specs.TrustListsEqual.{entry_equal, ctl_equal};
-ghost use Rattle.pkcs7_content.specs.TrustLists.{EntryValue, entry, lawful_entry, CtlValue, ctl, lawful_ctl, entry_value, ctl_value};
+ghost use Rattle.pkcs7_content.specs.TrustLists.{entry_contents, entry_value, ctl_contents, ctl_value};
 
 use crate::trust_lists::attributes::CTLEntryAttribute;
 use asn1_core::prelude::*;
@@ -16,38 +16,24 @@ pub struct CTLEntry {
     pub attributes: Asn1SetOf<CTLEntryAttribute>,
 }
 
-impl DerSerialize for CTLEntry {
-    ghost Value = { EntryValue };
+impl Sequence for CTLEntry {
+    ghost asn1 = { entry_contents };
 
     ghost value = { entry_value };
 
-    ghost format = { entry };
-
-    fn put<W: Writer>(&self, w: &mut W) -> Result<(), WriteError> {
-        put_of!(self, w; cert_fingerprint, attributes)
+    fn with_components<U: Task>(&self, task: &mut U) -> U::Out {
+        with_components_of!(self, task; CTLEntry { cert_fingerprint, attributes })
     }
 
-    fn well_formed_at(&self, limit: u8) -> bool {
-        formed_of!(self, limit; cert_fingerprint, attributes)
-    }
-}
-
-impl DerDeserialize for CTLEntry {
-    fn read(alloc: Global, r: &mut Reader<'_>, nest: u8) -> Result<Self, Error> {
-        read_of!(alloc, r, nest; CTLEntry { cert_fingerprint, attributes })
+    fn read_fields(alloc: Global, r: &mut Reader<'_>, nest: u8) -> Result<Self, Error> {
+        read_fields_of!(alloc, r, nest; CTLEntry { cert_fingerprint, attributes })
     }
 
-    ghost lawful = { lawful_entry };
-}
-
-impl EqualByText for CTLEntry {
-    ghost equal_by_text = { entry_equal };
-}
-
-impl TryClone for CTLEntry {
-    fn try_clone(&self, alloc: Global) -> Result<Self, Error> {
-        clone_of!(self, alloc; CTLEntry { cert_fingerprint, attributes })
+    fn clone_fields(&self, alloc: Global) -> Result<Self, Error> {
+        clone_fields_of!(self, alloc; CTLEntry { cert_fingerprint, attributes })
     }
+
+    ghost equal = { entry_equal };
 }
 
 /// `CertificateTrustList ::= SEQUENCE { version DEFAULT v1, subjectUsage, listIdentifier OPTIONAL, sequenceNumber
@@ -67,42 +53,30 @@ pub struct Ctl {
     pub crl_entries: Asn1SequenceOf<CTLEntry>,
 }
 
-impl DerSerialize for Ctl {
-    ghost Value = { CtlValue };
+macro_rules! ctl {
+    ($by:ident($($with:ident),*)) => {
+        $by!($($with),*; Ctl {
+            signers, sequence_number, effective_date, digest_algorithm, crl_entries
+        })
+    };
+}
+
+impl Sequence for Ctl {
+    ghost asn1 = { ctl_contents };
 
     ghost value = { ctl_value };
 
-    ghost format = { ctl };
-
-    fn put<W: Writer>(&self, w: &mut W) -> Result<(), WriteError> {
-        put_of!(self, w; signers, sequence_number, effective_date, digest_algorithm, crl_entries)
+    fn with_components<U: Task>(&self, task: &mut U) -> U::Out {
+        ctl!(with_components_of(self, task))
     }
 
-    fn well_formed_at(&self, limit: u8) -> bool {
-        formed_of!(self, limit;
-            signers, sequence_number, effective_date, digest_algorithm, crl_entries
-        )
-    }
-}
-
-impl DerDeserialize for Ctl {
-    fn read(alloc: Global, r: &mut Reader<'_>, nest: u8) -> Result<Self, Error> {
-        read_of!(alloc, r, nest; Ctl {
-            signers, sequence_number, effective_date, digest_algorithm, crl_entries
-        })
+    fn read_fields(alloc: Global, r: &mut Reader<'_>, nest: u8) -> Result<Self, Error> {
+        ctl!(read_fields_of(alloc, r, nest))
     }
 
-    ghost lawful = { lawful_ctl };
-}
-
-impl EqualByText for Ctl {
-    ghost equal_by_text = { ctl_equal };
-}
-
-impl TryClone for Ctl {
-    fn try_clone(&self, alloc: Global) -> Result<Self, Error> {
-        clone_of!(self, alloc; Ctl {
-            signers, sequence_number, effective_date, digest_algorithm, crl_entries
-        })
+    fn clone_fields(&self, alloc: Global) -> Result<Self, Error> {
+        ctl!(clone_fields_of(self, alloc))
     }
+
+    ghost equal = { ctl_equal };
 }

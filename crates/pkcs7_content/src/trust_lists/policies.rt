@@ -1,7 +1,7 @@
 //! Policies, as attributes of trust lists hold them.
 
 ghost use Rattle.pkcs7_content.specs.TrustListsEqual.{chain_policy_equal, qualifier_equal, cert_policy_equal};
-ghost use Rattle.pkcs7_content.specs.Policies.{ChainPolicyValue, chain_policy, lawful_chain_policy, QualifierValue, policy_qualifier, lawful_policy_qualifier, CertPolicyValue, cert_policy, lawful_cert_policy, chain_policy_value, qualifier_value, cert_policy_value};
+ghost use Rattle.pkcs7_content.specs.Policies.{chain_policy_contents, chain_policy_value, qualifier_contents, qualifier_value, cert_policy_contents, cert_policy_value};
 
 use asn1_core::prelude::*;
 use asn1_leaves::BitStringAsn1;
@@ -13,38 +13,24 @@ pub struct RootProgramChainPolicy {
     pub oid: ObjectIdentifierAsn1,
 }
 
-impl DerSerialize for RootProgramChainPolicy {
-    ghost Value = { ChainPolicyValue };
+impl Sequence for RootProgramChainPolicy {
+    ghost asn1 = { chain_policy_contents };
 
     ghost value = { chain_policy_value };
 
-    ghost format = { chain_policy };
-
-    fn put<W: Writer>(&self, w: &mut W) -> Result<(), WriteError> {
-        put_of!(self, w; oid)
+    fn with_components<U: Task>(&self, task: &mut U) -> U::Out {
+        with_components_of!(self, task; RootProgramChainPolicy { oid })
     }
 
-    fn well_formed_at(&self, limit: u8) -> bool {
-        self.oid.well_formed_at(limit)
-    }
-}
-
-impl DerDeserialize for RootProgramChainPolicy {
-    fn read(alloc: Global, r: &mut Reader<'_>, nest: u8) -> Result<Self, Error> {
-        read_of!(alloc, r, nest; RootProgramChainPolicy { oid })
+    fn read_fields(alloc: Global, r: &mut Reader<'_>, nest: u8) -> Result<Self, Error> {
+        read_fields_of!(alloc, r, nest; RootProgramChainPolicy { oid })
     }
 
-    ghost lawful = { lawful_chain_policy };
-}
-
-impl EqualByText for RootProgramChainPolicy {
-    ghost equal_by_text = { chain_policy_equal };
-}
-
-impl TryClone for RootProgramChainPolicy {
-    fn try_clone(&self, alloc: Global) -> Result<Self, Error> {
-        clone_of!(self, alloc; RootProgramChainPolicy { oid })
+    fn clone_fields(&self, alloc: Global) -> Result<Self, Error> {
+        clone_fields_of!(self, alloc; RootProgramChainPolicy { oid })
     }
+
+    ghost equal = { chain_policy_equal };
 }
 
 /// `PolicyQualifier ::= SEQUENCE { oid OBJECT IDENTIFIER, bits BIT STRING }`
@@ -54,38 +40,24 @@ pub struct PolicyQualifier {
     pub bits: BitStringAsn1,
 }
 
-impl DerSerialize for PolicyQualifier {
-    ghost Value = { QualifierValue };
+impl Sequence for PolicyQualifier {
+    ghost asn1 = { qualifier_contents };
 
     ghost value = { qualifier_value };
 
-    ghost format = { policy_qualifier };
-
-    fn put<W: Writer>(&self, w: &mut W) -> Result<(), WriteError> {
-        put_of!(self, w; oid, bits)
+    fn with_components<U: Task>(&self, task: &mut U) -> U::Out {
+        with_components_of!(self, task; PolicyQualifier { oid, bits })
     }
 
-    fn well_formed_at(&self, limit: u8) -> bool {
-        formed_of!(self, limit; oid, bits)
-    }
-}
-
-impl DerDeserialize for PolicyQualifier {
-    fn read(alloc: Global, r: &mut Reader<'_>, nest: u8) -> Result<Self, Error> {
-        read_of!(alloc, r, nest; PolicyQualifier { oid, bits })
+    fn read_fields(alloc: Global, r: &mut Reader<'_>, nest: u8) -> Result<Self, Error> {
+        read_fields_of!(alloc, r, nest; PolicyQualifier { oid, bits })
     }
 
-    ghost lawful = { lawful_policy_qualifier };
-}
-
-impl EqualByText for PolicyQualifier {
-    ghost equal_by_text = { qualifier_equal };
-}
-
-impl TryClone for PolicyQualifier {
-    fn try_clone(&self, alloc: Global) -> Result<Self, Error> {
-        clone_of!(self, alloc; PolicyQualifier { oid, bits })
+    fn clone_fields(&self, alloc: Global) -> Result<Self, Error> {
+        clone_fields_of!(self, alloc; PolicyQualifier { oid, bits })
     }
+
+    ghost equal = { qualifier_equal };
 }
 
 /// `CertPolicy ::= SEQUENCE { oid OBJECT IDENTIFIER, qualifier SEQUENCE OF PolicyQualifier }`
@@ -95,36 +67,22 @@ pub struct CertPolicy {
     pub qualifier: Asn1SequenceOf<PolicyQualifier>,
 }
 
-impl DerSerialize for CertPolicy {
-    ghost Value = { CertPolicyValue };
+impl Sequence for CertPolicy {
+    ghost asn1 = { cert_policy_contents };
 
     ghost value = { cert_policy_value };
 
-    ghost format = { cert_policy };
-
-    fn put<W: Writer>(&self, w: &mut W) -> Result<(), WriteError> {
-        put_of!(self, w; oid, qualifier)
+    fn with_components<U: Task>(&self, task: &mut U) -> U::Out {
+        with_components_of!(self, task; CertPolicy { oid, qualifier })
     }
 
-    fn well_formed_at(&self, limit: u8) -> bool {
-        formed_of!(self, limit; oid, qualifier)
-    }
-}
-
-impl DerDeserialize for CertPolicy {
-    fn read(alloc: Global, r: &mut Reader<'_>, nest: u8) -> Result<Self, Error> {
-        read_of!(alloc, r, nest; CertPolicy { oid, qualifier })
+    fn read_fields(alloc: Global, r: &mut Reader<'_>, nest: u8) -> Result<Self, Error> {
+        read_fields_of!(alloc, r, nest; CertPolicy { oid, qualifier })
     }
 
-    ghost lawful = { lawful_cert_policy };
-}
-
-impl EqualByText for CertPolicy {
-    ghost equal_by_text = { cert_policy_equal };
-}
-
-impl TryClone for CertPolicy {
-    fn try_clone(&self, alloc: Global) -> Result<Self, Error> {
-        clone_of!(self, alloc; CertPolicy { oid, qualifier })
+    fn clone_fields(&self, alloc: Global) -> Result<Self, Error> {
+        clone_fields_of!(self, alloc; CertPolicy { oid, qualifier })
     }
+
+    ghost equal = { cert_policy_equal };
 }
