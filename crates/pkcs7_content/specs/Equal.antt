@@ -20,7 +20,7 @@ use Rattle.pkcs7_content.specs.contracts.contents.ContentValuePartialEq.TheImpl 
 use Rattle.pkcs7_content.specs.contracts.contents.EncapsulatedContentInfoPartialEq.TheImpl as Encapsulated
 use Rattle.pkcs7_content.specs.declared.indirect_data.SpcAttributeAndOptionalValueValue.TheVariants.{SpcPeImageData, SpcSipInfo}
 use Rattle.pkcs7_content.specs.declared.contents.ContentValue.TheVariants.{SpcIndirectDataContent, OctetString, Data, CertificateTrustList}
-use Rattle.pkcs7_content.specs.TrustListsEqual.{integer_equal, ctl_equal}
+use Rattle.pkcs7_content.specs.TrustListsEqual.{ctl_equal}
 
 flags_equal : SeesEqual Flags.ghosts.eq (λ x. contents_of x.0.0)
 flags_equal x y = search rules
@@ -32,7 +32,7 @@ pub pe_image_equal : SeesEqual PeImage.ghosts.eq pe_image_value
 pe_image_equal x y = search (der_equal, flags_equal, link_equal) depth 20
 
 pub sip_info_equal : SeesEqual SipInfo.ghosts.eq sip_info_value
-sip_info_equal x y = search (der_equal, integer_equal) depth 20
+sip_info_equal x y = search der_equal depth 20
 
 pub spc_value_equal : SeesEqual Value.ghosts.eq spc_value
 spc_value_equal (SpcPeImageData x) (SpcPeImageData y) = same_first (pe_image_equal x y)

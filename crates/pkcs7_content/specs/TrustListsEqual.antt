@@ -3,7 +3,6 @@ use Rattle.asn1_core.specs.Der.{SeesEqual, der_equal, list_equal, octets_equal, 
 use Rattle.std.specs.Prelude.{◌≡◌, ◌↔◌, ℕ, Bool, true}
 use Rattle.std.proofs.Common.{arith, rules, ap, inl, inr}
 use Rattle.asn1_core.specs.contracts.objects.ObjectIdentifierAsn1PartialEq.TheImpl as Oid
-use Rattle.asn1_leaves.specs.contracts.integers.IntegerAsn1PartialEq.TheImpl as Integer
 use Rattle.asn1_leaves_times.specs.TimesLaws.{equal_utc}
 use Rattle.x509_base.specs.AlgorithmParts.{algorithm_value}
 use Rattle.x509_base.specs.contracts.algorithms.AlgorithmIdentifierPartialEq.TheImpl as Algorithm
@@ -64,11 +63,8 @@ attribute_equal x y = search (der_equal, values_equal) depth 20
 pub entry_equal : SeesEqual Entry.ghosts.eq entry_value
 entry_equal x y = search (der_equal, attribute_equal) depth 20
 
-pub integer_equal : SeesEqual Integer.ghosts.eq (λ x. x.0.items)
-integer_equal x y = search der_equal depth 20
-
 algorithm_equal : SeesEqual Algorithm.ghosts.eq algorithm_value
 algorithm_equal x y = search rules
 
 pub ctl_equal : SeesEqual TrustList.ghosts.eq ctl_value
-ctl_equal x y = search (der_equal, integer_equal, equal_utc, algorithm_equal, entry_equal) depth 20
+ctl_equal x y = search (der_equal, equal_utc, algorithm_equal, entry_equal) depth 20
