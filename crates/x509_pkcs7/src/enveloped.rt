@@ -46,17 +46,15 @@ impl DerSerialize for EncryptedContentInfo {
     ghost format = { encrypted_content };
 
     fn put<W: Writer>(&self, w: &mut W) -> Result<(), WriteError> {
-        put_of!(self, w;
-            content_type, content_encryption_algorithm,
-            (self.encrypted_content.0.as_ref()) OPTIONAL
-        )
+        let content = MaybeRef(&self.encrypted_content.0, End);
+        let encryption = Part(Ref(&self.content_encryption_algorithm), content);
+        put_within(0x30, &Part(Ref(&self.content_type), encryption), w)
     }
 
     fn well_formed_at(&self, limit: u8) -> bool {
-        formed_of!(self, limit;
-            content_type, content_encryption_algorithm,
-            (self.encrypted_content.0.as_ref()) OPTIONAL
-        )
+        let content = MaybeRef(&self.encrypted_content.0, End);
+        let encryption = Part(Ref(&self.content_encryption_algorithm), content);
+        Part(Ref(&self.content_type), encryption).components_well_formed_at(limit)
     }
 }
 
@@ -103,11 +101,15 @@ impl DerSerialize for OriginatorInfo {
     ghost format = { originator };
 
     fn put<W: Writer>(&self, w: &mut W) -> Result<(), WriteError> {
-        put_of!(self, w; (self.certs.0.as_ref()) OPTIONAL, (self.crls.0.as_ref()) OPTIONAL)
+        put_within(
+            0x30,
+            &MaybeRef(&self.certs.0, MaybeRef(&self.crls.0, End)),
+            w,
+        )
     }
 
     fn well_formed_at(&self, limit: u8) -> bool {
-        formed_of!(self, limit; (self.certs.0.as_ref()) OPTIONAL, (self.crls.0.as_ref()) OPTIONAL)
+        MaybeRef(&self.certs.0, MaybeRef(&self.crls.0, End)).components_well_formed_at(limit)
     }
 }
 
@@ -129,9 +131,11 @@ impl DerTagged for OriginatorInfo {
     const TAG: u8 = 0x30;
 
     fn put_as<W: Writer>(&self, tag: u8, w: &mut W) -> Result<(), WriteError> {
-        let body =
-            body_of!(self; (self.certs.0.as_ref()) OPTIONAL, (self.crls.0.as_ref()) OPTIONAL);
-        put_within(tag, &body, w)
+        put_within(
+            tag,
+            &MaybeRef(&self.certs.0, MaybeRef(&self.crls.0, End)),
+            w,
+        )
     }
 
     fn read_contents(alloc: Global, r: &mut Reader<'_>, nest: u8) -> Result<Self, Error> {
@@ -175,17 +179,19 @@ impl<R: DerSerialize> DerSerialize for EnvelopedData<R> {
     ghost format = { enveloped R.format };
 
     fn put<W: Writer>(&self, w: &mut W) -> Result<(), WriteError> {
-        put_of!(self, w;
-            version, (self.originator_info.0.as_ref()) OPTIONAL, recipient_infos,
-            encrypted_content_info, (self.unprotected_attrs.0.as_ref()) OPTIONAL
-        )
+        let attributes = MaybeRef(&self.unprotected_attrs.0, End);
+        let content = Part(Ref(&self.encrypted_content_info), attributes);
+        let recipients = Part(Ref(&self.recipient_infos), content);
+        let originator = MaybeRef(&self.originator_info.0, recipients);
+        put_within(0x30, &Part(Ref(&self.version), originator), w)
     }
 
     fn well_formed_at(&self, limit: u8) -> bool {
-        formed_of!(self, limit;
-            version, (self.originator_info.0.as_ref()) OPTIONAL, recipient_infos,
-            encrypted_content_info, (self.unprotected_attrs.0.as_ref()) OPTIONAL
-        )
+        let attributes = MaybeRef(&self.unprotected_attrs.0, End);
+        let content = Part(Ref(&self.encrypted_content_info), attributes);
+        let recipients = Part(Ref(&self.recipient_infos), content);
+        let originator = MaybeRef(&self.originator_info.0, recipients);
+        Part(Ref(&self.version), originator).components_well_formed_at(limit)
     }
 }
 

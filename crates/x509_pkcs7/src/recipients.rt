@@ -82,15 +82,13 @@ impl DerSerialize for KekIdentifier {
     ghost format = { kek_id };
 
     fn put<W: Writer>(&self, w: &mut W) -> Result<(), WriteError> {
-        put_of!(self, w;
-            key_identifier, (self.date.0.as_ref()) OPTIONAL, (self.other.0.as_ref()) OPTIONAL
-        )
+        let optional = MaybeRef(&self.date.0, MaybeRef(&self.other.0, End));
+        put_within(0x30, &Part(Ref(&self.key_identifier), optional), w)
     }
 
     fn well_formed_at(&self, limit: u8) -> bool {
-        formed_of!(self, limit;
-            key_identifier, (self.date.0.as_ref()) OPTIONAL, (self.other.0.as_ref()) OPTIONAL
-        )
+        let optional = MaybeRef(&self.date.0, MaybeRef(&self.other.0, End));
+        Part(Ref(&self.key_identifier), optional).components_well_formed_at(limit)
     }
 }
 

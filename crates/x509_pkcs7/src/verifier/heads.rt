@@ -95,11 +95,11 @@ type HeadComponents = Part<
 >;
 
 type HeadRef<'a> = Part<
-    &'a CertificateSerialNumber,
+    Ref<&'a CertificateSerialNumber>,
     Part<
-        &'a AlgorithmIdentifier,
+        Ref<&'a AlgorithmIdentifier>,
         Part<
-            &'a Name,
+            Ref<&'a Name>,
             Part<
                 Ref<&'a Asn1RawDer>,
                 Part<Ref<&'a Name>, Part<Ref<&'a Asn1RawDer>, &'a Vec<Asn1RawDer>>>,

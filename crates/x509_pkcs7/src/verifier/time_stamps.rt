@@ -229,18 +229,23 @@ type TstInfoComponents = Part<
     >,
 >;
 
-type OptionsRef<'a> = Maybe<
-    &'a Accuracy,
+type OptionsRef<'a> = MaybeRef<
+    'a,
+    Accuracy,
     Omitted<
         DefaultFalse,
-        Maybe<&'a IntegerAsn1, Maybe<&'a TimeStampAuthority, Maybe<&'a TimeStampExtensions, End>>>,
+        MaybeRef<
+            'a,
+            IntegerAsn1,
+            MaybeRef<'a, TimeStampAuthority, MaybeRef<'a, TimeStampExtensions, End>>,
+        >,
     >,
 >;
 
 type TstInfoRef<'a> = Part<
     FixedVersion<1>,
     Part<
-        &'a ObjectIdentifierAsn1,
+        Ref<&'a ObjectIdentifierAsn1>,
         Part<
             Ref<&'a DigestInfo>,
             Part<Ref<&'a IntegerAsn1>, Part<Ref<&'a GenTime>, OptionsRef<'a>>>,
