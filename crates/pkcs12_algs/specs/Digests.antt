@@ -4,8 +4,9 @@
 -- DigestInfo ::= SEQUENCE { digestAlgorithm DigestAlgorithmIdentifier, digest Digest } (RFC 2315, 9.4)
 -- Digest ::= OCTET STRING
 -- MacData ::= SEQUENCE { mac DigestInfo, macSalt OCTET STRING, iterations INTEGER DEFAULT 1 } (RFC 7292, 4)
-use Rattle.std.specs.Prelude.{◌^◌, ℕ, List, [], ◌∷◌, Option, map}
-use Rattle.asn1_core.specs.Der.{Format, IsLawful, sequence, part, optional, nothing, octet_string, number_below, option_value, lawful_sequence, followed_by, perhaps, lawful_nothing, lawful_octet_string, lawful_number, Octets, der_laws}
+use Rattle.std.specs.Prelude.{◌^◌, ℕ, List, [], ◌∷◌, map}
+use Rattle.asn1_core.specs.Asn1.{asn1, Contents, contents, ◌then◌, ◌OPTIONAL◌, end, OCTET_STRING, INTEGER_BELOW, SEQUENCE}
+use Rattle.asn1_core.specs.Der.{Format, IsLawful, sequence, lawful_sequence, option_value}
 use Rattle.std.proofs.Common.{inr, refl}
 use Rattle.x509_base.specs.AlgorithmChoiceLaws.{lawful_algorithm_choice}
 use Rattle.pkcs12_algs.specs.Algorithms.{KnownOrRaw, known_or_raw, raw_value, from_oid}
@@ -42,29 +43,27 @@ pub lawful_digest_algorithm : IsLawful digest_algorithm
 lawful_digest_algorithm = lawful_algorithm_choice (listing digest_oids) (listing_is_table digest_oids)
 
 -- the algorithm, and the digest
-abbrev pub DigestInfoValue : Type 0
-DigestInfoValue = DigestValue × (Octets × Unit {0})
+abbrev pub digest_info_contents : Contents
+digest_info_contents = contents (asn1 lawful_digest_algorithm then OCTET_STRING then end) refl
 
-abbrev pub digest_info_value : Pkcs12DigestInfo → DigestInfoValue
+abbrev pub digest_info_value : Pkcs12DigestInfo → digest_info_contents.Value
 digest_info_value x = (digest_value x.digest_algorithm, (x.digest.0.items, tt))
 
-abbrev pub digest_info : Format DigestInfoValue
-digest_info = sequence (part digest_algorithm (part octet_string nothing))
-
-pub lawful_digest_info : IsLawful digest_info
-lawful_digest_info = search (der_laws, lawful_digest_algorithm) depth 20
+abbrev pub digest_info : Format digest_info_contents.Value
+digest_info = sequence digest_info_contents.format
 
 -- the digest, the salt, and the count
+abbrev pub mac_contents : Contents
+mac_contents = contents (SEQUENCE digest_info_contents then OCTET_STRING then INTEGER_BELOW (2 ^ 32) OPTIONAL end) refl
+
 abbrev pub MacValue : Type 0
-MacValue = DigestInfoValue × (Octets × (Option ℕ × Unit {0}))
+MacValue = mac_contents.Value
 
 abbrev pub mac_value : MacData → MacValue
 mac_value m = (digest_info_value m.mac, (m.salt.0.items, (option_value (λ n. n) m.iterations, tt)))
 
 abbrev pub mac_data : Format MacValue
-mac_data = sequence (part digest_info (part octet_string (optional (number_below (2 ^ 32)) nothing)))
+mac_data = sequence mac_contents.format
 
 pub lawful_mac_data : IsLawful mac_data
-lawful_mac_data =
-    lawful_sequence (followed_by lawful_digest_info (followed_by lawful_octet_string
-    (perhaps (lawful_number (2 ^ 32)) refl lawful_nothing)))
+lawful_mac_data = lawful_sequence mac_contents.law

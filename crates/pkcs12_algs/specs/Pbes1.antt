@@ -2,7 +2,8 @@
 --
 -- pkcs-12PbeParams ::= SEQUENCE { salt OCTET STRING, iterations INTEGER }
 use Rattle.std.specs.Prelude.{◌≡◌, ◌^◌, ℕ, List, [], ◌∷◌, Some}
-use Rattle.asn1_core.specs.Der.{Format, IsLawful, sequence, part, nothing, octet_string, number_below, Octets, der_laws, IsOid}
+use Rattle.asn1_core.specs.Asn1.{Contents, contents, ◌then◌, end, OCTET_STRING, INTEGER_BELOW}
+use Rattle.asn1_core.specs.Der.{Format, IsLawful, sequence, lawful_sequence, IsOid}
 use Rattle.std.proofs.Common.{refl, rules}
 use Rattle.asn1_choices.specs.Tables.{Table, IsTable}
 use Rattle.pkcs12_algs.specs.Oids.{sha_and_40_bit_rc2_cbc_oid, sha_and_3_key_3_des_cbc_oid}
@@ -33,14 +34,17 @@ pub pbe_valid : (a : Pbes1AlgorithmKind) → IsOid (pbe_oid a)
 pbe_valid a = valid_alternative pbe_oid pbe_kinds refl (pbe_oid a) a (found_pbe a)
 
 -- the salt, and the count
+abbrev pub pbes1_contents : Contents
+pbes1_contents = contents (OCTET_STRING then INTEGER_BELOW (2 ^ 32) then end) refl
+
 abbrev pub Pbes1Value : Type 0
-Pbes1Value = Octets × (ℕ × Unit {0})
+Pbes1Value = pbes1_contents.Value
 
 abbrev pub pbes1_value : Pbes1Params → Pbes1Value
 pbes1_value x = (x.salt.0.items, (x.iterations, tt))
 
 abbrev pub pbes1_params : Format Pbes1Value
-pbes1_params = sequence (part octet_string (part (number_below (2 ^ 32)) nothing))
+pbes1_params = sequence pbes1_contents.format
 
 pub lawful_pbes1_params : IsLawful pbes1_params
-lawful_pbes1_params = search der_laws depth 20
+lawful_pbes1_params = lawful_sequence pbes1_contents.law

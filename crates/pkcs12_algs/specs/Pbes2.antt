@@ -7,7 +7,8 @@
 -- PBES2-KDFs ALGORITHM-IDENTIFIER ::= { {PBKDF2-params IDENTIFIED BY id-PBKDF2}, ... }
 -- The parameters of AES in CBC mode are its initialization vector, an OCTET STRING (RFC 8018, appendix B.2.5).
 use Rattle.std.specs.Prelude.{◌≡◌, ◌⊎◌, ℕ, List, [], ◌∷◌, Some}
-use Rattle.asn1_core.specs.Der.{Format, IsLawful, sequence, part, nothing, octet_string, lawful_octet_string, Octets, der_laws, Choice, IsLawfulChoice, known, lawful_known, IsOid}
+use Rattle.asn1_core.specs.Asn1.{asn1, Contents, contents, ◌then◌, end}
+use Rattle.asn1_core.specs.Der.{Format, IsLawful, sequence, lawful_sequence, octet_string, lawful_octet_string, Octets, der_laws, Choice, IsLawfulChoice, known, lawful_known, IsOid}
 use Rattle.std.proofs.Common.{refl, inl, inr, rules}
 use Rattle.x509_base.specs.Algorithms.{AlgorithmValue}
 use Rattle.asn1_choices.specs.Tables.{Table, IsTable, among, lawful_among}
@@ -86,14 +87,17 @@ pub lawful_scheme : IsLawful scheme
 lawful_scheme = search (der_laws, lawful_scheme_choice) depth 20
 
 -- the function, and the scheme
+abbrev pub pbes2_contents : Contents
+pbes2_contents = contents (asn1 lawful_kdf then asn1 lawful_scheme then end) refl
+
 abbrev pub Pbes2Value : Type 0
-Pbes2Value = KdfValue × (SchemeValue × Unit {0})
+Pbes2Value = pbes2_contents.Value
 
 abbrev pub pbes2_value : Pbes2Params → Pbes2Value
 pbes2_value x = (kdf_value x.key_derivation_func, (scheme_value x.encryption_scheme, tt))
 
 abbrev pub pbes2_params : Format Pbes2Value
-pbes2_params = sequence (part kdf (part scheme nothing))
+pbes2_params = sequence pbes2_contents.format
 
 pub lawful_pbes2_params : IsLawful pbes2_params
-lawful_pbes2_params = search (der_laws, lawful_kdf, lawful_scheme) depth 20
+lawful_pbes2_params = lawful_sequence pbes2_contents.law

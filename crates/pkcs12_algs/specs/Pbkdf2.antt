@@ -7,8 +7,9 @@
 --     prf AlgorithmIdentifier {{PBKDF2-PRFs}} DEFAULT algid-hmacWithSHA1 }
 --
 -- Counts and lengths from 0 to 2^32 - 1 are read. An absent PRF and an explicit HMAC with SHA-1 are told apart.
-use Rattle.std.specs.Prelude.{◌⊎◌, ◌^◌, ℕ, List, [], ◌∷◌, Option, map}
-use Rattle.asn1_core.specs.Der.{Format, IsLawful, sequence, part, optional, nothing, octet_string, number_below, option_value, lawful_sequence, followed_by, perhaps, lawful_nothing, lawful_octet_string, lawful_number, Octets, either, or_else}
+use Rattle.std.specs.Prelude.{◌⊎◌, ◌^◌, ℕ, List, [], ◌∷◌, map}
+use Rattle.asn1_core.specs.Asn1.{asn1, Contents, contents, ◌then◌, ◌OPTIONAL◌, end, INTEGER_BELOW}
+use Rattle.asn1_core.specs.Der.{Format, IsLawful, sequence, lawful_sequence, octet_string, lawful_octet_string, option_value, Octets, either, or_else}
 use Rattle.std.proofs.Common.{inl, inr, refl}
 use Rattle.x509_base.specs.Algorithms.{AlgorithmValue, raw_algorithm_identifier}
 use Rattle.x509_base.specs.AlgorithmLaws.{lawful_raw_algorithm_identifier}
@@ -63,17 +64,18 @@ pub lawful_salt : IsLawful salt
 lawful_salt = or_else lawful_octet_string refl lawful_raw_algorithm_identifier
 
 -- the salt, the iteration count, the key length, and the PRF
+abbrev pub pbkdf2_contents : Contents
+pbkdf2_contents =
+    contents (asn1 lawful_salt then INTEGER_BELOW (2 ^ 32) then INTEGER_BELOW (2 ^ 32) OPTIONAL asn1 lawful_prf OPTIONAL end) refl
+
 abbrev pub Pbkdf2Value : Type 0
-Pbkdf2Value = SaltValue × (ℕ × (Option ℕ × (Option PrfValue × Unit {0})))
+Pbkdf2Value = pbkdf2_contents.Value
 
 abbrev pub pbkdf2_value : Pbkdf2Params → Pbkdf2Value
 pbkdf2_value x = (salt_value x.salt, (x.iteration_count, (option_value (λ n. n) x.key_length, (option_value prf_value x.prf, tt))))
 
 abbrev pub pbkdf2_params : Format Pbkdf2Value
-pbkdf2_params =
-    sequence (part salt (part (number_below (2 ^ 32)) (optional (number_below (2 ^ 32)) (optional prf nothing))))
+pbkdf2_params = sequence pbkdf2_contents.format
 
 pub lawful_pbkdf2_params : IsLawful pbkdf2_params
-lawful_pbkdf2_params =
-    lawful_sequence (followed_by lawful_salt (followed_by (lawful_number (2 ^ 32))
-    (perhaps (lawful_number (2 ^ 32)) refl (perhaps lawful_prf refl lawful_nothing))))
+lawful_pbkdf2_params = lawful_sequence pbkdf2_contents.law

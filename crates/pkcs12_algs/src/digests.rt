@@ -4,7 +4,7 @@ ghost use Rattle.std.specs.Prelude.{◌≡◌, Bool, true, MatchResult, Some};
 ghost use Rattle.std.proofs.Common.{refl, rules};
 ghost use Rattle.asn1_core_element.specs.declared.error.Error.TheVariants.{Memory};
 ghost use Rattle.pkcs12_algs.specs.Algorithms.{raw_value, from_raw, into_raw};
-ghost use Rattle.pkcs12_algs.specs.Digests.{digest_oids, DigestValue, digest_value, DigestInfoValue, digest_info_value, digest_info, lawful_digest_info};
+ghost use Rattle.pkcs12_algs.specs.Digests.{digest_oids, DigestValue, digest_value, digest_info_contents, digest_info_value};
 ghost use Rattle.pkcs12_algs.specs.Equal.{digest_equal, digest_info_equal};
 ghost use Rattle.pkcs12_algs.specs.Names.{digest_name};
 
@@ -136,48 +136,28 @@ pub struct Pkcs12DigestInfo {
     pub digest: OctetStringAsn1,
 }
 
-impl DerSerialize for Pkcs12DigestInfo {
-    ghost Value = { DigestInfoValue };
+impl Sequence for Pkcs12DigestInfo {
+    ghost asn1 = { digest_info_contents };
 
     ghost value = { digest_info_value };
 
-    ghost format = { digest_info };
-
-    fn put<W: Writer>(&self, w: &mut W) -> Result<(), WriteError> {
-        put_of!(self, w; (AlgorithmRef(&self.digest_algorithm)), digest)
+    fn with_components<U: Task>(&self, task: &mut U) -> U::Out {
+        with_components_of!(self, task; Pkcs12DigestInfo { (AlgorithmRef(&self.digest_algorithm)), digest })
     }
 
-    fn well_formed_at(&self, limit: u8) -> bool {
-        formed_of!(self, limit; (AlgorithmRef(&self.digest_algorithm)), digest)
-    }
-}
-
-impl DerDeserialize for Pkcs12DigestInfo {
-    fn read(alloc: Global, r: &mut Reader<'_>, nest: u8) -> Result<Self, Error> {
-        let fields_of!((AlgorithmPart(digest_algorithm)), digest) = read_within(
-            alloc, r, nest, 0x30,
+    fn read_fields(alloc: Global, r: &mut Reader<'_>, nest: u8) -> Result<Self, Error> {
+        let fields_of!((AlgorithmPart(digest_algorithm)), digest) = ReadComponents::read_components(
+            alloc, r, nest,
         )?;
-        Ok(Self {
+        Ok(Pkcs12DigestInfo {
             digest_algorithm,
             digest,
         })
     }
 
-    ghost lawful = { lawful_digest_info };
-}
-
-impl FirstTags for Pkcs12DigestInfo {
-    fn begins(tag: u8) -> bool {
-        tag == 0x30
+    fn clone_fields(&self, alloc: Global) -> Result<Self, Error> {
+        clone_fields_of!(self, alloc; Pkcs12DigestInfo { digest_algorithm, digest })
     }
-}
 
-impl EqualByText for Pkcs12DigestInfo {
-    ghost equal_by_text = { digest_info_equal };
-}
-
-impl TryClone for Pkcs12DigestInfo {
-    fn try_clone(&self, alloc: Global) -> Result<Self, Error> {
-        clone_of!(self, alloc; Self { digest_algorithm, digest })
-    }
+    ghost equal = { digest_info_equal };
 }

@@ -2,7 +2,7 @@
 
 ghost use Rattle.std.specs.Prelude.{◌≡◌, unwrap_or};
 ghost use Rattle.std.proofs.Common.{rules};
-ghost use Rattle.pkcs12_algs.specs.Digests.{MacValue, mac_value, mac_data, lawful_mac_data};
+ghost use Rattle.pkcs12_algs.specs.Digests.{mac_contents, mac_value};
 ghost use Rattle.pkcs12_algs.specs.Equal.{mac_equal};
 
 use crate::digests::Pkcs12DigestInfo;
@@ -31,42 +31,22 @@ impl MacData {
     }
 }
 
-impl DerSerialize for MacData {
-    ghost Value = { MacValue };
+impl Sequence for MacData {
+    ghost asn1 = { mac_contents };
 
     ghost value = { mac_value };
 
-    ghost format = { mac_data };
-
-    fn put<W: Writer>(&self, w: &mut W) -> Result<(), WriteError> {
-        put_of!(self, w; mac, salt, iterations OPTIONAL)
+    fn with_components<U: Task>(&self, task: &mut U) -> U::Out {
+        with_components_of!(self, task; MacData { mac, salt, iterations OPTIONAL })
     }
 
-    fn well_formed_at(&self, limit: u8) -> bool {
-        formed_of!(self, limit; mac, salt, iterations OPTIONAL)
-    }
-}
-
-impl DerDeserialize for MacData {
-    fn read(alloc: Global, r: &mut Reader<'_>, nest: u8) -> Result<Self, Error> {
-        read_of!(alloc, r, nest; Self { mac, salt, iterations OPTIONAL })
+    fn read_fields(alloc: Global, r: &mut Reader<'_>, nest: u8) -> Result<Self, Error> {
+        read_fields_of!(alloc, r, nest; MacData { mac, salt, iterations OPTIONAL })
     }
 
-    ghost lawful = { lawful_mac_data };
-}
-
-impl FirstTags for MacData {
-    fn begins(tag: u8) -> bool {
-        tag == 0x30
+    fn clone_fields(&self, alloc: Global) -> Result<Self, Error> {
+        clone_fields_of!(self, alloc; MacData { mac, salt, iterations OPTIONAL })
     }
-}
 
-impl EqualByText for MacData {
-    ghost equal_by_text = { mac_equal };
-}
-
-impl TryClone for MacData {
-    fn try_clone(&self, alloc: Global) -> Result<Self, Error> {
-        clone_of!(self, alloc; Self { mac, salt; iterations })
-    }
+    ghost equal = { mac_equal };
 }

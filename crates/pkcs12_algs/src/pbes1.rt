@@ -4,7 +4,7 @@ ghost use Rattle.std.specs.Prelude.{◌≡◌, MatchResult, Some};
 ghost use Rattle.std.proofs.Common.{rules};
 ghost use Rattle.asn1_core_element.specs.declared.error.Error.TheVariants.{Memory};
 ghost use Rattle.asn1_core.specs.Der.{octets_of};
-ghost use Rattle.pkcs12_algs.specs.Pbes1.{pbe_oid, pbe_table, pbe_is_table, pbe_valid, Pbes1Value, pbes1_value, pbes1_params, lawful_pbes1_params};
+ghost use Rattle.pkcs12_algs.specs.Pbes1.{pbe_oid, pbe_table, pbe_is_table, pbe_valid, pbes1_contents, pbes1_value};
 ghost use Rattle.pkcs12_algs.specs.declared.pbes1.Pbes1AlgorithmKind.{Pbes1AlgorithmKind};
 ghost use Rattle.pkcs12_algs.specs.Names.{pbe_name};
 
@@ -105,36 +105,22 @@ pub struct Pbes1Params {
     pub iterations: u32,
 }
 
-impl DerSerialize for Pbes1Params {
-    ghost Value = { Pbes1Value };
+impl Sequence for Pbes1Params {
+    ghost asn1 = { pbes1_contents };
 
     ghost value = { pbes1_value };
 
-    ghost format = { pbes1_params };
-
-    fn put<W: Writer>(&self, w: &mut W) -> Result<(), WriteError> {
-        put_of!(self, w; salt, iterations)
+    fn with_components<U: Task>(&self, task: &mut U) -> U::Out {
+        with_components_of!(self, task; Pbes1Params { salt, iterations })
     }
 
-    fn well_formed_at(&self, limit: u8) -> bool {
-        formed_of!(self, limit; salt, iterations)
-    }
-}
-
-impl DerDeserialize for Pbes1Params {
-    fn read(alloc: Global, r: &mut Reader<'_>, nest: u8) -> Result<Self, Error> {
-        read_of!(alloc, r, nest; Self { salt, iterations })
+    fn read_fields(alloc: Global, r: &mut Reader<'_>, nest: u8) -> Result<Self, Error> {
+        read_fields_of!(alloc, r, nest; Pbes1Params { salt, iterations })
     }
 
-    ghost lawful = { lawful_pbes1_params };
-}
-
-impl EqualByText for Pbes1Params {
-    ghost equal_by_text = { Prim.search rules };
-}
-
-impl TryClone for Pbes1Params {
-    fn try_clone(&self, alloc: Global) -> Result<Self, Error> {
-        clone_of!(self, alloc; Self { salt; iterations })
+    fn clone_fields(&self, alloc: Global) -> Result<Self, Error> {
+        clone_fields_of!(self, alloc; Pbes1Params { salt, iterations })
     }
+
+    ghost equal = { Prim.search rules };
 }

@@ -4,7 +4,7 @@ ghost use Rattle.std.specs.Prelude.{◌≡◌, MatchResult, Some};
 ghost use Rattle.std.proofs.Common.{rules};
 ghost use Rattle.asn1_core_element.specs.declared.error.Error.TheVariants.{Memory};
 ghost use Rattle.asn1_core.specs.Der.{octets_of};
-ghost use Rattle.pkcs12_algs.specs.Pbes2.{aes_oid, aes_table, aes_is_table, aes_valid, KdfValue, kdf_value, kdf, lawful_kdf, SchemeValue, scheme_value, scheme, lawful_scheme, Pbes2Value, pbes2_value, pbes2_params, lawful_pbes2_params};
+ghost use Rattle.pkcs12_algs.specs.Pbes2.{aes_oid, aes_table, aes_is_table, aes_valid, KdfValue, kdf_value, kdf, lawful_kdf, SchemeValue, scheme_value, scheme, lawful_scheme, pbes2_contents, pbes2_value};
 ghost use Rattle.pkcs12_algs.specs.declared.pbes2.Pbes2AesCbcEncryption.{Pbes2AesCbcEncryption};
 ghost use Rattle.pkcs12_algs.specs.Equal.{kdf_equal, pbes2_equal};
 ghost use Rattle.pkcs12_algs.specs.Names.{aes_name};
@@ -259,36 +259,22 @@ pub struct Pbes2Params {
     pub encryption_scheme: Pbes2EncryptionScheme,
 }
 
-impl DerSerialize for Pbes2Params {
-    ghost Value = { Pbes2Value };
+impl Sequence for Pbes2Params {
+    ghost asn1 = { pbes2_contents };
 
     ghost value = { pbes2_value };
 
-    ghost format = { pbes2_params };
-
-    fn put<W: Writer>(&self, w: &mut W) -> Result<(), WriteError> {
-        put_of!(self, w; key_derivation_func, encryption_scheme)
+    fn with_components<U: Task>(&self, task: &mut U) -> U::Out {
+        with_components_of!(self, task; Pbes2Params { key_derivation_func, encryption_scheme })
     }
 
-    fn well_formed_at(&self, limit: u8) -> bool {
-        formed_of!(self, limit; key_derivation_func, encryption_scheme)
-    }
-}
-
-impl DerDeserialize for Pbes2Params {
-    fn read(alloc: Global, r: &mut Reader<'_>, nest: u8) -> Result<Self, Error> {
-        read_of!(alloc, r, nest; Self { key_derivation_func, encryption_scheme })
+    fn read_fields(alloc: Global, r: &mut Reader<'_>, nest: u8) -> Result<Self, Error> {
+        read_fields_of!(alloc, r, nest; Pbes2Params { key_derivation_func, encryption_scheme })
     }
 
-    ghost lawful = { lawful_pbes2_params };
-}
-
-impl EqualByText for Pbes2Params {
-    ghost equal_by_text = { pbes2_equal };
-}
-
-impl TryClone for Pbes2Params {
-    fn try_clone(&self, alloc: Global) -> Result<Self, Error> {
-        clone_of!(self, alloc; Self { key_derivation_func, encryption_scheme })
+    fn clone_fields(&self, alloc: Global) -> Result<Self, Error> {
+        clone_fields_of!(self, alloc; Pbes2Params { key_derivation_func, encryption_scheme })
     }
+
+    ghost equal = { pbes2_equal };
 }

@@ -2,7 +2,7 @@
 
 ghost use Rattle.std.specs.Prelude.{◌≡◌};
 ghost use Rattle.std.proofs.Common.{rules};
-ghost use Rattle.pkcs12_algs.specs.Pbkdf2.{SaltValue, salt_value, salt, lawful_salt, Pbkdf2Value, pbkdf2_value, pbkdf2_params, lawful_pbkdf2_params};
+ghost use Rattle.pkcs12_algs.specs.Pbkdf2.{SaltValue, salt_value, salt, lawful_salt, pbkdf2_contents, pbkdf2_value};
 ghost use Rattle.pkcs12_algs.specs.Equal.{pbkdf2_equal};
 
 use crate::algorithms::{AlgorithmPart, AlgorithmRef};
@@ -121,7 +121,7 @@ type Pbkdf2Ref<'a> = Part<
 
 impl Pbkdf2Params {
     fn components(&self) -> Pbkdf2Ref<'_>
-        ensures { ⟦<Pbkdf2Ref<'static> as WriteComponents>⟧.value result ≡ ⟦<Pbkdf2Params as DerSerialize>⟧.value self.now }
+        ensures { ⟦<Pbkdf2Ref<'static> as WriteComponents>⟧.value result ≡ pbkdf2_value self.now }
     {
         let prf = match &self.prf {
             Some(prf) => Some(AlgorithmRef(prf)),
@@ -137,32 +137,24 @@ impl Pbkdf2Params {
     }
 }
 
-impl DerSerialize for Pbkdf2Params {
-    ghost Value = { Pbkdf2Value };
+impl Sequence for Pbkdf2Params {
+    ghost asn1 = { pbkdf2_contents };
 
     ghost value = { pbkdf2_value };
 
-    ghost format = { pbkdf2_params };
-
-    fn put<W: Writer>(&self, w: &mut W) -> Result<(), WriteError> {
-        put_within(0x30, &self.components(), w)
+    fn with_components<U: Task>(&self, task: &mut U) -> U::Out {
+        task.run(&self.components())
     }
 
-    fn well_formed_at(&self, limit: u8) -> bool {
-        self.components().components_well_formed_at(limit)
-    }
-}
-
-impl DerDeserialize for Pbkdf2Params {
-    fn read(alloc: Global, r: &mut Reader<'_>, nest: u8) -> Result<Self, Error> {
+    fn read_fields(alloc: Global, r: &mut Reader<'_>, nest: u8) -> Result<Self, Error> {
         let fields_of!(
             (SaltPart(salt)), iteration_count, key_length OPTIONAL, prf OPTIONAL
-        ) = read_within(alloc, r, nest, 0x30)?;
+        ) = ReadComponents::read_components(alloc, r, nest)?;
         let prf = match prf {
             Some(AlgorithmPart(prf)) => Some(prf),
             None => None,
         };
-        Ok(Self {
+        Ok(Pbkdf2Params {
             salt,
             iteration_count,
             key_length,
@@ -170,15 +162,9 @@ impl DerDeserialize for Pbkdf2Params {
         })
     }
 
-    ghost lawful = { lawful_pbkdf2_params };
-}
-
-impl EqualByText for Pbkdf2Params {
-    ghost equal_by_text = { pbkdf2_equal };
-}
-
-impl TryClone for Pbkdf2Params {
-    fn try_clone(&self, alloc: Global) -> Result<Self, Error> {
-        clone_of!(self, alloc; Self { salt, prf; iteration_count, key_length })
+    fn clone_fields(&self, alloc: Global) -> Result<Self, Error> {
+        clone_fields_of!(self, alloc; Pbkdf2Params { salt, iteration_count, key_length, prf })
     }
+
+    ghost equal = { pbkdf2_equal };
 }
