@@ -179,7 +179,11 @@ fn bundle_of(alloc: Global, certificates: &[u8]) -> Result<Pkcs7Certificate, Err
 
 /// Signed data made by fields: what docs/USING.md quotes.
 pub fn of_certificates(rt: &HostRuntime) -> Result<(), Stop> {
-    names(rt, "read_components, from_text and new_pkcs7_data", "signed data")?;
+    names(
+        rt,
+        "read_components, from_text and new_pkcs7_data",
+        "signed data",
+    )?;
     is_made(bundle_of(rt.alloc(), texts::CERTIFICATES), texts::BUNDLE)
 }
 

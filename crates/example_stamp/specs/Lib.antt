@@ -1,4 +1,2 @@
 pub mod Stamps
 pub mod Parcels
-pub mod Shipments
-pub mod ShipmentEqual

@@ -4,7 +4,6 @@
 ghost use Rattle.example_stamp.specs.Stamps.{stamp, stamp_value, stamp_equal};
 
 pub mod parcels;
-pub mod shipments;
 
 use asn1_core::prelude::*;
 use std::alloc::Global;

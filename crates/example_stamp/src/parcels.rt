@@ -1,36 +1,32 @@
-//! A SEQUENCE of five parts.
+//! A SEQUENCE of five components: two with a DEFAULT, an OPTIONAL one under an explicit tag, a list under an implicit one.
 
-ghost use Rattle.std.specs.Prelude.{map};
-ghost use Rattle.std.proofs.Common.{rules};
-ghost use Rattle.asn1_core.specs.Der.{octets_of, option_value, der_equal};
-ghost use Rattle.example_stamp.specs.Stamps.{stamp_value, stamp_equal};
-ghost use Rattle.example_stamp.specs.Parcels.{parcel};
+ghost use Rattle.example_stamp.specs.Parcels.{parcel, parcel_value, parcel_equal};
 
 use crate::Stamp;
 use asn1_core::prelude::*;
 use std::alloc::Global;
 
-/// `Parcel ::= SEQUENCE { code OBJECT IDENTIFIER, fragile BOOLEAN DEFAULT FALSE, weight INTEGER (0..4294967295) OPTIONAL,
-/// note [0] EXPLICIT OCTET STRING, stamps SEQUENCE OF Stamp }`
+/// `Parcel ::= SEQUENCE { code OBJECT IDENTIFIER, fragile BOOLEAN DEFAULT FALSE, floor INTEGER (0..255) DEFAULT 3, note [30]
+/// EXPLICIT OCTET STRING OPTIONAL, stamps [5] IMPLICIT SEQUENCE OF Stamp }`
 #[derive(Debug, Drop, PartialEq, Eq)]
 pub struct Parcel {
     pub code: ObjectIdentifierAsn1,
     pub fragile: bool,
-    pub weight: Option<u32>,
-    pub note: ExplicitContextTag0<OctetStringAsn1>,
-    pub stamps: Asn1SequenceOf<Stamp>,
+    pub floor: DefaultNumber<3>,
+    pub note: Option<Explicit<30, OctetStringAsn1>>,
+    pub stamps: Implicit<5, Asn1SequenceOf<Stamp>>,
 }
 
 macro_rules! parcel {
     ($by:ident($($with:ident),*)) => {
-        $by!($($with),*; Parcel { code, DefaultFalse(fragile) DEFAULT, weight OPTIONAL, note, stamps })
+        $by!($($with),*; Parcel { code, DefaultFalse(fragile) DEFAULT, floor DEFAULT, note OPTIONAL, stamps })
     };
 }
 
 impl Sequence for Parcel {
     ghost asn1 = { parcel };
 
-    ghost value = { λ x. (octets_of x.code.0, (x.fragile, (option_value (λ n. n) x.weight, (x.note.0.0.items, (map stamp_value x.stamps.0.items, tt))))) };
+    ghost value = { parcel_value };
 
     fn with_components<U: Task>(&self, task: &mut U) -> U::Out {
         parcel!(with_components_of(self, task))
@@ -44,5 +40,5 @@ impl Sequence for Parcel {
         parcel!(clone_fields_of(self, alloc))
     }
 
-    ghost equal = { λ x y. Prim.search (der_equal, stamp_equal, rules) depth 20 };
+    ghost equal = { parcel_equal };
 }
