@@ -1,8 +1,9 @@
 -- EncryptedContentInfo ::= SEQUENCE { contentType ContentType, contentEncryptionAlgorithm AlgorithmIdentifier,
 --   encryptedContent [0] IMPLICIT OCTET STRING OPTIONAL } (RFC 2315, 10.1), with contentType pkcs7-data (RFC 7292, 4.1)
-use Rattle.std.specs.Prelude.{◌≡◌, ℕ, List, Option}
-use Rattle.asn1_core.specs.Der.{Format, sequence, part, optional, nothing, octet_string, option_value, Octets, IsLawful, lawful_octet_string, der_laws, Spelling, leaf, IsLawfulSpelling, implicit, context_tag, any_octets, lawful_leaf, lawful_implicit, context_tag_is, leaf_tagged}
-use Rattle.pkcs12_algs.specs.Encryption.{EncryptionAlgorithmValue, encryption_algorithm_value, encryption_algorithm, lawful_encryption_algorithm}
+use Rattle.std.specs.Prelude.{◌≡◌, ℕ, List}
+use Rattle.asn1_core.specs.Asn1.{asn1, Contents, contents, ◌then◌, ◌OPTIONAL◌, end, OCTET_STRING, IMPLICIT}
+use Rattle.asn1_core.specs.Der.{Format, sequence, lawful_sequence, octet_string, option_value, Octets, IsLawful, Spelling, leaf, IsLawfulSpelling, implicit, context_tag, lawful_leaf}
+use Rattle.pkcs12_algs.specs.Encryption.{encryption_algorithm_value, lawful_encryption_algorithm}
 use Rattle.x509_pkcs12.specs.Oids.{data_oid}
 use Rattle.x509_pkcs12.specs.declared.parts.contents.EncryptedSafeContents.{EncryptedSafeContents}
 use Rattle.std.proofs.Common.{refl, arith}
@@ -15,26 +16,27 @@ only_octets o = record { spell = λ _. o; IsValid = λ _. Unit {0}; IsContents =
 abbrev pub fixed_oid : List ℕ → Format (Unit {0})
 fixed_oid o = leaf 0x06 (only_octets o)
 
-abbrev pub EncryptedContentsValue : Type 0
-EncryptedContentsValue = Unit {0} × (EncryptionAlgorithmValue × (Option Octets × Unit {0}))
-
-abbrev pub encrypted_contents_value : EncryptedSafeContents → EncryptedContentsValue
-encrypted_contents_value c = (tt, (encryption_algorithm_value c.algorithm, (option_value (λ o. o.0.items) c.encrypted_content, tt)))
-
-abbrev pub encrypted_octets : Format Octets
-encrypted_octets = implicit (context_tag 0 0x04) 0x04 octet_string
-
-abbrev pub encrypted_contents : Format EncryptedContentsValue
-encrypted_contents = sequence (part (fixed_oid data_oid) (part encryption_algorithm (optional encrypted_octets nothing)))
-
 lawful_only : (o : List ℕ) → IsLawfulSpelling (only_octets o)
 lawful_only o = record { one_value = λ v w h i e. refl; spelled = λ v h. refl; has_value = λ c h. (tt, h, tt) }
 
 pub lawful_fixed_oid : (o : List ℕ) → IsLawful (fixed_oid o)
 lawful_fixed_oid o = lawful_leaf 0x06 (omega arith) (only_octets o) (lawful_only o)
 
-lawful_encrypted_octets : IsLawful encrypted_octets
-lawful_encrypted_octets = lawful_implicit (context_tag 0 0x04) 0x04 octet_string lawful_octet_string (leaf_tagged 0x04 (omega arith) any_octets) (context_tag_is 0 0x04 (omega arith))
+abbrev pub encrypted_octets : Format Octets
+encrypted_octets = implicit (context_tag 0 0x04) 0x04 octet_string
+
+abbrev pub encrypted_content_info_contents : Contents
+encrypted_content_info_contents =
+    contents (asn1 (lawful_fixed_oid data_oid) then asn1 lawful_encryption_algorithm then IMPLICIT 0 OCTET_STRING OPTIONAL end) refl
+
+abbrev pub EncryptedContentsValue : Type 0
+EncryptedContentsValue = encrypted_content_info_contents.Value
+
+abbrev pub encrypted_contents_value : EncryptedSafeContents → EncryptedContentsValue
+encrypted_contents_value c = (tt, (encryption_algorithm_value c.algorithm, (option_value (λ o. o.0.items) c.encrypted_content, tt)))
+
+abbrev pub encrypted_contents : Format EncryptedContentsValue
+encrypted_contents = sequence encrypted_content_info_contents.format
 
 pub lawful_encrypted_contents : IsLawful encrypted_contents
-lawful_encrypted_contents = search (der_laws, lawful_fixed_oid, lawful_encryption_algorithm, lawful_encrypted_octets) depth 20
+lawful_encrypted_contents = lawful_sequence encrypted_content_info_contents.law

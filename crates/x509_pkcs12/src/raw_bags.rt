@@ -5,7 +5,7 @@ ghost use Rattle.std.proofs.Common.{refl};
 ghost use Rattle.asn1_core.specs.Der.{AnswersInput, octet_string};
 ghost use Rattle.x509_base.specs.AttributesByOid.{with_oid, IsFirst, GivesOnly};
 ghost use Rattle.x509_base.specs.Names.{attribute_value};
-ghost use Rattle.x509_pkcs12.specs.RawBags.{RawBagValue, raw_bag_value, raw_bag, lawful_raw_bag, RawContentsValue, raw_contents_value, raw_contents, lawful_raw_contents, attributes_of};
+ghost use Rattle.x509_pkcs12.specs.RawBags.{raw_bag_contents, raw_bag_value, RawContentsValue, raw_contents_value, raw_contents, lawful_raw_contents, attributes_of};
 ghost use Rattle.x509_pkcs12.specs.RawBagsEqual.{raw_bag_equal, raw_contents_equal};
 ghost use Rattle.x509_pkcs12.specs.Utf16.{utf16_string};
 ghost use Rattle.x509_pkcs12.specs.Utf16Octets.{octets_of_utf16};
@@ -82,38 +82,24 @@ impl RawSafeBag {
     }
 }
 
-impl DerSerialize for RawSafeBag {
-    ghost Value = { RawBagValue };
+impl Sequence for RawSafeBag {
+    ghost asn1 = { raw_bag_contents };
 
     ghost value = { raw_bag_value };
 
-    ghost format = { raw_bag };
-
-    fn put<W: Writer>(&self, w: &mut W) -> Result<(), WriteError> {
-        put_of!(self, w; bag_id, bag_value, bag_attributes OPTIONAL)
+    fn with_components<U: Task>(&self, task: &mut U) -> U::Out {
+        with_components_of!(self, task; RawSafeBag { bag_id, bag_value, bag_attributes OPTIONAL })
     }
 
-    fn well_formed_at(&self, limit: u8) -> bool {
-        formed_of!(self, limit; bag_id, bag_value, bag_attributes OPTIONAL)
-    }
-}
-
-impl DerDeserialize for RawSafeBag {
-    fn read(alloc: Global, r: &mut Reader<'_>, nest: u8) -> Result<Self, Error> {
-        read_of!(alloc, r, nest; RawSafeBag { bag_id, bag_value, bag_attributes OPTIONAL })
+    fn read_fields(alloc: Global, r: &mut Reader<'_>, nest: u8) -> Result<Self, Error> {
+        read_fields_of!(alloc, r, nest; RawSafeBag { bag_id, bag_value, bag_attributes OPTIONAL })
     }
 
-    ghost lawful = { lawful_raw_bag };
-}
-
-impl EqualByText for RawSafeBag {
-    ghost equal_by_text = { raw_bag_equal };
-}
-
-impl TryClone for RawSafeBag {
-    fn try_clone(&self, alloc: Global) -> Result<Self, Error> {
-        clone_of!(self, alloc; RawSafeBag { bag_id, bag_value, bag_attributes })
+    fn clone_fields(&self, alloc: Global) -> Result<Self, Error> {
+        clone_fields_of!(self, alloc; RawSafeBag { bag_id, bag_value, bag_attributes OPTIONAL })
     }
+
+    ghost equal = { raw_bag_equal };
 }
 
 /// `SafeContents ::= SEQUENCE OF SafeBag` (RFC 7292, 4.2), of bags that are not parsed: bags in a bag are its value.

@@ -2,7 +2,7 @@
 
 ghost use Rattle.std.specs.Prelude.{◌≡◌};
 ghost use Rattle.std.proofs.Common.{rules};
-ghost use Rattle.x509_pkcs12.specs.BagParts.{OctetsOrAny, x509_value, x509_bag, SecretValue, secret_value, secret_bag, EncryptedKeyValue, encrypted_key_value, encrypted_key_bag, lawful_x509_bag, lawful_secret_bag, lawful_encrypted_key_bag};
+ghost use Rattle.x509_pkcs12.specs.BagParts.{OctetsOrAny, x509_value, x509_bag, lawful_x509_bag, secret_contents, secret_value, encrypted_key_contents, encrypted_key_value};
 ghost use Rattle.x509_pkcs12.specs.BagPartsEqual.{secret_equal, encrypted_key_equal};
 
 use crate::parts::oids::{Known, X509_CERTIFICATE, X509_CRL};
@@ -117,42 +117,28 @@ pub struct SecretBag {
     pub value: Asn1RawDer,
 }
 
-impl DerSerialize for SecretBag {
-    ghost Value = { SecretValue };
+impl Sequence for SecretBag {
+    ghost asn1 = { secret_contents };
 
     ghost value = { secret_value };
 
-    ghost format = { secret_bag };
-
-    fn put<W: Writer>(&self, w: &mut W) -> Result<(), WriteError> {
-        put_of!(self, w; (OidRef(&self.type_id)), (ExplicitContextTag0(Ref(&self.value))))
+    fn with_components<U: Task>(&self, task: &mut U) -> U::Out {
+        with_components_of!(self, task; SecretBag { (OidRef(&self.type_id)), (ExplicitContextTag0(Ref(&self.value))) })
     }
 
-    fn well_formed_at(&self, limit: u8) -> bool {
-        formed_of!(self, limit; (OidRef(&self.type_id)), (ExplicitContextTag0(Ref(&self.value))))
-    }
-}
-
-impl DerDeserialize for SecretBag {
-    fn read(alloc: Global, r: &mut Reader<'_>, nest: u8) -> Result<Self, Error> {
+    fn read_fields(alloc: Global, r: &mut Reader<'_>, nest: u8) -> Result<Self, Error> {
         let fields_of!(
             (ObjectIdentifierAsn1(type_id)),
             (ExplicitContextTag0(value))
-        ) = read_within(alloc, r, nest, 0x30)?;
+        ) = ReadComponents::read_components(alloc, r, nest)?;
         Ok(SecretBag { type_id, value })
     }
 
-    ghost lawful = { lawful_secret_bag };
-}
-
-impl EqualByText for SecretBag {
-    ghost equal_by_text = { secret_equal };
-}
-
-impl TryClone for SecretBag {
-    fn try_clone(&self, alloc: Global) -> Result<Self, Error> {
-        clone_of!(self, alloc; SecretBag { type_id, value })
+    fn clone_fields(&self, alloc: Global) -> Result<Self, Error> {
+        clone_fields_of!(self, alloc; SecretBag { type_id, value })
     }
+
+    ghost equal = { secret_equal };
 }
 
 /// `PKCS8ShroudedKeyBag ::= EncryptedPrivateKeyInfo`, `EncryptedPrivateKeyInfo ::= SEQUENCE { encryptionAlgorithm
@@ -163,36 +149,22 @@ pub struct EncryptedKeyBag {
     pub encrypted_data: OctetStringAsn1,
 }
 
-impl DerSerialize for EncryptedKeyBag {
-    ghost Value = { EncryptedKeyValue };
+impl Sequence for EncryptedKeyBag {
+    ghost asn1 = { encrypted_key_contents };
 
     ghost value = { encrypted_key_value };
 
-    ghost format = { encrypted_key_bag };
-
-    fn put<W: Writer>(&self, w: &mut W) -> Result<(), WriteError> {
-        put_of!(self, w; algorithm, encrypted_data)
+    fn with_components<U: Task>(&self, task: &mut U) -> U::Out {
+        with_components_of!(self, task; EncryptedKeyBag { algorithm, encrypted_data })
     }
 
-    fn well_formed_at(&self, limit: u8) -> bool {
-        formed_of!(self, limit; algorithm, encrypted_data)
-    }
-}
-
-impl DerDeserialize for EncryptedKeyBag {
-    fn read(alloc: Global, r: &mut Reader<'_>, nest: u8) -> Result<Self, Error> {
-        read_of!(alloc, r, nest; EncryptedKeyBag { algorithm, encrypted_data })
+    fn read_fields(alloc: Global, r: &mut Reader<'_>, nest: u8) -> Result<Self, Error> {
+        read_fields_of!(alloc, r, nest; EncryptedKeyBag { algorithm, encrypted_data })
     }
 
-    ghost lawful = { lawful_encrypted_key_bag };
-}
-
-impl EqualByText for EncryptedKeyBag {
-    ghost equal_by_text = { encrypted_key_equal };
-}
-
-impl TryClone for EncryptedKeyBag {
-    fn try_clone(&self, alloc: Global) -> Result<Self, Error> {
-        clone_of!(self, alloc; EncryptedKeyBag { algorithm, encrypted_data })
+    fn clone_fields(&self, alloc: Global) -> Result<Self, Error> {
+        clone_fields_of!(self, alloc; EncryptedKeyBag { algorithm, encrypted_data })
     }
+
+    ghost equal = { encrypted_key_equal };
 }

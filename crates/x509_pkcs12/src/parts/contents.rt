@@ -2,7 +2,7 @@
 
 ghost use Rattle.std.specs.Prelude.{◌≡◌, ℕ, List};
 ghost use Rattle.x509_pkcs12.specs.Oids.{data_oid};
-ghost use Rattle.x509_pkcs12.specs.EncryptedContents.{only_octets, fixed_oid, encrypted_octets, EncryptedContentsValue, encrypted_contents_value, encrypted_contents, lawful_fixed_oid, lawful_encrypted_contents};
+ghost use Rattle.x509_pkcs12.specs.EncryptedContents.{only_octets, fixed_oid, lawful_fixed_oid, encrypted_octets, encrypted_content_info_contents, encrypted_contents_value};
 ghost use Rattle.x509_pkcs12.specs.EncryptedContentsEqual.{encrypted_contents_equal};
 
 use crate::parts::oids::DATA;
@@ -92,7 +92,7 @@ type ContentsRef<'a> = Part<
 
 impl EncryptedSafeContents {
     fn components(&self) -> ContentsRef<'_>
-        ensures { ⟦<ContentsRef<'static> as WriteComponents>⟧.value result ≡ ⟦<EncryptedSafeContents as DerSerialize>⟧.value self.now }
+        ensures { ⟦<ContentsRef<'static> as WriteComponents>⟧.value result ≡ encrypted_contents_value self.now }
     {
         let content = match &self.encrypted_content {
             Some(octets) => Some(EncryptedRef(octets)),
@@ -102,26 +102,18 @@ impl EncryptedSafeContents {
     }
 }
 
-impl DerSerialize for EncryptedSafeContents {
-    ghost Value = { EncryptedContentsValue };
+impl Sequence for EncryptedSafeContents {
+    ghost asn1 = { encrypted_content_info_contents };
 
     ghost value = { encrypted_contents_value };
 
-    ghost format = { encrypted_contents };
-
-    fn put<W: Writer>(&self, w: &mut W) -> Result<(), WriteError> {
-        put_within(0x30, &self.components(), w)
+    fn with_components<U: Task>(&self, task: &mut U) -> U::Out {
+        task.run(&self.components())
     }
 
-    fn well_formed_at(&self, limit: u8) -> bool {
-        self.components().components_well_formed_at(limit)
-    }
-}
-
-impl DerDeserialize for EncryptedSafeContents {
-    fn read(alloc: Global, r: &mut Reader<'_>, nest: u8) -> Result<Self, Error> {
-        let fields_of!((DataType), algorithm, content OPTIONAL) = read_within(
-            alloc, r, nest, 0x30,
+    fn read_fields(alloc: Global, r: &mut Reader<'_>, nest: u8) -> Result<Self, Error> {
+        let fields_of!((DataType), algorithm, content OPTIONAL) = ReadComponents::read_components(
+            alloc, r, nest,
         )?;
         let encrypted_content = match content {
             Some(ImplicitContextTag0(octets)) => Some(octets),
@@ -133,15 +125,9 @@ impl DerDeserialize for EncryptedSafeContents {
         })
     }
 
-    ghost lawful = { lawful_encrypted_contents };
-}
-
-impl EqualByText for EncryptedSafeContents {
-    ghost equal_by_text = { encrypted_contents_equal };
-}
-
-impl TryClone for EncryptedSafeContents {
-    fn try_clone(&self, alloc: Global) -> Result<Self, Error> {
-        clone_of!(self, alloc; EncryptedSafeContents { algorithm, encrypted_content })
+    fn clone_fields(&self, alloc: Global) -> Result<Self, Error> {
+        clone_fields_of!(self, alloc; EncryptedSafeContents { algorithm, encrypted_content })
     }
+
+    ghost equal = { encrypted_contents_equal };
 }
