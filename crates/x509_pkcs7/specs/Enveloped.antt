@@ -1,17 +1,13 @@
 -- EnvelopedData ::= SEQUENCE { version CMSVersion, originatorInfo [0] IMPLICIT OriginatorInfo OPTIONAL, recipientInfos
 --   RecipientInfos, encryptedContentInfo EncryptedContentInfo, unprotectedAttrs [1] IMPLICIT UnprotectedAttributes
---   OPTIONAL }
--- OriginatorInfo ::= SEQUENCE { certs [0] IMPLICIT CertificateSet OPTIONAL, crls [1] IMPLICIT RevocationInfoChoices
---   OPTIONAL }
--- EncryptedContentInfo ::= SEQUENCE { contentType ContentType, contentEncryptionAlgorithm
---   ContentEncryptionAlgorithmIdentifier, encryptedContent [0] IMPLICIT EncryptedContent OPTIONAL } (RFC 5652, 6.1)
+--   OPTIONAL } (RFC 5652, 6.1)
 use Rattle.std.specs.Prelude.{ℕ, List, Option, map}
 use Rattle.std.proofs.Common.{arith, refl}
-use Rattle.asn1_core.specs.Der.{Format, IsLawful, sequence, part, optional, nothing, each, set_of, number_below, object_identifier, octet_string, octets_of, option_value, lawful_sequence, followed_by, perhaps, lawful_nothing, lawful_set, lawful_number, Octets, OidOctets, der_laws, implicit, lawful_implicit, within_tagged}
+use Rattle.asn1_core.specs.Asn1.{Asn1, asn1, asn1_tagged, Contents, contents, ◌then◌, ◌OPTIONAL◌, end, OBJECT_IDENTIFIER, OCTET_STRING, IMPLICIT}
+use Rattle.asn1_core.specs.Der.{Format, IsLawful, sequence, part, optional, nothing, each, set_of, number_below, octets_of, option_value, lawful_sequence, followed_by, perhaps, lawful_nothing, lawful_set, lawful_number, implicit, lawful_implicit, within_tagged}
 use Rattle.pkcs7_content.specs.Versions.{number_of}
-use Rattle.pkcs7_signed.specs.Certificates.{CertificateValue, certificates_value, certificate_choice, certificate_set, lawful_certificate_set}
-use Rattle.pkcs7_signed.specs.Revocations.{RevocationValue, revocations_value, revocation, revocations, lawful_revocations}
-use Rattle.x509_base.specs.Algorithms.{AlgorithmValue, algorithm_identifier}
+use Rattle.pkcs7_signed.specs.Certificates.{certificates_value, certificate_choice, lawful_certificate_set}
+use Rattle.pkcs7_signed.specs.Revocations.{revocations_value, revocation, lawful_revocations}
 use Rattle.x509_base.specs.AlgorithmLaws.{lawful_algorithm_identifier}
 use Rattle.x509_base.specs.AlgorithmParts.{algorithm_value}
 use Rattle.x509_base.specs.Names.{AttributeValue, attribute_value, attribute, lawful_attribute}
@@ -19,43 +15,39 @@ use Rattle.x509_pkcs7.specs.declared.enveloped.EncryptedContentInfo.{EncryptedCo
 use Rattle.x509_pkcs7.specs.declared.enveloped.EnvelopedData.{EnvelopedData}
 use Rattle.x509_pkcs7.specs.declared.enveloped.OriginatorInfo.{OriginatorInfo}
 
-abbrev pub EncryptedContentValue : Type 0
-EncryptedContentValue = OidOctets × (AlgorithmValue × (Option Octets × Unit {0}))
+-- EncryptedContentInfo ::= SEQUENCE { contentType ContentType, contentEncryptionAlgorithm
+--   ContentEncryptionAlgorithmIdentifier, encryptedContent [0] IMPLICIT EncryptedContent OPTIONAL }
+abbrev pub encrypted_content_contents : Contents
+encrypted_content_contents = contents (OBJECT_IDENTIFIER then asn1 lawful_algorithm_identifier then IMPLICIT 0 OCTET_STRING OPTIONAL end) refl
 
-abbrev pub encrypted_content_value : EncryptedContentInfo → EncryptedContentValue
+abbrev pub encrypted_content : Format encrypted_content_contents.Value
+encrypted_content = sequence encrypted_content_contents.format
+
+abbrev pub encrypted_content_value : EncryptedContentInfo → encrypted_content_contents.Value
 encrypted_content_value x = (octets_of x.content_type.0, (algorithm_value x.content_encryption_algorithm, (option_value (λ c. c.0.0.items) x.encrypted_content.0, tt)))
 
-abbrev pub encrypted_content : Format EncryptedContentValue
-encrypted_content = sequence (part object_identifier (part algorithm_identifier (optional (implicit 0x80 0x04 octet_string) nothing)))
+lawful_encrypted_content : IsLawful encrypted_content
+lawful_encrypted_content = lawful_sequence encrypted_content_contents.law
 
-lawful_encrypted_octets : IsLawful (implicit 0x80 0x04 octet_string)
-lawful_encrypted_octets = search der_laws depth 20
+abbrev pub CERTIFICATES : Asn1
+CERTIFICATES = asn1_tagged lawful_certificate_set 0xA0 (within_tagged 0xA0 (omega arith) (each certificate_choice))
 
-pub lawful_encrypted_content : IsLawful encrypted_content
-lawful_encrypted_content = search (der_laws, lawful_algorithm_identifier, lawful_encrypted_octets) depth 20
+abbrev pub REVOCATIONS : Asn1
+REVOCATIONS = asn1_tagged lawful_revocations 0xA1 (within_tagged 0xA1 (omega arith) (each revocation))
 
-abbrev pub OriginatorValue : Type 0
-OriginatorValue = Option (List CertificateValue) × (Option (List RevocationValue) × Unit {0})
+-- OriginatorInfo ::= SEQUENCE { certs [0] IMPLICIT CertificateSet OPTIONAL, crls [1] IMPLICIT RevocationInfoChoices
+--   OPTIONAL }
+abbrev pub originator_contents : Contents
+originator_contents = contents (IMPLICIT 0 CERTIFICATES OPTIONAL IMPLICIT 1 REVOCATIONS OPTIONAL end) refl
 
-abbrev pub originator_value : OriginatorInfo → OriginatorValue
+abbrev pub originator_value : OriginatorInfo → originator_contents.Value
 originator_value x = (option_value (λ c. certificates_value c.0) x.certs.0, (option_value (λ c. revocations_value c.0) x.crls.0, tt))
 
-abbrev pub originator_components : Format OriginatorValue
-originator_components = optional (implicit 0xA0 0xA0 certificate_set) (optional (implicit 0xA1 0xA1 revocations) nothing)
+abbrev pub originator : Format originator_contents.Value
+originator = sequence originator_contents.format
 
-abbrev pub originator : Format OriginatorValue
-originator = sequence originator_components
-
-lawful_certs : IsLawful (implicit 0xA0 0xA0 certificate_set)
-lawful_certs = lawful_implicit 0xA0 0xA0 certificate_set lawful_certificate_set (within_tagged 0xA0 (omega arith) (each certificate_choice)) (omega arith)
-
-lawful_crls : IsLawful (implicit 0xA1 0xA1 revocations)
-lawful_crls = lawful_implicit 0xA1 0xA1 revocations lawful_revocations (within_tagged 0xA1 (omega arith) (each revocation)) (omega arith)
-
-pub lawful_originator : IsLawful originator
-lawful_originator =
-    lawful_sequence (perhaps lawful_certs refl
-    (perhaps lawful_crls refl lawful_nothing))
+lawful_originator : IsLawful originator
+lawful_originator = lawful_sequence originator_contents.law
 
 -- SET OF Attribute, under [1] IMPLICIT
 abbrev pub attributes : Format (List AttributeValue)
@@ -65,11 +57,11 @@ lawful_unprotected : IsLawful (implicit 0xA1 0x31 attributes)
 lawful_unprotected = lawful_implicit 0xA1 0x31 attributes (lawful_set attribute lawful_attribute) (within_tagged 0x31 (omega arith) (each attribute)) (omega arith)
 
 lawful_originator_0 : IsLawful (implicit 0xA0 0x30 originator)
-lawful_originator_0 = lawful_implicit 0xA0 0x30 originator lawful_originator (within_tagged 0x30 (omega arith) originator_components) (omega arith)
+lawful_originator_0 = lawful_implicit 0xA0 0x30 originator lawful_originator (within_tagged 0x30 (omega arith) originator_contents.format) (omega arith)
 
 -- over the values and the format of recipients
 abbrev pub EnvelopedValue : Type 0 → Type 0
-EnvelopedValue V = ℕ × (Option OriginatorValue × (List V × (EncryptedContentValue × (Option (List AttributeValue) × Unit {0}))))
+EnvelopedValue V = ℕ × (Option originator_contents.Value × (List V × (encrypted_content_contents.Value × (Option (List AttributeValue) × Unit {0}))))
 
 abbrev pub enveloped_value : {R V : Type 0} → (R → V) → EnvelopedData R → EnvelopedValue V
 enveloped_value value x = (

@@ -1,26 +1,21 @@
 -- Page hashes of Authenticode: the data of a serialized object of that class, a SET OF SpcAttributeTypeAndOptionalValue.
 -- SpcAttributeTypeAndOptionalValue ::= SEQUENCE { type OBJECT IDENTIFIER, value SET OF OCTET STRING }
 use Rattle.std.specs.Prelude.{ℕ, ◌+◌, ◌*◌, List, [], ◌∷◌, Option, None, Some, map, take, drop, length, if◌then◌else◌}
-use Rattle.std.proofs.Common.{inl, inr, eqb}
+use Rattle.std.proofs.Common.{inl, inr, eqb, refl}
 use Rattle.std.specs.Int.{from_le_bytes, w32}
 use Rattle.std.specs.Str.{bytes_eq}
-use Rattle.asn1_core.specs.Der.{Format, IsLawful, sequence, part, nothing, set_of, object_identifier, octet_string, octets_of, arcs, der_laws, der_equal, SeesEqual, Octets, OidOctets}
+use Rattle.asn1_core.specs.Asn1.{Contents, contents, ◌then◌, end, OBJECT_IDENTIFIER, OCTET_STRING, SET_OF}
+use Rattle.asn1_core.specs.Der.{octets_of, arcs, der_equal, SeesEqual, Octets, OidOctets}
 use Rattle.x509_base.specs.SpcLinks.{LinkValue}
 use Rattle.x509_base.specs.SpcObjects.{page_hash_class}
 use Rattle.x509_pkcs7.specs.declared.verifier.pages.PageHashes.{PageHashes}
 use Rattle.x509_pkcs7.specs.contracts.verifier.pages.PageHashesPartialEq.TheImpl as PagesEq
 
-abbrev pub PageHashesValue : Type 0
-PageHashesValue = OidOctets × (List Octets × Unit {0})
+abbrev pub page_hashes_contents : Contents
+page_hashes_contents = contents (OBJECT_IDENTIFIER then SET_OF OCTET_STRING then end) refl
 
-abbrev pub page_hashes_value : PageHashes → PageHashesValue
+abbrev pub page_hashes_value : PageHashes → page_hashes_contents.Value
 page_hashes_value x = (octets_of x.ty.0, (map (λ o. o.0.items) x.value.0.items, tt))
-
-abbrev pub page_hashes : Format PageHashesValue
-page_hashes = sequence (part object_identifier (part (set_of octet_string) nothing))
-
-pub lawful_page_hashes : IsLawful page_hashes
-lawful_page_hashes = search der_laws depth 20
 
 pub page_hashes_equal : SeesEqual PagesEq.ghosts.eq page_hashes_value
 page_hashes_equal x y = search der_equal depth 20
@@ -58,5 +53,5 @@ entry_of_first None tables i = None
 entry_of_first (Some n) [] i = None
 entry_of_first (Some n) (table ∷ more) i = entry_in n table i
 
-abbrev pub entry_of : PageHashesValue → ℕ → Option (ℕ × Octets)
+abbrev pub entry_of : page_hashes_contents.Value → ℕ → Option (ℕ × Octets)
 entry_of v i = entry_of_first (digest_len_of v.0) v.1.0 i

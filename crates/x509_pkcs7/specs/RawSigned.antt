@@ -10,7 +10,7 @@ use Rattle.pkcs7_content.specs.Versions.{number_of}
 use Rattle.pkcs7_signed.specs.Algorithms.{algorithms_value, algorithms, lawful_algorithms}
 use Rattle.pkcs7_signed.specs.Certificates.{CertificateValue, certificates_value, certificate_set, lawful_certificate_set, no_certificates, no_certificates_left_out}
 use Rattle.x509_base.specs.Algorithms.{AlgorithmValue}
-use Rattle.x509_pkcs7.specs.RawContents.{RawEncapsulatedValue, raw_encapsulated_value, raw_encapsulated, lawful_raw_encapsulated}
+use Rattle.x509_pkcs7.specs.RawContents.{raw_encapsulated_contents, raw_encapsulated_value, raw_encapsulated, lawful_raw_encapsulated}
 use Rattle.x509_pkcs7.specs.declared.raw_signed.RawSignedData.{RawSignedData}
 use Rattle.x509_pkcs7.specs.declared.raw_signed.RawRevocationInfoChoices.{RawRevocationInfoChoices}
 
@@ -28,7 +28,7 @@ abbrev pub SetsValue : Type 0 → Type 0
 SetsValue V = List CertificateValue × (Option (List ElementOctets) × (List V × Unit {0}))
 
 abbrev pub RawSignedValue : Type 0 → Type 0
-RawSignedValue V = ℕ × (List AlgorithmValue × (RawEncapsulatedValue × SetsValue V))
+RawSignedValue V = ℕ × (List AlgorithmValue × (raw_encapsulated_contents.Value × SetsValue V))
 
 abbrev pub raw_signed_value : {S V : Type 0} → (S → V) → RawSignedData S → RawSignedValue V
 raw_signed_value value x = (

@@ -1,14 +1,11 @@
--- SignerInfo ::= SEQUENCE { version CMSVersion, sid SignerIdentifier, digestAlgorithm DigestAlgorithmIdentifier,
---   signedAttrs [0] IMPLICIT SignedAttributes OPTIONAL, signatureAlgorithm SignatureAlgorithmIdentifier, signature
---   SignatureValue, unsignedAttrs [1] IMPLICIT UnsignedAttributes OPTIONAL }
 -- UnsignedAttributes ::= SET SIZE (1..MAX) OF Attribute (RFC 5652, 5.3)
 use Rattle.std.specs.Prelude.{ℕ, List, [], map}
 use Rattle.std.proofs.Common.{arith, refl}
-use Rattle.asn1_core.specs.Der.{Format, IsLawful, IsLawfulComponents, sequence, part, nothing, number_below, octet_string, Octets, omitted, is_default, IsDefault, element, empty_left_out, implicit_set, lawful_implicit_set, lawful_sequence, followed_by, lawful_number, lawful_octet_string, lawful_nothing, unless}
+use Rattle.asn1_core.specs.Asn1.{asn1, Asn1Default, Contents, contents, ◌then◌, ◌DEFAULT◌, end, INTEGER_BELOW, OCTET_STRING}
+use Rattle.asn1_core.specs.Der.{Format, IsLawful, is_default, IsDefault, element, empty_left_out, implicit_set, lawful_implicit_set}
 use Rattle.pkcs7_content.specs.Versions.{number_of}
-use Rattle.pkcs7_attributes.specs.Attributes.{attributes_value, attributes, lawful_attributes, no_attributes, no_attributes_left_out}
-use Rattle.pkcs7_signed.specs.SignerParts.{SignerIdValue, signer_id_value, signer_id, lawful_signer_id}
-use Rattle.x509_base.specs.Algorithms.{AlgorithmValue, algorithm_identifier}
+use Rattle.pkcs7_attributes.specs.Attributes.{attributes_value, lawful_attributes, no_attributes, no_attributes_left_out}
+use Rattle.pkcs7_signed.specs.SignerParts.{signer_id_value, lawful_signer_id}
 use Rattle.x509_base.specs.AlgorithmLaws.{lawful_algorithm_identifier}
 use Rattle.x509_base.specs.AlgorithmParts.{algorithm_value}
 use Rattle.x509_base.specs.Names.{AttributeValue, attribute_value, attribute, lawful_attribute}
@@ -31,24 +28,21 @@ no_unsigned_attributes = element 0xA1 []
 pub no_unsigned_attributes_left_out : IsDefault (is_default unsigned_attributes no_unsigned_attributes) no_unsigned_attributes unsigned_attributes
 no_unsigned_attributes_left_out = empty_left_out 0xA1 (omega arith) attribute lawful_attribute
 
--- what follows the signed attributes
-abbrev pub SignatureValues : Type 0
-SignatureValues = AlgorithmValue × (Octets × (List AttributeValue × Unit {0}))
+abbrev pub SIGNED_ATTRIBUTES : Asn1Default
+SIGNED_ATTRIBUTES = record { type = asn1 lawful_attributes; text = no_attributes; left_out = no_attributes_left_out }
 
-abbrev pub signature_components : Format SignatureValues
-signature_components =
-    part algorithm_identifier (part octet_string
-    (omitted (is_default unsigned_attributes no_unsigned_attributes) no_unsigned_attributes unsigned_attributes nothing))
+abbrev pub UNSIGNED_ATTRIBUTES : Asn1Default
+UNSIGNED_ATTRIBUTES = record { type = asn1 lawful_unsigned_attributes; text = no_unsigned_attributes; left_out = no_unsigned_attributes_left_out }
 
-lawful_signature_components : IsLawfulComponents signature_components
-lawful_signature_components =
-    followed_by lawful_algorithm_identifier (followed_by lawful_octet_string
-    (unless lawful_unsigned_attributes no_unsigned_attributes_left_out refl lawful_nothing))
+-- SignerInfo ::= SEQUENCE { version CMSVersion, sid SignerIdentifier, digestAlgorithm DigestAlgorithmIdentifier,
+--   signedAttrs [0] IMPLICIT SignedAttributes OPTIONAL, signatureAlgorithm SignatureAlgorithmIdentifier, signature
+--   SignatureValue, unsignedAttrs [1] IMPLICIT UnsignedAttributes OPTIONAL }, an empty set being left out
+abbrev pub raw_signer_contents : Contents
+raw_signer_contents =
+    contents (INTEGER_BELOW 6 then asn1 lawful_signer_id then asn1 lawful_algorithm_identifier then SIGNED_ATTRIBUTES DEFAULT
+    asn1 lawful_algorithm_identifier then OCTET_STRING then UNSIGNED_ATTRIBUTES DEFAULT end) refl
 
-abbrev pub RawSignerValue : Type 0
-RawSignerValue = ℕ × (SignerIdValue × (AlgorithmValue × (List AttributeValue × SignatureValues)))
-
-abbrev pub raw_signer_value : RawSignerInfo → RawSignerValue
+abbrev pub raw_signer_value : RawSignerInfo → raw_signer_contents.Value
 raw_signer_value x = (
   number_of x.version,
   (
@@ -62,13 +56,3 @@ raw_signer_value x = (
     ),
   ),
 )
-
-abbrev pub raw_signer : Format RawSignerValue
-raw_signer =
-    sequence (part (number_below 6) (part signer_id (part algorithm_identifier
-    (omitted (is_default attributes no_attributes) no_attributes attributes signature_components))))
-
-pub lawful_raw_signer : IsLawful raw_signer
-lawful_raw_signer =
-    lawful_sequence (followed_by (lawful_number 6) (followed_by lawful_signer_id (followed_by lawful_algorithm_identifier
-    (unless lawful_attributes no_attributes_left_out refl lawful_signature_components))))

@@ -1,19 +1,16 @@
 -- What a time stamp signs (RFC 3161, 2.4.2).
--- TSTInfo ::= SEQUENCE { version INTEGER { v1(1) }, policy TSAPolicyId, messageImprint MessageImprint, serialNumber
---   INTEGER, genTime GeneralizedTime, accuracy Accuracy OPTIONAL, ordering BOOLEAN DEFAULT FALSE, nonce INTEGER
---   OPTIONAL, tsa [0] GeneralName OPTIONAL, extensions [1] IMPLICIT Extensions OPTIONAL }
 -- MessageImprint ::= SEQUENCE { hashAlgorithm AlgorithmIdentifier, hashedMessage OCTET STRING }, as DigestInfo is
 -- Accuracy ::= SEQUENCE { seconds INTEGER OPTIONAL, millis [0] INTEGER OPTIONAL, micros [1] INTEGER OPTIONAL }
 -- genTime may have a fraction of a second, so its contents octets are kept; so are the name and the parts of Accuracy.
-use Rattle.std.specs.Prelude.{ℕ, Bool, List, Option, map}
+use Rattle.std.specs.Prelude.{List, map}
 use Rattle.std.proofs.Common.{arith, rules, ap, refl}
-use Rattle.asn1_core.specs.Der.{Format, IsLawful, IsLawfulComponents, sequence, part, optional, omitted, is_default, nothing, explicit, implicit_set, sequence_of, raw, version, object_identifier, octets_of, option_value, leaf, any_octets, lawful_leaf, perhaps, followed_by, lawful_nothing, lawful_sequence, lawful_sequence_of, lawful_explicit, lawful_implicit_set, lawful_raw, lawful_version_1, lawful_object_identifier, der_equal, SeesEqual, two_equal, option_equal, with_end, Octets, OidOctets, ElementOctets, IntegerOctets, unless}
+use Rattle.asn1_core.specs.Asn1.{asn1, Contents, contents, ◌then◌, ◌OPTIONAL◌, ◌DEFAULT◌, end, VERSION, OBJECT_IDENTIFIER, BOOLEAN_or_FALSE}
+use Rattle.asn1_core.specs.Der.{Format, IsLawful, explicit, implicit_set, sequence_of, raw, octets_of, option_value, leaf, any_octets, lawful_leaf, lawful_sequence_of, lawful_explicit, lawful_implicit_set, lawful_raw, der_equal, SeesEqual, two_equal, option_equal, with_end, Octets, ElementOctets}
 use Rattle.std.specs.Cmp.{booleans_Decides}
 use Rattle.asn1_core.specs.Equal.{oid_equal}
 use Rattle.asn1_core_format.specs.LeafLaws.{lawful_kept}
-use Rattle.asn1_leaves.specs.Integers.{integer, lawful_integer}
-use Rattle.asn1_core.specs.Booleans.{boolean, lawful_boolean, explicit_false, false_left_out}
-use Rattle.x509_base.specs.Digests.{DigestInfoValue, digest_info_value, digest_info, lawful_digest_info}
+use Rattle.asn1_leaves.specs.Asn1.{INTEGER}
+use Rattle.x509_base.specs.Digests.{digest_info_value, lawful_digest_info}
 use Rattle.x509_base.specs.Equal.{extension_equal}
 use Rattle.x509_base.specs.Extensions.{ExtensionValue, extension_value, extension, lawful_extension}
 use Rattle.asn1_leaves.specs.contracts.integers.IntegerAsn1PartialEq.TheImpl as Integers
@@ -57,38 +54,41 @@ time_stamp_extensions = implicit_set 1 extension
 pub lawful_time_stamp_extensions : IsLawful time_stamp_extensions
 lawful_time_stamp_extensions = lawful_implicit_set (omega arith) lawful_extension
 
--- what follows genTime
-abbrev pub OptionsValue : Type 0
-OptionsValue = Option (List ElementOctets) × (Bool × (Option IntegerOctets × (Option ElementOctets × (Option (List ExtensionValue) × Unit {0}))))
+-- TSTInfo ::= SEQUENCE { version INTEGER { v1(1) }, policy TSAPolicyId, messageImprint MessageImprint, serialNumber
+--   INTEGER, genTime GeneralizedTime, accuracy Accuracy OPTIONAL, ordering BOOLEAN DEFAULT FALSE, nonce INTEGER
+--   OPTIONAL, tsa [0] GeneralName OPTIONAL, extensions [1] IMPLICIT Extensions OPTIONAL }
+abbrev pub tst_info_contents : Contents
+tst_info_contents =
+    contents (VERSION 1 refl then OBJECT_IDENTIFIER then asn1 lawful_digest_info then INTEGER then asn1 lawful_generation_time then
+    asn1 lawful_accuracy OPTIONAL BOOLEAN_or_FALSE DEFAULT INTEGER OPTIONAL asn1 lawful_authority OPTIONAL
+    asn1 lawful_time_stamp_extensions OPTIONAL end) refl
 
-abbrev pub nonce_components : Format (Option IntegerOctets × (Option ElementOctets × (Option (List ExtensionValue) × Unit {0})))
-nonce_components = optional integer (optional authority (optional time_stamp_extensions nothing))
-
-abbrev pub options : Format OptionsValue
-options = optional accuracy (omitted (is_default boolean explicit_false) explicit_false boolean nonce_components)
-
-abbrev pub TstInfoValue : Type 0
-TstInfoValue = ℕ × (OidOctets × (DigestInfoValue × (IntegerOctets × (Octets × OptionsValue))))
-
-abbrev pub options_value : TstInfo → OptionsValue
-options_value x = (option_value accuracy_value x.accuracy, (x.ordering, (option_value (λ n. n.0.items) x.nonce, (option_value (λ t. t.0.0.items) x.tsa, (option_value time_stamp_extensions_value x.extensions, tt)))))
-
-abbrev pub tst_info_value : TstInfo → TstInfoValue
-tst_info_value x = (1, (octets_of x.policy.0, (digest_info_value x.message_imprint, (x.serial_number.0.items, (x.gen_time.0.items, options_value x)))))
-
-abbrev pub tst_info : Format TstInfoValue
-tst_info = sequence (part (version 1) (part object_identifier (part digest_info (part integer (part generation_time options)))))
-
-lawful_nonce_components : IsLawfulComponents nonce_components
-lawful_nonce_components = perhaps lawful_integer refl (perhaps lawful_authority refl (perhaps lawful_time_stamp_extensions refl lawful_nothing))
-
-lawful_options : IsLawfulComponents options
-lawful_options = perhaps lawful_accuracy refl (unless lawful_boolean false_left_out refl lawful_nonce_components)
-
-pub lawful_tst_info : IsLawful tst_info
-lawful_tst_info =
-    lawful_sequence (followed_by lawful_version_1 (followed_by lawful_object_identifier (followed_by lawful_digest_info
-    (followed_by lawful_integer (followed_by lawful_generation_time lawful_options)))))
+abbrev pub tst_info_value : TstInfo → tst_info_contents.Value
+tst_info_value x = (
+  1,
+  (
+    octets_of x.policy.0,
+    (
+      digest_info_value x.message_imprint,
+      (
+        x.serial_number.0.items,
+        (
+          x.gen_time.0.items,
+          (
+            option_value accuracy_value x.accuracy,
+            (
+              x.ordering,
+              (
+                option_value (λ n. n.0.items) x.nonce,
+                (option_value (λ t. t.0.0.items) x.tsa, (option_value time_stamp_extensions_value x.extensions, tt)),
+              ),
+            ),
+          ),
+        ),
+      ),
+    ),
+  ),
+)
 
 pub accuracy_equal : SeesEqual AccuracyEq.ghosts.eq accuracy_value
 accuracy_equal x y = search der_equal depth 20

@@ -2,7 +2,7 @@
 
 ghost use Rattle.std.specs.Prelude.{◌≡◌};
 ghost use Rattle.asn1_core.specs.Der.{AnswersInput};
-ghost use Rattle.x509_pkcs7.specs.ContentInfos.{ContentInfoValue, content_info_value, content_info, lawful_content_info};
+ghost use Rattle.x509_pkcs7.specs.ContentInfos.{content_info_contents, content_info_value};
 ghost use Rattle.x509_pkcs7.specs.Equal.{content_info_equal};
 
 use asn1_core::from_bytes;
@@ -37,36 +37,22 @@ impl ContentInfo {
     }
 }
 
-impl DerSerialize for ContentInfo {
-    ghost Value = { ContentInfoValue };
+impl Sequence for ContentInfo {
+    ghost asn1 = { content_info_contents };
 
     ghost value = { content_info_value };
 
-    ghost format = { content_info };
-
-    fn put<W: Writer>(&self, w: &mut W) -> Result<(), WriteError> {
-        put_of!(self, w; content_type, content)
+    fn with_components<U: Task>(&self, task: &mut U) -> U::Out {
+        with_components_of!(self, task; ContentInfo { content_type, content })
     }
 
-    fn well_formed_at(&self, limit: u8) -> bool {
-        formed_of!(self, limit; content_type, content)
-    }
-}
-
-impl DerDeserialize for ContentInfo {
-    fn read(alloc: Global, r: &mut Reader<'_>, nest: u8) -> Result<Self, Error> {
-        read_of!(alloc, r, nest; ContentInfo { content_type, content })
+    fn read_fields(alloc: Global, r: &mut Reader<'_>, nest: u8) -> Result<Self, Error> {
+        read_fields_of!(alloc, r, nest; ContentInfo { content_type, content })
     }
 
-    ghost lawful = { lawful_content_info };
-}
-
-impl EqualByText for ContentInfo {
-    ghost equal_by_text = { content_info_equal };
-}
-
-impl TryClone for ContentInfo {
-    fn try_clone(&self, alloc: Global) -> Result<Self, Error> {
-        clone_of!(self, alloc; ContentInfo { content_type, content })
+    fn clone_fields(&self, alloc: Global) -> Result<Self, Error> {
+        clone_fields_of!(self, alloc; ContentInfo { content_type, content })
     }
+
+    ghost equal = { content_info_equal };
 }

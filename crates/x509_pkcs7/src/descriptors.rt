@@ -1,6 +1,6 @@
 //! Protection descriptors: to whom data are protected (MS-GKDI, DPAPI-NG).
 
-ghost use Rattle.x509_pkcs7.specs.Descriptors.{DescriptorValue, descriptor_value, descriptor, lawful_descriptor, GeneralDescriptorValue, general_descriptor_value, general_descriptor, lawful_general_descriptor};
+ghost use Rattle.x509_pkcs7.specs.Descriptors.{descriptor_contents, descriptor_value, general_descriptor_contents, general_descriptor_value};
 ghost use Rattle.x509_pkcs7.specs.Equal.{descriptor_equal, general_descriptor_equal};
 
 use asn1_core::prelude::*;
@@ -15,38 +15,24 @@ pub struct ProtectionDescriptor {
     pub descriptor_value: Utf8StringAsn1,
 }
 
-impl DerSerialize for ProtectionDescriptor {
-    ghost Value = { DescriptorValue };
+impl Sequence for ProtectionDescriptor {
+    ghost asn1 = { descriptor_contents };
 
     ghost value = { descriptor_value };
 
-    ghost format = { descriptor };
-
-    fn put<W: Writer>(&self, w: &mut W) -> Result<(), WriteError> {
-        put_of!(self, w; descriptor_type, descriptor_value)
+    fn with_components<U: Task>(&self, task: &mut U) -> U::Out {
+        with_components_of!(self, task; ProtectionDescriptor { descriptor_type, descriptor_value })
     }
 
-    fn well_formed_at(&self, limit: u8) -> bool {
-        formed_of!(self, limit; descriptor_type, descriptor_value)
-    }
-}
-
-impl DerDeserialize for ProtectionDescriptor {
-    fn read(alloc: Global, r: &mut Reader<'_>, nest: u8) -> Result<Self, Error> {
-        read_of!(alloc, r, nest; ProtectionDescriptor { descriptor_type, descriptor_value })
+    fn read_fields(alloc: Global, r: &mut Reader<'_>, nest: u8) -> Result<Self, Error> {
+        read_fields_of!(alloc, r, nest; ProtectionDescriptor { descriptor_type, descriptor_value })
     }
 
-    ghost lawful = { lawful_descriptor };
-}
-
-impl EqualByText for ProtectionDescriptor {
-    ghost equal_by_text = { descriptor_equal };
-}
-
-impl TryClone for ProtectionDescriptor {
-    fn try_clone(&self, alloc: Global) -> Result<Self, Error> {
-        clone_of!(self, alloc; ProtectionDescriptor { descriptor_type, descriptor_value })
+    fn clone_fields(&self, alloc: Global) -> Result<Self, Error> {
+        clone_fields_of!(self, alloc; ProtectionDescriptor { descriptor_type, descriptor_value })
     }
+
+    ghost equal = { descriptor_equal };
 }
 
 /// `GeneralProtectionDescriptor ::= SEQUENCE { descriptorType OBJECT IDENTIFIER, descriptors SEQUENCE OF SEQUENCE OF
@@ -57,36 +43,22 @@ pub struct GeneralProtectionDescriptor {
     pub descriptors: Asn1SequenceOf<Asn1SequenceOf<ProtectionDescriptor>>,
 }
 
-impl DerSerialize for GeneralProtectionDescriptor {
-    ghost Value = { GeneralDescriptorValue };
+impl Sequence for GeneralProtectionDescriptor {
+    ghost asn1 = { general_descriptor_contents };
 
     ghost value = { general_descriptor_value };
 
-    ghost format = { general_descriptor };
-
-    fn put<W: Writer>(&self, w: &mut W) -> Result<(), WriteError> {
-        put_of!(self, w; descriptor_type, descriptors)
+    fn with_components<U: Task>(&self, task: &mut U) -> U::Out {
+        with_components_of!(self, task; GeneralProtectionDescriptor { descriptor_type, descriptors })
     }
 
-    fn well_formed_at(&self, limit: u8) -> bool {
-        formed_of!(self, limit; descriptor_type, descriptors)
-    }
-}
-
-impl DerDeserialize for GeneralProtectionDescriptor {
-    fn read(alloc: Global, r: &mut Reader<'_>, nest: u8) -> Result<Self, Error> {
-        read_of!(alloc, r, nest; GeneralProtectionDescriptor { descriptor_type, descriptors })
+    fn read_fields(alloc: Global, r: &mut Reader<'_>, nest: u8) -> Result<Self, Error> {
+        read_fields_of!(alloc, r, nest; GeneralProtectionDescriptor { descriptor_type, descriptors })
     }
 
-    ghost lawful = { lawful_general_descriptor };
-}
-
-impl EqualByText for GeneralProtectionDescriptor {
-    ghost equal_by_text = { general_descriptor_equal };
-}
-
-impl TryClone for GeneralProtectionDescriptor {
-    fn try_clone(&self, alloc: Global) -> Result<Self, Error> {
-        clone_of!(self, alloc; GeneralProtectionDescriptor { descriptor_type, descriptors })
+    fn clone_fields(&self, alloc: Global) -> Result<Self, Error> {
+        clone_fields_of!(self, alloc; GeneralProtectionDescriptor { descriptor_type, descriptors })
     }
+
+    ghost equal = { general_descriptor_equal };
 }

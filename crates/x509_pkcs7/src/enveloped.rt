@@ -1,11 +1,10 @@
 //! Enveloped data (RFC 5652, 6.1).
 
 ghost use Rattle.std.specs.Prelude.{map};
-ghost use Rattle.std.proofs.Common.{arith};
-ghost use Rattle.asn1_core.specs.Der.{within_tagged, list_equal, option_equal, two_equal, with_end};
+ghost use Rattle.asn1_core.specs.Der.{list_equal, option_equal, two_equal, with_end};
 ghost use Rattle.x509_base.specs.Equal.{attribute_equal};
 ghost use Rattle.x509_base.specs.Names.{attribute_value};
-ghost use Rattle.x509_pkcs7.specs.Enveloped.{EncryptedContentValue, encrypted_content_value, encrypted_content, lawful_encrypted_content, OriginatorValue, originator_value, originator_components, originator, lawful_originator, EnvelopedValue, enveloped_value, enveloped, lawful_enveloped};
+ghost use Rattle.x509_pkcs7.specs.Enveloped.{encrypted_content_contents, encrypted_content_value, originator_contents, originator_value, EnvelopedValue, enveloped_value, enveloped, lawful_enveloped};
 ghost use Rattle.x509_pkcs7.specs.Equal.{version_equal, encrypted_content_equal, originator_equal};
 
 use crate::contents::ContentType;
@@ -38,51 +37,35 @@ pub struct EncryptedContentInfo {
     pub encrypted_content: Optional<Option<ImplicitContextTag0<EncryptedContent>>>,
 }
 
-impl DerSerialize for EncryptedContentInfo {
-    ghost Value = { EncryptedContentValue };
+impl Sequence for EncryptedContentInfo {
+    ghost asn1 = { encrypted_content_contents };
 
     ghost value = { encrypted_content_value };
 
-    ghost format = { encrypted_content };
-
-    fn put<W: Writer>(&self, w: &mut W) -> Result<(), WriteError> {
+    fn with_components<U: Task>(&self, task: &mut U) -> U::Out {
         let content = MaybeRef(&self.encrypted_content.0, End);
         let encryption = Part(Ref(&self.content_encryption_algorithm), content);
-        put_within(0x30, &Part(Ref(&self.content_type), encryption), w)
+        task.run(&Part(Ref(&self.content_type), encryption))
     }
 
-    fn well_formed_at(&self, limit: u8) -> bool {
-        let content = MaybeRef(&self.encrypted_content.0, End);
-        let encryption = Part(Ref(&self.content_encryption_algorithm), content);
-        Part(Ref(&self.content_type), encryption).components_well_formed_at(limit)
-    }
-}
-
-impl DerDeserialize for EncryptedContentInfo {
-    fn read(alloc: Global, r: &mut Reader<'_>, nest: u8) -> Result<Self, Error> {
-        let fields_of!(
-            content_type, content_encryption_algorithm, content OPTIONAL
-        ) = read_within(alloc, r, nest, 0x30)?;
+    fn read_fields(alloc: Global, r: &mut Reader<'_>, nest: u8) -> Result<Self, Error> {
+        let components: types_of!(content_type, algorithm, content OPTIONAL) =
+            ReadComponents::read_components(alloc, r, nest)?;
+        let fields_of!(content_type, algorithm, content OPTIONAL) = components;
         Ok(EncryptedContentInfo {
             content_type,
-            content_encryption_algorithm,
+            content_encryption_algorithm: algorithm,
             encrypted_content: Optional(content),
         })
     }
 
-    ghost lawful = { lawful_encrypted_content };
-}
-
-impl EqualByText for EncryptedContentInfo {
-    ghost equal_by_text = { encrypted_content_equal };
-}
-
-impl TryClone for EncryptedContentInfo {
-    fn try_clone(&self, alloc: Global) -> Result<Self, Error> {
-        clone_of!(self, alloc; EncryptedContentInfo {
+    fn clone_fields(&self, alloc: Global) -> Result<Self, Error> {
+        clone_fields_of!(self, alloc; EncryptedContentInfo {
             content_type, content_encryption_algorithm, encrypted_content
         })
     }
+
+    ghost equal = { encrypted_content_equal };
 }
 
 /// `OriginatorInfo ::= SEQUENCE { certs [0] IMPLICIT CertificateSet OPTIONAL, crls [1] IMPLICIT RevocationInfoChoices
@@ -93,70 +76,31 @@ pub struct OriginatorInfo {
     pub crls: Optional<Option<ImplicitContextTag1<RevocationInfoChoices>>>,
 }
 
-impl DerSerialize for OriginatorInfo {
-    ghost Value = { OriginatorValue };
+impl Sequence for OriginatorInfo {
+    ghost asn1 = { originator_contents };
 
     ghost value = { originator_value };
 
-    ghost format = { originator };
-
-    fn put<W: Writer>(&self, w: &mut W) -> Result<(), WriteError> {
-        put_within(
-            0x30,
-            &MaybeRef(&self.certs.0, MaybeRef(&self.crls.0, End)),
-            w,
-        )
+    fn with_components<U: Task>(&self, task: &mut U) -> U::Out {
+        task.run(&MaybeRef(&self.certs.0, MaybeRef(&self.crls.0, End)))
     }
 
-    fn well_formed_at(&self, limit: u8) -> bool {
-        MaybeRef(&self.certs.0, MaybeRef(&self.crls.0, End)).components_well_formed_at(limit)
-    }
-}
-
-impl DerDeserialize for OriginatorInfo {
-    fn read(alloc: Global, r: &mut Reader<'_>, nest: u8) -> Result<Self, Error> {
-        let fields_of!(certs OPTIONAL, crls OPTIONAL) = read_within(alloc, r, nest, 0x30)?;
+    fn read_fields(alloc: Global, r: &mut Reader<'_>, nest: u8) -> Result<Self, Error> {
+        let components: types_of!(certs OPTIONAL, crls OPTIONAL) = ReadComponents::read_components(
+            alloc, r, nest,
+        )?;
+        let fields_of!(certs OPTIONAL, crls OPTIONAL) = components;
         Ok(OriginatorInfo {
             certs: Optional(certs),
             crls: Optional(crls),
         })
     }
 
-    ghost lawful = { lawful_originator };
-}
-
-impl DerTagged for OriginatorInfo {
-    ghost TAG = { 0x30 };
-
-    const TAG: u8 = 0x30;
-
-    fn put_as<W: Writer>(&self, tag: u8, w: &mut W) -> Result<(), WriteError> {
-        put_within(
-            tag,
-            &MaybeRef(&self.certs.0, MaybeRef(&self.crls.0, End)),
-            w,
-        )
+    fn clone_fields(&self, alloc: Global) -> Result<Self, Error> {
+        clone_fields_of!(self, alloc; OriginatorInfo { certs, crls })
     }
 
-    fn read_contents(alloc: Global, r: &mut Reader<'_>, nest: u8) -> Result<Self, Error> {
-        let fields_of!(certs OPTIONAL, crls OPTIONAL) = read_inside(alloc, r, nest, 0x30)?;
-        Ok(OriginatorInfo {
-            certs: Optional(certs),
-            crls: Optional(crls),
-        })
-    }
-
-    ghost tagged = { within_tagged 0x30 (Prim.omega arith) originator_components };
-}
-
-impl EqualByText for OriginatorInfo {
-    ghost equal_by_text = { originator_equal };
-}
-
-impl TryClone for OriginatorInfo {
-    fn try_clone(&self, alloc: Global) -> Result<Self, Error> {
-        clone_of!(self, alloc; OriginatorInfo { certs, crls })
-    }
+    ghost equal = { originator_equal };
 }
 
 /// `EnvelopedData ::= SEQUENCE { version CMSVersion, originatorInfo [0] IMPLICIT OriginatorInfo OPTIONAL,

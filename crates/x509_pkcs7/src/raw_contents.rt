@@ -2,7 +2,7 @@
 
 ghost use Rattle.std.specs.Prelude.{◌≡◌};
 ghost use Rattle.asn1_core.specs.Der.{option_value};
-ghost use Rattle.x509_pkcs7.specs.RawContents.{RawEncapsulatedValue, raw_encapsulated_value, raw_encapsulated, lawful_raw_encapsulated, AnswersContent};
+ghost use Rattle.x509_pkcs7.specs.RawContents.{raw_encapsulated_contents, raw_encapsulated_value, AnswersContent};
 ghost use Rattle.x509_pkcs7.specs.RawEqual.{raw_encapsulated_equal};
 
 use asn1_core::from_bytes;
@@ -41,36 +41,22 @@ impl RawEncapsulatedContentInfo {
     }
 }
 
-impl DerSerialize for RawEncapsulatedContentInfo {
-    ghost Value = { RawEncapsulatedValue };
+impl Sequence for RawEncapsulatedContentInfo {
+    ghost asn1 = { raw_encapsulated_contents };
 
     ghost value = { raw_encapsulated_value };
 
-    ghost format = { raw_encapsulated };
-
-    fn put<W: Writer>(&self, w: &mut W) -> Result<(), WriteError> {
-        put_of!(self, w; content_type, content OPTIONAL)
+    fn with_components<U: Task>(&self, task: &mut U) -> U::Out {
+        with_components_of!(self, task; RawEncapsulatedContentInfo { content_type, content OPTIONAL })
     }
 
-    fn well_formed_at(&self, limit: u8) -> bool {
-        formed_of!(self, limit; content_type, content OPTIONAL)
-    }
-}
-
-impl DerDeserialize for RawEncapsulatedContentInfo {
-    fn read(alloc: Global, r: &mut Reader<'_>, nest: u8) -> Result<Self, Error> {
-        read_of!(alloc, r, nest; RawEncapsulatedContentInfo { content_type, content OPTIONAL })
+    fn read_fields(alloc: Global, r: &mut Reader<'_>, nest: u8) -> Result<Self, Error> {
+        read_fields_of!(alloc, r, nest; RawEncapsulatedContentInfo { content_type, content OPTIONAL })
     }
 
-    ghost lawful = { lawful_raw_encapsulated };
-}
-
-impl EqualByText for RawEncapsulatedContentInfo {
-    ghost equal_by_text = { raw_encapsulated_equal };
-}
-
-impl TryClone for RawEncapsulatedContentInfo {
-    fn try_clone(&self, alloc: Global) -> Result<Self, Error> {
-        clone_of!(self, alloc; RawEncapsulatedContentInfo { content_type, content })
+    fn clone_fields(&self, alloc: Global) -> Result<Self, Error> {
+        clone_fields_of!(self, alloc; RawEncapsulatedContentInfo { content_type, content OPTIONAL })
     }
+
+    ghost equal = { raw_encapsulated_equal };
 }

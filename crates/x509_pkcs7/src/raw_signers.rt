@@ -2,7 +2,7 @@
 
 ghost use Rattle.std.specs.Prelude.{List};
 ghost use Rattle.x509_base.specs.Names.{AttributeValue};
-ghost use Rattle.x509_pkcs7.specs.RawSigners.{unsigned_attributes_value, unsigned_attributes, lawful_unsigned_attributes, no_unsigned_attributes, no_unsigned_attributes_left_out, RawSignerValue, raw_signer_value, raw_signer, lawful_raw_signer};
+ghost use Rattle.x509_pkcs7.specs.RawSigners.{unsigned_attributes_value, unsigned_attributes, lawful_unsigned_attributes, no_unsigned_attributes, no_unsigned_attributes_left_out, raw_signer_contents, raw_signer_value};
 ghost use Rattle.x509_pkcs7.specs.RawEqual.{unsigned_attributes_equal, raw_signer_equal};
 
 use asn1_core::prelude::*;
@@ -89,34 +89,27 @@ pub struct RawSignerInfo {
     pub unsigned_attrs: Optional<RawUnsignedAttributes>,
 }
 
-impl DerSerialize for RawSignerInfo {
-    ghost Value = { RawSignerValue };
+impl Sequence for RawSignerInfo {
+    ghost asn1 = { raw_signer_contents };
 
     ghost value = { raw_signer_value };
 
-    ghost format = { raw_signer };
-
-    fn put<W: Writer>(&self, w: &mut W) -> Result<(), WriteError> {
-        put_of!(self, w;
+    fn with_components<U: Task>(&self, task: &mut U) -> U::Out {
+        task.run(&body_of!(self;
             version, sid, digest_algorithm, (&self.signed_attrs.0) DEFAULT, signature_algorithm,
             signature, (&self.unsigned_attrs.0) DEFAULT
-        )
+        ))
     }
 
-    fn well_formed_at(&self, limit: u8) -> bool {
-        formed_of!(self, limit;
-            version, sid, digest_algorithm, (&self.signed_attrs.0) DEFAULT, signature_algorithm,
-            signature, (&self.unsigned_attrs.0) DEFAULT
-        )
-    }
-}
-
-impl DerDeserialize for RawSignerInfo {
-    fn read(alloc: Global, r: &mut Reader<'_>, nest: u8) -> Result<Self, Error> {
+    fn read_fields(alloc: Global, r: &mut Reader<'_>, nest: u8) -> Result<Self, Error> {
+        let components: types_of!(
+            version, sid, digest_algorithm, signed DEFAULT, signature_algorithm, signature,
+            unsigned DEFAULT
+        ) = ReadComponents::read_components(alloc, r, nest)?;
         let fields_of!(
             version, sid, digest_algorithm, signed DEFAULT, signature_algorithm, signature,
             unsigned DEFAULT
-        ) = read_within(alloc, r, nest, 0x30)?;
+        ) = components;
         Ok(RawSignerInfo {
             version,
             sid,
@@ -128,18 +121,12 @@ impl DerDeserialize for RawSignerInfo {
         })
     }
 
-    ghost lawful = { lawful_raw_signer };
-}
-
-impl EqualByText for RawSignerInfo {
-    ghost equal_by_text = { raw_signer_equal };
-}
-
-impl TryClone for RawSignerInfo {
-    fn try_clone(&self, alloc: Global) -> Result<Self, Error> {
-        clone_of!(self, alloc; RawSignerInfo {
-            sid, digest_algorithm, signed_attrs, signature_algorithm, signature, unsigned_attrs;
-            version
+    fn clone_fields(&self, alloc: Global) -> Result<Self, Error> {
+        clone_fields_of!(self, alloc; RawSignerInfo {
+            version, sid, digest_algorithm, signed_attrs, signature_algorithm, signature,
+            unsigned_attrs
         })
     }
+
+    ghost equal = { raw_signer_equal };
 }

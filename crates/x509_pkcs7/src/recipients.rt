@@ -1,9 +1,7 @@
 //! Recipients of enveloped data who have a key encryption key (RFC 5652, 6.2.3).
 
-ghost use Rattle.std.proofs.Common.{arith};
-ghost use Rattle.asn1_core.specs.Der.{within_tagged};
 ghost use Rattle.x509_pkcs7.specs.Equal.{other_key_equal, kek_id_equal, kek_recipient_equal, recipient_equal};
-ghost use Rattle.x509_pkcs7.specs.Recipients.{OtherKeyValue, other_key_value, other_key, lawful_other_key, KekIdValue, kek_id_value, kek_id, lawful_kek_id, KekRecipientValue, kek_recipient_value, kek_recipient_components, kek_recipient, lawful_kek_recipient, recipient_value, recipient, lawful_recipient};
+ghost use Rattle.x509_pkcs7.specs.Recipients.{other_key_contents, other_key_value, kek_id_contents, kek_id_value, KekRecipientValue, kek_recipient_contents, kek_recipient_value, recipient_value, recipient, lawful_recipient};
 
 use asn1_core::prelude::*;
 use asn1_leaves::GeneralizedTimeAsn1;
@@ -25,44 +23,24 @@ pub struct OtherKeyAttribute {
     pub key_attr: Option<Asn1RawDer>,
 }
 
-impl DerSerialize for OtherKeyAttribute {
-    ghost Value = { OtherKeyValue };
+impl Sequence for OtherKeyAttribute {
+    ghost asn1 = { other_key_contents };
 
     ghost value = { other_key_value };
 
-    ghost format = { other_key };
-
-    fn put<W: Writer>(&self, w: &mut W) -> Result<(), WriteError> {
-        put_of!(self, w; key_attr_id, key_attr OPTIONAL)
+    fn with_components<U: Task>(&self, task: &mut U) -> U::Out {
+        with_components_of!(self, task; OtherKeyAttribute { key_attr_id, key_attr OPTIONAL })
     }
 
-    fn well_formed_at(&self, limit: u8) -> bool {
-        formed_of!(self, limit; key_attr_id, key_attr OPTIONAL)
-    }
-}
-
-impl DerDeserialize for OtherKeyAttribute {
-    fn read(alloc: Global, r: &mut Reader<'_>, nest: u8) -> Result<Self, Error> {
-        read_of!(alloc, r, nest; OtherKeyAttribute { key_attr_id, key_attr OPTIONAL })
+    fn read_fields(alloc: Global, r: &mut Reader<'_>, nest: u8) -> Result<Self, Error> {
+        read_fields_of!(alloc, r, nest; OtherKeyAttribute { key_attr_id, key_attr OPTIONAL })
     }
 
-    ghost lawful = { lawful_other_key };
-}
-
-impl FirstTags for OtherKeyAttribute {
-    fn begins(tag: u8) -> bool {
-        tag == 0x30
+    fn clone_fields(&self, alloc: Global) -> Result<Self, Error> {
+        clone_fields_of!(self, alloc; OtherKeyAttribute { key_attr_id, key_attr OPTIONAL })
     }
-}
 
-impl EqualByText for OtherKeyAttribute {
-    ghost equal_by_text = { other_key_equal };
-}
-
-impl TryClone for OtherKeyAttribute {
-    fn try_clone(&self, alloc: Global) -> Result<Self, Error> {
-        clone_of!(self, alloc; OtherKeyAttribute { key_attr_id, key_attr })
-    }
+    ghost equal = { other_key_equal };
 }
 
 /// `KEKIdentifier ::= SEQUENCE { keyIdentifier OCTET STRING, date GeneralizedTime OPTIONAL, other OtherKeyAttribute
@@ -74,29 +52,20 @@ pub struct KekIdentifier {
     pub other: Optional<Option<OtherKeyAttribute>>,
 }
 
-impl DerSerialize for KekIdentifier {
-    ghost Value = { KekIdValue };
+impl Sequence for KekIdentifier {
+    ghost asn1 = { kek_id_contents };
 
     ghost value = { kek_id_value };
 
-    ghost format = { kek_id };
-
-    fn put<W: Writer>(&self, w: &mut W) -> Result<(), WriteError> {
+    fn with_components<U: Task>(&self, task: &mut U) -> U::Out {
         let optional = MaybeRef(&self.date.0, MaybeRef(&self.other.0, End));
-        put_within(0x30, &Part(Ref(&self.key_identifier), optional), w)
+        task.run(&Part(Ref(&self.key_identifier), optional))
     }
 
-    fn well_formed_at(&self, limit: u8) -> bool {
-        let optional = MaybeRef(&self.date.0, MaybeRef(&self.other.0, End));
-        Part(Ref(&self.key_identifier), optional).components_well_formed_at(limit)
-    }
-}
-
-impl DerDeserialize for KekIdentifier {
-    fn read(alloc: Global, r: &mut Reader<'_>, nest: u8) -> Result<Self, Error> {
-        let fields_of!(
-            key_identifier, date OPTIONAL, other OPTIONAL
-        ) = read_within(alloc, r, nest, 0x30)?;
+    fn read_fields(alloc: Global, r: &mut Reader<'_>, nest: u8) -> Result<Self, Error> {
+        let components: types_of!(key_identifier, date OPTIONAL, other OPTIONAL) =
+            ReadComponents::read_components(alloc, r, nest)?;
+        let fields_of!(key_identifier, date OPTIONAL, other OPTIONAL) = components;
         Ok(KekIdentifier {
             key_identifier,
             date: Optional(date),
@@ -104,17 +73,11 @@ impl DerDeserialize for KekIdentifier {
         })
     }
 
-    ghost lawful = { lawful_kek_id };
-}
-
-impl EqualByText for KekIdentifier {
-    ghost equal_by_text = { kek_id_equal };
-}
-
-impl TryClone for KekIdentifier {
-    fn try_clone(&self, alloc: Global) -> Result<Self, Error> {
-        clone_of!(self, alloc; KekIdentifier { key_identifier, date, other })
+    fn clone_fields(&self, alloc: Global) -> Result<Self, Error> {
+        clone_fields_of!(self, alloc; KekIdentifier { key_identifier, date, other })
     }
+
+    ghost equal = { kek_id_equal };
 }
 
 /// `KEKRecipientInfo ::= SEQUENCE { version CMSVersion, kekid KEKIdentifier, keyEncryptionAlgorithm
@@ -127,68 +90,30 @@ pub struct KekRecipientInfo {
     pub encrypted_key: EncryptedKey,
 }
 
-impl DerSerialize for KekRecipientInfo {
-    ghost Value = { KekRecipientValue };
+impl Sequence for KekRecipientInfo {
+    ghost asn1 = { kek_recipient_contents };
 
     ghost value = { kek_recipient_value };
 
-    ghost format = { kek_recipient };
-
-    fn put<W: Writer>(&self, w: &mut W) -> Result<(), WriteError> {
-        put_of!(self, w; version, kek_id, key_encryption_algorithm, encrypted_key)
-    }
-
-    fn well_formed_at(&self, limit: u8) -> bool {
-        formed_of!(self, limit; version, kek_id, key_encryption_algorithm, encrypted_key)
-    }
-}
-
-impl DerDeserialize for KekRecipientInfo {
-    fn read(alloc: Global, r: &mut Reader<'_>, nest: u8) -> Result<Self, Error> {
-        read_of!(alloc, r, nest; KekRecipientInfo {
+    fn with_components<U: Task>(&self, task: &mut U) -> U::Out {
+        with_components_of!(self, task; KekRecipientInfo {
             version, kek_id, key_encryption_algorithm, encrypted_key
         })
     }
 
-    ghost lawful = { lawful_kek_recipient };
-}
-
-impl DerTagged for KekRecipientInfo {
-    ghost TAG = { 0x30 };
-
-    const TAG: u8 = 0x30;
-
-    fn put_as<W: Writer>(&self, tag: u8, w: &mut W) -> Result<(), WriteError> {
-        let body = body_of!(self; version, kek_id, key_encryption_algorithm, encrypted_key);
-        put_within(tag, &body, w)
-    }
-
-    fn read_contents(alloc: Global, r: &mut Reader<'_>, nest: u8) -> Result<Self, Error> {
-        let fields_of!(version, kek_id, key_encryption_algorithm, encrypted_key) = read_inside(
-            alloc, r, nest, 0x30,
-        )?;
-        Ok(KekRecipientInfo {
-            version,
-            kek_id,
-            key_encryption_algorithm,
-            encrypted_key,
+    fn read_fields(alloc: Global, r: &mut Reader<'_>, nest: u8) -> Result<Self, Error> {
+        read_fields_of!(alloc, r, nest; KekRecipientInfo {
+            version, kek_id, key_encryption_algorithm, encrypted_key
         })
     }
 
-    ghost tagged = { within_tagged 0x30 (Prim.omega arith) kek_recipient_components };
-}
-
-impl EqualByText for KekRecipientInfo {
-    ghost equal_by_text = { kek_recipient_equal };
-}
-
-impl TryClone for KekRecipientInfo {
-    fn try_clone(&self, alloc: Global) -> Result<Self, Error> {
-        clone_of!(self, alloc; KekRecipientInfo {
-            kek_id, key_encryption_algorithm, encrypted_key;
-            version
+    fn clone_fields(&self, alloc: Global) -> Result<Self, Error> {
+        clone_fields_of!(self, alloc; KekRecipientInfo {
+            version, kek_id, key_encryption_algorithm, encrypted_key
         })
     }
+
+    ghost equal = { kek_recipient_equal };
 }
 
 /// `RecipientInfo ::= CHOICE { ktri .., kari [1] .., kekri [2] KEKRecipientInfo, pwri [3] .., ori [4] .. }` (RFC 5652,

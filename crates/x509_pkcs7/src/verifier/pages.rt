@@ -3,7 +3,7 @@
 ghost use Rattle.std.specs.Prelude.{◌≡◌};
 ghost use Rattle.asn1_core.specs.Der.{option_value};
 ghost use Rattle.x509_base.specs.SpcLinks.{link_value};
-ghost use Rattle.x509_pkcs7.specs.Pages.{PageHashesValue, page_hashes_value, page_hashes, lawful_page_hashes, page_hashes_equal, page_hashes_in, page_hashes_linked, digest_len_of, entry_in, entry_of};
+ghost use Rattle.x509_pkcs7.specs.Pages.{page_hashes_contents, page_hashes_value, page_hashes_equal, page_hashes_in, page_hashes_linked, digest_len_of, entry_in, entry_of};
 
 use asn1_core::prelude::*;
 use pkcs7_content::SpcPeImageData;
@@ -95,36 +95,22 @@ fn entry_at(table: &[u8], digest_len: usize, index: usize) -> Option<(u32, &[u8]
     }
 }
 
-impl DerSerialize for PageHashes {
-    ghost Value = { PageHashesValue };
+impl Sequence for PageHashes {
+    ghost asn1 = { page_hashes_contents };
 
     ghost value = { page_hashes_value };
 
-    ghost format = { page_hashes };
-
-    fn put<W: Writer>(&self, w: &mut W) -> Result<(), WriteError> {
-        put_of!(self, w; ty, value)
+    fn with_components<U: Task>(&self, task: &mut U) -> U::Out {
+        with_components_of!(self, task; PageHashes { ty, value })
     }
 
-    fn well_formed_at(&self, limit: u8) -> bool {
-        formed_of!(self, limit; ty, value)
-    }
-}
-
-impl DerDeserialize for PageHashes {
-    fn read(alloc: Global, r: &mut Reader<'_>, nest: u8) -> Result<Self, Error> {
-        read_of!(alloc, r, nest; PageHashes { ty, value })
+    fn read_fields(alloc: Global, r: &mut Reader<'_>, nest: u8) -> Result<Self, Error> {
+        read_fields_of!(alloc, r, nest; PageHashes { ty, value })
     }
 
-    ghost lawful = { lawful_page_hashes };
-}
-
-impl EqualByText for PageHashes {
-    ghost equal_by_text = { page_hashes_equal };
-}
-
-impl TryClone for PageHashes {
-    fn try_clone(&self, alloc: Global) -> Result<Self, Error> {
-        clone_of!(self, alloc; PageHashes { ty, value })
+    fn clone_fields(&self, alloc: Global) -> Result<Self, Error> {
+        clone_fields_of!(self, alloc; PageHashes { ty, value })
     }
+
+    ghost equal = { page_hashes_equal };
 }

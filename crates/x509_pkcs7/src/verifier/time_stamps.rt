@@ -5,7 +5,7 @@ ghost use Rattle.std.specs.Prelude.{◌≡◌, List};
 ghost use Rattle.std.proofs.Common.{rules, arith};
 ghost use Rattle.asn1_core.specs.Der.{any_octets, raw, octets_equal, raw_equal, Octets, ElementOctets};
 ghost use Rattle.x509_base.specs.Extensions.{ExtensionValue};
-ghost use Rattle.x509_pkcs7.specs.TimeStamps.{generation_time, lawful_generation_time, accuracy_value, accuracy, lawful_accuracy, accuracy_equal, authority, lawful_authority, time_stamp_extensions_value, time_stamp_extensions, lawful_time_stamp_extensions, time_stamp_extensions_equal, OptionsValue, options_value, TstInfoValue, tst_info_value, tst_info, lawful_tst_info, tst_info_equal};
+ghost use Rattle.x509_pkcs7.specs.TimeStamps.{generation_time, lawful_generation_time, accuracy_value, accuracy, lawful_accuracy, accuracy_equal, authority, lawful_authority, time_stamp_extensions_value, time_stamp_extensions, lawful_time_stamp_extensions, time_stamp_extensions_equal, tst_info_contents, tst_info_value, tst_info_equal};
 
 use asn1_core::prelude::*;
 use asn1_leaves::IntegerAsn1;
@@ -214,89 +214,30 @@ pub struct TstInfo {
     pub extensions: Option<TimeStampExtensions>,
 }
 
-type NonceComponents = Maybe<
-    IntegerAsn1,
-    Maybe<TimeStampAuthority, Maybe<TimeStampExtensions, End>>,
->;
-
-type OptionsComponents = Maybe<Accuracy, Omitted<DefaultFalse, NonceComponents>>;
-
-type TstInfoComponents = Part<
-    FixedVersion<1>,
-    Part<
-        ObjectIdentifierAsn1,
-        Part<DigestInfo, Part<IntegerAsn1, Part<GenTime, OptionsComponents>>>,
-    >,
->;
-
-type OptionsRef<'a> = MaybeRef<
-    'a,
-    Accuracy,
-    Omitted<
-        DefaultFalse,
-        MaybeRef<
-            'a,
-            IntegerAsn1,
-            MaybeRef<'a, TimeStampAuthority, MaybeRef<'a, TimeStampExtensions, End>>,
-        >,
-    >,
->;
-
-type TstInfoRef<'a> = Part<
-    FixedVersion<1>,
-    Part<
-        Ref<&'a ObjectIdentifierAsn1>,
-        Part<
-            Ref<&'a DigestInfo>,
-            Part<Ref<&'a IntegerAsn1>, Part<Ref<&'a GenTime>, OptionsRef<'a>>>,
-        >,
-    >,
->;
-
-impl TstInfo {
-    /// What follows the time.
-    fn options(&self) -> OptionsRef<'_>
-        ensures { ◌≡◌ {A = OptionsValue} (⟦<OptionsRef<'static> as WriteComponents>⟧.value result) (options_value self.now) }
-    {
-        let tsa = MaybeRef(&self.tsa, MaybeRef(&self.extensions, End));
-        let ordering = Omitted(DefaultFalse(self.ordering), MaybeRef(&self.nonce, tsa));
-        MaybeRef(&self.accuracy, ordering)
-    }
-
-    fn components(&self) -> TstInfoRef<'_>
-        ensures { ◌≡◌ {A = TstInfoValue} (⟦<TstInfoRef<'static> as WriteComponents>⟧.value result) (tst_info_value self.now) }
-    {
-        let time = Part(Ref(&self.gen_time), self.options());
-        let imprint = Part(
-            Ref(&self.message_imprint),
-            Part(Ref(&self.serial_number), time),
-        );
-        Part(FixedVersion, Part(Ref(&self.policy), imprint))
-    }
-}
-
-impl DerSerialize for TstInfo {
-    ghost Value = { TstInfoValue };
+impl Sequence for TstInfo {
+    ghost asn1 = { tst_info_contents };
 
     ghost value = { tst_info_value };
 
-    ghost format = { tst_info };
-
-    fn put<W: Writer>(&self, w: &mut W) -> Result<(), WriteError> {
-        put_within(0x30, &self.components(), w)
+    fn with_components<U: Task>(&self, task: &mut U) -> U::Out {
+        task.run(&body_of!(self;
+            (FixedVersion::<1>), policy, message_imprint, serial_number, gen_time,
+            accuracy OPTIONAL, DefaultFalse(ordering) DEFAULT, nonce OPTIONAL, tsa OPTIONAL,
+            extensions OPTIONAL
+        ))
     }
 
-    fn well_formed_at(&self, limit: u8) -> bool {
-        self.components().components_well_formed_at(limit)
-    }
-}
-
-impl DerDeserialize for TstInfo {
-    fn read(alloc: Global, r: &mut Reader<'_>, nest: u8) -> Result<Self, Error> {
-        let components: TstInfoComponents = read_within(alloc, r, nest, 0x30)?;
+    fn read_fields(alloc: Global, r: &mut Reader<'_>, nest: u8) -> Result<Self, Error> {
+        let components: Part<
+            FixedVersion<1>,
+            types_of!(
+            policy, message_imprint, serial_number, gen_time, accuracy OPTIONAL,
+            DefaultFalse(ordering) DEFAULT, nonce OPTIONAL, tsa OPTIONAL, extensions OPTIONAL
+        ),
+        > = ReadComponents::read_components(alloc, r, nest)?;
         let fields_of!(
             (_), policy, message_imprint, serial_number, gen_time, accuracy OPTIONAL,
-            (DefaultFalse(ordering)) DEFAULT, nonce OPTIONAL, tsa OPTIONAL, extensions OPTIONAL
+            DefaultFalse(ordering) DEFAULT, nonce OPTIONAL, tsa OPTIONAL, extensions OPTIONAL
         ) = components;
         Ok(TstInfo {
             policy,
@@ -311,18 +252,12 @@ impl DerDeserialize for TstInfo {
         })
     }
 
-    ghost lawful = { lawful_tst_info };
-}
-
-impl EqualByText for TstInfo {
-    ghost equal_by_text = { tst_info_equal };
-}
-
-impl TryClone for TstInfo {
-    fn try_clone(&self, alloc: Global) -> Result<Self, Error> {
+    fn clone_fields(&self, alloc: Global) -> Result<Self, Error> {
         clone_of!(self, alloc; TstInfo {
             policy, message_imprint, serial_number, gen_time, accuracy, nonce, tsa, extensions;
             ordering
         })
     }
+
+    ghost equal = { tst_info_equal };
 }
