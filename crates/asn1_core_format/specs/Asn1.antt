@@ -1,16 +1,15 @@
 -- Types and contents as specs/ gives them beside their ASN.1: one expression, of which come the type of the values, the
 -- format and its law.
-use Rattle.std.specs.Prelude.{◌≡◌, ◌⊎◌, ℕ, ◌+◌, ◌%◌, Bool, true, false, List, Option, None, Some}
+use Rattle.std.specs.Prelude.{◌≡◌, ℕ, ◌+◌, ◌%◌, Bool, true, false, List, Option, None, Some}
 use Rattle.std.proofs.Common.{arith, refl}
-use Rattle.asn1_core_element.specs.Element.{IsTagByte}
 use Rattle.asn1_core_format.specs.Format.{Format, IsLawful, IsLawfulComponents, are_distinct, distinct_tags}
-use Rattle.asn1_core_format.specs.Eithers.{either, or_else}
+use Rattle.asn1_core_format.specs.Eithers.{or_else}
 use Rattle.asn1_core_format.specs.Lists.{each}
 use Rattle.asn1_core_format.specs.ListLaws.{lawful_each}
 use Rattle.asn1_core_format.specs.Omitted.{omitted, lawful_omitted, is_default, IsDefault}
-use Rattle.asn1_core_format.specs.Components.{nothing, part, optional, within}
-use Rattle.asn1_core_format.specs.ComponentLaws.{lawful_nothing, lawful_part, lawful_within, lawful_optional}
-use Rattle.asn1_core_format.specs.Sequences.{sequence, lawful_sequence, lawful_set}
+use Rattle.asn1_core_format.specs.Components.{nothing, part, optional}
+use Rattle.asn1_core_format.specs.ComponentLaws.{lawful_nothing, lawful_part, lawful_optional}
+use Rattle.asn1_core_format.specs.Sequences.{lawful_sequence, lawful_set}
 use Rattle.asn1_core_format.specs.Tagged.{IsTagged, context_tag}
 use Rattle.asn1_core_format.specs.TaggedLaws.{within_tagged}
 use Rattle.asn1_core_format.specs.TagNumbers.{explicit_tag, explicit_context, lawful_explicit_context, explicit_context_tagged, implicit_context, lawful_implicit_context, implicit_context_tagged}

@@ -1,7 +1,7 @@
 -- The laws of algorithm identifiers.
 use Rattle.std.specs.Prelude.{◌≡◌, ◌≢◌, ◌↔◌, ℕ, List, [], ◌++◌, Option, Some, None}
 use Rattle.std.proofs.Common.{refl, sym, ap, ◌∙◌, arith, append-nil, length}
-use Rattle.asn1_core.specs.Der.{element, IsElement, IsTagByte, element_cut, element_same, element_long, IsLawful, nothing, optional, lawful_nothing, lawful_part, lawful_optional, lawful_within, IsLoosening, lawful_loosened, object_identifier, lawful_object_identifier, raw, lawful_raw}
+use Rattle.asn1_core.specs.Der.{element, IsElement, IsTagByte, element_cut, element_same, element_long, IsLawful, nothing, optional, IsLoosening, lawful_loosened, raw}
 pub use Rattle.x509_base.specs.Algorithms.{lawful_algorithm_identifier}
 use Rattle.x509_base.specs.Algorithms.{AlgorithmValue, algorithm_identifier, null, or_null, HasParameters, null_written, raw_algorithm_identifier}
 
