@@ -7,7 +7,7 @@ ghost use Rattle.std.proofs.Common.{arith, refl, rules};
 ghost use Rattle.asn1_core.specs.Der.{option_value, oid_from_test};
 ghost use Rattle.example_ticket.specs.Tickets.{token_oid, HolderValue, holder_value, holder, lawful_holder, ticket};
 
-use asn1_choices::{AnyOid, AnyOidRef, Alternative, Chosen, Named, WriteChoice};
+use asn1_choices::{Alternative, AnyOid, AnyOidRef, Chosen, Named, WriteChoice};
 use asn1_core::prelude::*;
 use std::alloc::Global;
 

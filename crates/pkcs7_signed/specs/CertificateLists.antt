@@ -1,12 +1,11 @@
 -- TBSCertList ::= SEQUENCE { version Version OPTIONAL, signature AlgorithmIdentifier, issuer Name, thisUpdate Time,
 --   nextUpdate Time OPTIONAL, revokedCertificates SEQUENCE OF .. OPTIONAL, crlExtensions [0] EXPLICIT Extensions
 --   OPTIONAL }, with v2 as its version where it has one (RFC 5280, 5.1)
--- CertificateList ::= SEQUENCE { tbsCertList TBSCertList, signatureAlgorithm AlgorithmIdentifier, signatureValue BIT
---   STRING }
 use Rattle.std.specs.Prelude.{ℕ, List, Option}
 use Rattle.std.proofs.Common.{arith, refl}
-use Rattle.asn1_core.specs.Der.{Format, IsLawful, IsLawfulComponents, sequence, part, optional, nothing, version, option_value, lawful_sequence, lawful_within, followed_by, perhaps, lawful_nothing, lawful_version_1, BitStringOctets, explicit, der_laws}
-use Rattle.asn1_leaves.specs.Strings.{bit_string, lawful_bit_string}
+use Rattle.asn1_core.specs.Asn1.{asn1, Contents, contents, ◌then◌, end}
+use Rattle.asn1_core.specs.Der.{Format, IsLawful, IsLawfulComponents, sequence, part, optional, nothing, version, option_value, lawful_sequence, lawful_within, followed_by, perhaps, lawful_nothing, lawful_version_1, explicit}
+use Rattle.asn1_leaves.specs.Asn1.{BIT_STRING}
 use Rattle.asn1_leaves_strings.specs.Octets.{contents_of}
 use Rattle.x509_base.specs.Algorithms.{AlgorithmValue, algorithm_identifier}
 use Rattle.x509_base.specs.AlgorithmLaws.{lawful_algorithm_identifier}
@@ -56,14 +55,19 @@ lawful_tbs_list =
     lawful_sequence (perhaps lawful_version_1 refl
     (followed_by lawful_algorithm_identifier (followed_by lawful_name (followed_by lawful_time lawful_updates))))
 
+-- CertificateList ::= SEQUENCE { tbsCertList TBSCertList, signatureAlgorithm AlgorithmIdentifier, signatureValue BIT
+--   STRING }
+abbrev pub certificate_list_contents : Contents
+certificate_list_contents = contents (asn1 lawful_tbs_list then asn1 lawful_algorithm_identifier then BIT_STRING then end) refl
+
 abbrev pub CertificateListValue : Type 0
-CertificateListValue = TbsListValue × (AlgorithmValue × (BitStringOctets × Unit {0}))
+CertificateListValue = certificate_list_contents.Value
 
 abbrev pub certificate_list_value : CertificateList → CertificateListValue
 certificate_list_value x = (tbs_list_value x.tbs_cert_list, (algorithm_value x.signature_algorithm, (contents_of x.signature_value.0, tt)))
 
 abbrev pub certificate_list : Format CertificateListValue
-certificate_list = sequence (part tbs_list (part algorithm_identifier (part bit_string nothing)))
+certificate_list = sequence certificate_list_contents.format
 
 pub lawful_certificate_list : IsLawful certificate_list
-lawful_certificate_list = search (der_laws, lawful_tbs_list, lawful_algorithm_identifier, lawful_bit_string) depth 20
+lawful_certificate_list = lawful_sequence certificate_list_contents.law

@@ -34,7 +34,7 @@ pub serial_equal : SeesEqual Serial.ghosts.eq serial_number
 serial_equal x y = search der_equal depth 20
 
 pub issuer_serial_equal : SeesEqual IssuerSerial.ghosts.eq issuer_serial_value
-issuer_serial_equal x y = search (x509_equal, serial_equal) depth 20
+issuer_serial_equal x y = search x509_equal depth 20
 
 pub signer_id_equal : SeesEqual SignerId.ghosts.eq signer_id_value
 signer_id_equal (By.IssuerAndSerialNumber x) (By.IssuerAndSerialNumber y) = same_first (issuer_serial_equal x y)
@@ -52,7 +52,7 @@ pub certificates_equal : SeesEqual Certificates.ghosts.eq certificates_value
 certificates_equal x y = search (der_equal, certificate_equal) depth 20
 
 pub revoked_equal : SeesEqual Revoked.ghosts.eq revoked_value
-revoked_equal x y = search (x509_equal, serial_equal) depth 20
+revoked_equal x y = search x509_equal depth 20
 
 pub all_revoked_equal : SeesEqual AllRevoked.ghosts.eq all_revoked_value
 all_revoked_equal x y = search (der_equal, revoked_equal) depth 20

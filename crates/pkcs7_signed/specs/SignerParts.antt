@@ -1,13 +1,13 @@
 -- What identifies the signer of a signature.
 -- CertificateSerialNumber ::= INTEGER (RFC 5280, 4.1)
--- IssuerAndSerialNumber ::= SEQUENCE { issuer Name, serialNumber CertificateSerialNumber } (RFC 5652, 10.2.4)
 -- SignerIdentifier ::= CHOICE { issuerAndSerialNumber IssuerAndSerialNumber, subjectKeyIdentifier [0]
 --   SubjectKeyIdentifier } (RFC 5652, 5.3)
 use Rattle.std.specs.Prelude.{◌⊎◌}
 use Rattle.std.proofs.Common.{inl, inr, refl}
-use Rattle.asn1_core.specs.Der.{Format, IsLawful, sequence, part, nothing, octet_string, Octets, IntegerOctets, der_laws, either, or_else, implicit}
-use Rattle.asn1_leaves.specs.Integers.{integer, lawful_integer}
-use Rattle.x509_base.specs.Names.{NameParts, name_parts, name, lawful_name}
+use Rattle.asn1_core.specs.Asn1.{asn1, Contents, contents, ◌then◌, end}
+use Rattle.asn1_core.specs.Der.{Format, IsLawful, sequence, lawful_sequence, octet_string, Octets, IntegerOctets, der_laws, either, or_else, implicit}
+use Rattle.asn1_leaves.specs.Asn1.{INTEGER}
+use Rattle.x509_base.specs.Names.{name_parts, lawful_name}
 use Rattle.pkcs7_signed.specs.declared.parts.signers.CertificateSerialNumber.{CertificateSerialNumber}
 use Rattle.pkcs7_signed.specs.declared.parts.signers.IssuerAndSerialNumber.{IssuerAndSerialNumber}
 use Rattle.pkcs7_signed.specs.declared.parts.signers.SignerIdentifier.{SignerIdentifier}
@@ -16,21 +16,22 @@ use Rattle.pkcs7_signed.specs.declared.parts.signers.SignerIdentifier.TheVariant
 abbrev pub serial_number : CertificateSerialNumber → IntegerOctets
 serial_number x = x.0.0.items
 
-abbrev pub IssuerSerialValue : Type 0
-IssuerSerialValue = NameParts × (IntegerOctets × Unit {0})
+-- IssuerAndSerialNumber ::= SEQUENCE { issuer Name, serialNumber CertificateSerialNumber } (RFC 5652, 10.2.4)
+abbrev pub issuer_serial_contents : Contents
+issuer_serial_contents = contents (asn1 lawful_name then INTEGER then end) refl
 
-abbrev pub issuer_serial_value : IssuerAndSerialNumber → IssuerSerialValue
+abbrev pub issuer_serial_value : IssuerAndSerialNumber → issuer_serial_contents.Value
 issuer_serial_value x = (name_parts x.issuer, (serial_number x.serial_number, tt))
 
-abbrev pub issuer_serial : Format IssuerSerialValue
-issuer_serial = sequence (part name (part integer nothing))
+abbrev pub issuer_serial : Format issuer_serial_contents.Value
+issuer_serial = sequence issuer_serial_contents.format
 
-pub lawful_issuer_serial : IsLawful issuer_serial
-lawful_issuer_serial = search (der_laws, lawful_name, lawful_integer) depth 20
+lawful_issuer_serial : IsLawful issuer_serial
+lawful_issuer_serial = lawful_sequence issuer_serial_contents.law
 
 -- an issuer with a serial number, or the identifier of a key
 abbrev pub SignerIdValue : Type 0
-SignerIdValue = IssuerSerialValue ⊎ Octets
+SignerIdValue = issuer_serial_contents.Value ⊎ Octets
 
 abbrev pub signer_id_value : SignerIdentifier → SignerIdValue
 signer_id_value (By.IssuerAndSerialNumber i) = inl (issuer_serial_value i)

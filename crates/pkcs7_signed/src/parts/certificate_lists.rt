@@ -5,7 +5,7 @@ ghost use Rattle.std.proofs.Common.{arith};
 ghost use Rattle.asn1_core.specs.Der.{option_value};
 ghost use Rattle.x509_base.specs.Extensions.{extensions_value};
 ghost use Rattle.x509_base.specs.Versions.{number_of};
-ghost use Rattle.pkcs7_signed.specs.CertificateLists.{TbsListValue, tbs_list_value, tbs_list, lawful_tbs_list, CertificateListValue, certificate_list_value, certificate_list, lawful_certificate_list};
+ghost use Rattle.pkcs7_signed.specs.CertificateLists.{TbsListValue, tbs_list_value, tbs_list, lawful_tbs_list, certificate_list_contents, certificate_list_value};
 ghost use Rattle.pkcs7_signed.specs.PartsEqual.{tbs_list_equal, certificate_list_equal};
 
 use crate::parts::revoked::RevokedCertificates;
@@ -129,46 +129,28 @@ pub struct CertificateList {
     pub signature_value: BitStringAsn1,
 }
 
-impl DerSerialize for CertificateList {
-    ghost Value = { CertificateListValue };
+impl Sequence for CertificateList {
+    ghost asn1 = { certificate_list_contents };
 
     ghost value = { certificate_list_value };
 
-    ghost format = { certificate_list };
-
-    fn put<W: Writer>(&self, w: &mut W) -> Result<(), WriteError> {
-        put_of!(self, w; tbs_cert_list, signature_algorithm, signature_value)
-    }
-
-    fn well_formed_at(&self, limit: u8) -> bool {
-        formed_of!(self, limit; tbs_cert_list, signature_algorithm, signature_value)
-    }
-}
-
-impl DerDeserialize for CertificateList {
-    fn read(alloc: Global, r: &mut Reader<'_>, nest: u8) -> Result<Self, Error> {
-        read_of!(alloc, r, nest; CertificateList {
+    fn with_components<U: Task>(&self, task: &mut U) -> U::Out {
+        with_components_of!(self, task; CertificateList {
             tbs_cert_list, signature_algorithm, signature_value
         })
     }
 
-    ghost lawful = { lawful_certificate_list };
-}
-
-impl FirstTags for CertificateList {
-    fn begins(tag: u8) -> bool {
-        tag == 0x30
-    }
-}
-
-impl EqualByText for CertificateList {
-    ghost equal_by_text = { certificate_list_equal };
-}
-
-impl TryClone for CertificateList {
-    fn try_clone(&self, alloc: Global) -> Result<Self, Error> {
-        clone_of!(self, alloc; CertificateList {
+    fn read_fields(alloc: Global, r: &mut Reader<'_>, nest: u8) -> Result<Self, Error> {
+        read_fields_of!(alloc, r, nest; CertificateList {
             tbs_cert_list, signature_algorithm, signature_value
         })
     }
+
+    fn clone_fields(&self, alloc: Global) -> Result<Self, Error> {
+        clone_fields_of!(self, alloc; CertificateList {
+            tbs_cert_list, signature_algorithm, signature_value
+        })
+    }
+
+    ghost equal = { certificate_list_equal };
 }

@@ -4,7 +4,7 @@ ghost use Rattle.std.specs.Prelude.{◌≡◌, List, []};
 ghost use Rattle.std.proofs.Common.{arith};
 ghost use Rattle.asn1_core.specs.Der.{each, within_tagged};
 ghost use Rattle.pkcs7_signed.specs.PartsEqual.{other_format_equal, revocation_equal, revocations_equal};
-ghost use Rattle.pkcs7_signed.specs.Revocations.{OtherFormatValue, other_format_value, other_format_components, other_format, lawful_other_format, RevocationValue, revocation_value, revocation, lawful_revocation, revocations_value, revocations, lawful_revocations};
+ghost use Rattle.pkcs7_signed.specs.Revocations.{other_format_contents, other_format_value, RevocationValue, revocation_value, revocation, lawful_revocation, revocations_value, revocations, lawful_revocations};
 
 use crate::parts::certificate_lists::CertificateList;
 use crate::parts::certificates::CertificateSet;
@@ -19,65 +19,32 @@ pub struct OtherRevocationInfoFormat {
     other_rev_info: (),
 }
 
-impl DerSerialize for OtherRevocationInfoFormat {
-    ghost Value = { OtherFormatValue };
+impl Sequence for OtherRevocationInfoFormat {
+    ghost asn1 = { other_format_contents };
 
     ghost value = { other_format_value };
 
-    ghost format = { other_format };
-
-    fn put<W: Writer>(&self, w: &mut W) -> Result<(), WriteError> {
-        put_of!(self, w; other_rev_info_format, (Null))
+    fn with_components<U: Task>(&self, task: &mut U) -> U::Out {
+        task.run(&body_of!(self; other_rev_info_format, (Null)))
     }
 
-    fn well_formed_at(&self, limit: u8) -> bool {
-        self.other_rev_info_format.well_formed_at(limit)
-    }
-}
-
-impl DerDeserialize for OtherRevocationInfoFormat {
-    fn read(alloc: Global, r: &mut Reader<'_>, nest: u8) -> Result<Self, Error> {
-        let fields_of!(other_rev_info_format, (Null)) = read_within(alloc, r, nest, 0x30)?;
+    fn read_fields(alloc: Global, r: &mut Reader<'_>, nest: u8) -> Result<Self, Error> {
+        let components: Part<_, Part<Null, End>> = ReadComponents::read_components(alloc, r, nest)?;
+        let Part(other_rev_info_format, _) = components;
         Ok(OtherRevocationInfoFormat {
             other_rev_info_format,
             other_rev_info: (),
         })
     }
 
-    ghost lawful = { lawful_other_format };
-}
-
-impl DerTagged for OtherRevocationInfoFormat {
-    ghost TAG = { 0x30 };
-
-    const TAG: u8 = 0x30;
-
-    fn put_as<W: Writer>(&self, tag: u8, w: &mut W) -> Result<(), WriteError> {
-        put_within(tag, &body_of!(self; other_rev_info_format, (Null)), w)
-    }
-
-    fn read_contents(alloc: Global, r: &mut Reader<'_>, nest: u8) -> Result<Self, Error> {
-        let fields_of!(other_rev_info_format, (Null)) = read_inside(alloc, r, nest, 0x30)?;
-        Ok(OtherRevocationInfoFormat {
-            other_rev_info_format,
-            other_rev_info: (),
-        })
-    }
-
-    ghost tagged = { within_tagged 0x30 (Prim.omega arith) other_format_components };
-}
-
-impl EqualByText for OtherRevocationInfoFormat {
-    ghost equal_by_text = { other_format_equal };
-}
-
-impl TryClone for OtherRevocationInfoFormat {
-    fn try_clone(&self, alloc: Global) -> Result<Self, Error> {
+    fn clone_fields(&self, alloc: Global) -> Result<Self, Error> {
         Ok(OtherRevocationInfoFormat {
             other_rev_info_format: self.other_rev_info_format.try_clone(alloc)?,
             other_rev_info: (),
         })
     }
+
+    ghost equal = { other_format_equal };
 }
 
 /// `RevocationInfoChoice ::= CHOICE { crl CertificateList, other [1] IMPLICIT OtherRevocationInfoFormat }`

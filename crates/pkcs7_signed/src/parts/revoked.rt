@@ -3,7 +3,7 @@
 ghost use Rattle.std.specs.Prelude.{◌≡◌, List};
 ghost use Rattle.std.proofs.Common.{arith, ⊎_elim};
 ghost use Rattle.pkcs7_signed.specs.PartsEqual.{revoked_equal, all_revoked_equal};
-ghost use Rattle.pkcs7_signed.specs.Revoked.{RevokedValue, revoked_value, revoked, lawful_revoked, all_revoked_value, all_revoked, lawful_all_revoked};
+ghost use Rattle.pkcs7_signed.specs.Revoked.{RevokedValue, revoked_contents, revoked_value, all_revoked_value, all_revoked, lawful_all_revoked};
 
 use crate::parts::signers::CertificateSerialNumber;
 use asn1_core::prelude::*;
@@ -19,42 +19,30 @@ pub struct RevokedCertificate {
     pub crl_entry_extensions: Option<Extensions>,
 }
 
-impl DerSerialize for RevokedCertificate {
-    ghost Value = { RevokedValue };
+impl Sequence for RevokedCertificate {
+    ghost asn1 = { revoked_contents };
 
     ghost value = { revoked_value };
 
-    ghost format = { revoked };
-
-    fn put<W: Writer>(&self, w: &mut W) -> Result<(), WriteError> {
-        put_of!(self, w; user_certificate, revocation_data, crl_entry_extensions OPTIONAL)
-    }
-
-    fn well_formed_at(&self, limit: u8) -> bool {
-        formed_of!(self, limit; user_certificate, revocation_data, crl_entry_extensions OPTIONAL)
-    }
-}
-
-impl DerDeserialize for RevokedCertificate {
-    fn read(alloc: Global, r: &mut Reader<'_>, nest: u8) -> Result<Self, Error> {
-        read_of!(alloc, r, nest; RevokedCertificate {
+    fn with_components<U: Task>(&self, task: &mut U) -> U::Out {
+        with_components_of!(self, task; RevokedCertificate {
             user_certificate, revocation_data, crl_entry_extensions OPTIONAL
         })
     }
 
-    ghost lawful = { lawful_revoked };
-}
-
-impl EqualByText for RevokedCertificate {
-    ghost equal_by_text = { revoked_equal };
-}
-
-impl TryClone for RevokedCertificate {
-    fn try_clone(&self, alloc: Global) -> Result<Self, Error> {
-        clone_of!(self, alloc; RevokedCertificate {
-            user_certificate, revocation_data, crl_entry_extensions
+    fn read_fields(alloc: Global, r: &mut Reader<'_>, nest: u8) -> Result<Self, Error> {
+        read_fields_of!(alloc, r, nest; RevokedCertificate {
+            user_certificate, revocation_data, crl_entry_extensions OPTIONAL
         })
     }
+
+    fn clone_fields(&self, alloc: Global) -> Result<Self, Error> {
+        clone_fields_of!(self, alloc; RevokedCertificate {
+            user_certificate, revocation_data, crl_entry_extensions OPTIONAL
+        })
+    }
+
+    ghost equal = { revoked_equal };
 }
 
 /// `revokedCertificates SEQUENCE OF SEQUENCE { .. }`

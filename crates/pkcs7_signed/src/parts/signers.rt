@@ -4,7 +4,7 @@ ghost use Rattle.std.proofs.Common.{arith};
 ghost use Rattle.asn1_core.specs.Der.{Octets, IntegerOctets, octet_string, lawful_octet_string, octets_equal};
 ghost use Rattle.asn1_leaves.specs.Integers.{integer, lawful_integer};
 ghost use Rattle.pkcs7_signed.specs.PartsEqual.{serial_equal, issuer_serial_equal, signer_id_equal};
-ghost use Rattle.pkcs7_signed.specs.SignerParts.{serial_number, IssuerSerialValue, issuer_serial_value, issuer_serial, lawful_issuer_serial, SignerIdValue, signer_id_value, signer_id, lawful_signer_id};
+ghost use Rattle.pkcs7_signed.specs.SignerParts.{serial_number, issuer_serial_contents, issuer_serial_value, SignerIdValue, signer_id_value, signer_id, lawful_signer_id};
 
 use asn1_core::prelude::*;
 use asn1_leaves::IntegerAsn1;
@@ -56,44 +56,24 @@ pub struct IssuerAndSerialNumber {
     pub serial_number: CertificateSerialNumber,
 }
 
-impl DerSerialize for IssuerAndSerialNumber {
-    ghost Value = { IssuerSerialValue };
+impl Sequence for IssuerAndSerialNumber {
+    ghost asn1 = { issuer_serial_contents };
 
     ghost value = { issuer_serial_value };
 
-    ghost format = { issuer_serial };
-
-    fn put<W: Writer>(&self, w: &mut W) -> Result<(), WriteError> {
-        put_of!(self, w; issuer, serial_number)
+    fn with_components<U: Task>(&self, task: &mut U) -> U::Out {
+        with_components_of!(self, task; IssuerAndSerialNumber { issuer, serial_number })
     }
 
-    fn well_formed_at(&self, limit: u8) -> bool {
-        formed_of!(self, limit; issuer, serial_number)
-    }
-}
-
-impl DerDeserialize for IssuerAndSerialNumber {
-    fn read(alloc: Global, r: &mut Reader<'_>, nest: u8) -> Result<Self, Error> {
-        read_of!(alloc, r, nest; IssuerAndSerialNumber { issuer, serial_number })
+    fn read_fields(alloc: Global, r: &mut Reader<'_>, nest: u8) -> Result<Self, Error> {
+        read_fields_of!(alloc, r, nest; IssuerAndSerialNumber { issuer, serial_number })
     }
 
-    ghost lawful = { lawful_issuer_serial };
-}
-
-impl FirstTags for IssuerAndSerialNumber {
-    fn begins(tag: u8) -> bool {
-        tag == 0x30
+    fn clone_fields(&self, alloc: Global) -> Result<Self, Error> {
+        clone_fields_of!(self, alloc; IssuerAndSerialNumber { issuer, serial_number })
     }
-}
 
-impl EqualByText for IssuerAndSerialNumber {
-    ghost equal_by_text = { issuer_serial_equal };
-}
-
-impl TryClone for IssuerAndSerialNumber {
-    fn try_clone(&self, alloc: Global) -> Result<Self, Error> {
-        clone_of!(self, alloc; IssuerAndSerialNumber { issuer, serial_number })
-    }
+    ghost equal = { issuer_serial_equal };
 }
 
 /// `SignerIdentifier ::= CHOICE { issuerAndSerialNumber IssuerAndSerialNumber, subjectKeyIdentifier [0]
