@@ -1,12 +1,14 @@
-//! Checks and rewritings of inputs of all kinds, and the octets that a MAC covers, for callers in C. `der.h` has the
-//! declarations, and what a caller has to keep to.
+//! Checks and rewritings of inputs of all kinds, conversions of BER to DER, and the octets that a MAC covers, for callers
+//! in C. `der.h` has the declarations, and what a caller has to keep to.
 #![tactic(auto)]
 
 ghost use Rattle.std.specs.Prelude.{◌≡◌, ◌≤◌, length, MatchOption};
 ghost use Rattle.x509_containers.specs.Kinds.{kinds};
 ghost use Rattle.x509_containers.specs.Parts.{parts};
 ghost use Rattle.der_c.specs.Calls.{status_of, ChecksWord, CopiesPart, FindsMac, FindsRange, IsKindAt, IsPartAt, NamesKind, RewritesWord};
+ghost use Rattle.der_c.specs.Conversions.{ConvertsBer};
 
+use ber_der::to_der_located;
 use std::alloc::Global;
 use x509_containers::{
     ContainerPart, Error, Kind, KindOfInput, MAX_NESTING, check_located, container_part,
@@ -112,6 +114,40 @@ pub extern "C" fn der_rewrite_word_limited(
             0
         }
         Err(error) => status_of(error),
+    }
+}
+
+/// Writes the DER of an input in BER to the front of `out`, as `to_der` of `ber_der` converts it, with at most 64 levels
+/// of nesting. At 0 `written` is its length, at 9, where `out` is too short, the length that it needs, and otherwise 0. At
+/// 3 to 6 the input isn't BER, or what is refused of it, and `place` is where; at 8, for want of memory, it is an offset
+/// without use, and at 0 and 9 it is 0. Unless at 0 `out` is as it was.
+#[tactic(auto, using(crate::proofs::Conversions::is_der_of))]
+#[unsafe(no_mangle)]
+pub extern "C" fn der_from_ber(
+    alloc: Global,
+    input: &[u8],
+    out: &mut [u8],
+    written: &mut usize,
+    place: &mut usize,
+) -> u32
+    ensures { ConvertsBer input.now out.old out.new written.new place.new result }
+{
+    *written = 0;
+    *place = 0;
+    match to_der_located(alloc, input) {
+        Ok(der) => {
+            let needed = der.len();
+            *written = needed;
+            if out.len() < needed {
+                return 9;
+            }
+            out[..needed].copy_from_slice(&der);
+            0
+        }
+        Err((error, offset)) => {
+            *place = offset;
+            status_of(error)
+        }
     }
 }
 
