@@ -1,13 +1,14 @@
-/* Checks and rewritings of DER, and the parts of containers that a verifier needs, as octets: the static library der_c.
+/* Checks and rewritings of DER, the parts of containers that a verifier needs, as octets, and conversions of BER to
+ * DER: the static library der_c. Only der_from_ber takes BER. Pass every other call what it wrote.
  *
  * What is proved of its calls der_check_word_limited, der_rewrite_word_limited, der_kind_word, der_part_octets,
- * der_mac_range and der_mac, for all inputs, and what isn't:
+ * der_mac_range, der_mac and der_from_ber, for all inputs, and what isn't:
  *  - A call answers no status but those that are listed at it. What it writes into numbers and into out is as said
  *    below.
  *  - DER_NORMAL, DER_LOOSE, DER_UNKNOWN_KIND, DER_TOO_LONG, DER_NO_ROOM, DER_NO_RANGE and DER_NO_PART are true where
  *    they are answered.
- *  - At DER_MALFORMED, DER_MISSING, DER_INVALID and DER_TOO_DEEP the input is no encoding of the kind. Which of the
- *    four it is isn't proved: tests tell them apart.
+ *  - At DER_MALFORMED, DER_MISSING, DER_INVALID and DER_TOO_DEEP the input is no encoding of the kind, and of
+ *    der_from_ber it has no DER. Which of the four it is isn't proved: tests tell them apart.
  *  - That memory was refused where a call answers DER_NO_MEMORY isn't proved. Tests show that calls with memory enough
  *    don't answer it, on inputs of up to 190 KB and of hundreds of parts, and that calls keep no memory.
  *  - The functions in this file, in C, are tested and not proved.
@@ -113,6 +114,31 @@ uint32_t der_mac_range(const uint8_t *input, size_t input_len, size_t *start, si
  *  - DER_NO_RANGE, DER_MALFORMED to DER_TOO_DEEP, DER_NO_MEMORY: as of der_mac_range.
  * Unless at DER_NORMAL the numbers are 0. */
 uint32_t der_mac(const uint8_t *input, size_t input_len, size_t *start, size_t *len, size_t *iterations);
+
+/* Writes the DER (X.690, 10) of an input in BER (X.690, 8) to the front of out, with at most DER_MAX_NESTING levels of
+ * nesting. Lengths become definite, in the fewest octets, and an OCTET STRING in segments becomes one piece of the
+ * same octets: so what a digest or a MAC covers stays. All else stays as it is, and DER comes out as it went in.
+ *  - DER_NORMAL: *written bytes were written, and the rest of out is as it was.
+ *  - DER_NO_ROOM: *written bytes are needed, and out_len is less. Where contents are long, that may be some bytes more
+ *    than the input has.
+ *  - DER_MALFORMED to DER_TOO_DEEP: the input has no DER, and *place says where, as an offset from its first byte.
+ *    Refused are also tags of several bytes, lengths of more than eight octets, and other strings in segments than
+ *    OCTET STRINGs.
+ *    - DER_MALFORMED: where an element should begin and none does, or where bytes begin that are left over.
+ *    - DER_MISSING: the end of the contents, or of the input, in which an element or the end of contents is missing.
+ *    - DER_INVALID: where the element begins whose tag is refused.
+ *    - DER_TOO_DEEP: where the element begins that is nested too deep.
+ *  - DER_NO_MEMORY: *place is an offset without use.
+ * DER_TOO_LONG isn't answered. That isn't proved; the input would have no DER then. Unless at DER_NORMAL out is as it
+ * was, and unless at DER_NORMAL and DER_NO_ROOM *written is 0. At these two *place is 0. That it is at most input_len
+ * is proved; which place it is, is tested.
+ *
+ * It looks into each constructed element, and so it may refuse what a kind keeps as it is. One element has two
+ * readings: in a SEQUENCE that begins with an OBJECT IDENTIFIER and a SEQUENCE, a third element [0] of indefinite
+ * length. It is taken as an OCTET STRING under an implicit tag, which it is in EncryptedContentInfo (RFC 5652, 6.1),
+ * though it could be an explicit tag around an OCTET STRING. */
+uint32_t der_from_ber(const uint8_t *input, size_t input_len, uint8_t *out, size_t out_len, size_t *written,
+                      size_t *place);
 
 /* A limit as the calls take it: one that a byte is too small for counts as DER_MAX_NESTING too. */
 static inline uint8_t der_levels(unsigned limit) {

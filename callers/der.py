@@ -1,4 +1,5 @@
-"""Checks and rewritings of DER, and the parts of containers that a verifier needs, as octets, from Python.
+"""Checks and rewritings of DER, the parts of containers that a verifier needs, as octets, and conversions of BER to
+DER, from Python.
 
     library = Library("libder.so")
     library.check("pfx", data)       Verdict(is_normal=True, length=1010, loose_end=None)
@@ -6,9 +7,11 @@
     library.mac_range(data)          range(30, 943), or None
     library.mac(data)                Mac(covered=range(30, 943), digest_algorithm='2.16.840.1.101.3.4.2.1', ..), or None
     library.part(Part.SIGNATURE, signed, 0)   the octets of a part, or None
+    library.from_ber(data)           the DER of an input in BER, as bytes
     library.kinds()                  ["macdata", ..]
 
 A kind is the name of a type in lower case. What is no encoding of its kind raises Refused, with the reason and the place.
+Only from_ber takes BER. Pass every other call what it returned.
 The calls are those of der.h, which says what is proved of them. Calls share nothing, so threads may make them side by
 side.
 
@@ -125,6 +128,7 @@ class Library:
             ("der_kind_word", [size, octets, size, number]),
             ("der_mac", [octets, size, number, number, number]),
             ("der_part_octets", [size, size, octets, size, octets, size, number]),
+            ("der_from_ber", [octets, size, octets, size, number, number]),
         ):
             call = getattr(self._library, name)
             call.argtypes, call.restype = arguments, ctypes.c_uint32
@@ -182,6 +186,23 @@ class Library:
             self.part(Part.MAC_SALT, data) or b"",
             iterations.value,
         )
+
+    def from_ber(self, data: Bytes) -> bytes:
+        """The DER of an input in BER, with at most 64 levels of nesting. DER comes back as it is.
+
+        Raises Refused where there is none. der.h says what is refused, and which element has two readings.
+        """
+        room, written, place = len(data) + 64, ctypes.c_size_t(), ctypes.c_size_t()
+        while True:
+            out = ctypes.create_string_buffer(room)
+            status = self._library.der_from_ber(
+                bytes(data), len(data), out, room, ctypes.byref(written), ctypes.byref(place)
+            )
+            if status == NORMAL:
+                return out.raw[: written.value]
+            if status != NO_ROOM:
+                _raise_for(status, "", place.value)
+            room = written.value
 
     def part(self, part: Part, data: Bytes, index: int = 0) -> Optional[bytes]:
         """A part of a container, as octets: of certificates, signers, keys and bags that with the index, from 0 on.

@@ -12,8 +12,9 @@
 enum { MARK = 0xEE, MARGIN = 64, SPARE = 16 };
 
 /* The calls, by the word that begins their lines. */
-typedef enum { CHECK, LOCATE, LOOSE_END, REWRITE, MAC, MAC_NUMBERS, PART, KIND } call;
-static const char *const calls[] = {"check", "locate", "loose_end", "rewrite", "mac", "mac_numbers", "part", "kind"};
+typedef enum { CHECK, LOCATE, LOOSE_END, REWRITE, MAC, MAC_NUMBERS, FROM_BER, PART, KIND } call;
+static const char *const calls[] = {"check",       "locate",   "loose_end", "rewrite", "mac",
+                                    "mac_numbers", "from_ber", "part",      "kind"};
 
 /* What a call is given: the index of a kind or the number of a part where it takes one, and a limit if there is one. */
 typedef struct {
@@ -68,10 +69,15 @@ static void fault(call it, const char *why) {
 
 static int is_marked(const number *it) { return it->before == MARKS && it->behind == MARKS; }
 
+/* How many numbers a call writes. */
+static int numbers_of(call it) {
+  return it == MAC_NUMBERS ? 3 : it == MAC || it == FROM_BER ? 2 : 1;
+}
+
 /* Makes a call, with so many bytes of out between marks. */
 static answer made(call it, const given *its, uint8_t *room, size_t out_len) {
-  number first = {MARKS, MARKS, MARKS}, second = {MARKS, it == MAC || it == MAC_NUMBERS ? MARKS : 0, MARKS};
-  number third = {MARKS, it == MAC_NUMBERS ? MARKS : 0, MARKS};
+  number first = {MARKS, MARKS, MARKS}, second = {MARKS, numbers_of(it) > 1 ? MARKS : 0, MARKS};
+  number third = {MARKS, numbers_of(it) > 2 ? MARKS : 0, MARKS};
   size_t written = 0, at, before = held;
   uint8_t *out = room + MARGIN;
   answer said = {DER_NORMAL, 0, 0, 0};
@@ -98,6 +104,9 @@ static answer made(call it, const given *its, uint8_t *room, size_t out_len) {
   case MAC_NUMBERS:
     said.status = (der_status)der_mac(its->input, its->len, &first.it, &second.it, &third.it);
     break;
+  case FROM_BER:
+    said.status = (der_status)der_from_ber(its->input, its->len, out, out_len, &first.it, &second.it);
+    break;
   case PART:
     said.status = der_part((der_part_number)its->index, 0, its->input, its->len, out, out_len, &first.it);
     break;
@@ -112,7 +121,8 @@ static answer made(call it, const given *its, uint8_t *room, size_t out_len) {
     fault(it, "memory is kept");
   if (!is_marked(&first) || !is_marked(&second) || !is_marked(&third))
     fault(it, "it writes beside a number");
-  if ((it == REWRITE || it == PART || it == KIND) && said.status == DER_NORMAL && (written = said.first) > out_len)
+  if ((it == REWRITE || it == FROM_BER || it == PART || it == KIND) && said.status == DER_NORMAL &&
+      (written = said.first) > out_len)
     fault(it, "it says that it wrote more than there is room for");
   for (at = 0; at < MARGIN + out_len + MARGIN; at++)
     if ((at < MARGIN || at >= MARGIN + written) && room[at] != MARK)
@@ -132,7 +142,8 @@ static answer tried(call it, const given *its, uint8_t *room, size_t out_len) {
     refused = 0;
     if (requests < nth)
       break;
-    if (said.status == DER_NO_MEMORY && !said.first && !said.second && !said.third)
+    /* the place of der_from_ber has no use then */
+    if (said.status == DER_NO_MEMORY && !said.first && (!said.second || it == FROM_BER) && !said.third)
       short_of++;
     else if (said.status != ample.status || said.first != ample.first || said.second != ample.second ||
              said.third != ample.third)
@@ -180,6 +191,11 @@ int main(int count, char **words) {
     tried(REWRITE, &its, room, said.first - 1);
   tried(MAC, &its, room, 0);
   tried(MAC_NUMBERS, &its, room, 0);
+  said = tried(FROM_BER, &its, room, 2 * its.len + SPARE);
+  if (said.status == DER_NORMAL) {
+    tried(FROM_BER, &its, room, said.first);
+    tried(FROM_BER, &its, room, said.first - 1);
+  }
   for (its.index = 0; its.index <= DER_PART_MAC_SALT + 1; its.index++) {
     said = tried(PART, &its, room, 2 * its.len);
     if (said.status == DER_NORMAL && said.first)
