@@ -191,7 +191,7 @@ int main(int count, char **words) {
     tried(REWRITE, &its, room, said.first - 1);
   tried(MAC, &its, room, 0);
   tried(MAC_NUMBERS, &its, room, 0);
-  said = tried(FROM_BER, &its, room, 2 * its.len + SPARE);
+  said = tried(FROM_BER, &its, room, 2 * its.len);
   if (said.status == DER_NORMAL) {
     tried(FROM_BER, &its, room, said.first);
     tried(FROM_BER, &its, room, said.first - 1);
