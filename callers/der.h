@@ -129,9 +129,9 @@ uint32_t der_mac(const uint8_t *input, size_t input_len, size_t *start, size_t *
  *    - DER_INVALID: where the element begins whose tag is refused.
  *    - DER_TOO_DEEP: where the element begins that is nested too deep.
  *  - DER_NO_MEMORY: *place is an offset without use.
- * DER_TOO_LONG isn't answered. That isn't proved; the input would have no DER then. Unless at DER_NORMAL out is as it
- * was, and unless at DER_NORMAL and DER_NO_ROOM *written is 0. At these two *place is 0. That it is at most input_len
- * is proved; which place it is, is tested.
+ * DER_TOO_LONG isn't answered, which isn't proved. Unless at DER_NORMAL out is as it was, and unless at DER_NORMAL and
+ * DER_NO_ROOM *written is 0. At these two *place is 0. That it is at most input_len is proved; which place it is, is
+ * tested.
  *
  * It looks into each constructed element, and so it may refuse what a kind keeps as it is. One element has two
  * readings: in a SEQUENCE that begins with an OBJECT IDENTIFIER and a SEQUENCE, a third element [0] of indefinite

@@ -35,7 +35,7 @@ Bytes = Union[bytes, bytearray, memoryview]
 
 
 class Refused(ValueError):
-    """An input that is no encoding of its kind.
+    """An input that is no encoding of its kind, or of from_ber one that has no DER.
 
     reason is "malformed", "missing", "invalid" or "too deep", and place the offset at which the input is refused: where
     the element begins that is invalid, nested too deep or none, or the end of the contents in which one is missing; of a
