@@ -1,0 +1,4 @@
+mod Appended
+mod Safes
+mod Readings
+mod Exits

@@ -1,0 +1,6 @@
+pub mod Contents
+pub mod ContentsEqual
+pub mod Pfxs
+pub mod PfxsEqual
+pub mod InDer
+pub mod Files

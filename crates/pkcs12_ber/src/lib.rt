@@ -1,0 +1,16 @@
+//! PKCS #12 files (RFC 7292) in BER, as NSS, GnuTLS and others write them: the octets that the MAC covers, as they are in
+//! the file, and the contents, read of their DER.
+#![tactic(auto)]
+
+pub mod contents;
+pub mod in_der;
+pub mod laws;
+pub mod pfxs;
+pub mod reading;
+#[cfg(test)]
+mod tests;
+
+pub use contents::BerContentInfo;
+pub use laws::{a_file_has_one_reading, der_files_read_as_pfx};
+pub use pfxs::BerPfx;
+pub use reading::{Place, read_ber_pfx};

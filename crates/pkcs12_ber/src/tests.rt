@@ -1,0 +1,93 @@
+//! Files in BER, with ample memory. `openssl asn1parse` shows them as they are told here.
+
+use crate::{BerPfx, Place, read_ber_pfx};
+use asn1_core::prelude::*;
+use asn1_core::{from_bytes, to_vec};
+use std::test::Fail;
+use x509_pkcs12::{NoMac, RawAuthenticatedSafeDataRepr};
+
+/// A file without contents, of indefinite lengths: the octets that a MAC would cover are in two segments.
+const NO_CONTENTS: &[u8] =
+    b"\x30\x80\x02\x01\x03\x30\x80\x06\x09\x2A\x86\x48\x86\xF7\x0D\x01\x07\x01\xA0\x80\x24\x80\x04\x02\x30\x80\x04\x02\
+\x00\x00\x00\x00\x00\x00\x00\x00\x00\x00";
+
+const NO_CONTENTS_OCTETS: &[u8] = b"\x30\x80\x00\x00";
+
+const NO_CONTENTS_DER: &[u8] =
+    b"\x30\x16\x02\x01\x03\x30\x11\x06\x09\x2A\x86\x48\x86\xF7\x0D\x01\x07\x01\xA0\x04\x04\x02\x30\x00";
+
+/// A file with one content, data without bags, whose octets are BER too.
+const ONE_CONTENT: &[u8] =
+    b"\x30\x80\x02\x01\x03\x30\x80\x06\x09\x2A\x86\x48\x86\xF7\x0D\x01\x07\x01\xA0\x80\x24\x80\x04\x10\x30\x80\x30\x80\
+\x06\x09\x2A\x86\x48\x86\xF7\x0D\x01\x07\x01\xA0\x04\x10\x80\x24\x80\x04\x02\x30\x80\x04\x02\x00\x00\x00\x00\x00\x00\x00\
+\x04\x03\x00\x00\x00\x00\x00\x00\x00\x00\x00\x00\x00";
+
+const ONE_CONTENT_OCTETS: &[u8] =
+    b"\x30\x80\x30\x80\x06\x09\x2A\x86\x48\x86\xF7\x0D\x01\x07\x01\xA0\x80\x24\x80\x04\x02\x30\x80\x04\x02\x00\x00\
+\x00\x00\x00\x00\x00\x00\x00\x00";
+
+const ONE_CONTENT_DER: &[u8] =
+    b"\x30\x29\x02\x01\x03\x30\x24\x06\x09\x2A\x86\x48\x86\xF7\x0D\x01\x07\x01\xA0\x17\x04\x15\x30\x13\x30\x11\x06\x09\
+\x2A\x86\x48\x86\xF7\x0D\x01\x07\x01\xA0\x04\x04\x02\x30\x00";
+
+/// A PFX whose authSafe is of the type 1.2.3, without a content.
+const OTHER: &[u8] = b"\x30\x09\x02\x01\x03\x30\x04\x06\x02\x2A\x03";
+
+#[test]
+fn the_octets_are_those_of_the_file(rt: HostRuntime) -> Result<(), Fail> {
+    for (file, octets) in [
+        (NO_CONTENTS, NO_CONTENTS_OCTETS),
+        (ONE_CONTENT, ONE_CONTENT_OCTETS),
+    ] {
+        let read = read_ber_pfx::<RawAuthenticatedSafeDataRepr>(rt.alloc(), file).ok();
+        let covered = read.as_ref().and_then(|read| read.0.mac_octets());
+        assert_eq!(rt; covered, Some(octets));
+    }
+    Ok(())
+}
+
+#[test]
+fn the_contents_are_read_of_their_der(rt: HostRuntime) -> Result<(), Fail> {
+    for (file, der) in [
+        (NO_CONTENTS, NO_CONTENTS_DER),
+        (ONE_CONTENT, ONE_CONTENT_DER),
+        (NO_CONTENTS_DER, NO_CONTENTS_DER),
+        (OTHER, OTHER),
+    ] {
+        let read = read_ber_pfx::<RawAuthenticatedSafeDataRepr>(rt.alloc(), file).ok();
+        let written = match &read {
+            Some((_, pfx)) => Some(to_vec(rt.alloc(), pfx)?),
+            None => None,
+        };
+        assert_eq!(rt;
+            written.as_ref().map(|written| written.as_slice()),
+            Some(der)
+        );
+    }
+    Ok(())
+}
+
+#[test]
+fn places_say_in_which_bytes(rt: HostRuntime) -> Result<(), Fail> {
+    for (file, error, place) in [
+        (b"\x30\x80\x00".as_slice(), Error::Malformed, Place::File(2)),
+        (b"\x05\x00".as_slice(), Error::Invalid, Place::FileDer(0)),
+    ] {
+        let refused = read_ber_pfx::<RawAuthenticatedSafeDataRepr>(rt.alloc(), file).err();
+        assert_eq!(rt; refused, Some((error, place)));
+    }
+    Ok(())
+}
+
+#[test]
+fn each_alternative_is_cloned(rt: HostRuntime) -> Result<(), Fail> {
+    for (file, refused) in [(NO_CONTENTS_DER, NoMac::NoMacData), (OTHER, NoMac::NoData)] {
+        let pfx: BerPfx = from_bytes(rt.alloc(), file)?;
+        assert_eq!(rt; pfx.mac_input().err(), Some(refused));
+        let copy = pfx.try_clone(rt.alloc())?;
+        assert_eq!(rt; copy.auth_safe, pfx.auth_safe);
+        let written = to_vec(rt.alloc(), &copy)?;
+        assert_eq!(rt; written.as_slice(), file);
+    }
+    Ok(())
+}
