@@ -1,9 +1,13 @@
 -- What lines show of an input.
-use Rattle.std.specs.Prelude.{◌≡◌, ◌≢◌, ◌⊎◌, ◌↔◌, ℕ, ◌+◌, ◌-◌, ◌/◌, ◌%◌, ◌<◌, ◌≤◌, List, [], ◌∷◌, ◌++◌, length, drop, slice_get, slice_range, Option, Some, None, unwrap_or, if◌then◌else◌, IsTrue}
+use Rattle.std.specs.Prelude.{◌≡◌, ◌≢◌, ◌⊎◌, ◌↔◌, ℕ, ◌+◌, ◌-◌, ◌/◌, ◌%◌, ◌<◌, ◌≤◌, List, [], ◌∷◌, ◌++◌, length, drop, take, slice_get, slice_range, Option, Some, None, unwrap_or, if◌then◌else◌, Bool, true, false, IsTrue}
 use Rattle.std.specs.List.{All}
 use Rattle.std.specs.Option.{IsSomeAnd}
 use Rattle.asn1_core_element.specs.Element.{head, element, IsTagByte, IsElement, HasNoFront}
+use Rattle.ber_der.specs.Ber.{IsLength, IsDefinite, IsIndefinite}
+use Rattle.dertree.specs.declared.lines.Front.{Front}
+use Rattle.dertree.specs.declared.lines.Front.TheVariants.{Nothing, Element, Longer, Indefinite, EndOfContents}
 use Rattle.dertree.specs.declared.lines.Line.{Line}
+use Rattle.dertree.specs.declared.walk.Open.{Open}
 use Rattle.dertree.specs.declared.lines.Opening.{Opening}
 
 -- the bytes begin with an element of that tag and those contents, whose header takes so many bytes
@@ -18,43 +22,148 @@ pub record BeginsNone (bytes : List ℕ) (header_len : ℕ) (contents : List ℕ
   pub whole : contents ≡ bytes
   pub header : header_len ≡ 0
 
-abbrev pub IsItem : List ℕ → Option ℕ → ℕ → List ℕ → Type 0
-IsItem bytes (Some tag) header_len contents = Begins bytes tag header_len contents
-IsItem bytes None header_len contents = BeginsNone bytes header_len contents
+-- The bytes begin with an element of that tag and these contents, whose length is in more octets than DER takes. Of DER none
+-- begins them.
+pub record BeginsLonger (bytes : List ℕ) (tag header_len : ℕ) (contents : List ℕ) : Type 0 where
+  pub is_tag : IsTagByte tag
+  pub octets : List ℕ
+  pub length_is : IsLength octets (length contents)
+  pub is : bytes ≡ tag ∷ octets ++ contents ++ drop (header_len + length contents) bytes
+  pub header : header_len ≡ 1 + length octets
+  pub longer : HasNoFront bytes
+
+-- the bytes begin with an element of that tag, whose length is indefinite, and its contents are in these
+pub record BeginsIndefinite (bytes : List ℕ) (tag header_len : ℕ) (contents : List ℕ) : Type 0 where
+  pub is_tag : IsTagByte tag
+  pub constructed : tag / 32 % 2 ≡ 1
+  pub is : bytes ≡ tag ∷ 128 ∷ contents
+  pub header : header_len ≡ 2
+
+-- no element of BER begins the bytes, whose length is definite or indefinite
+pub record HasNoBer (bytes : List ℕ) : Type 0 where
+  pub none : HasNoFront bytes
+  pub definite : (tag : ℕ) (encoding contents rest : List ℕ) → IsTagByte tag → IsDefinite encoding tag contents → bytes ≡ encoding ++ rest → ⊥
+  pub indefinite : (tag : ℕ) (rest : List ℕ) → IsTagByte tag → tag / 32 % 2 ≡ 1 → bytes ≡ tag ∷ 128 ∷ rest → ⊥
+
+-- no element of BER begins the bytes, and they are shown as they are
+pub record BeginsNoBer (bytes : List ℕ) (header_len : ℕ) (contents : List ℕ) : Type 0 where
+  pub none : HasNoBer bytes
+  pub whole : contents ≡ bytes
+  pub header : header_len ≡ 0
+
+-- the end of contents begins the bytes (X.690, 8.1.5)
+abbrev pub BeginsWithEnd : List ℕ → Type 0
+BeginsWithEnd bytes = bytes ≡ 0 ∷ 0 ∷ drop 2 bytes
+
+-- what begins bytes that no element of DER does
+abbrev pub IsBerItem : List ℕ → Front → ℕ → List ℕ → Type 0
+IsBerItem bytes Nothing header_len contents = BeginsNoBer bytes header_len contents
+IsBerItem bytes (Element tag) header_len contents = ⊥
+IsBerItem bytes (Longer tag) header_len contents = BeginsLonger bytes tag header_len contents
+IsBerItem bytes (Indefinite tag) header_len contents = BeginsIndefinite bytes tag header_len contents
+IsBerItem bytes EndOfContents header_len contents = ⊥
+
+-- what begins bytes in contents that don't end here
+abbrev pub IsElementItem : Bool → List ℕ → Front → ℕ → List ℕ → Type 0
+IsElementItem reads_ber bytes Nothing header_len contents =
+    BeginsNone bytes header_len contents × (IsTrue reads_ber → HasNoBer bytes)
+IsElementItem reads_ber bytes (Element tag) header_len contents = Begins bytes tag header_len contents
+IsElementItem reads_ber bytes (Longer tag) header_len contents = IsTrue reads_ber × BeginsLonger bytes tag header_len contents
+IsElementItem reads_ber bytes (Indefinite tag) header_len contents = IsTrue reads_ber × BeginsIndefinite bytes tag header_len contents
+IsElementItem reads_ber bytes EndOfContents header_len contents = ⊥
+
+-- the end of contents begins the bytes, and is all that is shown
+pub record ShowsEnd (bytes : List ℕ) (header_len : ℕ) (contents : List ℕ) : Type 0 where
+  pub is : BeginsWithEnd bytes
+  pub header : header_len ≡ 2
+  pub none : contents ≡ []
+
+-- what begins bytes in contents that may end here: their end, and that nowhere else
+abbrev pub IsItem : Bool → Bool → List ℕ → Front → ℕ → List ℕ → Type 0
+IsItem reads_ber may_end bytes front header_len contents =
+    ((front ≡ EndOfContents) × IsTrue may_end × ShowsEnd bytes header_len contents) ⊎ (¬ (IsTrue may_end × BeginsWithEnd bytes) × IsElementItem reads_ber bytes front header_len contents)
+
+abbrev pub tag_of : Front → Option ℕ
+tag_of Nothing = None
+tag_of (Element tag) = Some tag
+tag_of (Longer tag) = Some tag
+tag_of (Indefinite tag) = Some tag
+tag_of EndOfContents = None
+
+abbrev pub is_indefinite : Front → Bool
+is_indefinite Nothing = false
+is_indefinite (Element tag) = false
+is_indefinite (Longer tag) = false
+is_indefinite (Indefinite tag) = true
+is_indefinite EndOfContents = false
+
+abbrev pub is_end : Front → Bool
+is_end Nothing = false
+is_end (Element tag) = false
+is_end (Longer tag) = false
+is_end (Indefinite tag) = false
+is_end EndOfContents = true
+
+-- the bytes are an element of indefinite length, as far as their first two octets and their last two tell
+pub record HoldsIndefinite (bytes : List ℕ) : Type 0 where
+  pub none : HasNoFront bytes
+  pub tag : ℕ
+  pub contents : List ℕ
+  pub is_tag : IsTagByte tag
+  pub constructed : tag / 32 % 2 ≡ 1
+  pub is : IsIndefinite bytes tag contents
+
+-- the place is in contents that begin at start, or at their end
+abbrev pub LeadsInto : Opening → List ℕ → ℕ → Type 0
+LeadsInto opening contents start = IsSomeAnd opening.place (λ p. (start ≤ p) × (p ≤ start + length contents))
 
 -- the contents of an octet string, which begin at start, have lines of their own: where they are one whole element, if
 -- each such is opened, and where they begin with an element, on the way to a place in them or at their end
 abbrev pub OpensOctets : Opening → List ℕ → ℕ → Type 0
 OpensOctets opening contents start =
-    (IsTrue opening.opens_all × IsElement (λ _. Unit {0}) contents) ⊎ (IsSomeAnd opening.place (λ p. (start ≤ p) × (p ≤ start + length contents)) × ¬ HasNoFront contents)
+    (IsTrue opening.opens_all × IsElement (λ _. Unit {0}) contents) ⊎ ((LeadsInto opening contents start × ¬ HasNoFront contents) ⊎ (IsTrue opening.reads_ber × (IsTrue opening.opens_all ⊎ LeadsInto opening contents start) × HoldsIndefinite contents))
 
--- contents that begin at start have lines of their own: of an octet string as above, and of a constructed tag, if there
--- are any
-abbrev pub Opens : Opening → Option ℕ → List ℕ → ℕ → Type 0
-Opens opening None contents start = ⊥
-Opens opening (Some tag) contents start = ((tag ≡ 4) × OpensOctets opening contents start) ⊎ ((tag / 32 % 2 ≡ 1) × (contents ≢ []))
+-- contents under a tag that begin at start have lines of their own: of an octet string as above, and of a constructed tag,
+-- if there are any
+abbrev pub OpensTagged : Opening → ℕ → List ℕ → ℕ → Type 0
+OpensTagged opening tag contents start = ((tag ≡ 4) × OpensOctets opening contents start) ⊎ ((tag / 32 % 2 ≡ 1) × (contents ≢ []))
 
--- the innermost of some ends, the outermost of which comes first, or that of the input
-abbrev pub innermost : List ℕ → List ℕ → ℕ
-innermost input ends = unwrap_or (slice_get ends (length ends - 1)) (length input)
+abbrev pub Opens : Opening → Front → List ℕ → ℕ → Type 0
+Opens opening Nothing contents start = ⊥
+Opens opening (Element tag) contents start = OpensTagged opening tag contents start
+Opens opening (Longer tag) contents start = OpensTagged opening tag contents start
+Opens opening (Indefinite tag) contents start = Unit {0}
+Opens opening EndOfContents contents start = ⊥
 
--- these are the ends but for some last ones, none of which comes after the place
-pub record LeavesEnded (ends : List ℕ) (at : ℕ) (left : List ℕ) : Type 0 where
-  pub ended : List ℕ
-  pub split : ends ≡ left ++ ended
-  pub none_later : All (λ e. e ≤ at) ended
+-- the innermost of the contents that are open, the outermost of which come first, or the whole input
+abbrev pub innermost : List ℕ → List Open → Open
+innermost input opened = unwrap_or (slice_get opened (length opened - 1)) (record { end = length input; is_indefinite = false })
 
--- The line begins at a place, in the contents that are open there, and the next one where what it shows ends. What it
--- shows is the front of the bytes from there to where the innermost of them end. Its own contents are open then, if they
--- have lines.
-pub record IsLine (input : List ℕ) (opening : Opening) (ends : List ℕ) (at : ℕ) (ends_next : List ℕ) (next : ℕ) (line : Line) : Type 0 where
-  pub around : List ℕ
-  pub leaves : LeavesEnded ends at around
+-- these contents are open but for some last ones, none of which ends after the place
+pub record LeavesEnded (opened : List Open) (at : ℕ) (left : List Open) : Type 0 where
+  pub ended : List Open
+  pub split : opened ≡ left ++ ended
+  pub none_later : All (λ o. o.end ≤ at) ended
+
+-- the contents that are open after a line: its own, if they have lines, and after an end of contents not those that it ends
+abbrev pub IsOpenedAfter : List Open → Line → ℕ → List Open → Type 0
+IsOpenedAfter around line end next =
+    next ≡ (if is_end line.front then take (length around - 1) around else if line.is_open then around ++ (record { end = end; is_indefinite = is_indefinite line.front }) ∷ [] else around)
+
+-- The line begins at a place, in the contents that are open there. What it shows is the front of the bytes from there to
+-- where the innermost of them end, which may end earlier, if their length is indefinite.
+pub record Shows (input : List ℕ) (opening : Opening) (around : List Open) (at : ℕ) (line : Line) : Type 0 where
   pub offset : line.offset ≡ at
   pub depth : line.depth ≡ length around
-  pub item : IsItem (slice_range input at (innermost input around)) line.tag line.header_len line.contents.now
-  pub opens : IsTrue line.is_open ↔ Opens opening line.tag line.contents.now (at + line.header_len)
-  pub shown : next ≡ at + line.header_len + (if line.is_open then 0 else length line.contents.now)
-  pub ends_are : ends_next ≡ (if line.is_open then around ++ (at + line.header_len + length line.contents.now) ∷ [] else around)
-  pub later : at < next
-  pub fits : next ≤ innermost input around
+  pub item : IsItem opening.reads_ber (innermost input around).is_indefinite (slice_range input at (innermost input around).end) line.front line.header_len line.contents.now
+  pub opens : IsTrue line.is_open ↔ Opens opening line.front line.contents.now (at + line.header_len)
+  pub some : 0 < line.header_len + (if line.is_open then 0 else length line.contents.now)
+  pub fits : at + line.header_len + length line.contents.now ≤ (innermost input around).end
+
+-- A line, and where the next one begins: where what it shows ends. Its own contents are open then, if they have lines.
+pub record IsLine (input : List ℕ) (opening : Opening) (opened : List Open) (at : ℕ) (opened_next : List Open) (next : ℕ) (line : Line) : Type 0 where
+  pub around : List Open
+  pub leaves : LeavesEnded opened at around
+  pub shows : Shows input opening around at line
+  pub next_is : next ≡ at + line.header_len + (if line.is_open then 0 else length line.contents.now)
+  pub opened_are : IsOpenedAfter around line (at + line.header_len + length line.contents.now) opened_next

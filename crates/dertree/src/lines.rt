@@ -1,13 +1,56 @@
 //! One line of a tree: what begins some bytes, and whether what it holds has lines of its own.
 
-ghost use Rattle.std.specs.Prelude.{◌≡◌, ◌<◌, ◌≤◌, ◌+◌, ◌↔◌, length, IsSome, IsTrue};
+ghost use Rattle.std.specs.Prelude.{◌≡◌, ◌<◌, ◌≤◌, ◌+◌, ◌↔◌, ◌≢◌, ◌⊎◌, length, IsSome, IsTrue};
 ghost use Rattle.std.specs.Option.{IsSomeAnd};
-ghost use Rattle.dertree.specs.Lines.{IsItem};
+ghost use Rattle.asn1_core_element.specs.Element.{HasNoFront};
+ghost use Rattle.dertree.specs.declared.lines.Front.TheVariants.{Nothing};
+ghost use Rattle.dertree.specs.Lines.{IsItem, IsElementItem, IsBerItem, BeginsWithEnd, HoldsIndefinite, is_end, tag_of, is_indefinite};
 
 use crate::tags::Tag;
 use asn1_core_element::front::front;
+use ber_der::contexts::Role;
+use ber_der::lengths::length;
 
 const OCTET_STRING: u8 = 0x04;
+
+/// What begins some bytes.
+#[derive(Clone, Copy)]
+pub enum Front {
+    /// No element.
+    Nothing,
+    /// An element with that tag, whose length takes the fewest octets.
+    Element(u8),
+    /// One whose length takes more octets (X.690, 8.1.3.5).
+    Longer(u8),
+    /// One of indefinite length (X.690, 8.1.3.6).
+    Indefinite(u8),
+    /// The end of the contents of such an element (X.690, 8.1.5).
+    EndOfContents,
+}
+
+impl Front {
+    /// The tag, where an element begins.
+    pub fn tag(self) -> Option<u8>
+        ensures { result ≡ tag_of self }
+    {
+        match self {
+            Front::Nothing | Front::EndOfContents => None,
+            Front::Element(tag) | Front::Longer(tag) | Front::Indefinite(tag) => Some(tag),
+        }
+    }
+
+    pub fn is_indefinite(self) -> bool
+        ensures { result ≡ is_indefinite self }
+    {
+        matches!(self, Front::Indefinite(_))
+    }
+
+    pub fn is_end(self) -> bool
+        ensures { result ≡ is_end self }
+    {
+        matches!(self, Front::EndOfContents)
+    }
+}
 
 /// What one line shows: the bytes from its offset up to where its contents begin, if these have lines of their own, and
 /// else up to where they end.
@@ -16,53 +59,131 @@ pub struct Line<'a> {
     pub offset: usize,
     /// How many elements it is in.
     pub depth: usize,
-    /// `None` where no element begins: then the contents are all bytes that are left.
-    pub tag: Option<u8>,
+    pub front: Front,
     pub header_len: usize,
+    /// Of an indefinite length, and where no element begins: all bytes that are left in the contents around.
     pub contents: &'a [u8],
     /// Whether the contents have lines of their own.
     pub is_open: bool,
+    /// Whether it is an element of its own, or a segment of an OCTET STRING (X.690, 8.7.3).
+    pub role: Role,
 }
 
-/// The tag of the element at the front of some bytes, how long its header is, and its contents. No tag, no header and
-/// all bytes where no element is there.
-pub fn first_item(bytes: &[u8]) -> (Option<u8>, usize, &[u8])
-    ensures item { IsItem bytes.now result.0 result.1 result.2.now }
+/// Whether the end of contents begins the bytes: two zero octets.
+fn begins_with_end(bytes: &[u8]) -> bool
+    ensures { IsTrue result ↔ BeginsWithEnd bytes.now }
+{
+    matches!(bytes, [0, 0, ..])
+}
+
+/// As `first_item`, of bytes that no element of DER begins.
+fn first_of_ber(bytes: &[u8]) -> (Front, usize, &[u8])
+    requires { HasNoFront bytes.now }
+    ensures item { IsBerItem bytes.now result.0 result.1 result.2.now }
     ensures fits { result.1 + length result.2.now ≤ length bytes.now }
     ensures some { 0 < length bytes.now → 0 < result.1 + length result.2.now }
-    ensures header { IsSome result.0 → 0 < result.1 }
+    ensures header { IsSome (tag_of result.0) → 0 < result.1 }
+{
+    let [tag, after @ ..] = bytes else {
+        return (Front::Nothing, 0, bytes);
+    };
+    let tag = Tag(*tag);
+    if !tag.is_one_octet() {
+        return (Front::Nothing, 0, bytes);
+    }
+    let Some((len, rest)) = length(after) else {
+        return (Front::Nothing, 0, bytes);
+    };
+    if let Some(len) = len {
+        return (Front::Longer(tag.0), bytes.len() - rest.len(), &rest[..len]);
+    }
+    if !tag.is_constructed() {
+        return (Front::Nothing, 0, bytes);
+    }
+    (Front::Indefinite(tag.0), 2, rest)
+}
+
+/// What begins some bytes, how long its header is, and its contents. No header and all bytes where no element is there.
+fn first_element(bytes: &[u8], reads_ber: bool) -> (Front, usize, &[u8])
+    ensures item { IsElementItem reads_ber bytes.now result.0 result.1 result.2.now }
+    ensures fits { result.1 + length result.2.now ≤ length bytes.now }
+    ensures some { 0 < length bytes.now → 0 < result.1 + length result.2.now }
+    ensures header { IsSome (tag_of result.0) → 0 < result.1 }
 {
     match front(bytes) {
-        Some((tag, len, size)) => (Some(tag), size, &bytes[size..size + len]),
-        None => (None, 0, bytes),
+        Some((tag, len, size)) => (Front::Element(tag), size, &bytes[size..size + len]),
+        None => {
+            if reads_ber {
+                first_of_ber(bytes)
+            } else {
+                (Front::Nothing, 0, bytes)
+            }
+        }
     }
 }
 
-/// Which octet strings are shown as elements.
+/// As `first_element`, in contents that may end here, if their length is indefinite.
+pub fn first_item(bytes: &[u8], reads_ber: bool, may_end: bool) -> (Front, usize, &[u8])
+    ensures item { IsItem reads_ber may_end bytes.now result.0 result.1 result.2.now }
+    ensures fits { result.1 + length result.2.now ≤ length bytes.now }
+    ensures some { 0 < length bytes.now → 0 < result.1 + length result.2.now }
+    ensures header { IsSome (tag_of result.0) → 0 < result.1 }
+{
+    if may_end && begins_with_end(bytes) {
+        return (Front::EndOfContents, 2, &[]);
+    }
+    first_element(bytes, reads_ber)
+}
+
+/// Whether the bytes are one element of indefinite length, by their first two octets and their last two.
+fn is_indefinite(bytes: &[u8]) -> bool
+    requires { HasNoFront bytes.now }
+    ensures { IsTrue result ↔ HoldsIndefinite bytes.now }
+{
+    match bytes {
+        [tag, 0x80, .., 0, 0] => Tag(*tag).is_one_octet() && Tag(*tag).is_constructed(),
+        _ => false,
+    }
+}
+
+/// What is shown.
 #[derive(Clone, Copy)]
 pub struct Opening {
-    /// Each that is one whole element.
+    /// Whether elements may be BER.
+    pub reads_ber: bool,
+    /// Whether octet strings that are one whole element are shown as such.
     pub opens_all: bool,
-    /// Each that begins with an element, on the way to this place.
+    /// Those octet strings that begin with an element, on the way to this place, are too.
     pub place: Option<usize>,
 }
 
 impl Opening {
-    ghost use Rattle.dertree.specs.Lines.{Opens, OpensOctets};
+    ghost use Rattle.dertree.specs.Lines.{Opens, OpensTagged, OpensOctets, LeadsInto};
 
     /// Whether contents that begin at `start` have lines of their own.
-    pub fn opens(self, tag: Option<u8>, contents: &[u8], start: usize) -> bool
-        ensures some { IsTrue result → IsSome tag }
-        ensures opens { IsTrue result ↔ Opens self tag contents.now start }
+    pub fn opens(self, front: Front, contents: &[u8], start: usize) -> bool
+        ensures tagged { IsTrue result → IsSome (tag_of front) }
+        ensures opens { IsTrue result ↔ Opens self front contents.now start }
     {
-        match tag {
-            None => false,
-            Some(OCTET_STRING) => self.opens_octets(contents, start),
-            Some(tag) => Tag(tag).is_constructed() && !contents.is_empty(),
+        match front {
+            Front::Nothing | Front::EndOfContents => false,
+            Front::Indefinite(_) => true,
+            Front::Element(tag) | Front::Longer(tag) => self.opens_tagged(tag, contents, start),
         }
     }
 
-    /// Whether contents of an octet string that begin at `start` have.
+    /// Whether contents under a tag have.
+    fn opens_tagged(self, tag: u8, contents: &[u8], start: usize) -> bool
+        ensures { IsTrue result ↔ OpensTagged self tag contents.now start }
+    {
+        if tag == OCTET_STRING {
+            self.opens_octets(contents, start)
+        } else {
+            Tag(tag).is_constructed() && !contents.is_empty()
+        }
+    }
+
+    /// Whether contents of an octet string have.
     fn opens_octets(self, contents: &[u8], start: usize) -> bool
         ensures { IsTrue result ↔ OpensOctets self contents.now start }
     {
@@ -70,13 +191,22 @@ impl Opening {
             Some((_, len, size)) => {
                 self.opens_all && size + len == contents.len() || self.leads_into(contents, start)
             }
-            None => false,
+            None => self.opens_ber(contents, start),
         }
+    }
+
+    /// Whether contents of an octet string have that no element of DER begins.
+    fn opens_ber(self, contents: &[u8], start: usize) -> bool
+        requires { HasNoFront contents.now }
+        ensures { IsTrue result ↔ IsTrue self.reads_ber × (IsTrue self.opens_all ⊎ LeadsInto self contents.now start) × HoldsIndefinite contents.now }
+    {
+        let opens = self.opens_all || self.leads_into(contents, start);
+        self.reads_ber && opens && is_indefinite(contents)
     }
 
     /// Whether the place is in contents that begin at `start`, or at their end.
     fn leads_into(self, contents: &[u8], start: usize) -> bool
-        ensures { IsTrue result ↔ IsSomeAnd self.place (λ p. (start ≤ p) × (p ≤ start + length contents.now)) }
+        ensures { IsTrue result ↔ LeadsInto self contents.now start }
     {
         match self.place {
             Some(place) => start <= place && place - start <= contents.len(),

@@ -1,5 +1,6 @@
-//! `dertree` shows DER on standard input as a tree, a line for each element; with a kind, what `derbox check` says of it
-//! too, and at which element.
+//! `dertree` shows BER on standard input as a tree, a line for each element, and says what of it DER doesn't allow; with a
+//! kind, what `derbox check` says of it too, and at which element. Then what DER doesn't allow is shown as BER only with
+//! `--ber`.
 #![tactic(auto)]
 
 mod lines;
@@ -9,6 +10,7 @@ mod values;
 mod verdict;
 mod walk;
 
+use lines::Opening;
 use std::env;
 use std::io::{self, BufWriter, Write};
 use std::process::ExitCode;
@@ -21,7 +23,16 @@ use x509_containers::{Kind, StdSource, read_all};
 #[derive(Clone, Copy)]
 struct Request {
     opens_all: bool,
+    reads_ber: bool,
     kind: Option<Kind>,
+}
+
+/// Whether the words begin with an option, and the words without it.
+fn without_option<'a>(words: &'a [String], option: &str) -> (bool, &'a [String]) {
+    match words {
+        [first, rest @ ..] if first.as_str() == option => (true, rest),
+        _ => (false, words),
+    }
 }
 
 /// What is asked for by the words, of which the first is the program's name.
@@ -29,16 +40,18 @@ fn asked(words: &[String]) -> Option<Request> {
     let [_, words @ ..] = words else {
         return None;
     };
-    let (opens_all, words) = match words {
-        [first, rest @ ..] if first.as_str() == "--open" => (true, rest),
-        _ => (false, words),
-    };
+    let (opens_all, words) = without_option(words, "--open");
+    let (asks_ber, words) = without_option(words, "--ber");
     let kind = match words {
         [] => None,
         [word] => Some(Kind::from_word(word.as_str())?),
         _ => return None,
     };
-    Some(Request { opens_all, kind })
+    Some(Request {
+        opens_all,
+        reads_ber: asks_ber || kind.is_none(),
+        kind,
+    })
 }
 
 /// Writes the tree, and with a kind the verdict. The exit status is that of `derbox check`, and 0 without a kind.
@@ -49,7 +62,12 @@ fn show(rt: &HostRuntime, asked: Request, input: &[u8]) -> io::Result<u8> {
         Some((verdict, Some(place))) => Some(Mark { verdict, place }),
         _ => None,
     };
-    write_tree(rt.alloc(), &mut w, input, asked.opens_all, mark.as_ref())?;
+    let opening = Opening {
+        reads_ber: asked.reads_ber,
+        opens_all: asked.opens_all,
+        place: mark.map(|mark| mark.place),
+    };
+    write_tree(rt.alloc(), &mut w, input, opening, mark.as_ref())?;
     let status = match judged {
         Some((verdict, _)) => {
             writeln!(w, "{verdict}")?;
@@ -72,7 +90,7 @@ fn main(rt: HostRuntime) -> ExitCode {
         }
     };
     let Some(asked) = asked else {
-        let _ = eprintln!(rt; "usage: dertree [--open] [KIND]");
+        let _ = eprintln!(rt; "usage: dertree [--open] [--ber] [KIND]");
         return ExitCode::from(2);
     };
     let input = match read_all(rt.alloc(), &mut StdSource::new(rt.stdin())) {

@@ -1,6 +1,7 @@
 //! Tags in the words of ASN.1 (ITU-T X.680, table 1).
 
 ghost use Rattle.std.specs.Prelude.{◌≡◌, ◌↔◌, ◌/◌, ◌%◌, IsTrue};
+ghost use Rattle.asn1_core_element.specs.Element.{IsTagByte};
 
 use std::fmt;
 
@@ -45,6 +46,13 @@ fn type_word(number: u8) -> Option<&'static str> {
 pub struct Tag(pub u8);
 
 impl Tag {
+    /// Whether no more octets of the tag follow (X.690, 8.1.2.4).
+    pub fn is_one_octet(self) -> bool
+        ensures { IsTrue result ↔ IsTagByte self.0 }
+    {
+        self.0 % 32 < 31
+    }
+
     pub fn is_constructed(self) -> bool
         ensures { IsTrue result ↔ (self.0 / 32 % 2 ≡ 1) }
     {

@@ -3,8 +3,47 @@
 ghost use Rattle.std.specs.Prelude.{◌≡◌, ◌<◌, ◌≤◌, [], length, IfOk, MatchOption};
 ghost use Rattle.dertree.specs.Within.{IsWithin};
 
-use crate::lines::{Line, Opening, first_item};
+use crate::lines::{Front, Line, Opening, first_item};
+use ber_der::contexts::{Context, Role};
 use std::alloc::{AllocError, Global};
+
+/// Contents whose lines are shown.
+#[derive(Clone, Copy)]
+pub struct Open {
+    /// Where they end; if their length is indefinite, where they end at the latest.
+    pub end: usize,
+    pub is_indefinite: bool,
+}
+
+/// An element that was shown.
+#[derive(Clone, Copy)]
+pub struct Step {
+    /// How many elements are before it in the same contents.
+    pub index: usize,
+    /// Where what follows it is, and what it holds, among the parts of an element.
+    after: Context,
+    inside: Context,
+}
+
+impl Step {
+    /// The element with that front, which is the first of its contents, if no other is before it.
+    fn new(index: usize, front: Front, context: Context, role: Role) -> Self
+        ensures { result.index ≡ index }
+    {
+        let tag = front.tag().unwrap_or(0);
+        let inside = match tag {
+            OCTET_STRING => Context::Other,
+            _ => Context::inside(role, tag),
+        };
+        Step {
+            index,
+            after: context.after(tag),
+            inside,
+        }
+    }
+}
+
+const OCTET_STRING: u8 = 0x04;
 
 /// Goes over an input line by line.
 #[derive(Drop)]
@@ -13,26 +52,26 @@ pub struct Walk<'a> {
     opening: Opening,
     /// Where the next line begins.
     at: usize,
-    /// Where the contents end that are open, those of the outermost element first.
-    ends: Vec<usize>,
-    /// The indices, from the top, of what the last line shows.
-    path: Vec<usize>,
-    ghost within: { IsWithin (length input.now) at ends.items path.items },
+    /// The contents that are open, those of the outermost element first.
+    opened: Vec<Open>,
+    /// What the last line shows, after all that it is in.
+    path: Vec<Step>,
+    ghost within: { IsWithin (length input.now) at opened.items path.items },
 }
 
 impl<'a> Walk<'a> {
-    ghost use Rattle.dertree.specs.Lines.{IsLine, LeavesEnded, innermost};
+    ghost use Rattle.dertree.specs.Lines.{IsLine, Shows, IsOpenedAfter, LeavesEnded, innermost};
 
     pub fn new(alloc: Global, input: &'a [u8], opening: Opening) -> Self
         ensures input { result.input.now ≡ input.now }
         ensures opening { result.opening ≡ opening }
-        ensures start { (result.at ≡ 0) × (result.ends.items ≡ []) }
+        ensures start { (result.at ≡ 0) × (result.opened.items ≡ []) }
     {
         Walk {
             input,
             opening,
             at: 0,
-            ends: Vec::new(alloc),
+            opened: Vec::new(alloc),
             path: Vec::new(alloc),
         }
     }
@@ -44,30 +83,111 @@ impl<'a> Walk<'a> {
         self.at
     }
 
-    /// The indices, from the top, of what the last line shows.
-    pub fn path(&self) -> &[usize] {
+    /// What the last line shows, after all that it is in, from the top.
+    pub fn path(&self) -> &[Step] {
         self.path.as_slice()
     }
 
-    /// Goes out of all contents that end here, and answers where those end that are open then.
-    fn innermost_end(&mut self) -> usize
+    /// Goes out of all contents that end here, and answers which are the innermost then: the whole input, if none are open.
+    fn innermost(&mut self) -> Open
         ensures input { self.new.input.now ≡ self.old.input.now }
         ensures opening { self.new.opening ≡ self.old.opening }
         ensures at { self.new.at ≡ self.old.at }
-        ensures leaves { LeavesEnded self.old.ends.items self.old.at self.new.ends.items }
-        ensures end { result ≡ innermost self.old.input.now self.new.ends.items }
-        ensures fits { result ≤ length self.old.input.now }
-        ensures later { self.old.at < length self.old.input.now → self.old.at < result }
+        ensures leaves { LeavesEnded self.old.opened.items self.old.at self.new.opened.items }
+        ensures end { result ≡ innermost self.old.input.now self.new.opened.items }
+        ensures fits { result.end ≤ length self.old.input.now }
+        ensures later { self.old.at < length self.old.input.now → self.old.at < result.end }
     {
         loop {
-            match self.ends.last() {
-                Some(end) if *end > self.at => return *end,
+            match self.opened.last() {
+                Some(contents) if contents.end > self.at => return *contents,
                 Some(_) => {
-                    let _ = self.ends.pop();
+                    let _ = self.opened.pop();
                 }
-                None => return self.input.len(),
+                None => {
+                    return Open {
+                        end: self.input.len(),
+                        is_indefinite: false,
+                    };
+                }
             }
         }
+    }
+
+    /// Where the next line is among the parts of the element at the end of the path to it.
+    fn context(&self) -> Context {
+        match (self.path.get(self.opened.len()), self.path.last()) {
+            _ if !self.opening.reads_ber => Context::Other,
+            (Some(step), _) => step.after,
+            (None, Some(step)) => step.inside,
+            (None, None) => Context::Other,
+        }
+    }
+
+    /// The line that is next, of the contents around it.
+    fn line(&self, around: Open) -> Line<'a>
+        requires around { around ≡ innermost self.now.input.now self.now.opened.items }
+        requires later { self.now.at < around.end }
+        requires fits { around.end ≤ length self.now.input.now }
+        ensures { Shows self.now.input.now self.now.opening self.now.opened.items self.now.at result }
+    {
+        let bytes = &self.input[self.at..around.end];
+        let reads_ber = self.opening.reads_ber;
+        let (front, header_len, contents) = first_item(bytes, reads_ber, around.is_indefinite);
+        let start = self.at + header_len;
+        Line {
+            offset: self.at,
+            depth: self.opened.len(),
+            front,
+            header_len,
+            contents,
+            is_open: self.opening.opens(front, contents, start),
+            role: self.context().role(bytes),
+        }
+    }
+
+    /// The element that a line shows, as the last of a path.
+    fn step(&self, line: &Line<'_>) -> Step
+        ensures { result.index ≤ self.now.at }
+    {
+        let index = match self.path.get(line.depth) {
+            Some(step) => step.index + 1,
+            None => 0,
+        };
+        Step::new(index, line.front, self.context(), line.role)
+    }
+
+    /// Has the path end in a step, after as many others.
+    fn set_path(&mut self, depth: usize, step: Step) -> Result<(), AllocError>
+        requires { step.index < self.old.at }
+        ensures input { self.new.input.now ≡ self.old.input.now }
+        ensures opening { self.new.opening ≡ self.old.opening }
+        ensures at { self.new.at ≡ self.old.at }
+        ensures opened { self.new.opened.items ≡ self.old.opened.items }
+    {
+        self.path.truncate(depth);
+        self.path.push(step)?;
+        Ok(())
+    }
+
+    /// Goes into the contents of a line, if they have lines, and out of those that it is the end of.
+    fn set_opened(&mut self, line: &Line<'_>, end: usize) -> Result<(), AllocError>
+        requires { end ≤ length self.old.input.now }
+        ensures input { self.new.input.now ≡ self.old.input.now }
+        ensures opening { self.new.opening ≡ self.old.opening }
+        ensures at { self.new.at ≡ self.old.at }
+        ensures opened { IfOk result (λ _. IsOpenedAfter self.old.opened.items line.now end self.new.opened.items) }
+    {
+        if line.front.is_end() {
+            let depth = self.opened.len();
+            self.opened.truncate(depth.saturating_sub(1));
+        } else if line.is_open {
+            self.opened.push(Open {
+                end,
+                is_indefinite: line.front.is_indefinite(),
+            })?;
+        }
+        Ok(())
     }
 
     /// The next line. `None` at the end of the input.
@@ -76,35 +196,19 @@ impl<'a> Walk<'a> {
         ensures opening { self.new.opening ≡ self.old.opening }
         ensures line { IfOk result (λ o. MatchOption o (self.old.at ≡ length self.old.input.now)
             (λ line. IsLine self.old.input.now self.old.opening
-            self.old.ends.items self.old.at self.new.ends.items self.new.at line)) }
+            self.old.opened.items self.old.at self.new.opened.items self.new.at line)) }
     {
         if self.at == self.input.len() {
             return Ok(None);
         }
-        let end = self.innermost_end();
-        let offset = self.at;
-        let depth = self.ends.len();
-        let (tag, header_len, contents) = first_item(&self.input[offset..end]);
-        let start = offset + header_len;
-        let is_open = self.opening.opens(tag, contents, start);
-        let index = match self.path.get(depth) {
-            Some(index) => *index + 1,
-            None => 0,
-        };
-        self.at = start + contents.len();
-        self.path.truncate(depth);
-        self.path.push(index)?;
-        if is_open {
-            self.ends.push(self.at)?;
-            self.at = start;
-        }
-        Ok(Some(Line {
-            offset,
-            depth,
-            tag,
-            header_len,
-            contents,
-            is_open,
-        }))
+        let around = self.innermost();
+        let line = self.line(around);
+        let step = self.step(&line);
+        let start = line.offset + line.header_len;
+        let end = start + line.contents.len();
+        self.at = if line.is_open { start } else { end };
+        self.set_path(line.depth, step)?;
+        self.set_opened(&line, end)?;
+        Ok(Some(line))
     }
 }

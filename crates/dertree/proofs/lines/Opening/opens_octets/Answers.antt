@@ -10,4 +10,4 @@ returns-else-size-len c =
     c.leads_into.ensures
 
 pub returns-in-None : goal.returns-in-None
-returns-in-None c = opens_nowhere c.args.self _ c.args.start c.in-None.ensures.none
+returns-in-None c = opens_nowhere c.args.self _ c.args.start _ c.in-None.ensures.none c.opens_ber.ensures
