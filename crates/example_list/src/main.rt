@@ -1,7 +1,8 @@
-//! Lists what a PKCS #12 file on standard input holds, without its password: each bag, those in bags too, the contents
-//! that are encrypted, the MAC, and how many octets that covers. README.md quotes `covered`.
+//! Lists what a PKCS #12 file on standard input holds, in DER or in BER as NSS writes it, without its password: each bag,
+//! those in bags too, the contents that are encrypted, the MAC, and how many octets that covers. README.md quotes `covered`.
 #![tactic(auto)]
 
+use pkcs12_ber::read_ber_pfx;
 use std::alloc::Global;
 use std::io;
 use std::process::ExitCode;
@@ -9,8 +10,8 @@ use thiserror::Error as ThisError;
 use x509_containers::{
     AuthenticatedSafeContentInfo, BmpString, CertificateBag, CrlBag, Error,
     ParsedAuthenticatedSafeDataRepr, Pbes2EncryptionScheme, Pbes2KeyDerivationFunc, Pbes2Params,
-    Pfx, Pkcs12EncryptionAlgorithm, RawPfx, SafeBag, SafeBagKind, SafeContentsContentInfo,
-    StdSource, from_bytes, read_all, to_vec,
+    Pkcs12EncryptionAlgorithm, RawPfx, SafeBag, SafeBagKind, SafeContentsContentInfo, StdSource,
+    from_bytes, read_all, to_vec,
 };
 
 /// Why a list ended.
@@ -109,7 +110,10 @@ fn list(rt: &HostRuntime) -> Result<(), ListError> {
     let Ok(file) = read_all(rt.alloc(), &mut StdSource::new(rt.stdin())) else {
         return Err(ListError::Read);
     };
-    let pfx: Pfx<ParsedAuthenticatedSafeDataRepr> = from_bytes(rt.alloc(), &file)?;
+    let (octets, pfx) = match read_ber_pfx::<ParsedAuthenticatedSafeDataRepr>(rt.alloc(), &file) {
+        Ok(both) => both,
+        Err((error, _)) => return Err(ListError::Refused(error)),
+    };
     for bag in &pfx.all_bags(rt.alloc())? {
         list_bag(rt, bag)?;
     }
@@ -124,10 +128,26 @@ fn list(rt: &HostRuntime) -> Result<(), ListError> {
     if let Some(mac) = &pfx.mac_data {
         let (digest, count) = (&mac.mac.digest_algorithm, mac.effective_iterations());
         println!(rt; "MAC: {digest}, {count} iterations")?;
-        if let (Some(count), text) = covered(rt.alloc(), &file)? {
-            let same = text == file;
+        list_covered(rt, &file, octets.mac_octets())?;
+    }
+    Ok(())
+}
+
+/// How many octets the MAC covers, and whether the file is written as it was: one in BER isn't.
+fn list_covered(rt: &HostRuntime, file: &[u8], octets: Option<&[u8]>) -> Result<(), ListError> {
+    let Some(octets) = octets else {
+        return Ok(());
+    };
+    match covered(rt.alloc(), file) {
+        Ok((_, text)) => {
+            let (count, same) = (octets.len(), text.as_slice() == file);
             println!(rt; "the MAC covers {count} octets; written as it was: {same}")?;
         }
+        Err(Error::Malformed) => {
+            let count = octets.len();
+            println!(rt; "the MAC covers {count} octets; in BER")?;
+        }
+        Err(error) => return Err(ListError::Refused(error)),
     }
     Ok(())
 }
