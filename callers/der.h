@@ -117,7 +117,8 @@ uint32_t der_mac(const uint8_t *input, size_t input_len, size_t *start, size_t *
 
 /* Writes the DER (X.690, 10) of an input in BER (X.690, 8) to the front of out, with at most DER_MAX_NESTING levels of
  * nesting. Lengths become definite, in the fewest octets, and an OCTET STRING in segments becomes one piece of the
- * same octets: so what a digest or a MAC covers stays. All else stays as it is, and DER comes out as it went in.
+ * same octets: so the octets of content that a digest or a MAC covers stay. All else stays as it is, and DER that is
+ * not refused comes out as it went in.
  *  - DER_NORMAL: *written bytes were written, and the rest of out is as it was.
  *  - DER_NO_ROOM: *written bytes are needed, and out_len is less. Where contents are long, that may be some bytes more
  *    than the input has.

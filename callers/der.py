@@ -188,7 +188,7 @@ class Library:
         )
 
     def from_ber(self, data: Bytes) -> bytes:
-        """The DER of an input in BER, with at most 64 levels of nesting. DER comes back as it is.
+        """The DER of an input in BER, with at most 64 levels of nesting. DER that isn't refused comes back as it is.
 
         Raises Refused where there is none. der.h says what is refused, and which element has two readings.
         """
