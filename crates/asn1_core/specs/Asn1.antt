@@ -11,7 +11,7 @@ use Rattle.asn1_core.specs.Objects.{lawful_object_identifier, oid_octets}
 use Rattle.asn1_core.specs.Octets.{lawful_octet_string, any_octets}
 use Rattle.asn1_core.specs.Raw.{lawful_raw}
 use Rattle.asn1_core.specs.Versions.{only, lawful_version}
-pub use Rattle.asn1_core_format.specs.Asn1.{Asn1, asn1, asn1_tagged, Asn1Default, ComponentTypes, Distinct, all_distinct, Contents, end, ◌then◌, ◌OPTIONAL◌, ◌DEFAULT◌, contents, SEQUENCE, SEQUENCE_OF, SET_OF, EXPLICIT, IMPLICIT, CHOICE}
+pub use Rattle.asn1_core_format.specs.Asn1.{Asn1, asn1, asn1_tagged, Asn1Default, ComponentTypes, Distinct, all_distinct, Contents, end, ◌then◌, ◌OPTIONAL◌, ◌DEFAULT◌, contents, SEQUENCE, list_of, SEQUENCE_OF, SET_OF, EXPLICIT, IMPLICIT, CHOICE, EXPLICIT_default, IMPLICIT_default}
 
 abbrev pub OBJECT_IDENTIFIER : Asn1
 OBJECT_IDENTIFIER = asn1_tagged lawful_object_identifier 0x06 (leaf_tagged 0x06 (omega arith) oid_octets)
@@ -32,14 +32,14 @@ INTEGER_BELOW bound = asn1_tagged (lawful_number bound) 0x02 (leaf_tagged 0x02 (
 
 -- INTEGER (0..255), with that number as its DEFAULT
 abbrev pub INTEGER_or : (d : ℕ) → ltb d (2 ^ 8) ≡ true → Asn1Default
-INTEGER_or d low = record { type = INTEGER_BELOW (2 ^ 8); text = number_octets d; left_out = number_left_out d (ltb-true d (2 ^ 8) low) }
+INTEGER_or d low = record { type = INTEGER_BELOW (2 ^ 8); text = number_octets d; inside = 0; left_out = number_left_out d (ltb-true d (2 ^ 8) low) }
 
 abbrev pub BOOLEAN : Asn1
 BOOLEAN = asn1_tagged lawful_boolean 0x01 (leaf_tagged 0x01 (omega arith) booleans)
 
 -- BOOLEAN with FALSE as its DEFAULT
 abbrev pub BOOLEAN_or_FALSE : Asn1Default
-BOOLEAN_or_FALSE = record { type = BOOLEAN; text = explicit_false; left_out = false_left_out }
+BOOLEAN_or_FALSE = record { type = BOOLEAN; text = explicit_false; inside = 0; left_out = false_left_out }
 
 -- INTEGER that allows one number only, below 128, as versions do
 abbrev pub VERSION : (n : ℕ) → ltb n 128 ≡ true → Asn1

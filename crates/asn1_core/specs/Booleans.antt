@@ -57,7 +57,7 @@ false_text false = (λ e. refl, λ e. sym (is_false false))
 false_text true = (λ e. (bytes_eq-Decides _ explicit_false).0 (and_parts _ _ e).0, λ e. absurd (not_false e))
 
 pub false_left_out : IsDefault (is_default boolean explicit_false) explicit_false boolean
-false_left_out = record { normal = λ k. (0x00 ∷ [], refl, inl refl); exact = λ k v h. false_text v }
+false_left_out = record { element = (0x01, 0x00 ∷ [], refl, refl); normal = λ k v s. (0x00 ∷ [], refl, inl refl); exact = λ k v h. false_text v }
 
 pub false_reads : (k : ℕ) → boolean.Reads k explicit_false false
 false_reads k = (refl, tt)

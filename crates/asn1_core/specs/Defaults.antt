@@ -21,7 +21,7 @@ module _ {V : Type 0} (tag : ℕ) (S : Spelling V) (d : V) where
 
   -- a value of a leaf may be left out
   pub leaf_left_out : S.IsContents (S.spell d) → IsDefault (is_default (leaf tag S) (element tag (S.spell d))) (element tag (S.spell d)) (leaf tag S)
-  leaf_left_out c = record { normal = λ k. (S.spell d, refl, c); exact = λ k v h. (text_same v, same_text v) }
+  leaf_left_out c = record { element = (tag, S.spell d, refl, refl); normal = λ k v s. (S.spell d, refl, c); exact = λ k v h. (text_same v, same_text v) }
 
 abbrev pub number_octets : ℕ → List ℕ
 number_octets d = element 0x02 (integer_octets d)

@@ -2,12 +2,13 @@
 
 ghost use Rattle.std.specs.Prelude.{◌^◌, ℕ};
 ghost use Rattle.std.proofs.Common.{arith, rules};
-ghost use Rattle.asn1_core_format.specs.Numbers.{number_below, lawful_number};
+ghost use Rattle.asn1_core_format.specs.Numbers.{number_below, numbers_below, lawful_number};
+ghost use Rattle.asn1_core_format.specs.TaggedLaws.{leaf_tagged};
 ghost use Rattle.asn1_core.specs.Defaults.{number_octets, number_left_out, is_default_number};
 
 use asn1_core_element::{Error, Reader};
 use asn1_core_format::{
-    DerDeserialize, DerSerialize, EqualByText, FirstTags, HasDefault, TryClone,
+    DerDeserialize, DerSerialize, DerTagged, EqualByText, HasDefault, TryClone,
 };
 use asn1_core_writers::{WriteError, Writer};
 use std::alloc::Global;
@@ -41,10 +42,21 @@ impl<const D: u8> DerDeserialize for DefaultNumber<D> {
     ghost lawful = { lawful_number (2 ^ 8) };
 }
 
-impl<const D: u8> FirstTags for DefaultNumber<D> {
-    fn begins(tag: u8) -> bool {
-        tag == 0x02
+impl<const D: u8> DerTagged for DefaultNumber<D> {
+    ghost TAG = { 0x02 };
+
+    const TAG: u8 = 0x02;
+
+    fn put_as<W: Writer>(&self, tag: u8, w: &mut W) -> Result<(), WriteError> {
+        self.0.put_as(tag, w)
     }
+
+    fn read_contents(alloc: Global, r: &mut Reader<'_>, nest: u8) -> Result<Self, Error> {
+        let number = u8::read_contents(alloc, r, nest)?;
+        Ok(DefaultNumber(number))
+    }
+
+    ghost tagged = { leaf_tagged 0x02 (Prim.omega arith) (numbers_below (2 ^ 8)) };
 }
 
 impl<const D: u8> HasDefault for DefaultNumber<D> {

@@ -1,13 +1,17 @@
 //! Explicit tags (X.690, 8.14): an element with a context tag around the whole element under it.
 
+ghost use Rattle.std.specs.Prelude.{◌+◌};
 ghost use Rattle.std.proofs.Common.{arith};
+ghost use Rattle.asn1_core_element.specs.Element.{element};
 ghost use Rattle.asn1_core_format.specs.Components.{within};
 ghost use Rattle.asn1_core_format.specs.ComponentLaws.{lawful_within};
-ghost use Rattle.asn1_core_format.specs.TagNumbers.{explicit_context, lawful_explicit_context};
+ghost use Rattle.asn1_core_format.specs.TagNumbers.{explicit_tag, explicit_context, lawful_explicit_context};
+ghost use Rattle.asn1_core_format.specs.TaggedDefaults.{explicit_left_out};
 
 use asn1_core_element::{Error, Reader};
 use asn1_core_format::{
-    Alone, DerDeserialize, DerSerialize, FirstTags, Ref, TryClone, Viewed, put_within, read_within,
+    Alone, DerDeserialize, DerSerialize, FirstTags, HasDefault, Ref, TryClone, Viewed, put_within,
+    read_within,
 };
 use asn1_core_writers::{WriteError, Writer};
 use std::alloc::Global;
@@ -212,4 +216,26 @@ impl<const N: u8, T: TryClone> TryClone for Explicit<N, T> {
     fn try_clone(&self, alloc: Global) -> Result<Self, Error> {
         Ok(Explicit(self.0.try_clone(alloc)?))
     }
+}
+
+impl<const N: u8, T: HasDefault> HasDefault for Explicit<N, T> {
+    ghost DEFAULT = { element (explicit_tag N) T.DEFAULT };
+
+    ghost INSIDE = { 1 + T.INSIDE };
+
+    #[tactic(auto, using(asn1_core_format::specs::TaggedDefaults::explicit_default_same))]
+    fn is_default(&self) -> bool {
+        self.0.is_default()
+    }
+
+    #[tactic(auto, using(asn1_core_format::specs::TaggedDefaults::explicit_stands, asn1_core_format::specs::TaggedDefaults::explicit_too_high))]
+    fn absent(alloc: Global) -> Result<Self, Error> {
+        if N > 30 {
+            return Err(Error::Invalid);
+        }
+        let value = T::absent(alloc)?;
+        Ok(Explicit(value))
+    }
+
+    ghost left_out = { explicit_left_out N T.INSIDE T.DerSerialize.format T.DEFAULT T.left_out };
 }

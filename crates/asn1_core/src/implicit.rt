@@ -1,14 +1,17 @@
 //! Implicit tags (X.690, 8.14): a context tag in place of the tag of the type under it, whose constructed bit stays.
 
+ghost use Rattle.std.specs.Prelude.{◌%◌};
 ghost use Rattle.std.proofs.Common.{arith};
+ghost use Rattle.asn1_core_element.specs.Element.{retag};
 ghost use Rattle.asn1_core_format.specs.Tagged.{implicit, context_tag};
 ghost use Rattle.asn1_core_format.specs.TaggedLaws.{lawful_implicit, context_tag_is};
 ghost use Rattle.asn1_core_format.specs.TagNumbers.{implicit_context, lawful_implicit_context};
+ghost use Rattle.asn1_core_format.specs.TaggedDefaults.{implicit_left_out};
 
 use asn1_core_element::{Error, Reader};
 use asn1_core_format::tagged::context_tag_of;
 use asn1_core_format::{
-    DerDeserialize, DerSerialize, DerTagged, FirstTags, TryClone, Viewed, read_retagged,
+    DerDeserialize, DerSerialize, DerTagged, FirstTags, HasDefault, TryClone, Viewed, read_retagged,
 };
 use asn1_core_writers::{WriteError, Writer};
 use std::alloc::Global;
@@ -162,4 +165,25 @@ impl<const N: u8, T: TryClone> TryClone for Implicit<N, T> {
     fn try_clone(&self, alloc: Global) -> Result<Self, Error> {
         Ok(Implicit(self.0.try_clone(alloc)?))
     }
+}
+
+impl<const N: u8, T: HasDefault + DerTagged> HasDefault for Implicit<N, T> {
+    ghost DEFAULT = { retag (context_tag (N % 31) T.TAG) T.DEFAULT };
+
+    ghost INSIDE = { T.INSIDE };
+
+    fn is_default(&self) -> bool {
+        self.0.is_default()
+    }
+
+    #[tactic(auto, using(asn1_core_format::specs::TaggedDefaults::implicit_too_high))]
+    fn absent(alloc: Global) -> Result<Self, Error> {
+        if N > 30 {
+            return Err(Error::Invalid);
+        }
+        let value = T::absent(alloc)?;
+        Ok(Implicit(value))
+    }
+
+    ghost left_out = { implicit_left_out N T.TAG T.INSIDE T.DerSerialize.format T.DEFAULT T.tagged T.left_out };
 }

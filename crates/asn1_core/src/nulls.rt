@@ -1,9 +1,13 @@
 //! NULL (X.690, 8.8).
 
+ghost use Rattle.std.proofs.Common.{arith};
 ghost use Rattle.asn1_core.specs.Nulls.{no_contents, null_element, lawful_null_element};
+ghost use Rattle.asn1_core_format.specs.TaggedLaws.{leaf_tagged};
 
 use asn1_core_element::{Error, Reader};
-use asn1_core_format::{DerDeserialize, DerSerialize, Leaf, read_leaf};
+use asn1_core_format::{
+    DerDeserialize, DerSerialize, DerTagged, Leaf, read_leaf, read_leaf_contents,
+};
 use asn1_core_writers::{WriteError, Writer, put_element};
 use std::alloc::Global;
 
@@ -51,4 +55,20 @@ impl DerDeserialize for Null {
     }
 
     ghost lawful = { lawful_null_element };
+}
+
+impl DerTagged for Null {
+    ghost TAG = { 0x05 };
+
+    const TAG: u8 = 0x05;
+
+    fn put_as<W: Writer>(&self, tag: u8, w: &mut W) -> Result<(), WriteError> {
+        put_element(tag, &[], w)
+    }
+
+    fn read_contents(alloc: Global, r: &mut Reader<'_>, nest: u8) -> Result<Self, Error> {
+        read_leaf_contents(alloc, r, nest, 0x05)
+    }
+
+    ghost tagged = { leaf_tagged 0x05 (Prim.omega arith) no_contents };
 }

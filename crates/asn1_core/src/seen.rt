@@ -4,8 +4,8 @@
 ghost use Rattle.asn1_core.specs.Seen.{SeesSame, lists_see_same};
 
 use crate::containers::OctetStringAsn1Container;
-use crate::explicit::{ExplicitContextTag0, ExplicitContextTag1, ExplicitContextTag2};
-use crate::implicit::{ImplicitContextTag0, ImplicitContextTag1};
+use crate::explicit::{Explicit, ExplicitContextTag0, ExplicitContextTag1, ExplicitContextTag2};
+use crate::implicit::{Implicit, ImplicitContextTag0, ImplicitContextTag1};
 use crate::lists::{Asn1SequenceOf, Asn1SetOf};
 use asn1_core_format::{DerSerialize, DerTagged, EqualByText, Viewed};
 
@@ -44,6 +44,14 @@ impl<T: SeenByText + DerTagged> SeenByText for ImplicitContextTag0<T> {
 }
 
 impl<T: SeenByText + DerTagged> SeenByText for ImplicitContextTag1<T> {
+    ghost seen = { λ x y. T.seen x.0 y.0 };
+}
+
+impl<const N: u8, T: SeenByText> SeenByText for Explicit<N, T> {
+    ghost seen = { λ x y. T.seen x.0 y.0 };
+}
+
+impl<const N: u8, T: SeenByText + DerTagged> SeenByText for Implicit<N, T> {
     ghost seen = { λ x y. T.seen x.0 y.0 };
 }
 

@@ -10,7 +10,7 @@ use Rattle.asn1_core_element.specs.declared.error.Error.TheVariants.{Memory, Mal
 use Rattle.asn1_core_format.specs.Format.{Format, IsLawful, IsLawfulComponents, HasRead, HasRefused}
 use Rattle.asn1_core_format.specs.Laws.{NextIs, texts_cut, next_distinct, begins_next}
 use Rattle.asn1_core_format.specs.Components.{part, optional, within, HasReadComponents, HasRefusedComponents}
-use Rattle.asn1_core_format.specs.Omitted.{omitted, IsDefault, least_unless, omitted_is}
+use Rattle.asn1_core_format.specs.Omitted.{omitted, IsDefault, HasNoDefault, least_unless, omitted_is}
 
 module _ {V W : Type 0} (F : Format V) (R : Format W) (f : IsLawful F) (k : ℕ) where
   -- where the rest is refused, the whole is
@@ -70,14 +70,18 @@ module _ {V W : Type 0} (o : V → Bool) (d : List ℕ) (F : Format V) (R : Form
   stands x g m p (inl s) = g m p.1 s.1
   stands x g m p (inr s) = no_part F R f r distinct k x p s
 
+  stands_for_none : {l : List ℕ} {e : Error} → (NextIs F.IsTag l → ⊥) → (e ≢ Memory → (k : ℕ) (v : V) → F.Reads k d v → ⊥) → e ≢ Memory → (p : V × W) → (omitted o d F R).Reads k l p → ⊥
+  stands_for_none x g m p (inl s) = g m k p.0 s.0
+  stands_for_none x g m p (inr s) = no_part F R f r distinct k x p s
+
   pub there_refused : {old new : Position} {e : Error} → NextIs F.IsTag old.left → HasRefusedComponents (part F R) k old new e → HasRefusedComponents (omitted o d F R) k old new e
   there_refused {old} {new} {e} x g = record { kind = g.kind; none = left_out {e = e} x g.none; counts = g.counts; at_most = g.at_most }
 
   pub omitted_refused : {old new : Position} {e : Error} → (NextIs F.IsTag old.left → ⊥) → HasRefusedComponents R k old new e → HasRefusedComponents (omitted o d F R) k old new e
   omitted_refused {old} {new} {e} x g = record { kind = g.kind; none = stands {e = e} x g.none; counts = g.counts; at_most = g.at_most }
 
-  pub no_default : (p : Position) {e : Error} → e ≡ Memory → HasRefusedComponents (omitted o d F R) k p p e
-  no_default p {e} m = record { kind = λ x. (let h = sym m ∙ x in cc); none = λ x v s. x m; counts = omega arith; at_most = omega arith }
+  pub no_default : (p : Position) {e : Error} → (NextIs F.IsTag p.left → ⊥) → HasNoDefault F d e → HasRefusedComponents (omitted o d F R) k p p e
+  no_default p {e} x g = record { kind = g.kind; none = stands_for_none {e = e} x g.none; counts = omega arith; at_most = omega arith }
 
   pub has_read_default : {old new : Position} {v : V} {w : W} → F.Reads k d v → HasReadComponents R k old new w → HasReadComponents (omitted o d F R) k old new (v, w)
   has_read_default {old} {new} {v} {w} s t = record {

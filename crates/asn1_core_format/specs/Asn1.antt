@@ -2,16 +2,18 @@
 -- format and its law.
 use Rattle.std.specs.Prelude.{◌≡◌, ℕ, ◌+◌, ◌%◌, Bool, true, false, List, Option, None, Some}
 use Rattle.std.proofs.Common.{arith, refl}
+use Rattle.asn1_core_element.specs.Element.{element, retag}
 use Rattle.asn1_core_format.specs.Format.{Format, IsLawful, IsLawfulComponents, are_distinct, distinct_tags}
 use Rattle.asn1_core_format.specs.Eithers.{or_else}
 use Rattle.asn1_core_format.specs.Lists.{each}
 use Rattle.asn1_core_format.specs.ListLaws.{lawful_each}
-use Rattle.asn1_core_format.specs.Omitted.{omitted, lawful_omitted, is_default, IsDefault}
+use Rattle.asn1_core_format.specs.Omitted.{omitted, lawful_omitted, is_default_with, IsDefault}
 use Rattle.asn1_core_format.specs.Components.{nothing, part, optional}
 use Rattle.asn1_core_format.specs.ComponentLaws.{lawful_nothing, lawful_part, lawful_optional}
 use Rattle.asn1_core_format.specs.Sequences.{lawful_sequence, lawful_set}
 use Rattle.asn1_core_format.specs.Tagged.{IsTagged, context_tag}
 use Rattle.asn1_core_format.specs.TaggedLaws.{within_tagged}
+use Rattle.asn1_core_format.specs.TaggedDefaults.{explicit_left_out, implicit_left_out}
 use Rattle.asn1_core_format.specs.TagNumbers.{explicit_tag, explicit_context, lawful_explicit_context, explicit_context_tagged, implicit_context, lawful_implicit_context, implicit_context_tagged}
 
 -- whether all encodings are elements with that tag, where there is one
@@ -38,7 +40,9 @@ asn1_tagged {V} {F} law tag tagged = record { Value = V; format = F; law = law; 
 pub record Asn1Default : Type 1 where
   pub type : Asn1
   pub text : List ℕ
-  pub left_out : IsDefault (is_default type.format text) text type.format
+  -- the elements inside that one
+  pub inside : ℕ
+  pub left_out : IsDefault (is_default_with inside type.format text) text type.format
 
 -- whether the first tags of each part that may be absent are distinct from those that may follow it (X.680, 25.6), or
 -- the first part of which they aren't
@@ -91,6 +95,18 @@ pub implicit_tagged_at : {V : Type 0} (n : ℕ) (tag : Option ℕ) (F : Format V
 implicit_tagged_at n None F g = explicit_context_tagged n F
 implicit_tagged_at n (Some inner) F g = implicit_context_tagged n inner F g
 
+abbrev pub implicit_text_at : ℕ → Option ℕ → List ℕ → List ℕ
+implicit_text_at n None d = element (explicit_tag n) d
+implicit_text_at n (Some inner) d = retag (context_tag (n % 31) inner) d
+
+abbrev pub implicit_inside_at : Option ℕ → ℕ → ℕ
+implicit_inside_at None inside = 1 + inside
+implicit_inside_at (Some inner) inside = inside
+
+pub implicit_left_out_at : {V : Type 0} (n : ℕ) (tag : Option ℕ) (i : ℕ) (F : Format V) (d : List ℕ) → HasTag tag F → IsDefault (is_default_with i F d) d F → IsDefault (is_default_with (implicit_inside_at tag i) (implicit_at n tag F) (implicit_text_at n tag d)) (implicit_text_at n tag d) (implicit_at n tag F)
+implicit_left_out_at n None i F d g l = explicit_left_out n i F d l
+implicit_left_out_at n (Some inner) i F d g l = implicit_left_out n inner i F d g l
+
 infixr 5 ◌then◌
 infixr 5 ◌OPTIONAL◌
 infixr 5 ◌DEFAULT◌
@@ -104,12 +120,12 @@ pub optional_law : (a : Asn1) (r : ComponentTypes) → distinct_if (are_distinct
 optional_law a r e = let p = distinct_parts (are_distinct a.format r.format) r.distinct e in lawful_optional a.format r.format a.law (r.law p.1) (distinct_tags a.format r.format p.0)
 
 abbrev pub with_default : (a : Asn1Default) (r : ComponentTypes) → Format (a.type.Value × r.Value)
-with_default a r = omitted (is_default a.type.format a.text) a.text a.type.format r.format
+with_default a r = omitted (is_default_with a.inside a.type.format a.text) a.text a.type.format r.format
 
 pub default_law : (a : Asn1Default) (r : ComponentTypes) → distinct_if (are_distinct a.type.format r.format) r.distinct ≡ all_distinct → IsLawfulComponents (with_default a r)
 default_law a r e =
     let p = distinct_parts (are_distinct a.type.format r.format) r.distinct e in
-    lawful_omitted (is_default a.type.format a.text) a.text a.type.format r.format a.type.law (r.law p.1) a.left_out (distinct_tags a.type.format r.format p.0)
+    lawful_omitted (is_default_with a.inside a.type.format a.text) a.text a.type.format r.format a.type.law (r.law p.1) a.left_out (distinct_tags a.type.format r.format p.0)
 
 abbrev pub ◌then◌ : Asn1 → ComponentTypes → ComponentTypes
 a then r = record { Value = a.Value × r.Value; format = part a.format r.format; distinct = one_later r.distinct; law = then_law a r }
@@ -127,8 +143,12 @@ contents p e = record { Value = p.Value; format = p.format; law = p.law e }
 abbrev pub SEQUENCE : Contents → Asn1
 SEQUENCE c = asn1_tagged (lawful_sequence c.law) 0x30 (within_tagged 0x30 (omega arith) c.format)
 
+-- the contents of SEQUENCE OF and SET OF
+abbrev pub list_of : Asn1 → Contents
+list_of a = record { Value = List a.Value; format = each a.format; law = lawful_each a.format a.law }
+
 abbrev pub SEQUENCE_OF : Asn1 → Asn1
-SEQUENCE_OF a = asn1_tagged (lawful_sequence (lawful_each a.format a.law)) 0x30 (within_tagged 0x30 (omega arith) (each a.format))
+SEQUENCE_OF a = SEQUENCE (list_of a)
 
 abbrev pub SET_OF : Asn1 → Asn1
 SET_OF a = asn1_tagged (lawful_set a.format a.law) 0x31 (within_tagged 0x31 (omega arith) (each a.format))
@@ -144,6 +164,23 @@ IMPLICIT n a = record {
   law = lawful_implicit_at n a.tag a.format a.law a.tagged;
   tag = Some (implicit_tag_at n a.tag);
   tagged = implicit_tagged_at n a.tag a.format a.tagged;
+}
+
+-- a type with a DEFAULT, under a tag
+abbrev pub EXPLICIT_default : ℕ → Asn1Default → Asn1Default
+EXPLICIT_default n a = record {
+  type = EXPLICIT n a.type;
+  text = element (explicit_tag n) a.text;
+  inside = 1 + a.inside;
+  left_out = explicit_left_out n a.inside a.type.format a.text a.left_out;
+}
+
+abbrev pub IMPLICIT_default : ℕ → Asn1Default → Asn1Default
+IMPLICIT_default n a = record {
+  type = IMPLICIT n a.type;
+  text = implicit_text_at n a.type.tag a.text;
+  inside = implicit_inside_at a.type.tag a.inside;
+  left_out = implicit_left_out_at n a.type.tag a.inside a.type.format a.text a.type.tagged a.left_out;
 }
 
 -- `refl` where no first tag is one of both

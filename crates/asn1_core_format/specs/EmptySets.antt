@@ -45,7 +45,7 @@ module _ {V : Type 0} (tag : ℕ) (t : IsTagByte tag) (F : Format V) (f : IsLawf
   exact k (v ∷ vs) h = (λ e. absurd (true≢false (sym e)), λ e. absurd (some_text k v vs h e))
 
   pub empty_default : IsDefault is_nil (element tag []) (within tag (each F))
-  empty_default = record { normal = λ k. ([], refl, ([], refl, tt)); exact = exact }
+  empty_default = record { element = (tag, [], refl, refl); normal = λ k v s. ([], refl, ([], refl, tt)); exact = exact }
 
   pub lawful_set_or_none : IsLawfulComponents (set_or_none tag F)
   lawful_set_or_none = lawful_omitted is_nil (element tag []) (within tag (each F)) nothing (lawful_within (each F) (lawful_each F f) tag t) lawful_nothing empty_default (λ u h e. e)
@@ -56,4 +56,4 @@ module _ {V : Type 0} (tag : ℕ) (t : IsTagByte tag) (F : Format V) (f : IsLawf
   empty_exact k (v ∷ vs) h = (λ e. (bytes_eq-Decides (element tag (flat_map F.text (v ∷ vs))) (element tag [])).0 (and_parts _ _ e).0, λ e. absurd (some_text k v vs h e))
 
   pub empty_left_out : IsDefault (is_default (within tag (each F)) (element tag [])) (element tag []) (within tag (each F))
-  empty_left_out = record { normal = λ k. ([], refl, ([], refl, tt)); exact = empty_exact }
+  empty_left_out = record { element = (tag, [], refl, refl); normal = λ k v s. ([], refl, ([], refl, tt)); exact = empty_exact }

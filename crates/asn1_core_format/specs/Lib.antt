@@ -15,6 +15,7 @@ pub mod Choices
 pub mod Eithers
 pub mod Whole
 pub mod TagNumbers
+pub mod TaggedDefaults
 pub mod Sequences
 pub mod Levels
 pub mod LevelLaws

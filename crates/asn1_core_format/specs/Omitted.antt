@@ -3,8 +3,9 @@ use Rattle.std.specs.Prelude.{◌≡◌, ◌≢◌, ◌⊎◌, ◌↔◌, ℕ, �
 use Rattle.std.proofs.Common.{refl, sym, ap, ◌∙◌, subst, inl, inr}
 use Rattle.std.specs.Str.{bytes_eq}
 use Rattle.std.proofs.lemmas.Bool.{false_from_ne_true}
+use Rattle.asn1_core_element.specs.Element.{element}
 use Rattle.asn1_core_element.specs.declared.error.Error.{Error}
-use Rattle.asn1_core_element.specs.declared.error.Error.TheVariants.{Memory}
+use Rattle.asn1_core_element.specs.declared.error.Error.TheVariants.{Memory, TooLong}
 use Rattle.asn1_core_format.specs.Format.{Format, BeginsBy, IsLawfulComponents, IsLawful, are_distinct, distinct_tags, distinct_both}
 use Rattle.asn1_core_format.specs.Laws.{texts_cut, begins_right, tag_left}
 use Rattle.asn1_core_format.specs.Components.{part}
@@ -20,22 +21,23 @@ least_unless true n = 0
 least_unless false n = n
 
 -- An encoding of F, or nothing in place of the encoding d; and then one of R. Values of which o is true are written
--- as nothing. Canonical (normal) is nothing, or an encoding other than d.
+-- as nothing. Canonical (normal) is nothing, where d is canonical, or an encoding other than d.
 abbrev pub omitted : {V W : Type 0} → (V → Bool) → List ℕ → Format V → Format W → Format (V × W)
 omitted {V} {W} o d F R = record {
   text = λ p. text_unless (o p.0) (F.text p.0) ++ R.text p.1;
   IsWellFormed = λ k p. F.IsWellFormed k p.0 × R.IsWellFormed k p.1;
   Reads = λ k b p. (F.Reads k d p.0 × R.Reads k b p.1) ⊎ (part F R).Reads k b p;
-  IsNormal = λ k b. R.IsNormal k b ⊎ ((a : List ℕ) × (c : List ℕ) × (b ≡ a ++ c) × F.IsNormal k a × R.IsNormal k c × (a ≢ d));
+  IsNormal = λ k b. (F.IsNormal k d × R.IsNormal k b) ⊎ ((a : List ℕ) × (c : List ℕ) × (b ≡ a ++ c) × F.IsNormal k a × R.IsNormal k c × (a ≢ d));
   normal = λ p. (F.normal p.0, R.normal p.1);
   IsTag = λ t. F.IsTag t ⊎ R.IsTag t;
   first = both_tags F.first R.first;
   least = λ p. least_unless (o p.0) (F.least p.0) + R.least p.1;
 }
 
--- o is true of the values that are written as d, and d is normal
+-- o is true of the values that are written as d, an element of F's, which is normal if it is an encoding
 pub record IsDefault {V : Type 0} (o : V → Bool) (d : List ℕ) (F : Format V) : Type 0 where
-  pub normal : (k : ℕ) → F.IsNormal k d
+  pub element : (tag : ℕ) × (c : List ℕ) × (d ≡ element tag c) × F.IsTag tag
+  pub normal : (k : ℕ) (v : V) → F.Reads k d v → F.IsNormal k d
   pub exact : (k : ℕ) (v : V) → F.IsWellFormed k v → (o v ≡ true) ↔ (F.text v ≡ d)
 
 module _ {V W : Type 0} (o : V → Bool) (d : List ℕ) (F : Format V) (R : Format W) (f : IsLawful F) (r : IsLawfulComponents R) (n : IsDefault o d F) (distinct : (t : ℕ) → F.IsTag t → R.IsTag t → ⊥) where
@@ -50,7 +52,7 @@ module _ {V W : Type 0} (o : V → Bool) (d : List ℕ) (F : Format V) (R : Form
 
   -- what d reads as is written as d, and so as nothing
   omitted_value : (k : ℕ) (v : V) → F.Reads k d v → o v ≡ true
-  omitted_value k v s = (n.exact k v (f.components.well_formed k d v s)).1 ((f.components.fixed k d v s).1 (n.normal k))
+  omitted_value k v s = (n.exact k v (f.components.well_formed k d v s)).1 ((f.components.fixed k d v s).1 (n.normal k v s))
 
   absent_text : (k : ℕ) (v : V) (w : W) → F.Reads k d v → (omitted o d F R).text (v, w) ≡ R.text w
   absent_text k v w s = text_at true v w (omitted_value k v s)
@@ -76,13 +78,13 @@ module _ {V W : Type 0} (o : V → Bool) (d : List ℕ) (F : Format V) (R : Form
   true_false e g = let h : true ≡ false = sym e ∙ g in cc
 
   normal_at : (k : ℕ) (t : Bool) (p : V × W) → o p.0 ≡ t → (omitted o d F R).IsWellFormed k p → (omitted o d F R).IsNormal k (text_unless t (F.text p.0) ++ R.text p.1)
-  normal_at k true p e h = inl (r.text_normal k p.1 h.1)
+  normal_at k true p e h = inl (subst (λ x. F.IsNormal k x) ((n.exact k p.0 h.0).0 e) (f.components.text_normal k p.0 h.0), r.text_normal k p.1 h.1)
   normal_at k false p e h = inr (F.text p.0, R.text p.1, refl, f.components.text_normal k p.0 h.0, r.text_normal k p.1 h.1, λ g. true_false ((n.exact k p.0 h.0).1 g) e)
 
   omitted_normal_reads : (k : ℕ) (b : List ℕ) → (omitted o d F R).IsNormal k b → (p : V × W) × (omitted o d F R).Reads k b p
   omitted_normal_reads k b (inl s) =
-      let v = f.components.normal_reads k d (n.normal k) in
-      let w = r.normal_reads k b s in
+      let v = f.components.normal_reads k d s.0 in
+      let w = r.normal_reads k b s.1 in
       ((v.0, w.0), inl (v.1, w.1))
   omitted_normal_reads k b (inr s) = let q = both.normal_reads k b (s.0, s.1, s.2, s.3, s.4) in (q.0, inr q.1)
 
@@ -96,13 +98,13 @@ module _ {V W : Type 0} (o : V → Bool) (d : List ℕ) (F : Format V) (R : Form
       inr (s.0, s.1, s.2, (f.components.fixed k s.0 p.0 s.3).0 x.0, (r.fixed k s.1 p.1 s.4).0 x.1, λ y. true_false ((n.exact k p.0 w).1 (x.0 ∙ y)) i)
 
   omitted_keeps : (k : ℕ) (b : List ℕ) (p : V × W) → (omitted o d F R).Reads k b p → (omitted o d F R).text p ≡ b → (omitted o d F R).IsNormal k b
-  omitted_keeps k b p (inl s) g = inl ((r.fixed k b p.1 s.1).0 (sym (absent_text k p.0 p.1 s.0) ∙ g))
+  omitted_keeps k b p (inl s) g = inl (n.normal k p.0 s.0, (r.fixed k b p.1 s.1).0 (sym (absent_text k p.0 p.1 s.0) ∙ g))
   omitted_keeps k b p (inr s) g = keeps_at k (o p.0) b p refl s g
 
   omitted_kept : (k : ℕ) (b : List ℕ) (p : V × W) → (omitted o d F R).Reads k b p → (omitted o d F R).IsNormal k b → (omitted o d F R).text p ≡ b
-  omitted_kept k b p (inl s) (inl t) = absent_text k p.0 p.1 s.0 ∙ (r.fixed k b p.1 s.1).1 t
+  omitted_kept k b p (inl s) (inl t) = absent_text k p.0 p.1 s.0 ∙ (r.fixed k b p.1 s.1).1 t.1
   omitted_kept k b p (inl s) (inr t) = let q = both.normal_reads k b (t.0, t.1, t.2, t.3, t.4) in absurd (not_both F R f r distinct k b q.0 p.1 q.1 s.1)
-  omitted_kept k b p (inr s) (inl t) = let w = r.normal_reads k b t in absurd (not_both F R f r distinct k b p w.0 s w.1)
+  omitted_kept k b p (inr s) (inl t) = let w = r.normal_reads k b t.1 in absurd (not_both F R f r distinct k b p w.0 s w.1)
   omitted_kept k b p (inr s) (inr t) =
       let e = (both.fixed k b p s).1 (t.0, t.1, t.2, t.3, t.4) in
       let w = f.components.well_formed k s.0 p.0 s.3 in
@@ -142,11 +144,20 @@ omitted_if_distinct o d F R c f r n e = let p = distinct_both F R c e in lawful_
 pub unless : {V W : Type 0} {o : V → Bool} {d : List ℕ} {F : Format V} {R : Format W} → IsLawful F → IsDefault o d F → are_distinct F R ≡ true → IsLawfulComponents R → IsLawfulComponents (omitted o d F R)
 unless {V} {W} {o} {d} {F} {R} f n e r = lawful_omitted o d F R f r n (distinct_tags F R e)
 
--- The values that are left out: those that are written as d, which is one element. A set whose items have an empty
--- encoding is written as the empty set is, but has more elements; such a set is ill-formed.
+-- The values that are left out: those that are written as d, which is one element with at most so many inside. A set
+-- whose items have an empty encoding is written as the empty set is, but has more elements; such a set is ill-formed.
+abbrev pub is_default_with : {V : Type 0} → ℕ → Format V → List ℕ → V → Bool
+is_default_with inside F d v = bytes_eq (F.text v) d && leb (F.least v) (1 + inside)
+
+-- the same, where d is one element with none inside
 abbrev pub is_default : {V : Type 0} → Format V → List ℕ → V → Bool
-is_default F d v = bytes_eq (F.text v) d && leb (F.least v) 1
+is_default F d v = is_default_with 0 F d v
+
+-- why there is no value that absence means: memory was refused, or the type has no such value
+pub record HasNoDefault {V : Type 0} (F : Format V) (d : List ℕ) (e : Error) : Type 0 where
+  pub kind : e ≢ TooLong
+  pub none : e ≢ Memory → (k : ℕ) (v : V) → F.Reads k d v → ⊥
 
 -- absence reads as the value, whatever the nesting
 abbrev pub StandsFor : {T V : Type 0} → (T → V) → Format V → List ℕ → Result T Error → Type 0
-StandsFor value F d r = MatchResult r (λ x. (k : ℕ) → F.Reads k d (value x)) (λ e. e ≡ Memory)
+StandsFor value F d r = MatchResult r (λ x. (k : ℕ) → F.Reads k d (value x)) (λ e. HasNoDefault F d e)

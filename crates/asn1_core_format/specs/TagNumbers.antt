@@ -17,20 +17,8 @@ abbrev pub only_if : Bool → Type 0 → Type 0
 only_if true P = P
 only_if false P = ⊥
 
--- F, where a tag of one byte can have the number: `numbered 0 F` is F
-abbrev pub numbered : {V : Type 0} → ℕ → Format V → Format V
-numbered n F = record {
-  text = F.text;
-  IsWellFormed = λ k v. only_if (ltb n 31) (F.IsWellFormed k v);
-  Reads = λ k b v. only_if (ltb n 31) (F.Reads k b v);
-  IsNormal = λ k b. only_if (ltb n 31) (F.IsNormal k b);
-  normal = F.normal;
-  IsTag = F.IsTag;
-  first = F.first;
-  least = F.least;
-}
-
-only : {V : Type 0} → Bool → Format V → Format V
+-- F, where that is true, and else no encodings
+abbrev pub only : {V : Type 0} → Bool → Format V → Format V
 only b F = record {
   text = F.text;
   IsWellFormed = λ k v. only_if b (F.IsWellFormed k v);
@@ -42,8 +30,11 @@ only b F = record {
   least = F.least;
 }
 
+-- F, where a tag of one byte can have the number: `numbered 0 F` is F
+abbrev pub numbered : {V : Type 0} → ℕ → Format V → Format V
+numbered n F = only (ltb n 31) F
+
 lawful_only : {V : Type 0} (b : Bool) (F : Format V) → IsLawful F → IsLawful (only b F)
-unfolding only
 lawful_only true F f = record { components = f.components; element = f.element }
 lawful_only false F f = record {
   components = record {
@@ -60,7 +51,6 @@ lawful_only false F f = record {
 }
 
 pub lawful_numbered : {V : Type 0} (n : ℕ) (F : Format V) → IsLawful F → IsLawful (numbered n F)
-unfolding only
 lawful_numbered n F f = lawful_only (ltb n 31) F f
 
 low : {P : Type 0} (n : ℕ) → n < 31 → P → only_if (ltb n 31) P

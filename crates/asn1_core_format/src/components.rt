@@ -3,7 +3,7 @@
 ghost use Rattle.std.specs.Prelude.{◌≡◌, ◌↔◌, ◌++◌, ◌&&◌, ℕ, List, Option, Bool, IsTrue, true, false};
 ghost use Rattle.asn1_core_format.specs.Format.{Format, IsLawfulComponents, are_distinct};
 ghost use Rattle.asn1_core_format.specs.Laws.{NextIs};
-ghost use Rattle.asn1_core_format.specs.Omitted.{omitted, omitted_if_distinct, is_default, IsDefault, StandsFor};
+ghost use Rattle.asn1_core_format.specs.Omitted.{omitted, omitted_if_distinct, is_default_with, IsDefault, StandsFor};
 ghost use Rattle.asn1_core_format.specs.Components.{nothing, part, optional, option_value, GivesComponents};
 ghost use Rattle.asn1_core_format.specs.ComponentLaws.{lawful_nothing, lawful_part, optional_if_distinct};
 
@@ -196,14 +196,17 @@ pub trait HasDefault: DerDeserialize {
     /// The encoding that absence means, and that is never written.
     ghost DEFAULT: { List ℕ };
 
-    fn is_default(&self) -> bool
-        ensures { result ≡ is_default Self.format DEFAULT (Self.value self.now) };
+    /// The elements inside that encoding, which is one element.
+    ghost INSIDE: { ℕ } = { 0 };
 
-    /// The value that absence means.
+    fn is_default(&self) -> bool
+        ensures { result ≡ is_default_with INSIDE Self.format DEFAULT (Self.value self.now) };
+
+    /// The value that absence means. Without a refusal of memory there is one, unless the type has no such value.
     fn absent(alloc: Global) -> Result<Self, Error>
         ensures { StandsFor Self.value Self.format DEFAULT result };
 
-    ghost left_out: { IsDefault (is_default Self.DerSerialize.format DEFAULT) DEFAULT Self.DerSerialize.format };
+    ghost left_out: { IsDefault (is_default_with INSIDE Self.DerSerialize.format DEFAULT) DEFAULT Self.DerSerialize.format };
 }
 
 /// A part that may be left out, and what follows it.
@@ -215,7 +218,7 @@ impl<A: HasDefault, R: WriteComponents> WriteComponents for Omitted<A, R> {
 
     ghost value = { λ p. (A.value p.0, R.value p.1) };
 
-    ghost format = { omitted (is_default A.format A.DEFAULT) A.DEFAULT A.format R.format };
+    ghost format = { omitted (is_default_with A.INSIDE A.format A.DEFAULT) A.DEFAULT A.format R.format };
 
     fn put_components<W: Writer>(&self, w: &mut W) -> Result<(), WriteError> {
         if self.0.is_default() {
@@ -244,7 +247,7 @@ impl<A: HasDefault + FirstTags, R: ReadComponents> ReadComponents for Omitted<A,
         Ok(Omitted(absent, others))
     }
 
-    ghost lawful = { λ c. omitted_if_distinct (is_default A.DerSerialize.format A.DEFAULT) A.DEFAULT A.DerSerialize.format R.WriteComponents.format R.distinct A.lawful R.lawful A.left_out c };
+    ghost lawful = { λ c. omitted_if_distinct (is_default_with A.INSIDE A.DerSerialize.format A.DEFAULT) A.DEFAULT A.DerSerialize.format R.WriteComponents.format R.distinct A.lawful R.lawful A.left_out c };
 }
 
 /// Borrowed form of `Omitted`, for writing.
@@ -256,7 +259,7 @@ impl<A: HasDefault, R: WriteComponents> WriteComponents for OmittedRef<&A, R> {
 
     ghost value = { λ p. (A.value p.0.now, R.value p.1) };
 
-    ghost format = { omitted (is_default A.format A.DEFAULT) A.DEFAULT A.format R.format };
+    ghost format = { omitted (is_default_with A.INSIDE A.format A.DEFAULT) A.DEFAULT A.format R.format };
 
     fn put_components<W: Writer>(&self, w: &mut W) -> Result<(), WriteError> {
         if self.0.is_default() {

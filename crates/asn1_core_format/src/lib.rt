@@ -14,7 +14,9 @@ pub mod sequences;
 pub mod sets;
 pub mod tagged;
 pub mod tails;
+pub mod tasks;
 pub mod traits;
+pub mod types;
 pub mod views;
 pub mod whole;
 pub mod within;
@@ -27,11 +29,13 @@ pub use eithers::{Alternatives, Either};
 pub use leaves::{Leaf, read_leaf, read_leaf_contents};
 pub use less::Less;
 pub use recursive::{read_below_within, read_list_with};
-pub use sequences::{Sequence, Task};
+pub use sequences::Sequence;
 pub use sets::{SetOrNone, is_left_out, read_set_below_with, read_set_or_none_with, read_set_with};
 pub use tagged::{DerTagged, read_retagged};
 pub use tails::{ReadComponentsWith, Tail, read_within_with};
+pub use tasks::Task;
 pub use traits::{DerDeserialize, DerSerialize, MAX_NESTING, Ref};
+pub use types::Asn1Type;
 pub use views::{EqualByText, TryClone, Viewed};
 pub use whole::{
     from_bytes, from_bytes_counted, from_bytes_limited, from_bytes_located,

@@ -1,73 +1,20 @@
 //! SEQUENCEs (X.690, 8.9): types that are written as their components in order, and read as these.
 
-ghost use Rattle.std.specs.Prelude.{◌≡◌, ◌↔◌, ℕ, List, IsTrue, false};
+ghost use Rattle.std.specs.Prelude.{◌≡◌, false};
 ghost use Rattle.std.proofs.Common.{arith};
-ghost use Rattle.asn1_core_element.specs.Element.{element, retag};
-ghost use Rattle.asn1_core_format.specs.Asn1.{Contents as Body};
+ghost use Rattle.asn1_core_format.specs.Asn1.{Contents as Body, SEQUENCE};
 ghost use Rattle.asn1_core_format.specs.Components.{within, GivesComponents};
-ghost use Rattle.asn1_core_format.specs.ComponentLaws.{lawful_within};
 ghost use Rattle.asn1_core_format.specs.TaggedLaws.{within_tagged};
 ghost use Rattle.asn1_core_format.specs.Views.{SeesEqual, Clones};
 
 use crate::components::{ReadComponents, WriteComponents};
 use crate::tagged::DerTagged;
-use crate::traits::{DerDeserialize, DerSerialize};
-use crate::views::{EqualByText, TryClone};
-use crate::within::{put_within, read_inside, read_within};
+use crate::tasks::{Put, PutWithin, Task, Test};
+use crate::types::Asn1Type;
+use crate::within::{read_inside, read_within};
 use asn1_core_element::{Error, Reader};
 use asn1_core_writers::{WriteError, Writer};
 use std::alloc::Global;
-
-/// What is done with the components of a SEQUENCE, by reference: writing, testing.
-pub trait Task {
-    type Out;
-
-    ghost may: { Self → Type 0 };
-
-    /// What it did, by the encodings of the components, and by the levels at which these are well-formed.
-    ghost does: { Self → Self → List ℕ → (ℕ → Type 0) → Self.Out → Type 0 };
-
-    fn run<R: WriteComponents>(&mut self, components: &R) -> Self::Out
-        requires { may self.old }
-        ensures { does self.old self.new (R.format.text (R.value components.now)) (λ k. R.format.IsWellFormed k (R.value components.now)) result };
-}
-
-/// Writing, in an element with that tag.
-#[derive(Drop)]
-struct Put<'w, W> {
-    tag: u8,
-    w: &'w mut W,
-}
-
-impl<W: Writer> Task for Put<'_, W> {
-    type Out = Result<(), WriteError>;
-
-    ghost may = { λ s. W.MayTake s.w.now };
-
-    ghost does = { λ old new text _ r. (new.w.ghost_name ≡ old.w.ghost_name) × W.Takes (element old.tag text) old.w.now new.w.now r × ((own : ℕ) → W.Takes (retag old.tag (element own text)) old.w.now new.w.now r) };
-
-    fn run<R: WriteComponents>(&mut self, components: &R) -> Result<(), WriteError> {
-        put_within(self.tag, components, self.w)
-    }
-}
-
-/// Whether the components are well-formed with at most so many levels.
-#[derive(Drop)]
-struct Test {
-    limit: u8,
-}
-
-impl Task for Test {
-    type Out = bool;
-
-    ghost may = { λ _. Unit {0} };
-
-    ghost does = { λ old _ _ formed r. IsTrue r ↔ formed old.limit };
-
-    fn run<R: WriteComponents>(&mut self, components: &R) -> bool {
-        components.components_well_formed_at(self.limit)
-    }
-}
 
 /// A SEQUENCE of which each component may be OPTIONAL or have a DEFAULT. It has all traits of a type, with their laws, and
 /// may be under an implicit tag.
@@ -106,29 +53,11 @@ impl<T: Sequence> WriteComponents for Contents<T> {
     ghost format = { T.asn1.format };
 
     fn put_components<W: Writer>(&self, w: &mut W) -> Result<(), WriteError> {
-        self.0.with_components(&mut PutComponents { w })
+        self.0.with_components(&mut Put { w })
     }
 
     fn components_well_formed_at(&self, limit: u8) -> bool {
         self.0.with_components(&mut Test { limit })
-    }
-}
-
-/// Writing, in no element.
-#[derive(Drop)]
-struct PutComponents<'w, W> {
-    w: &'w mut W,
-}
-
-impl<W: Writer> Task for PutComponents<'_, W> {
-    type Out = Result<(), WriteError>;
-
-    ghost may = { λ s. W.MayTake s.w.now };
-
-    ghost does = { λ old new text _ r. (new.w.ghost_name ≡ old.w.ghost_name) × W.Takes text old.w.now new.w.now r };
-
-    fn run<R: WriteComponents>(&mut self, components: &R) -> Result<(), WriteError> {
-        components.put_components(self.w)
     }
 }
 
@@ -140,30 +69,46 @@ impl<T: Sequence> ReadComponents for Contents<T> {
     ghost lawful = { λ _. T.asn1.law };
 }
 
-impl<T: Sequence> DerSerialize for T {
+/// A whole SEQUENCE, by reference.
+#[derive(Drop)]
+struct Whole<R>(R);
+
+impl<T: Sequence> WriteComponents for Whole<&T> {
     ghost Value = { T.asn1.Value };
 
-    ghost value = { T.value };
+    ghost value = { λ x. T.value x.0.now };
 
     ghost format = { within 0x30 T.asn1.format };
 
-    fn put<W: Writer>(&self, w: &mut W) -> Result<(), WriteError> {
-        self.with_components(&mut Put { tag: 0x30, w })
+    fn put_components<W: Writer>(&self, w: &mut W) -> Result<(), WriteError> {
+        self.0.with_components(&mut PutWithin { tag: 0x30, w })
     }
 
-    fn well_formed_at(&self, limit: u8) -> bool {
-        self.with_components(&mut Test { limit })
+    fn components_well_formed_at(&self, limit: u8) -> bool {
+        self.0.with_components(&mut Test { limit })
     }
 }
 
-impl<T: Sequence> DerDeserialize for T {
-    fn read(alloc: Global, r: &mut Reader<'_>, nest: u8) -> Result<Self, Error> {
+impl<T: Sequence> Asn1Type for T {
+    ghost asn1 = { SEQUENCE T.Sequence.asn1 };
+
+    ghost value = { T.Sequence.value };
+
+    fn with_encoded<U: Task>(&self, task: &mut U) -> U::Out {
+        task.run(&Whole(self))
+    }
+
+    fn read_encoded(alloc: Global, r: &mut Reader<'_>, nest: u8) -> Result<Self, Error> {
         let components: Contents<T> = read_within(alloc, r, nest, 0x30)?;
         let Contents(value) = components;
         Ok(value)
     }
 
-    ghost lawful = { lawful_within T.asn1.format T.asn1.law 0x30 (Prim.omega arith) };
+    fn clone_value(&self, alloc: Global) -> Result<Self, Error> {
+        self.clone_fields(alloc)
+    }
+
+    ghost equal = { T.Sequence.equal };
 }
 
 impl<T: Sequence> DerTagged for T {
@@ -172,7 +117,7 @@ impl<T: Sequence> DerTagged for T {
     const TAG: u8 = 0x30;
 
     fn put_as<W: Writer>(&self, tag: u8, w: &mut W) -> Result<(), WriteError> {
-        self.with_components(&mut Put { tag, w })
+        self.with_components(&mut PutWithin { tag, w })
     }
 
     fn read_contents(alloc: Global, r: &mut Reader<'_>, nest: u8) -> Result<Self, Error> {
@@ -181,15 +126,5 @@ impl<T: Sequence> DerTagged for T {
         Ok(value)
     }
 
-    ghost tagged = { within_tagged 0x30 (Prim.omega arith) T.asn1.format };
-}
-
-impl<T: Sequence> EqualByText for T {
-    ghost equal_by_text = { T.equal };
-}
-
-impl<T: Sequence> TryClone for T {
-    fn try_clone(&self, alloc: Global) -> Result<Self, Error> {
-        self.clone_fields(alloc)
-    }
+    ghost tagged = { within_tagged 0x30 (Prim.omega arith) T.Sequence.asn1.format };
 }

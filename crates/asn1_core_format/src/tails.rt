@@ -3,7 +3,7 @@
 ghost use Rattle.std.specs.Prelude.{◌≡◌, ◌&&◌, Bool, false, true};
 ghost use Rattle.asn1_core_element.specs.Element.{IsTagByte};
 ghost use Rattle.asn1_core_format.specs.Format.{Gives, IsLawfulComponents, are_distinct};
-ghost use Rattle.asn1_core_format.specs.Omitted.{is_default, omitted_if_distinct};
+ghost use Rattle.asn1_core_format.specs.Omitted.{is_default_with, omitted_if_distinct};
 ghost use Rattle.asn1_core_format.specs.Components.{GivesComponents, within};
 ghost use Rattle.asn1_core_format.specs.ComponentLaws.{lawful_part, optional_if_distinct};
 
@@ -131,7 +131,7 @@ impl<A: HasDefault + FirstTags, S: WriteComponents, R: ReadComponentsWith<S>> Re
         Ok(Omitted(absent, others))
     }
 
-    ghost keeps_laws = { λ c s. omitted_if_distinct (is_default A.DerSerialize.format A.DEFAULT) A.DEFAULT A.DerSerialize.format R.WriteComponents.format R.distinct A.lawful (λ d. R.keeps_laws d s) A.left_out c };
+    ghost keeps_laws = { λ c s. omitted_if_distinct (is_default_with A.INSIDE A.DerSerialize.format A.DEFAULT) A.DEFAULT A.DerSerialize.format R.WriteComponents.format R.distinct A.lawful (λ d. R.keeps_laws d s) A.left_out c };
 }
 
 /// Reads an element with that tag, whose contents are the parts, the last of them read by `by`.

@@ -1,2 +1,3 @@
 pub mod Stamps
 pub mod Parcels
+pub mod Labels

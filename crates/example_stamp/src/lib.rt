@@ -3,6 +3,7 @@
 
 ghost use Rattle.example_stamp.specs.Stamps.{stamp, stamp_value, stamp_equal};
 
+pub mod labels;
 pub mod parcels;
 
 use asn1_core::prelude::*;
