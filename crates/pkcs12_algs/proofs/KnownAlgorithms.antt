@@ -1,7 +1,7 @@
 -- Algorithms by their known object identifiers.
 use Rattle.std.proofs.Common.{◌≡◌, ℕ, List, true, sym, ap, ◌∙◌, subst, inl, inr}
 use Rattle.asn1_core.specs.Der.{IsOid}
-use Rattle.x509_base.specs.Algorithms.{AlgorithmValue}
+use Rattle.x509_base.specs.Algorithms.{algorithm_identifier}
 use Rattle.x509_base.specs.AlgorithmLaws.{null_is_element}
 use Rattle.x509_base.specs.AlgorithmChoices.{alternative_read}
 use Rattle.pkcs12_algs.specs.Algorithms.{KnownOrRaw, known_or_raw, from_raw, IsKnown}
@@ -10,7 +10,7 @@ use Rattle.pkcs12_algs.specs.TableLaws.{one_listed, listing_is_table, valid_list
 
 module _ (oids : List (List ℕ)) where
   -- a known object identifier picks its alternative
-  pub known_read : (x : KnownOrRaw oids) (o : List ℕ) (v : AlgorithmValue) → IsKnown oids x o → v.0 ≡ o → x ≡ from_raw oids v
+  pub known_read : (x : KnownOrRaw oids) (o : List ℕ) (v : algorithm_identifier.Value) → IsKnown oids x o → v.0 ≡ o → x ≡ from_raw oids v
   known_read (inl a) o v h e = sym (ap (λ r. alternative_read r v) (ap (listing oids).alternative_of (e ∙ sym h) ∙ (listing_is_table oids).there a))
   known_read (inr w) o v h e = absurd h
 
@@ -24,6 +24,6 @@ module _ (oids : List (List ℕ)) where
     known_valid (inl a) o h = subst IsOid h (valid_listed oids valid a.0 a.1)
     known_valid (inr v) o h = absurd h
 
-    pub known_formed : (k : ℕ) (x : KnownOrRaw oids) (o : List ℕ) → IsKnown oids x o → (known_or_raw oids).IsWellFormed k x
+    pub known_formed : (k : ℕ) (x : KnownOrRaw oids) (o : List ℕ) → IsKnown oids x o → (known_or_raw oids).format.IsWellFormed k x
     known_formed k (inl a) o h = ((valid_listed oids valid a.0 a.1, (null_is_element, tt)), tt)
     known_formed k (inr v) o h = absurd h

@@ -1,25 +1,27 @@
 -- Algorithms that are known by their object identifiers, whatever their parameters are, and any other.
 use Rattle.std.specs.Prelude.{◌≡◌, ◌⊎◌, ℕ, List, None}
 use Rattle.std.proofs.Common.{inl, inr}
-use Rattle.asn1_core.specs.Der.{from_one, Format}
-use Rattle.x509_base.specs.Algorithms.{AlgorithmValue}
-use Rattle.x509_base.specs.AlgorithmParts.{parts_of, algorithm_value}
+use Rattle.asn1_core.specs.Asn1.{Contents}
+use Rattle.asn1_core.specs.Der.{from_one}
+use Rattle.x509_base.specs.Algorithms.{algorithm_identifier}
 use Rattle.x509_base.specs.AlgorithmChoices.{alternative_read, algorithm_choice}
-use Rattle.x509_base.specs.declared.algorithms.RawAlgorithmIdentifier.{RawAlgorithmIdentifier}
+use Rattle.x509_base.specs.AlgorithmChoiceLaws.{lawful_algorithm_choice}
 use Rattle.pkcs12_algs.specs.Tables.{Listed, listing}
+use Rattle.pkcs12_algs.specs.TableLaws.{listing_is_table}
 
 -- a known object identifier, or an algorithm identifier with another
 abbrev pub KnownOrRaw : List (List ℕ) → Type 0
-KnownOrRaw oids = Listed oids ⊎ AlgorithmValue
+KnownOrRaw oids = Listed oids ⊎ algorithm_identifier.Value
 
-abbrev pub known_or_raw : (oids : List (List ℕ)) → Format (KnownOrRaw oids)
-known_or_raw oids = algorithm_choice (listing oids)
-
-abbrev pub raw_value : RawAlgorithmIdentifier → AlgorithmValue
-raw_value a = algorithm_value (parts_of a)
+abbrev pub known_or_raw : List (List ℕ) → Contents
+known_or_raw oids = record {
+  Value = KnownOrRaw oids;
+  format = algorithm_choice (listing oids);
+  law = lawful_algorithm_choice (listing oids) (listing_is_table oids);
+}
 
 -- what an algorithm identifier is read as: a known algorithm, without its parameters, or any other as it is
-abbrev pub from_raw : (oids : List (List ℕ)) → AlgorithmValue → KnownOrRaw oids
+abbrev pub from_raw : (oids : List (List ℕ)) → algorithm_identifier.Value → KnownOrRaw oids
 from_raw oids v = alternative_read ((listing oids).alternative_of v.0) v
 
 -- what an algorithm identifier without parameters is read as
@@ -27,7 +29,7 @@ abbrev pub from_oid : (oids : List (List ℕ)) → List ℕ → KnownOrRaw oids
 from_oid oids o = from_raw oids (o, (None, tt))
 
 -- the algorithm identifier of a known algorithm has no parameters
-abbrev pub into_raw : (oids : List (List ℕ)) → KnownOrRaw oids → AlgorithmValue
+abbrev pub into_raw : (oids : List (List ℕ)) → KnownOrRaw oids → algorithm_identifier.Value
 into_raw oids = from_one (λ a. (a.0, (None, tt))) (λ v. v)
 
 -- the known algorithm with that object identifier

@@ -7,6 +7,5 @@ pub mod Pbkdf2
 pub mod Pbes1
 pub mod Pbes2
 pub mod Encryption
-pub mod Equal
-pub mod EncryptionEqual
+pub mod AlgorithmsEqual
 pub mod Names

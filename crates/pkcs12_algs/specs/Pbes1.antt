@@ -3,7 +3,7 @@
 -- pkcs-12PbeParams ::= SEQUENCE { salt OCTET STRING, iterations INTEGER }
 use Rattle.std.specs.Prelude.{◌≡◌, ◌^◌, ℕ, List, [], ◌∷◌, Some}
 use Rattle.asn1_core.specs.Asn1.{Contents, contents, ◌then◌, end, OCTET_STRING, INTEGER_BELOW}
-use Rattle.asn1_core.specs.Der.{Format, IsLawful, sequence, lawful_sequence, IsOid}
+use Rattle.asn1_core.specs.Der.{IsOid}
 use Rattle.std.proofs.Common.{refl, rules}
 use Rattle.asn1_choices.specs.Tables.{Table, IsTable}
 use Rattle.pkcs12_algs.specs.Oids.{sha_and_40_bit_rc2_cbc_oid, sha_and_3_key_3_des_cbc_oid}
@@ -34,17 +34,8 @@ pub pbe_valid : (a : Pbes1AlgorithmKind) → IsOid (pbe_oid a)
 pbe_valid a = valid_alternative pbe_oid pbe_kinds refl (pbe_oid a) a (found_pbe a)
 
 -- the salt, and the count
-abbrev pub pbes1_contents : Contents
-pbes1_contents = contents (OCTET_STRING then INTEGER_BELOW (2 ^ 32) then end) refl
+abbrev pub pbes1_params : Contents
+pbes1_params = contents (OCTET_STRING then INTEGER_BELOW (2 ^ 32) then end) refl
 
-abbrev pub Pbes1Value : Type 0
-Pbes1Value = pbes1_contents.Value
-
-abbrev pub pbes1_value : Pbes1Params → Pbes1Value
-pbes1_value x = (x.salt.0.items, (x.iterations, tt))
-
-abbrev pub pbes1_params : Format Pbes1Value
-pbes1_params = sequence pbes1_contents.format
-
-pub lawful_pbes1_params : IsLawful pbes1_params
-lawful_pbes1_params = lawful_sequence pbes1_contents.law
+abbrev pub pbes1_params_value : Pbes1Params → pbes1_params.Value
+pbes1_params_value x = (x.salt.0.items, (x.iterations, tt))

@@ -7,17 +7,14 @@
 --     prf AlgorithmIdentifier {{PBKDF2-PRFs}} DEFAULT algid-hmacWithSHA1 }
 --
 -- Counts and lengths from 0 to 2^32 - 1 are read. An absent PRF and an explicit HMAC with SHA-1 are told apart.
-use Rattle.std.specs.Prelude.{◌⊎◌, ◌^◌, ℕ, List, [], ◌∷◌, map}
-use Rattle.asn1_core.specs.Asn1.{asn1, Contents, contents, ◌then◌, ◌OPTIONAL◌, end, INTEGER_BELOW}
-use Rattle.asn1_core.specs.Der.{Format, IsLawful, sequence, lawful_sequence, octet_string, lawful_octet_string, option_value, Octets, either, or_else}
+use Rattle.std.specs.Prelude.{◌^◌, ℕ, List, [], ◌∷◌, map}
+use Rattle.asn1_core.specs.Asn1.{Asn1, Contents, contents, ◌then◌, ◌OPTIONAL◌, end, CHOICE, OCTET_STRING, INTEGER_BELOW, SEQUENCE}
+use Rattle.asn1_core.specs.Der.{option_value}
 use Rattle.std.proofs.Common.{inl, inr, refl}
-use Rattle.x509_base.specs.Algorithms.{AlgorithmValue, raw_algorithm_identifier}
-use Rattle.x509_base.specs.AlgorithmLaws.{lawful_raw_algorithm_identifier}
-use Rattle.x509_base.specs.AlgorithmChoiceLaws.{lawful_algorithm_choice}
-use Rattle.pkcs12_algs.specs.Algorithms.{KnownOrRaw, known_or_raw, raw_value, from_oid}
+use Rattle.x509_base.specs.AlgorithmParts.{raw_algorithm_identifier_value}
+use Rattle.x509_base.specs.OtherAlgorithms.{raw_algorithm_identifier}
+use Rattle.pkcs12_algs.specs.Algorithms.{known_or_raw, from_oid}
 use Rattle.pkcs12_algs.specs.Oids.{hmac_with_sha1_oid, hmac_with_sha224_oid, hmac_with_sha256_oid, hmac_with_sha384_oid, hmac_with_sha512_oid}
-use Rattle.pkcs12_algs.specs.Tables.{listing}
-use Rattle.pkcs12_algs.specs.TableLaws.{listing_is_table}
 use Rattle.pkcs12_algs.specs.declared.pbkdf2.Pbkdf2Params.{Pbkdf2Params}
 use Rattle.pkcs12_algs.specs.declared.pbkdf2.Pbkdf2SaltSource.{Pbkdf2SaltSource}
 use Rattle.pkcs12_algs.specs.declared.pbkdf2.Pbkdf2SaltSource.TheVariants.{Specified, OtherSource}
@@ -31,51 +28,31 @@ prf_oid HmacWithSha224 = hmac_with_sha224_oid
 prf_oid HmacWithSha256 = hmac_with_sha256_oid
 prf_oid HmacWithSha384 = hmac_with_sha384_oid
 prf_oid HmacWithSha512 = hmac_with_sha512_oid
-prf_oid (Unknown a) = (raw_value a).0
+prf_oid (Unknown a) = (raw_algorithm_identifier_value a).0
 
 abbrev pub prf_oids : List (List ℕ)
 prf_oids = map prf_oid (HmacWithSha1 ∷ HmacWithSha224 ∷ HmacWithSha256 ∷ HmacWithSha384 ∷ HmacWithSha512 ∷ [])
 
-abbrev pub PrfValue : Type 0
-PrfValue = KnownOrRaw prf_oids
+abbrev pub pbkdf2_prf : Contents
+pbkdf2_prf = known_or_raw prf_oids
 
-abbrev pub prf_value : Pbkdf2Prf → PrfValue
-prf_value (Unknown a) = inr (raw_value a)
-prf_value known = from_oid prf_oids (prf_oid known)
-
-abbrev pub prf : Format PrfValue
-prf = known_or_raw prf_oids
-
-pub lawful_prf : IsLawful prf
-lawful_prf = lawful_algorithm_choice (listing prf_oids) (listing_is_table prf_oids)
+abbrev pub pbkdf2_prf_value : Pbkdf2Prf → pbkdf2_prf.Value
+pbkdf2_prf_value (Unknown a) = inr (raw_algorithm_identifier_value a)
+pbkdf2_prf_value known = from_oid prf_oids (prf_oid known)
 
 -- the salt, or where it comes from
-abbrev pub SaltValue : Type 0
-SaltValue = Octets ⊎ AlgorithmValue
+abbrev pub pbkdf2_salt_source : Asn1
+pbkdf2_salt_source = CHOICE OCTET_STRING (SEQUENCE raw_algorithm_identifier) refl
 
-abbrev pub salt_value : Pbkdf2SaltSource → SaltValue
-salt_value (Specified s) = inl s.0.items
-salt_value (OtherSource a) = inr (raw_value a)
-
-abbrev pub salt : Format SaltValue
-salt = either octet_string raw_algorithm_identifier
-
-pub lawful_salt : IsLawful salt
-lawful_salt = or_else lawful_octet_string refl lawful_raw_algorithm_identifier
+abbrev pub pbkdf2_salt_source_value : Pbkdf2SaltSource → pbkdf2_salt_source.Value
+pbkdf2_salt_source_value (Specified s) = inl s.0.items
+pbkdf2_salt_source_value (OtherSource a) = inr (raw_algorithm_identifier_value a)
 
 -- the salt, the iteration count, the key length, and the PRF
-abbrev pub pbkdf2_contents : Contents
-pbkdf2_contents =
-    contents (asn1 lawful_salt then INTEGER_BELOW (2 ^ 32) then INTEGER_BELOW (2 ^ 32) OPTIONAL asn1 lawful_prf OPTIONAL end) refl
+abbrev pub pbkdf2_params : Contents
+pbkdf2_params =
+    contents (pbkdf2_salt_source then INTEGER_BELOW (2 ^ 32) then INTEGER_BELOW (2 ^ 32) OPTIONAL SEQUENCE pbkdf2_prf OPTIONAL end) refl
 
-abbrev pub Pbkdf2Value : Type 0
-Pbkdf2Value = pbkdf2_contents.Value
-
-abbrev pub pbkdf2_value : Pbkdf2Params → Pbkdf2Value
-pbkdf2_value x = (salt_value x.salt, (x.iteration_count, (option_value (λ n. n) x.key_length, (option_value prf_value x.prf, tt))))
-
-abbrev pub pbkdf2_params : Format Pbkdf2Value
-pbkdf2_params = sequence pbkdf2_contents.format
-
-pub lawful_pbkdf2_params : IsLawful pbkdf2_params
-lawful_pbkdf2_params = lawful_sequence pbkdf2_contents.law
+abbrev pub pbkdf2_params_value : Pbkdf2Params → pbkdf2_params.Value
+pbkdf2_params_value x =
+    (pbkdf2_salt_source_value x.salt, (x.iteration_count, (option_value (λ n. n) x.key_length, (option_value pbkdf2_prf_value x.prf, tt))))

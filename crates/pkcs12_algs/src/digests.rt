@@ -3,13 +3,14 @@
 ghost use Rattle.std.specs.Prelude.{◌≡◌, Bool, true, MatchResult, Some};
 ghost use Rattle.std.proofs.Common.{refl, rules};
 ghost use Rattle.asn1_core_element.specs.declared.error.Error.TheVariants.{Memory};
-ghost use Rattle.pkcs12_algs.specs.Algorithms.{raw_value, from_raw, into_raw};
-ghost use Rattle.pkcs12_algs.specs.Digests.{digest_oids, DigestValue, digest_value, digest_info_contents, digest_info_value};
-ghost use Rattle.pkcs12_algs.specs.Equal.{digest_equal, digest_info_equal};
+ghost use Rattle.x509_base.specs.AlgorithmParts.{raw_algorithm_identifier_value};
+ghost use Rattle.pkcs12_algs.specs.Algorithms.{from_raw, into_raw};
+ghost use Rattle.pkcs12_algs.specs.Digests.{digest_oids, pkcs12_digest_algorithm, pkcs12_digest_algorithm_value, pkcs12_digest_info, pkcs12_digest_info_value};
+ghost use Rattle.pkcs12_algs.specs.AlgorithmsEqual.{pkcs12_digest_algorithm_equal, pkcs12_digest_info_equal};
 ghost use Rattle.pkcs12_algs.specs.Names.{digest_name};
 
 use crate::algorithms::{
-    Algorithm, AlgorithmPart, AlgorithmRef, algorithm_from_raw, clone_algorithm, raw_of_algorithm,
+    Algorithm, AlgorithmRef, algorithm_from_raw, clone_algorithm, raw_of_algorithm, read_algorithm,
 };
 use crate::oids::{SHA1, SHA224, SHA256, SHA384, SHA512};
 use crate::rows::{alternative_by_rows, parts_by_rows};
@@ -54,7 +55,7 @@ macro_rules! known_digests {
 impl Algorithm for Pkcs12DigestAlgorithm {
     ghost OIDS = { digest_oids };
 
-    ghost value = { digest_value };
+    ghost value = { pkcs12_digest_algorithm_value };
 
     fn parts(&self) -> Result<&'static [u8], &RawAlgorithmIdentifier> {
         known_digests!(parts_by_rows(self))
@@ -74,14 +75,14 @@ impl Algorithm for Pkcs12DigestAlgorithm {
 impl Pkcs12DigestAlgorithm {
     /// The algorithm that an algorithm identifier names. The parameters of a known one are dropped.
     pub fn from_raw(raw: RawAlgorithmIdentifier) -> Self
-        ensures { digest_value result ≡ from_raw digest_oids (raw_value raw) }
+        ensures { pkcs12_digest_algorithm_value result ≡ from_raw digest_oids (raw_algorithm_identifier_value raw) }
     {
         algorithm_from_raw(raw)
     }
 
     /// Its algorithm identifier: of a known one, without parameters. Refuses by `Memory` alone.
     pub fn into_raw(self, alloc: Global) -> Result<RawAlgorithmIdentifier, Error>
-        ensures { MatchResult result (λ raw. raw_value raw ≡ into_raw digest_oids (digest_value self)) (λ e. e ≡ Memory) }
+        ensures { MatchResult result (λ raw. raw_algorithm_identifier_value raw ≡ into_raw digest_oids (pkcs12_digest_algorithm_value self)) (λ e. e ≡ Memory) }
     {
         match self {
             Self::Unknown(raw) => Ok(raw),
@@ -112,18 +113,24 @@ impl fmt::Display for Pkcs12DigestAlgorithm {
     }
 }
 
-impl Viewed for Pkcs12DigestAlgorithm {
-    ghost View = { DigestValue };
+impl Sequence for Pkcs12DigestAlgorithm {
+    ghost asn1 = { pkcs12_digest_algorithm };
 
-    ghost view = { digest_value };
+    ghost value = { pkcs12_digest_algorithm_value };
 
-    ghost equal = { digest_equal };
-}
+    fn with_components<U: Task>(&self, task: &mut U) -> U::Out {
+        task.run(&AlgorithmRef(self))
+    }
 
-impl TryClone for Pkcs12DigestAlgorithm {
-    fn try_clone(&self, alloc: Global) -> Result<Self, Error> {
+    fn read_fields(alloc: Global, r: &mut Reader<'_>, nest: u8) -> Result<Self, Error> {
+        read_algorithm(alloc, r, nest)
+    }
+
+    fn clone_fields(&self, alloc: Global) -> Result<Self, Error> {
         clone_algorithm(alloc, self)
     }
+
+    ghost equal = { pkcs12_digest_algorithm_equal };
 }
 
 /// `DigestInfo ::= SEQUENCE { digestAlgorithm DigestAlgorithmIdentifier, digest Digest }`, as RFC 7292 takes it from
@@ -137,27 +144,21 @@ pub struct Pkcs12DigestInfo {
 }
 
 impl Sequence for Pkcs12DigestInfo {
-    ghost asn1 = { digest_info_contents };
+    ghost asn1 = { pkcs12_digest_info };
 
-    ghost value = { digest_info_value };
+    ghost value = { pkcs12_digest_info_value };
 
     fn with_components<U: Task>(&self, task: &mut U) -> U::Out {
-        with_components_of!(self, task; Pkcs12DigestInfo { (AlgorithmRef(&self.digest_algorithm)), digest })
+        with_components_of!(self, task; Pkcs12DigestInfo { digest_algorithm, digest })
     }
 
     fn read_fields(alloc: Global, r: &mut Reader<'_>, nest: u8) -> Result<Self, Error> {
-        let fields_of!((AlgorithmPart(digest_algorithm)), digest) = ReadComponents::read_components(
-            alloc, r, nest,
-        )?;
-        Ok(Pkcs12DigestInfo {
-            digest_algorithm,
-            digest,
-        })
+        read_fields_of!(alloc, r, nest; Pkcs12DigestInfo { digest_algorithm, digest })
     }
 
     fn clone_fields(&self, alloc: Global) -> Result<Self, Error> {
         clone_fields_of!(self, alloc; Pkcs12DigestInfo { digest_algorithm, digest })
     }
 
-    ghost equal = { digest_info_equal };
+    ghost equal = { pkcs12_digest_info_equal };
 }

@@ -1,8 +1,8 @@
 //! What a PKCS #12 file is encrypted by.
 
 ghost use Rattle.std.specs.Prelude.{◌≡◌};
-ghost use Rattle.pkcs12_algs.specs.Encryption.{EncryptionAlgorithmValue, encryption_algorithm_value, encryption_algorithm, lawful_encryption_algorithm};
-ghost use Rattle.pkcs12_algs.specs.EncryptionEqual.{encryption_algorithm_equal};
+ghost use Rattle.pkcs12_algs.specs.Encryption.{pkcs12_encryption_algorithm, pkcs12_encryption_algorithm_value};
+ghost use Rattle.pkcs12_algs.specs.AlgorithmsEqual.{pkcs12_encryption_algorithm_equal};
 
 use crate::oids::Pbes2;
 use crate::pbes1::{Pbes1AlgorithmKind, Pbes1Params};
@@ -44,7 +44,7 @@ type EncryptionChoice = Either<Alternative<Pbes2, Alone<Pbes2Params>>, Pbes1Choi
 
 impl Pkcs12EncryptionAlgorithm {
     fn choice(&self) -> EncryptionRef<'_>
-        ensures { ⟦<EncryptionRef<'static> as WriteChoice>⟧.value result ≡ encryption_algorithm_value self.now }
+        ensures { ⟦<EncryptionRef<'static> as WriteChoice>⟧.value result ≡ pkcs12_encryption_algorithm_value self.now }
     {
         match self {
             Self::Pbes1 { kind, params } => Either::Second(Among::Alternative(
@@ -57,25 +57,17 @@ impl Pkcs12EncryptionAlgorithm {
     }
 }
 
-impl DerSerialize for Pkcs12EncryptionAlgorithm {
-    ghost Value = { EncryptionAlgorithmValue };
+impl Sequence for Pkcs12EncryptionAlgorithm {
+    ghost asn1 = { pkcs12_encryption_algorithm };
 
-    ghost value = { encryption_algorithm_value };
+    ghost value = { pkcs12_encryption_algorithm_value };
 
-    ghost format = { encryption_algorithm };
-
-    fn put<W: Writer>(&self, w: &mut W) -> Result<(), WriteError> {
-        put_within(0x30, &Chosen(self.choice()), w)
+    fn with_components<U: Task>(&self, task: &mut U) -> U::Out {
+        task.run(&Chosen(self.choice()))
     }
 
-    fn well_formed_at(&self, limit: u8) -> bool {
-        self.choice().choice_well_formed_at(limit)
-    }
-}
-
-impl DerDeserialize for Pkcs12EncryptionAlgorithm {
-    fn read(alloc: Global, r: &mut Reader<'_>, nest: u8) -> Result<Self, Error> {
-        let Chosen(choice) = read_within::<Chosen<EncryptionChoice>>(alloc, r, nest, 0x30)?;
+    fn read_fields(alloc: Global, r: &mut Reader<'_>, nest: u8) -> Result<Self, Error> {
+        let Chosen(choice) = Chosen::<EncryptionChoice>::read_components(alloc, r, nest)?;
         match choice {
             Either::First(alternative) => Ok(Self::Pbes2(alternative.into_components().0)),
             Either::Second(Among::Alternative(kind, Alone(params))) => Ok(Self::Pbes1 {
@@ -86,15 +78,7 @@ impl DerDeserialize for Pkcs12EncryptionAlgorithm {
         }
     }
 
-    ghost lawful = { lawful_encryption_algorithm };
-}
-
-impl EqualByText for Pkcs12EncryptionAlgorithm {
-    ghost equal_by_text = { encryption_algorithm_equal };
-}
-
-impl TryClone for Pkcs12EncryptionAlgorithm {
-    fn try_clone(&self, alloc: Global) -> Result<Self, Error> {
+    fn clone_fields(&self, alloc: Global) -> Result<Self, Error> {
         match self {
             Self::Pbes1 { kind, params } => {
                 Ok(Self::Pbes1 {
@@ -106,4 +90,6 @@ impl TryClone for Pkcs12EncryptionAlgorithm {
             Self::Unknown(raw) => Ok(Self::Unknown(raw.try_clone(alloc)?)),
         }
     }
+
+    ghost equal = { pkcs12_encryption_algorithm_equal };
 }

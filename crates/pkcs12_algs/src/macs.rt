@@ -2,8 +2,8 @@
 
 ghost use Rattle.std.specs.Prelude.{◌≡◌, unwrap_or};
 ghost use Rattle.std.proofs.Common.{rules};
-ghost use Rattle.pkcs12_algs.specs.Digests.{mac_contents, mac_value};
-ghost use Rattle.pkcs12_algs.specs.Equal.{mac_equal};
+ghost use Rattle.pkcs12_algs.specs.Digests.{mac_data, mac_data_value};
+ghost use Rattle.pkcs12_algs.specs.AlgorithmsEqual.{mac_data_equal};
 
 use crate::digests::Pkcs12DigestInfo;
 use asn1_core::prelude::*;
@@ -32,9 +32,9 @@ impl MacData {
 }
 
 impl Sequence for MacData {
-    ghost asn1 = { mac_contents };
+    ghost asn1 = { mac_data };
 
-    ghost value = { mac_value };
+    ghost value = { mac_data_value };
 
     fn with_components<U: Task>(&self, task: &mut U) -> U::Out {
         with_components_of!(self, task; MacData { mac, salt, iterations OPTIONAL })
@@ -48,5 +48,5 @@ impl Sequence for MacData {
         clone_fields_of!(self, alloc; MacData { mac, salt, iterations OPTIONAL })
     }
 
-    ghost equal = { mac_equal };
+    ghost equal = { mac_data_equal };
 }

@@ -4,7 +4,7 @@ ghost use Rattle.std.specs.Prelude.{◌≡◌, MatchResult, Some};
 ghost use Rattle.std.proofs.Common.{rules};
 ghost use Rattle.asn1_core_element.specs.declared.error.Error.TheVariants.{Memory};
 ghost use Rattle.asn1_core.specs.Der.{octets_of};
-ghost use Rattle.pkcs12_algs.specs.Pbes1.{pbe_oid, pbe_table, pbe_is_table, pbe_valid, pbes1_contents, pbes1_value};
+ghost use Rattle.pkcs12_algs.specs.Pbes1.{pbe_oid, pbe_table, pbe_is_table, pbe_valid, pbes1_params, pbes1_params_value};
 ghost use Rattle.pkcs12_algs.specs.declared.pbes1.Pbes1AlgorithmKind.{Pbes1AlgorithmKind};
 ghost use Rattle.pkcs12_algs.specs.Names.{pbe_name};
 
@@ -106,9 +106,9 @@ pub struct Pbes1Params {
 }
 
 impl Sequence for Pbes1Params {
-    ghost asn1 = { pbes1_contents };
+    ghost asn1 = { pbes1_params };
 
-    ghost value = { pbes1_value };
+    ghost value = { pbes1_params_value };
 
     fn with_components<U: Task>(&self, task: &mut U) -> U::Out {
         with_components_of!(self, task; Pbes1Params { salt, iterations })

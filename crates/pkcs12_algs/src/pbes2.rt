@@ -4,9 +4,9 @@ ghost use Rattle.std.specs.Prelude.{◌≡◌, MatchResult, Some};
 ghost use Rattle.std.proofs.Common.{rules};
 ghost use Rattle.asn1_core_element.specs.declared.error.Error.TheVariants.{Memory};
 ghost use Rattle.asn1_core.specs.Der.{octets_of};
-ghost use Rattle.pkcs12_algs.specs.Pbes2.{aes_oid, aes_table, aes_is_table, aes_valid, KdfValue, kdf_value, kdf, lawful_kdf, SchemeValue, scheme_value, scheme, lawful_scheme, pbes2_contents, pbes2_value};
+ghost use Rattle.pkcs12_algs.specs.Pbes2.{aes_oid, aes_table, aes_is_table, aes_valid, pbes2_key_derivation_func, pbes2_key_derivation_func_value, pbes2_encryption_scheme, pbes2_encryption_scheme_value, pbes2_params, pbes2_params_value};
 ghost use Rattle.pkcs12_algs.specs.declared.pbes2.Pbes2AesCbcEncryption.{Pbes2AesCbcEncryption};
-ghost use Rattle.pkcs12_algs.specs.Equal.{kdf_equal, pbes2_equal};
+ghost use Rattle.pkcs12_algs.specs.AlgorithmsEqual.{pbes2_key_derivation_func_equal, pbes2_params_equal};
 ghost use Rattle.pkcs12_algs.specs.Names.{aes_name};
 
 use crate::kinds::{Kind, oid_of_kind};
@@ -38,7 +38,7 @@ type KdfRef<'a> = Either<
 
 impl Pbes2KeyDerivationFunc {
     fn choice(&self) -> KdfRef<'_>
-        ensures { ⟦<KdfRef<'static> as WriteChoice>⟧.value result ≡ kdf_value self.now }
+        ensures { ⟦<KdfRef<'static> as WriteChoice>⟧.value result ≡ pbes2_key_derivation_func_value self.now }
     {
         match self {
             Self::Pbkdf2(params) => Either::First(Alternative::new(Alone(Ref(params)))),
@@ -47,45 +47,31 @@ impl Pbes2KeyDerivationFunc {
     }
 }
 
-impl DerSerialize for Pbes2KeyDerivationFunc {
-    ghost Value = { KdfValue };
+impl Sequence for Pbes2KeyDerivationFunc {
+    ghost asn1 = { pbes2_key_derivation_func };
 
-    ghost value = { kdf_value };
+    ghost value = { pbes2_key_derivation_func_value };
 
-    ghost format = { kdf };
-
-    fn put<W: Writer>(&self, w: &mut W) -> Result<(), WriteError> {
-        put_within(0x30, &Chosen(self.choice()), w)
+    fn with_components<U: Task>(&self, task: &mut U) -> U::Out {
+        task.run(&Chosen(self.choice()))
     }
 
-    fn well_formed_at(&self, limit: u8) -> bool {
-        self.choice().choice_well_formed_at(limit)
-    }
-}
-
-impl DerDeserialize for Pbes2KeyDerivationFunc {
-    fn read(alloc: Global, r: &mut Reader<'_>, nest: u8) -> Result<Self, Error> {
-        let Chosen(choice) = read_within::<Chosen<KdfChoice>>(alloc, r, nest, 0x30)?;
+    fn read_fields(alloc: Global, r: &mut Reader<'_>, nest: u8) -> Result<Self, Error> {
+        let Chosen(choice) = Chosen::<KdfChoice>::read_components(alloc, r, nest)?;
         match choice {
             Either::First(alternative) => Ok(Self::Pbkdf2(alternative.into_components().0)),
             Either::Second(raw) => Ok(Self::Unknown(raw)),
         }
     }
 
-    ghost lawful = { lawful_kdf };
-}
-
-impl EqualByText for Pbes2KeyDerivationFunc {
-    ghost equal_by_text = { kdf_equal };
-}
-
-impl TryClone for Pbes2KeyDerivationFunc {
-    fn try_clone(&self, alloc: Global) -> Result<Self, Error> {
+    fn clone_fields(&self, alloc: Global) -> Result<Self, Error> {
         match self {
             Self::Pbkdf2(params) => Ok(Self::Pbkdf2(params.try_clone(alloc)?)),
             Self::Unknown(raw) => Ok(Self::Unknown(raw.try_clone(alloc)?)),
         }
     }
+
+    ghost equal = { pbes2_key_derivation_func_equal };
 }
 
 /// AES in CBC mode with padding (RFC 8018, appendix B.2.5), by the length of its key in bits.
@@ -196,7 +182,7 @@ type SchemeChoice = Among<Pbes2AesCbcEncryption, Alone<OctetStringAsn1>, RawAlgo
 
 impl Pbes2EncryptionScheme {
     fn choice(&self) -> SchemeRef<'_>
-        ensures { ⟦<SchemeRef<'static> as WriteChoice>⟧.value result ≡ scheme_value self.now }
+        ensures { ⟦<SchemeRef<'static> as WriteChoice>⟧.value result ≡ pbes2_encryption_scheme_value self.now }
     {
         match self {
             Self::AesCbc { kind, iv } => Among::Alternative(*kind, Alone(Ref(iv))),
@@ -205,40 +191,24 @@ impl Pbes2EncryptionScheme {
     }
 }
 
-impl DerSerialize for Pbes2EncryptionScheme {
-    ghost Value = { SchemeValue };
+impl Sequence for Pbes2EncryptionScheme {
+    ghost asn1 = { pbes2_encryption_scheme };
 
-    ghost value = { scheme_value };
+    ghost value = { pbes2_encryption_scheme_value };
 
-    ghost format = { scheme };
-
-    fn put<W: Writer>(&self, w: &mut W) -> Result<(), WriteError> {
-        put_within(0x30, &Chosen(self.choice()), w)
+    fn with_components<U: Task>(&self, task: &mut U) -> U::Out {
+        task.run(&Chosen(self.choice()))
     }
 
-    fn well_formed_at(&self, limit: u8) -> bool {
-        self.choice().choice_well_formed_at(limit)
-    }
-}
-
-impl DerDeserialize for Pbes2EncryptionScheme {
-    fn read(alloc: Global, r: &mut Reader<'_>, nest: u8) -> Result<Self, Error> {
-        let Chosen(choice) = read_within::<Chosen<SchemeChoice>>(alloc, r, nest, 0x30)?;
+    fn read_fields(alloc: Global, r: &mut Reader<'_>, nest: u8) -> Result<Self, Error> {
+        let Chosen(choice) = Chosen::<SchemeChoice>::read_components(alloc, r, nest)?;
         match choice {
             Among::Alternative(kind, Alone(iv)) => Ok(Self::AesCbc { kind, iv }),
             Among::Other(raw) => Ok(Self::Unknown(raw)),
         }
     }
 
-    ghost lawful = { lawful_scheme };
-}
-
-impl EqualByText for Pbes2EncryptionScheme {
-    ghost equal_by_text = { Prim.search rules };
-}
-
-impl TryClone for Pbes2EncryptionScheme {
-    fn try_clone(&self, alloc: Global) -> Result<Self, Error> {
+    fn clone_fields(&self, alloc: Global) -> Result<Self, Error> {
         match self {
             Self::AesCbc { kind, iv } => Ok(Self::AesCbc {
                 kind: *kind,
@@ -247,6 +217,8 @@ impl TryClone for Pbes2EncryptionScheme {
             Self::Unknown(raw) => Ok(Self::Unknown(raw.try_clone(alloc)?)),
         }
     }
+
+    ghost equal = { Prim.search rules };
 }
 
 /// `PBES2-params ::= SEQUENCE { keyDerivationFunc AlgorithmIdentifier {{PBES2-KDFs}}, encryptionScheme
@@ -260,9 +232,9 @@ pub struct Pbes2Params {
 }
 
 impl Sequence for Pbes2Params {
-    ghost asn1 = { pbes2_contents };
+    ghost asn1 = { pbes2_params };
 
-    ghost value = { pbes2_value };
+    ghost value = { pbes2_params_value };
 
     fn with_components<U: Task>(&self, task: &mut U) -> U::Out {
         with_components_of!(self, task; Pbes2Params { key_derivation_func, encryption_scheme })
@@ -276,5 +248,5 @@ impl Sequence for Pbes2Params {
         clone_fields_of!(self, alloc; Pbes2Params { key_derivation_func, encryption_scheme })
     }
 
-    ghost equal = { pbes2_equal };
+    ghost equal = { pbes2_params_equal };
 }

@@ -3,13 +3,16 @@
 ghost use Rattle.std.specs.Prelude.{◌≡◌, Bool, true, MatchResult, Some};
 ghost use Rattle.std.proofs.Common.{refl};
 ghost use Rattle.asn1_core_element.specs.declared.error.Error.TheVariants.{Memory};
-ghost use Rattle.pkcs12_algs.specs.Algorithms.{raw_value, from_raw, into_raw};
-ghost use Rattle.pkcs12_algs.specs.Pbkdf2.{prf_oids, PrfValue, prf_value};
+ghost use Rattle.x509_base.specs.AlgorithmParts.{raw_algorithm_identifier_value};
+ghost use Rattle.pkcs12_algs.specs.Algorithms.{from_raw, into_raw};
+ghost use Rattle.pkcs12_algs.specs.Pbkdf2.{prf_oids, pbkdf2_prf, pbkdf2_prf_value};
 ghost use Rattle.pkcs12_algs.specs.declared.prfs.Pbkdf2Prf.TheVariants.{HmacWithSha1};
-ghost use Rattle.pkcs12_algs.specs.Equal.{prf_equal};
+ghost use Rattle.pkcs12_algs.specs.AlgorithmsEqual.{pbkdf2_prf_equal};
 ghost use Rattle.pkcs12_algs.specs.Names.{prf_name};
 
-use crate::algorithms::{Algorithm, algorithm_from_raw, clone_algorithm, raw_of_algorithm};
+use crate::algorithms::{
+    Algorithm, AlgorithmRef, algorithm_from_raw, clone_algorithm, raw_of_algorithm, read_algorithm,
+};
 use crate::oids::{
     HMAC_WITH_SHA1, HMAC_WITH_SHA224, HMAC_WITH_SHA256, HMAC_WITH_SHA384, HMAC_WITH_SHA512,
 };
@@ -64,7 +67,7 @@ impl Default for Pbkdf2Prf {
 impl Algorithm for Pbkdf2Prf {
     ghost OIDS = { prf_oids };
 
-    ghost value = { prf_value };
+    ghost value = { pbkdf2_prf_value };
 
     fn parts(&self) -> Result<&'static [u8], &RawAlgorithmIdentifier> {
         known_functions!(parts_by_rows(self))
@@ -84,14 +87,14 @@ impl Algorithm for Pbkdf2Prf {
 impl Pbkdf2Prf {
     /// The function that an algorithm identifier names. The parameters of a known one are dropped.
     pub fn from_raw(raw: RawAlgorithmIdentifier) -> Self
-        ensures { prf_value result ≡ from_raw prf_oids (raw_value raw) }
+        ensures { pbkdf2_prf_value result ≡ from_raw prf_oids (raw_algorithm_identifier_value raw) }
     {
         algorithm_from_raw(raw)
     }
 
     /// Its algorithm identifier: of a known one, without parameters. Refuses by `Memory` alone.
     pub fn into_raw(self, alloc: Global) -> Result<RawAlgorithmIdentifier, Error>
-        ensures { MatchResult result (λ raw. raw_value raw ≡ into_raw prf_oids (prf_value self)) (λ e. e ≡ Memory) }
+        ensures { MatchResult result (λ raw. raw_algorithm_identifier_value raw ≡ into_raw prf_oids (pbkdf2_prf_value self)) (λ e. e ≡ Memory) }
     {
         match self {
             Self::Unknown(raw) => Ok(raw),
@@ -122,16 +125,22 @@ impl fmt::Display for Pbkdf2Prf {
     }
 }
 
-impl Viewed for Pbkdf2Prf {
-    ghost View = { PrfValue };
+impl Sequence for Pbkdf2Prf {
+    ghost asn1 = { pbkdf2_prf };
 
-    ghost view = { prf_value };
+    ghost value = { pbkdf2_prf_value };
 
-    ghost equal = { prf_equal };
-}
+    fn with_components<U: Task>(&self, task: &mut U) -> U::Out {
+        task.run(&AlgorithmRef(self))
+    }
 
-impl TryClone for Pbkdf2Prf {
-    fn try_clone(&self, alloc: Global) -> Result<Self, Error> {
+    fn read_fields(alloc: Global, r: &mut Reader<'_>, nest: u8) -> Result<Self, Error> {
+        read_algorithm(alloc, r, nest)
+    }
+
+    fn clone_fields(&self, alloc: Global) -> Result<Self, Error> {
         clone_algorithm(alloc, self)
     }
+
+    ghost equal = { pbkdf2_prf_equal };
 }

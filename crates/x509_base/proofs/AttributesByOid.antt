@@ -8,14 +8,14 @@ use Rattle.asn1_core.specs.Der.{Format, ElementOctets, octets_of}
 use Rattle.asn1_core_element.specs.declared.error.Error.{Error}
 use Rattle.asn1_core_element.specs.declared.error.Error.TheVariants.{Invalid, TooLong}
 use Rattle.x509_base.specs.AttributesByOid.{with_oid, IsFirst, IsOnly, IsOnlyOf, HasNoOnly, GivesOnly}
-use Rattle.x509_base.specs.Names.{AttributeValue, attribute_value}
+use Rattle.x509_base.specs.Names.{attribute, attribute_value}
 use Rattle.x509_base.specs.declared.names.Attribute.{Attribute}
 
 -- the list from an item on
 cut : {X : Type 0} (xs : List X) (i : ℕ) (x : X) → i < length xs → x ≡ get_or xs i x → drop i xs ≡ x ∷ drop (i + 1) xs
 cut xs i x h e = drop-cons xs i x h ∙ ap (λ j. get_or xs i x ∷ drop j xs) (sym (add-one i)) ∙ ap (λ y. y ∷ drop (i + 1) xs) (sym e)
 
-module _ (oid : List ℕ) (rest : List AttributeValue) (a : AttributeValue) where
+module _ (oid : List ℕ) (rest : List attribute.Value) (a : attribute.Value) where
   kept : a.0 ≡ oid → with_oid oid (a ∷ rest) ≡ a ∷ with_oid oid rest
   kept e = ap (λ b. cond b (a ∷ with_oid oid rest) (with_oid oid rest)) ((bytes_eq-Decides a.0 oid).1 e)
 
@@ -23,7 +23,7 @@ module _ (oid : List ℕ) (rest : List AttributeValue) (a : AttributeValue) wher
   left_out n = ap (λ b. cond b (a ∷ with_oid oid rest) (with_oid oid rest)) (false_from_ne_true (bytes_eq a.0 oid) (λ e. n ((bytes_eq-Decides a.0 oid).0 e)))
 
 -- there is one
-some_found : (xs ys : List AttributeValue) (x : AttributeValue) → xs ≡ x ∷ ys → (xs ≡ [] → ⊥)
+some_found : (xs ys : List attribute.Value) (x : attribute.Value) → xs ≡ x ∷ ys → (xs ≡ [] → ⊥)
 some_found xs ys x e n = let f : x ∷ ys ≡ [] = sym e ∙ n in cc
 
 module _ (oid : List ℕ) (xs : List Attribute) (i : ℕ) (x : Attribute) (h : i < length xs) (e : x ≡ get_or xs i x) (before : with_oid oid (map attribute_value (drop i xs)) ≡ with_oid oid (map attribute_value xs)) where
@@ -42,7 +42,7 @@ module _ (oid : List ℕ) (xs : List Attribute) (i : ℕ) (x : Attribute) (h : i
   passed f = sym (left_out oid _ (attribute_value x) (λ o. true≢false (sym (f.1 o)))) ∙ ap (λ ys. with_oid oid (map attribute_value ys)) (sym (cut xs i x h e)) ∙ before
 
 -- an exit where there is no only value
-module _ {V : Type 0} (F : Format V) (found : List AttributeValue) (n : (v : Option ElementOctets) → IsOnly found v → ⊥) where
+module _ {V : Type 0} (F : Format V) (found : List attribute.Value) (n : (v : Option ElementOctets) → IsOnly found v → ⊥) where
   none_read : (v : Option V) → IsOnlyOf F found v → ⊥
   none_read None o = n None o
   none_read (Some v) o = n (Some o.0) o.1

@@ -1,20 +1,20 @@
 -- The laws of algorithm identifiers.
 use Rattle.std.specs.Prelude.{◌≡◌, ◌≢◌, ◌↔◌, ℕ, List, [], ◌++◌, Option, Some, None}
 use Rattle.std.proofs.Common.{refl, sym, ap, ◌∙◌, arith, append-nil, length}
-use Rattle.asn1_core.specs.Der.{element, IsElement, IsTagByte, element_cut, element_same, element_long, IsLawful, nothing, optional, IsLoosening, lawful_loosened, raw}
-pub use Rattle.x509_base.specs.Algorithms.{lawful_algorithm_identifier}
-use Rattle.x509_base.specs.Algorithms.{AlgorithmValue, algorithm_identifier, null, or_null, HasParameters, null_written, raw_algorithm_identifier}
+use Rattle.asn1_core.specs.Der.{element, IsElement, IsTagByte, element_cut, element_long, nothing, optional, IsLoosening, raw}
+pub use Rattle.x509_base.specs.Algorithms.{algorithm_identifier}
+use Rattle.x509_base.specs.Algorithms.{null, or_null, HasParameters, null_written}
 
 pub null_is_element : IsElement IsTagByte null
 null_is_element = record { tag = 0x05; contents = []; is_tag = omega arith; is = refl; allowed = omega arith }
 
--- which bytes an algorithm identifier is, whatever its parameters are
-pub parts_of : (k : ℕ) (b : List ℕ) (a : AlgorithmValue) → algorithm_identifier.Reads k b a → (p : List ℕ) × (b ≡ element 0x30 (element 0x06 a.0 ++ p)) × (optional raw nothing).Reads k p a.1
-parts_of k b a s = (s.2.1, s.1 ∙ ap (element 0x30) (s.2.2 ∙ ap (λ x. x ++ s.2.1) s.2.3.0), s.2.4)
+-- which bytes the contents of an algorithm identifier are, whatever its parameters are
+pub parts_of : (k : ℕ) (b : List ℕ) (a : algorithm_identifier.Value) → algorithm_identifier.format.Reads k b a → (p : List ℕ) × (b ≡ element 0x06 a.0 ++ p) × (optional raw nothing).Reads k p a.1
+parts_of k b a s = (s.1, s.2 ∙ ap (λ x. x ++ s.1) s.3.0, s.4)
 
 -- the bytes determine the object identifier and the parameters
-pub same_parts : (o q p r : List ℕ) → element 0x30 (element 0x06 o ++ p) ≡ element 0x30 (element 0x06 q ++ r) → (o ≡ q) × (p ≡ r)
-same_parts o q p r e = let c = element_cut 0x06 0x06 o q p r (element_same 0x30 0x30 (element 0x06 o ++ p) (element 0x06 q ++ r) e).1 in (c.1, c.2)
+pub same_parts : (o q p r : List ℕ) → element 0x06 o ++ p ≡ element 0x06 q ++ r → (o ≡ q) × (p ≡ r)
+same_parts o q p r e = let c = element_cut 0x06 0x06 o q p r e in (c.1, c.2)
 
 -- parameters that are present are all that follows the object identifier
 pub some_parameters : (k : ℕ) (p x : List ℕ) → (optional raw nothing).Reads k p (Some x, tt) → (p ≡ x) × IsElement IsTagByte x
@@ -30,7 +30,7 @@ pub or_null_formed : (k : ℕ) (o : Option (List ℕ)) → (optional raw nothing
 or_null_formed k None = (λ h. (null_is_element, tt), λ h. (tt, tt))
 or_null_formed k (Some x) = (λ h. h, λ h. h)
 
-null_chosen : (k : ℕ) (b : List ℕ) (a : AlgorithmValue) → algorithm_identifier.Reads k b a → (HasParameters b ↔ (null_written.written a ≡ a))
+null_chosen : (k : ℕ) (b : List ℕ) (a : algorithm_identifier.Value) → algorithm_identifier.format.Reads k b a → (HasParameters b ↔ (null_written.written a ≡ a))
 null_chosen k b (o, (None, u)) s =
     let q = parts_of k b (o, (None, u)) s in (
       λ w. absurd (w.3 (sym (same_parts o w.0 q.0 w.1 (sym q.1 ∙ w.2)).1 ∙ q.2)),
@@ -43,15 +43,15 @@ null_chosen k b (o, (Some x, u)) s =
       λ e. (o, q.0, q.1, λ n. element_is_some x p.1 (sym p.0 ∙ n)),
     )
 
-null_settled : (o : List ℕ) (p : Option (List ℕ)) → null_written.written (algorithm_identifier.normal (null_written.written (o, (p, tt)))) ≡ algorithm_identifier.normal (null_written.written (o, (p, tt)))
+null_settled : (o : List ℕ) (p : Option (List ℕ)) → null_written.written (algorithm_identifier.format.normal (null_written.written (o, (p, tt)))) ≡ algorithm_identifier.format.normal (null_written.written (o, (p, tt)))
 null_settled o None = refl
 null_settled o (Some x) = refl
 
-pub null_reread : (o : List ℕ) (p : Option (List ℕ)) → algorithm_identifier.normal (null_written.written (o, (p, tt))) ≡ null_written.normal (o, (p, tt))
+pub null_reread : (o : List ℕ) (p : Option (List ℕ)) → algorithm_identifier.format.normal (null_written.written (o, (p, tt))) ≡ null_written.normal (o, (p, tt))
 null_reread o None = refl
 null_reread o (Some x) = refl
 
-pub null_loosening : IsLoosening algorithm_identifier null_written
+pub null_loosening : IsLoosening algorithm_identifier.format null_written
 null_loosening = record {
   proper = λ a. tt;
   kept = λ k a h. (h.0, (or_null_formed k a.1.0).0 h.1);
@@ -61,6 +61,3 @@ null_loosening = record {
   fewer = λ a. omega arith;
   reached = λ k v h i. (v, (h.0, (or_null_formed k v.1.0).1 h.1), refl, refl);
 }
-
-pub lawful_raw_algorithm_identifier : IsLawful raw_algorithm_identifier
-lawful_raw_algorithm_identifier = lawful_loosened algorithm_identifier lawful_algorithm_identifier null_written null_loosening

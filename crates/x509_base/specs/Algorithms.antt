@@ -3,21 +3,11 @@
 use Rattle.std.specs.Prelude.{◌≡◌, ◌≢◌, ℕ, List, [], ◌++◌, Option, Some, None}
 use Rattle.std.proofs.Common.{refl}
 use Rattle.asn1_core.specs.Asn1.{Contents, contents, ◌then◌, ◌OPTIONAL◌, end, OBJECT_IDENTIFIER, ANY}
-use Rattle.asn1_core.specs.Der.{element, Format, IsLawful, Loosening, loosened, sequence, lawful_sequence}
+use Rattle.asn1_core.specs.Der.{element, Loosening}
 
 -- written as it is: absent parameters stay absent
-abbrev pub algorithm_contents : Contents
-algorithm_contents = contents (OBJECT_IDENTIFIER then ANY OPTIONAL end) refl
-
--- the object identifier, and the parameters
-abbrev pub AlgorithmValue : Type 0
-AlgorithmValue = algorithm_contents.Value
-
-abbrev pub algorithm_identifier : Format AlgorithmValue
-algorithm_identifier = sequence algorithm_contents.format
-
-pub lawful_algorithm_identifier : IsLawful algorithm_identifier
-lawful_algorithm_identifier = lawful_sequence algorithm_contents.law
+abbrev pub algorithm_identifier : Contents
+algorithm_identifier = contents (OBJECT_IDENTIFIER then ANY OPTIONAL end) refl
 
 -- NULL
 abbrev pub null : List ℕ
@@ -28,24 +18,21 @@ abbrev pub or_null : Option (List ℕ) → Option (List ℕ)
 or_null None = Some null
 or_null (Some p) = Some p
 
--- an algorithm identifier with parameters
+-- contents with parameters
 abbrev pub HasParameters : List ℕ → Type 0
-HasParameters b = (o : List ℕ) × (p : List ℕ) × (b ≡ element 0x30 (element 0x06 o ++ p)) × (p ≢ [])
+HasParameters b = (o : List ℕ) × (p : List ℕ) × (b ≡ element 0x06 o ++ p) × (p ≢ [])
 
 -- with NULL for absent parameters
-abbrev pub with_null : AlgorithmValue → AlgorithmValue
+abbrev pub with_null : algorithm_identifier.Value → algorithm_identifier.Value
 with_null v = (v.0, (or_null v.1.0, tt))
 
 -- absent parameters are read as absent, and written as NULL: old producers leave them out
-abbrev pub null_written : Loosening AlgorithmValue AlgorithmValue
+abbrev pub null_written : Loosening algorithm_identifier.Value algorithm_identifier.Value
 null_written = record {
   read = λ a. a;
   written = with_null;
   normal = with_null;
   IsProper = λ _. Unit {0};
   IsWritten = HasParameters;
-  least = algorithm_identifier.least;
+  least = algorithm_identifier.format.least;
 }
-
-abbrev pub raw_algorithm_identifier : Format AlgorithmValue
-raw_algorithm_identifier = loosened algorithm_identifier null_written

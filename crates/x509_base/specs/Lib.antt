@@ -8,7 +8,7 @@ pub mod Digests
 pub mod Extensions
 pub mod Names
 pub mod Versions
-pub mod Equal
+pub mod BaseEqual
 pub mod Times
 pub mod AttributesByOid
 pub mod SpcObjects

@@ -2,24 +2,21 @@
 -- SpcSerializedObject ::= SEQUENCE { classId SpcUuid, serializedData OCTET STRING }
 use Rattle.std.specs.Prelude.{ℕ, List, [], ◌∷◌}
 use Rattle.std.proofs.Common.{refl}
-use Rattle.asn1_core.specs.Asn1.{Contents, contents, ◌then◌, end, OCTET_STRING}
-use Rattle.asn1_core.specs.Der.{Format, IsLawful, sequence, lawful_sequence}
+use Rattle.asn1_core.specs.Asn1.{Asn1, Contents, contents, ◌then◌, end, OCTET_STRING}
+use Rattle.x509_base.specs.declared.spc.objects.SpcUuid.{SpcUuid}
 use Rattle.x509_base.specs.declared.spc.objects.SpcSerializedObject.{SpcSerializedObject}
 
-abbrev pub serialized_object_contents : Contents
-serialized_object_contents = contents (OCTET_STRING then OCTET_STRING then end) refl
+abbrev pub spc_uuid : Asn1
+spc_uuid = OCTET_STRING
 
-abbrev pub SerializedObjectValue : Type 0
-SerializedObjectValue = serialized_object_contents.Value
+abbrev pub spc_uuid_value : SpcUuid → spc_uuid.Value
+spc_uuid_value x = x.0.0.items
 
-abbrev pub serialized_object_value : SpcSerializedObject → SerializedObjectValue
-serialized_object_value x = (x.class_id.0.0.items, (x.serialized_data.0.items, tt))
+abbrev pub spc_serialized_object : Contents
+spc_serialized_object = contents (spc_uuid then OCTET_STRING then end) refl
 
-abbrev pub serialized_object : Format SerializedObjectValue
-serialized_object = sequence serialized_object_contents.format
-
-pub lawful_serialized_object : IsLawful serialized_object
-lawful_serialized_object = lawful_sequence serialized_object_contents.law
+abbrev pub spc_serialized_object_value : SpcSerializedObject → spc_serialized_object.Value
+spc_serialized_object_value x = (spc_uuid_value x.class_id, (x.serialized_data.0.items, tt))
 
 -- the class of page hashes, with its octets in the order that a serialized object has
 abbrev pub page_hash_class : List ℕ

@@ -3,13 +3,11 @@
 ghost use Rattle.std.specs.Prelude.{◌≡◌, Some};
 ghost use Rattle.std.proofs.Common.{rules, arith};
 ghost use Rattle.asn1_core.specs.Der.{option_value};
-ghost use Rattle.x509_base.specs.Algorithms.{AlgorithmValue, algorithm_contents, algorithm_identifier, raw_algorithm_identifier, null};
-ghost use Rattle.x509_base.specs.AlgorithmParts.{algorithm_of, parameters_of, parts_of, algorithm_value};
-ghost use Rattle.x509_base.specs.Equal.{algorithm_equal};
-ghost use Rattle.x509_base.specs.OtherAlgorithms.{other_algorithm, lawful_other_algorithm};
-ghost use Rattle.x509_base.specs.AlgorithmLaws.{lawful_raw_algorithm_identifier};
+ghost use Rattle.x509_base.specs.Algorithms.{algorithm_identifier, null};
+ghost use Rattle.x509_base.specs.AlgorithmParts.{algorithm_of, parameters_of, parts_of, algorithm_identifier_value, raw_algorithm_identifier_value, algorithm_identifier_equal};
+ghost use Rattle.x509_base.specs.OtherAlgorithms.{other_algorithm, lawful_other_algorithm, raw_algorithm_identifier};
 
-use asn1_choices::{AnyOid, ReadChoice, WriteChoice};
+use asn1_choices::{AnyOid, Chosen, ReadChoice, WriteChoice};
 use asn1_core::OidRef;
 use asn1_core::prelude::*;
 use std::alloc::Global;
@@ -49,9 +47,9 @@ impl AlgorithmIdentifier {
 }
 
 impl Sequence for AlgorithmIdentifier {
-    ghost asn1 = { algorithm_contents };
+    ghost asn1 = { algorithm_identifier };
 
-    ghost value = { algorithm_value };
+    ghost value = { algorithm_identifier_value };
 
     fn with_components<U: Task>(&self, task: &mut U) -> U::Out {
         task.run(&Part(OidRef(&self.algorithm), MaybeRef(&self.parameters, End)))
@@ -70,7 +68,7 @@ impl Sequence for AlgorithmIdentifier {
         clone_of!(self, alloc; Self { algorithm, parameters })
     }
 
-    ghost equal = { algorithm_equal };
+    ghost equal = { algorithm_identifier_equal };
 }
 
 /// An algorithm identifier whose absent parameters are read as absent, and written as NULL.
@@ -101,39 +99,32 @@ impl RawAlgorithmIdentifier {
     }
 }
 
-impl DerSerialize for RawAlgorithmIdentifier {
-    ghost Value = { ⟦<AlgorithmIdentifier as DerSerialize>⟧.Value };
+impl Sequence for RawAlgorithmIdentifier {
+    ghost asn1 = { raw_algorithm_identifier };
 
-    ghost value = { λ a. ⟦<AlgorithmIdentifier as DerSerialize>⟧.value (parts_of a) };
+    ghost value = { raw_algorithm_identifier_value };
 
-    ghost format = { raw_algorithm_identifier };
-
-    fn put<W: Writer>(&self, w: &mut W) -> Result<(), WriteError> {
-        match self.parameters() {
-            Some(_) => self.parts.put(w),
-            None => put_algorithm(self.algorithm().octets(), w),
-        }
+    fn with_components<U: Task>(&self, task: &mut U) -> U::Out {
+        task.run(&Chosen(self))
     }
 
-    fn well_formed_at(&self, limit: u8) -> bool {
-        self.parts.well_formed_at(limit)
-    }
-}
-
-impl DerDeserialize for RawAlgorithmIdentifier {
-    fn read(alloc: Global, r: &mut Reader<'_>, nest: u8) -> Result<Self, Error> {
-        let parts = AlgorithmIdentifier::read(alloc, r, nest)?;
-        Ok(RawAlgorithmIdentifier { parts })
+    fn read_fields(alloc: Global, r: &mut Reader<'_>, nest: u8) -> Result<Self, Error> {
+        let Chosen(algorithm) = ReadComponents::read_components(alloc, r, nest)?;
+        Ok(algorithm)
     }
 
-    ghost lawful = { lawful_raw_algorithm_identifier };
+    fn clone_fields(&self, alloc: Global) -> Result<Self, Error> {
+        clone_of!(self, alloc; RawAlgorithmIdentifier { parts })
+    }
+
+    ghost equal = { Prim.search rules };
 }
 
 /// The last alternative of a choice of algorithms: any object identifier that no earlier one has.
 impl WriteChoice for RawAlgorithmIdentifier {
-    ghost Value = { AlgorithmValue };
+    ghost Value = { algorithm_identifier.Value };
 
-    ghost value = { λ a. algorithm_value (parts_of a) };
+    ghost value = { raw_algorithm_identifier_value };
 
     ghost choice = { other_algorithm };
 
@@ -165,26 +156,11 @@ impl ReadChoice for RawAlgorithmIdentifier {
     ghost lawful = { λ _. lawful_other_algorithm };
 }
 
-impl FirstTags for RawAlgorithmIdentifier {
-    fn begins(tag: u8) -> bool {
-        tag == 0x30
-    }
-}
-
-impl EqualByText for RawAlgorithmIdentifier {
-    ghost equal_by_text = { Prim.search rules };
-}
-
-impl TryClone for RawAlgorithmIdentifier {
-    fn try_clone(&self, alloc: Global) -> Result<Self, Error> {
-        clone_of!(self, alloc; RawAlgorithmIdentifier { parts })
-    }
-}
-
-/// Writes an algorithm identifier with these contents octets of its object identifier, and with NULL as parameters.
+/// Writes the contents of an algorithm identifier with these contents octets of its object identifier, and with NULL as
+/// parameters.
 pub fn put_algorithm<W: Writer>(octets: &[u8], w: &mut W) -> Result<(), WriteError>
     requires { W.MayTake w.old }
-    ensures { W.Takes (algorithm_identifier.text (octets.now, (Some null, tt))) w.old w.new result }
+    ensures { W.Takes (algorithm_identifier.format.text (octets.now, (Some null, tt))) w.old w.new result }
 {
-    put_within(0x30, &Part(KnownOid(octets), Alone(Null)), w)
+    Part(KnownOid(octets), Alone(Null)).put_components(w)
 }

@@ -1,9 +1,9 @@
 //! Digests, and the identifier of a key (RFC 2315, 9.4; RFC 5280, 4.2.1.2).
 
-ghost use Rattle.std.proofs.Common.{rules, arith};
-ghost use Rattle.asn1_core.specs.Der.{der_equal, any_octets, octet_string, lawful_octet_string, leaf_tagged};
-ghost use Rattle.x509_base.specs.Equal.{algorithm_equal};
-ghost use Rattle.x509_base.specs.Digests.{digest_info_contents, digest_info_value};
+ghost use Rattle.std.proofs.Common.{rules};
+ghost use Rattle.asn1_core.specs.Der.{der_equal};
+ghost use Rattle.x509_base.specs.AlgorithmParts.{algorithm_identifier_equal};
+ghost use Rattle.x509_base.specs.Digests.{digest_info, digest_info_value, subject_key_identifier, subject_key_identifier_value};
 
 use crate::algorithms::AlgorithmIdentifier;
 use asn1_core::prelude::*;
@@ -17,7 +17,7 @@ pub struct DigestInfo {
 }
 
 impl Sequence for DigestInfo {
-    ghost asn1 = { digest_info_contents };
+    ghost asn1 = { digest_info };
 
     ghost value = { digest_info_value };
 
@@ -33,7 +33,7 @@ impl Sequence for DigestInfo {
         clone_fields_of!(self, alloc; DigestInfo { oid, digest })
     }
 
-    ghost equal = { λ x y. Prim.search (der_equal, algorithm_equal, rules) depth 20 };
+    ghost equal = { λ x y. Prim.search (der_equal, algorithm_identifier_equal, rules) depth 20 };
 }
 
 /// `SubjectKeyIdentifier ::= OCTET STRING`
@@ -41,11 +41,11 @@ impl Sequence for DigestInfo {
 pub struct SubjectKeyIdentifier(pub OctetStringAsn1);
 
 impl DerSerialize for SubjectKeyIdentifier {
-    ghost Value = { ⟦<OctetStringAsn1 as DerSerialize>⟧.Value };
+    ghost Value = { subject_key_identifier.Value };
 
-    ghost value = { λ x. ⟦<OctetStringAsn1 as DerSerialize>⟧.value x.0 };
+    ghost value = { subject_key_identifier_value };
 
-    ghost format = { octet_string };
+    ghost format = { subject_key_identifier.format };
 
     fn put<W: Writer>(&self, w: &mut W) -> Result<(), WriteError> {
         self.0.put(w)
@@ -61,7 +61,7 @@ impl DerDeserialize for SubjectKeyIdentifier {
         Ok(SubjectKeyIdentifier(OctetStringAsn1::read(alloc, r, nest)?))
     }
 
-    ghost lawful = { lawful_octet_string };
+    ghost lawful = { subject_key_identifier.law };
 }
 
 impl DerTagged for SubjectKeyIdentifier {
@@ -77,7 +77,7 @@ impl DerTagged for SubjectKeyIdentifier {
         Ok(SubjectKeyIdentifier(OctetStringAsn1::read_contents(alloc, r, nest)?))
     }
 
-    ghost tagged = { leaf_tagged 0x04 (Prim.omega arith) any_octets };
+    ghost tagged = { subject_key_identifier.tagged };
 }
 
 impl EqualByText for SubjectKeyIdentifier {

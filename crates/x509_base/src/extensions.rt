@@ -1,10 +1,6 @@
 //! Extensions (RFC 5280, 4.2).
 
-ghost use Rattle.std.specs.Prelude.{List};
-ghost use Rattle.std.proofs.Common.{arith};
-ghost use Rattle.asn1_core.specs.Der.{each, within_tagged};
-ghost use Rattle.x509_base.specs.Equal.{extension_equal, extensions_equal};
-ghost use Rattle.x509_base.specs.Extensions.{ExtensionValue, extension_value, extension_contents, extension, extensions_value, extensions, lawful_extensions};
+ghost use Rattle.x509_base.specs.Extensions.{extension_equal, extensions_equal, extension, extension_value, extensions, extensions_value};
 
 use asn1_core::prelude::*;
 use std::alloc::Global;
@@ -18,7 +14,7 @@ pub struct Extension {
 }
 
 impl Sequence for Extension {
-    ghost asn1 = { extension_contents };
+    ghost asn1 = { extension };
 
     ghost value = { extension_value };
 
@@ -41,52 +37,22 @@ impl Sequence for Extension {
 #[derive(Debug, Drop, PartialEq, Eq)]
 pub struct Extensions(pub Vec<Extension>);
 
-impl DerSerialize for Extensions {
-    ghost Value = { List ExtensionValue };
+impl Sequence for Extensions {
+    ghost asn1 = { extensions };
 
     ghost value = { extensions_value };
 
-    ghost format = { extensions };
-
-    fn put<W: Writer>(&self, w: &mut W) -> Result<(), WriteError> {
-        put_within(0x30, &self.0, w)
+    fn with_components<U: Task>(&self, task: &mut U) -> U::Out {
+        task.run(&self.0)
     }
 
-    fn well_formed_at(&self, limit: u8) -> bool {
-        self.0.components_well_formed_at(limit)
-    }
-}
-
-impl DerDeserialize for Extensions {
-    fn read(alloc: Global, r: &mut Reader<'_>, nest: u8) -> Result<Self, Error> {
-        Ok(Extensions(read_within(alloc, r, nest, 0x30)?))
+    fn read_fields(alloc: Global, r: &mut Reader<'_>, nest: u8) -> Result<Self, Error> {
+        Ok(Extensions(ReadComponents::read_components(alloc, r, nest)?))
     }
 
-    ghost lawful = { lawful_extensions };
-}
-
-impl DerTagged for Extensions {
-    ghost TAG = { 0x30 };
-
-    const TAG: u8 = 0x30;
-
-    fn put_as<W: Writer>(&self, tag: u8, w: &mut W) -> Result<(), WriteError> {
-        put_within(tag, &self.0, w)
-    }
-
-    fn read_contents(alloc: Global, r: &mut Reader<'_>, nest: u8) -> Result<Self, Error> {
-        Ok(Extensions(read_inside(alloc, r, nest, 0x30)?))
-    }
-
-    ghost tagged = { within_tagged 0x30 (Prim.omega arith) (each extension) };
-}
-
-impl EqualByText for Extensions {
-    ghost equal_by_text = { extensions_equal };
-}
-
-impl TryClone for Extensions {
-    fn try_clone(&self, alloc: Global) -> Result<Self, Error> {
+    fn clone_fields(&self, alloc: Global) -> Result<Self, Error> {
         Ok(Extensions(self.0.try_clone(alloc)?))
     }
+
+    ghost equal = { extensions_equal };
 }

@@ -4,8 +4,7 @@ ghost use Rattle.asn1_core_element.specs.declared.error.Error.TheVariants.{Memor
 ghost use Rattle.asn1_core.specs.Der.{Gives};
 ghost use Rattle.std.specs.Prelude.{◌≡◌, ◌≢◌, false, IfErr};
 ghost use Rattle.std.proofs.Common.{arith, ⊎_elim};
-ghost use Rattle.x509_base.specs.Equal.{time_equal};
-ghost use Rattle.x509_base.specs.Times.{TimeValue, time, time_of, lawful_time};
+ghost use Rattle.x509_base.specs.Times.{time_equal, time, time_value};
 
 use asn1_core::prelude::*;
 use asn1_core_format::components::next_is;
@@ -20,11 +19,11 @@ pub enum Time {
 }
 
 impl DerSerialize for Time {
-    ghost Value = { TimeValue };
+    ghost Value = { time.Value };
 
-    ghost value = { time_of };
+    ghost value = { time_value };
 
-    ghost format = { time };
+    ghost format = { time.format };
 
     fn put<W: Writer>(&self, w: &mut W) -> Result<(), WriteError> {
         match self {
@@ -45,7 +44,7 @@ impl DerDeserialize for Time {
     /// Takes no memory.
     fn read(alloc: Global, r: &mut Reader<'_>, nest: u8) -> Result<Self, Error>
         requires { r.old.refused ≡ false }
-        ensures gives { Gives time_of time nest r.old r.new result }
+        ensures gives { Gives time_value time.format nest r.old r.new result }
         ensures memory { IfErr result (λ e. e ≢ Memory) }
     {
         if next_is::<UTCTimeAsn1>(r) {
@@ -56,7 +55,7 @@ impl DerDeserialize for Time {
         Ok(Time::Generalized(time))
     }
 
-    ghost lawful = { lawful_time };
+    ghost lawful = { time.law };
 }
 
 impl FirstTags for Time {

@@ -2,9 +2,8 @@
 
 ghost use Rattle.std.specs.Prelude.{◌≡◌, ◌≢◌, ℕ, false, IfErr};
 ghost use Rattle.asn1_core_element.specs.declared.error.Error.TheVariants.{Memory};
-ghost use Rattle.asn1_core.specs.Der.{Gives, numbers_below, number_below, lawful_number};
-ghost use Rattle.x509_base.specs.Equal.{version_equal};
-ghost use Rattle.x509_base.specs.Versions.{number_of};
+ghost use Rattle.asn1_core.specs.Der.{Gives, numbers_below};
+ghost use Rattle.x509_base.specs.Versions.{version_equal, version_value, version};
 
 use asn1_core::prelude::*;
 use asn1_core_element::unsigned;
@@ -21,7 +20,7 @@ pub enum Version {
 impl Leaf for Version {
     ghost Value = { ℕ };
 
-    ghost value = { number_of };
+    ghost value = { version_value };
 
     ghost spelling = { numbers_below 3 };
 
@@ -38,11 +37,11 @@ impl Leaf for Version {
 }
 
 impl DerSerialize for Version {
-    ghost Value = { ℕ };
+    ghost Value = { version.Value };
 
-    ghost value = { number_of };
+    ghost value = { version_value };
 
-    ghost format = { number_below 3 };
+    ghost format = { version.format };
 
     fn put<W: Writer>(&self, w: &mut W) -> Result<(), WriteError> {
         let number = match self {
@@ -62,13 +61,13 @@ impl DerDeserialize for Version {
     /// Takes no memory.
     fn read(alloc: Global, r: &mut Reader<'_>, nest: u8) -> Result<Self, Error>
         requires { r.old.refused ≡ false }
-        ensures gives { Gives number_of (number_below 3) nest r.old r.new result }
+        ensures gives { Gives version_value version.format nest r.old r.new result }
         ensures memory { IfErr result (λ e. e ≢ Memory) }
     {
         read_leaf(alloc, r, nest, 0x02)
     }
 
-    ghost lawful = { lawful_number 3 };
+    ghost lawful = { version.law };
 }
 
 impl FirstTags for Version {

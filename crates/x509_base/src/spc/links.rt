@@ -2,7 +2,7 @@
 
 ghost use Rattle.std.specs.Prelude.{◌≡◌};
 ghost use Rattle.std.proofs.Common.{rules, arith, ⊎_elim};
-ghost use Rattle.x509_base.specs.SpcLinks.{StringValue, LinkValue, spc_string, url, moniker, file, spc_link, lawful_spc_string, lawful_url, lawful_moniker, lawful_file, lawful_spc_link, string_value, link_value};
+ghost use Rattle.x509_base.specs.SpcLinks.{spc_string, spc_string_value, url, url_value, moniker, moniker_value, file, file_value, spc_link, spc_link_value};
 
 use crate::spc::objects::SpcSerializedObject;
 use asn1_core::prelude::*;
@@ -17,11 +17,11 @@ pub enum SpcString {
 }
 
 impl DerSerialize for SpcString {
-    ghost Value = { StringValue };
+    ghost Value = { spc_string.Value };
 
-    ghost value = { string_value };
+    ghost value = { spc_string_value };
 
-    ghost format = { spc_string };
+    ghost format = { spc_string.format };
 
     fn put<W: Writer>(&self, w: &mut W) -> Result<(), WriteError> {
         match self {
@@ -46,7 +46,7 @@ impl DerDeserialize for SpcString {
         }
     }
 
-    ghost lawful = { lawful_spc_string };
+    ghost lawful = { spc_string.law };
 }
 
 impl FirstTags for SpcString {
@@ -73,11 +73,11 @@ impl TryClone for SpcString {
 pub struct Url(pub Optional<ImplicitContextTag0<IA5StringAsn1>>);
 
 impl DerSerialize for Url {
-    ghost Value = { ⟦<ImplicitContextTag0<IA5StringAsn1> as DerSerialize>⟧.Value };
+    ghost Value = { url.Value };
 
-    ghost value = { λ x. ⟦<ImplicitContextTag0<IA5StringAsn1> as DerSerialize>⟧.value x.0.0 };
+    ghost value = { url_value };
 
-    ghost format = { url };
+    ghost format = { url.format };
 
     fn put<W: Writer>(&self, w: &mut W) -> Result<(), WriteError> {
         self.0.0.put(w)
@@ -93,7 +93,7 @@ impl DerDeserialize for Url {
         Ok(Url(Optional(ImplicitContextTag0::read(alloc, r, nest)?)))
     }
 
-    ghost lawful = { lawful_url };
+    ghost lawful = { url.law };
 }
 
 impl FirstTags for Url {
@@ -117,11 +117,11 @@ impl TryClone for Url {
 pub struct Moniker(pub Optional<ImplicitContextTag1<SpcSerializedObject>>);
 
 impl DerSerialize for Moniker {
-    ghost Value = { ⟦<ImplicitContextTag1<SpcSerializedObject> as DerSerialize>⟧.Value };
+    ghost Value = { moniker.Value };
 
-    ghost value = { λ x. ⟦<ImplicitContextTag1<SpcSerializedObject> as DerSerialize>⟧.value x.0.0 };
+    ghost value = { moniker_value };
 
-    ghost format = { moniker };
+    ghost format = { moniker.format };
 
     fn put<W: Writer>(&self, w: &mut W) -> Result<(), WriteError> {
         self.0.0.put(w)
@@ -137,7 +137,7 @@ impl DerDeserialize for Moniker {
         Ok(Moniker(Optional(ImplicitContextTag1::read(alloc, r, nest)?)))
     }
 
-    ghost lawful = { lawful_moniker };
+    ghost lawful = { moniker.law };
 }
 
 impl FirstTags for Moniker {
@@ -161,11 +161,11 @@ impl TryClone for Moniker {
 pub struct File(pub ExplicitContextTag2<SpcString>);
 
 impl DerSerialize for File {
-    ghost Value = { ⟦<ExplicitContextTag2<SpcString> as DerSerialize>⟧.Value };
+    ghost Value = { file.Value };
 
-    ghost value = { λ x. ⟦<ExplicitContextTag2<SpcString> as DerSerialize>⟧.value x.0 };
+    ghost value = { file_value };
 
-    ghost format = { file };
+    ghost format = { file.format };
 
     fn put<W: Writer>(&self, w: &mut W) -> Result<(), WriteError> {
         self.0.put(w)
@@ -181,7 +181,7 @@ impl DerDeserialize for File {
         Ok(File(ExplicitContextTag2::read(alloc, r, nest)?))
     }
 
-    ghost lawful = { lawful_file };
+    ghost lawful = { file.law };
 }
 
 impl FirstTags for File {
@@ -210,11 +210,11 @@ pub enum SpcLink {
 }
 
 impl DerSerialize for SpcLink {
-    ghost Value = { LinkValue };
+    ghost Value = { spc_link.Value };
 
-    ghost value = { link_value };
+    ghost value = { spc_link_value };
 
-    ghost format = { spc_link };
+    ghost format = { spc_link.format };
 
     fn put<W: Writer>(&self, w: &mut W) -> Result<(), WriteError> {
         match self {
@@ -242,7 +242,7 @@ impl DerDeserialize for SpcLink {
         }
     }
 
-    ghost lawful = { lawful_spc_link };
+    ghost lawful = { spc_link.law };
 }
 
 impl FirstTags for SpcLink {

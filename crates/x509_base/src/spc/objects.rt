@@ -3,8 +3,7 @@
 ghost use Rattle.std.specs.Prelude.{◌≡◌, [], MatchResult};
 ghost use Rattle.std.proofs.Common.{rules};
 ghost use Rattle.asn1_core_element.specs.declared.error.Error.TheVariants.{Memory};
-ghost use Rattle.asn1_core.specs.Der.{octet_string, lawful_octet_string};
-ghost use Rattle.x509_base.specs.SpcObjects.{serialized_object_contents, serialized_object_value, page_hash_class};
+ghost use Rattle.x509_base.specs.SpcObjects.{spc_uuid, spc_uuid_value, spc_serialized_object, spc_serialized_object_value, page_hash_class};
 
 use asn1_core::prelude::*;
 use std::alloc::Global;
@@ -27,38 +26,24 @@ impl SpcUuid {
     }
 }
 
-impl DerSerialize for SpcUuid {
-    ghost Value = { ⟦<OctetStringAsn1 as DerSerialize>⟧.Value };
+impl Asn1Type for SpcUuid {
+    ghost asn1 = { spc_uuid };
 
-    ghost value = { λ x. ⟦<OctetStringAsn1 as DerSerialize>⟧.value x.0 };
+    ghost value = { spc_uuid_value };
 
-    ghost format = { octet_string };
-
-    fn put<W: Writer>(&self, w: &mut W) -> Result<(), WriteError> {
-        self.0.put(w)
+    fn with_encoded<U: Task>(&self, task: &mut U) -> U::Out {
+        task.run_on(&self.0)
     }
 
-    fn well_formed_at(&self, limit: u8) -> bool {
-        self.0.well_formed_at(limit)
-    }
-}
-
-impl DerDeserialize for SpcUuid {
-    fn read(alloc: Global, r: &mut Reader<'_>, nest: u8) -> Result<Self, Error> {
+    fn read_encoded(alloc: Global, r: &mut Reader<'_>, nest: u8) -> Result<Self, Error> {
         Ok(SpcUuid(OctetStringAsn1::read(alloc, r, nest)?))
     }
 
-    ghost lawful = { lawful_octet_string };
-}
-
-impl EqualByText for SpcUuid {
-    ghost equal_by_text = { Prim.search rules };
-}
-
-impl TryClone for SpcUuid {
-    fn try_clone(&self, alloc: Global) -> Result<Self, Error> {
+    fn clone_value(&self, alloc: Global) -> Result<Self, Error> {
         Ok(SpcUuid(self.0.try_clone(alloc)?))
     }
+
+    ghost equal = { Prim.search rules };
 }
 
 /// `SpcSerializedObject ::= SEQUENCE { classId SpcUuid, serializedData OCTET STRING }`
@@ -84,9 +69,9 @@ impl SpcSerializedObject {
 }
 
 impl Sequence for SpcSerializedObject {
-    ghost asn1 = { serialized_object_contents };
+    ghost asn1 = { spc_serialized_object };
 
-    ghost value = { serialized_object_value };
+    ghost value = { spc_serialized_object_value };
 
     fn with_components<U: Task>(&self, task: &mut U) -> U::Out {
         with_components_of!(self, task; SpcSerializedObject { class_id, serialized_data })

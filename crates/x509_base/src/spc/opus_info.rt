@@ -1,7 +1,7 @@
 //! What a signature says of the program that it signs.
 
 ghost use Rattle.std.proofs.Common.{rules};
-ghost use Rattle.x509_base.specs.SpcLinks.{opus_info_contents, opus_info_value};
+ghost use Rattle.x509_base.specs.SpcLinks.{spc_sp_opus_info, spc_sp_opus_info_value};
 
 use crate::spc::links::{SpcLink, SpcString};
 use asn1_core::prelude::*;
@@ -15,9 +15,9 @@ pub struct SpcSpOpusInfo {
 }
 
 impl Sequence for SpcSpOpusInfo {
-    ghost asn1 = { opus_info_contents };
+    ghost asn1 = { spc_sp_opus_info };
 
-    ghost value = { opus_info_value };
+    ghost value = { spc_sp_opus_info_value };
 
     fn with_components<U: Task>(&self, task: &mut U) -> U::Out {
         with_components_of!(self, task; SpcSpOpusInfo { program_name OPTIONAL, more_info OPTIONAL })

@@ -6,7 +6,7 @@ ghost use Rattle.std.specs.Str.{chars};
 ghost use Rattle.asn1_core_element.specs.declared.error.Error.TheVariants.{Memory};
 ghost use Rattle.asn1_leaves_strings.specs.Octets.{octets_of_bmp};
 ghost use Rattle.x509_base.specs.SpcTexts.{StringGives, obsolete};
-ghost use Rattle.x509_base.specs.SpcLinks.{string_value, link_value};
+ghost use Rattle.x509_base.specs.SpcLinks.{spc_string_value, spc_link_value};
 
 use crate::spc::links::{File, SpcLink, SpcString};
 use asn1_core::prelude::*;
@@ -29,7 +29,7 @@ impl File {
     /// The file `<<<Obsolete>>>`.
     #[tactic(auto, using(crate::proofs::Units::obsolete_is_bmp))]
     pub fn default_in(alloc: Global) -> Result<Self, Error>
-        ensures { MatchResult result (λ f. string_value f.0.0 ≡ inl obsolete) (λ e. e ≡ Memory) }
+        ensures { MatchResult result (λ f. spc_string_value f.0.0 ≡ inl obsolete) (λ e. e ≡ Memory) }
     {
         let octets = Vec::from_slice(alloc, &OBSOLETE)?;
         let text = BmpString::new(octets).unwrap();
@@ -40,14 +40,14 @@ impl File {
 impl SpcLink {
     /// The file `<<<Obsolete>>>`.
     pub fn default_in(alloc: Global) -> Result<Self, Error>
-        ensures { MatchResult result (λ l. link_value l ≡ inr (inr (inl obsolete))) (λ e. e ≡ Memory) }
+        ensures { MatchResult result (λ l. spc_link_value l ≡ inr (inr (inl obsolete))) (λ e. e ≡ Memory) }
     {
         Ok(SpcLink::File(File::default_in(alloc)?))
     }
 }
 
 fn unicode(text: BmpString) -> SpcString
-    ensures { string_value result ≡ inl (octets_of_bmp text) }
+    ensures { spc_string_value result ≡ inl (octets_of_bmp text) }
 {
     SpcString::Unicode(Optional(ImplicitContextTag0(BmpStringAsn1(text))))
 }

@@ -1,6 +1,6 @@
 use Rattle.std.proofs.lemmas.Result.{err_from_is_err_and}
 use Rattle.pkcs12_algs.proofs.AlgorithmAlternatives.{alternative_has_read, alternative_refused}
-use Rattle.pkcs12_algs.proofs.algorithms.AlgorithmPartDerDeserialize.read.Goals as goal
+use Rattle.pkcs12_algs.proofs.algorithms.read_algorithm.Goals as goal
 
 pub returns-in_err-raw : goal.returns-in_err-raw
 returns-in_err-raw g c =

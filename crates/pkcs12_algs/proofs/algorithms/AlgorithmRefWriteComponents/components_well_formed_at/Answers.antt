@@ -1,6 +1,6 @@
 use Rattle.std.proofs.Common.{rules}
 use Rattle.pkcs12_algs.proofs.KnownAlgorithms.{known_formed}
-use Rattle.pkcs12_algs.proofs.algorithms.AlgorithmRefDerSerialize.well_formed_at.Goals as goal
+use Rattle.pkcs12_algs.proofs.algorithms.AlgorithmRefWriteComponents.components_well_formed_at.Goals as goal
 
 pub returns-in-Ok : goal.returns-in-Ok
 returns-in-Ok g c =

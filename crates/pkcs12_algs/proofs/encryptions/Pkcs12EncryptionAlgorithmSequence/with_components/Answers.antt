@@ -1,0 +1,7 @@
+use Rattle.std.proofs.Common.{subst}
+use Rattle.pkcs12_algs.specs.Encryption.{pkcs12_encryption_algorithm}
+use Rattle.pkcs12_algs.proofs.encryptions.Pkcs12EncryptionAlgorithmSequence.with_components.Goals as goal
+
+pub returns : goal.returns
+returns g c =
+    subst (λ v. g.U.Task.does c.args.task.now c.run.new.self (pkcs12_encryption_algorithm.format.text v) (λ k. pkcs12_encryption_algorithm.format.IsWellFormed k v) c.run.result) c.choice.ensures c.run.ensures
