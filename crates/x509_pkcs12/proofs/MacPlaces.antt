@@ -3,12 +3,12 @@ use Rattle.std.proofs.Common.{◌≡◌, ℕ, ◌+◌, ◌-◌, ◌<◌, ◌≤�
 use Rattle.std.proofs.lemmas.Bool.{cases_lt}
 use Rattle.std.proofs.lemmas.List.{take_at, drop_at}
 use Rattle.std.specs.Int.Digits.{digits_of}
-use Rattle.asn1_core.specs.Der.{raw, element, octets_short, octets_long, IsValueOf, integer_octets}
+use Rattle.asn1_core.specs.Der.{Format, Octets, raw, element, octets_short, octets_long, IsValueOf, integer_octets}
 use Rattle.asn1_core_element.specs.Element.{head, length_octets}
-use Rattle.x509_pkcs12.specs.Oids.{data_oid}
+use Rattle.pkcs12_bags.specs.Oids.{data_oid}
 use Rattle.x509_pkcs12.specs.AuthSafes.{auth_safe}
 use Rattle.x509_pkcs12.specs.MacOctets.{mac_octets, auth_safe_of, Covers, input_is, same_some}
-use Rattle.x509_pkcs12.specs.MacRanges.{IsMacRange}
+use Rattle.x509_pkcs12.specs.MacRanges.{IsMacRangeIn}
 use Rattle.x509_pkcs12.specs.Pfxs.{PfxValue, pfx}
 
 abbrev EndsBy : List ℕ → List ℕ → Type 0
@@ -27,7 +27,7 @@ auth_safe_ends o =
     let parts = ends_after (element 0x06 data_oid) (element 0xA0 (element 0x04 o)) o content in
     ends_within 0x30 (element 0x06 data_oid ++ element 0xA0 (element 0x04 o)) o parts
 
-three : length (element 0x02 (integer_octets 3)) ≡ 3
+pub three : length (element 0x02 (integer_octets 3)) ≡ 3
 unfolding head length_octets
 three = refl
 
@@ -94,8 +94,8 @@ module _ {b o : List ℕ} {w : PfxValue (List ℕ)} (p : Stands b o w) where
       ∙ ap (take (end - start)) (drop_at ends.0 (o ++ p.covers.mac) start s)
       ∙ take_at o p.covers.mac (end - start) e
 
-  pub range_found : {end : ℕ} → IsValueOf (pfx raw) 64 b w → mac_octets w ≡ Some o → end + length p.covers.mac ≡ length b → IsMacRange b (Some (end - length o, end))
-  range_found {end} v e q =
+  pub range_found : {F : Format (PfxValue Octets)} {end : ℕ} → IsValueOf F 64 b w → mac_octets w ≡ Some o → end + length p.covers.mac ≡ length b → IsMacRangeIn F b (Some (end - length o, end))
+  range_found {F} {end} v e q =
       let is : slice_range b (end - length o) end ≡ o = there (end - length o) end (omega (arith, q, size_is)) (omega (arith, q, size_is)) in
       record {
         value = w;

@@ -1,9 +1,10 @@
 -- What a MAC covers: the contents octets of the OCTET STRING in authSafe.
+use Rattle.asn1_core.specs.Asn1.{SEQUENCE}
 use Rattle.std.specs.Prelude.{◌≡◌, ◌↔◌, ℕ, List, ◌++◌, Option, None, Some}
 use Rattle.asn1_core.specs.Der.{Format, optional, nothing, raw, element, integer_octets}
 use Rattle.std.proofs.Common.{refl, ap, subst, inl, inr, ◌∙◌}
-use Rattle.pkcs12_algs.specs.Digests.{MacValue, mac_data}
-use Rattle.x509_pkcs12.specs.Oids.{data_oid}
+use Rattle.pkcs12_algs.specs.Digests.{mac_data}
+use Rattle.pkcs12_bags.specs.Oids.{data_oid}
 use Rattle.x509_pkcs12.specs.Pfxs.{PfxValue, pfx}
 
 -- None where authSafe isn't data
@@ -24,7 +25,7 @@ pub record Covers (text octets : List ℕ) : Type 0 where
 pub data_covers : {V : Type 0} (F : Format V) (n : ℕ) (d : V) (x : _) → Covers ((pfx F).text (n, (inl d, x))) (F.text d)
 data_covers F n d x = record {
   version_octets = _;
-  mac = (optional mac_data nothing).text x;
+  mac = (optional (SEQUENCE mac_data).format nothing).text x;
   is = refl;
 }
 
@@ -37,7 +38,7 @@ mac_octets_stand (n, (inl d, x)) octets e = subst (Covers ((pfx raw).text (n, (i
 mac_octets_stand (n, (inr p, x)) octets e = absurd (let f : None ≡ Some octets = e in cc)
 
 -- an input whose authSafe is data, however its MAC data are encoded
-pub input_is : (k n : ℕ) (b octets : List ℕ) (x : Option MacValue × Unit {0}) (s : (pfx raw).Reads k b (n, (inl octets, x))) → b ≡ element 0x30 (element 0x02 (integer_octets n) ++ (auth_safe_of octets ++ s.2.4.1))
+pub input_is : (k n : ℕ) (b octets : List ℕ) (x : Option mac_data.Value × Unit {0}) (s : (pfx raw).Reads k b (n, (inl octets, x))) → b ≡ element 0x30 (element 0x02 (integer_octets n) ++ (auth_safe_of octets ++ s.2.4.1))
 input_is k n b octets x s =
     let t = s.2.4 in
     let a = t.3.2 in

@@ -1,6 +1,6 @@
 -- Where the octets that a MAC covers are in an input.
 use Rattle.std.specs.Prelude.{◌≡◌, ℕ, ◌≤◌, List, length, drop, Option, IfSome, slice_range}
-use Rattle.asn1_core.specs.Der.{raw, option_value, Octets, IsValueOf}
+use Rattle.asn1_core.specs.Der.{Format, raw, option_value, Octets, IsValueOf}
 use Rattle.x509_pkcs12.specs.MacOctets.{mac_octets, Covers}
 use Rattle.x509_pkcs12.specs.Pfxs.{PfxValue, pfx}
 
@@ -11,9 +11,13 @@ pub record StandsAt (b : List ℕ) (start end : ℕ) : Type 0 where
   pub after : drop end b ≡ covers.mac
   pub inside : (start ≤ end) × (end ≤ length b)
 
--- The octets in the range are the MAC octets of the raw PFX that the input is. Where there is no range it has none.
-pub record IsMacRange (b : List ℕ) (range : Option (ℕ × ℕ)) : Type 0 where
+-- The octets in the range are the MAC octets of the PFX that the input is, in a format that reads them as octets. Where
+-- there is no range it has none.
+pub record IsMacRangeIn (F : Format (PfxValue Octets)) (b : List ℕ) (range : Option (ℕ × ℕ)) : Type 0 where
   pub value : PfxValue Octets
-  pub is_value : IsValueOf (pfx raw) 64 b value
+  pub is_value : IsValueOf F 64 b value
   pub octets : option_value (λ (r : ℕ × ℕ). slice_range b r.0 r.1) range ≡ mac_octets value
   pub stands : IfSome range (λ r. StandsAt b r.0 r.1)
+
+abbrev pub IsMacRange : List ℕ → Option (ℕ × ℕ) → Type 0
+IsMacRange = IsMacRangeIn (pfx raw)

@@ -3,15 +3,15 @@
 ghost use Rattle.std.specs.Prelude.{◌≡◌, Option};
 ghost use Rattle.std.proofs.Common.{inl, inr, rules};
 ghost use Rattle.asn1_core.specs.Der.{option_value, octets_of};
-ghost use Rattle.x509_pkcs12.specs.Equal.{seen_as};
+ghost use Rattle.x509_pkcs12.specs.SeenAs.{seen_as};
 ghost use Rattle.x509_pkcs12.specs.AuthSafes.{AuthSafeValue, auth_safe, lawful_auth_safe};
 ghost use Rattle.x509_pkcs12.specs.declared.auth_safes.AuthenticatedSafeContentInfo.TheVariants.{Data, Unknown};
 
-use crate::contents::{AnyContent, AnyContentRef};
-use crate::parts::oids::{Known, PKCS7_DATA};
+use crate::content_infos::{AnyContent, AnyContentRef, any_content, content_of};
 use crate::representations::{AuthenticatedSafeDataRepr, ReprRef};
 use asn1_choices::{Alternative, AnyOid, AnyOidRef, Chosen, WriteChoice};
 use asn1_core::prelude::*;
+use pkcs12_bags::parts::oids::{Known, PKCS7_DATA};
 use std::alloc::Global;
 
 /// The `authSafe` of a PFX, a `ContentInfo ::= SEQUENCE { contentType ContentType, content [0] EXPLICIT ANY DEFINED BY
@@ -53,7 +53,7 @@ impl<R: AuthenticatedSafeDataRepr> AuthenticatedSafeContentInfo<R> {
             Self::Unknown {
                 content_type,
                 content,
-            } => Either::Second(AnyOidRef(content_type, AnyContentRef(content))),
+            } => Either::Second(AnyOidRef(content_type, any_content(content))),
         }
     }
 }
@@ -81,13 +81,10 @@ impl<R: AuthenticatedSafeDataRepr> DerDeserialize for AuthenticatedSafeContentIn
             Either::First(alternative) => Ok(Self::Data(
                 alternative.into_components().0.0.0.into_repr(),
             )),
-            Either::Second(other) => {
-                let AnyOid(content_type, AnyContent(content)) = other;
-                Ok(Self::Unknown {
-                    content_type,
-                    content,
-                })
-            }
+            Either::Second(AnyOid(content_type, content)) => Ok(Self::Unknown {
+                content_type,
+                content: content_of(content),
+            }),
         }
     }
 

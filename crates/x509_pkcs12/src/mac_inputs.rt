@@ -1,7 +1,7 @@
 //! What a check of a file's MAC takes.
 
 ghost use Rattle.std.specs.Prelude.{◌≡◌, Ok, Err, MatchResult};
-ghost use Rattle.pkcs12_algs.specs.Digests.{digest_value};
+ghost use Rattle.pkcs12_algs.specs.Digests.{pkcs12_digest_algorithm_value};
 ghost use Rattle.x509_pkcs12.specs.MacInputs.{mac_input};
 
 use crate::auth_safes::AuthenticatedSafeContentInfo;
@@ -42,7 +42,7 @@ impl Pfx<RawAuthenticatedSafeDataRepr> {
     /// All that a check of the file's MAC takes beside the password.
     pub fn mac_input(&self) -> Result<MacInput<'_>, NoMac>
         ensures { MatchResult result
-            (λ m. mac_input (⟦<RawPfx as DerSerialize>⟧.value self.now) ≡ Ok (m.octets.now, (digest_value m.digest_algorithm.now, (m.digest.now, (m.salt.now, m.iterations)))))
+            (λ m. mac_input (⟦<RawPfx as DerSerialize>⟧.value self.now) ≡ Ok (m.octets.now, (pkcs12_digest_algorithm_value m.digest_algorithm.now, (m.digest.now, (m.salt.now, m.iterations)))))
             (λ e. mac_input (⟦<RawPfx as DerSerialize>⟧.value self.now) ≡ Err e) }
     {
         let AuthenticatedSafeContentInfo::Data(data) = &self.auth_safe else {

@@ -11,10 +11,10 @@ use std::alloc::Global;
 use std::ops::Range;
 
 /// How many bytes the version takes, which is 3 in every PFX.
-const VERSION_SIZE: usize = 3;
+pub const VERSION_SIZE: usize = 3;
 
 /// How many bytes a header takes, by the first byte of its length. A length has one spelling, so this byte says it.
-fn header_size(first: u8) -> usize
+pub fn header_size(first: u8) -> usize
     ensures short { first < 128 → result ≡ 2 }
     ensures long { 128 ≤ first → result + 126 ≡ first }
 {

@@ -1,13 +1,13 @@
 //! The representation that reads the data.
 
-ghost use Rattle.std.specs.Prelude.{◌≡◌, List, map};
+ghost use Rattle.std.specs.Prelude.{map};
 ghost use Rattle.std.proofs.Common.{refl};
 ghost use Rattle.asn1_core.specs.Der.{list_equal};
-ghost use Rattle.x509_pkcs12.specs.Contents.{ContentInfoValue, content_info_value};
-ghost use Rattle.x509_pkcs12.specs.ContentsEqual.{content_info_equal};
-ghost use Rattle.x509_pkcs12.specs.Parsed.{parsed, lawful_parsed};
+ghost use Rattle.x509_pkcs12.specs.ContentInfos.{safe_contents_content_info_value};
+ghost use Rattle.x509_pkcs12.specs.ContentInfosEqual.{safe_contents_content_info_equal};
+ghost use Rattle.x509_pkcs12.specs.Parsed.{parsed_authenticated_safe_data_repr};
 
-use crate::contents::SafeContentsContentInfo;
+use crate::content_infos::SafeContentsContentInfo;
 use crate::representations::AuthenticatedSafeDataRepr;
 use asn1_core::prelude::*;
 use std::alloc::Global;
@@ -18,39 +18,25 @@ pub struct ParsedAuthenticatedSafeDataRepr {
     contents: Vec<SafeContentsContentInfo>,
 }
 
-impl DerSerialize for ParsedAuthenticatedSafeDataRepr {
-    ghost Value = { List ContentInfoValue };
+impl Sequence for ParsedAuthenticatedSafeDataRepr {
+    ghost asn1 = { parsed_authenticated_safe_data_repr };
 
-    ghost value = { λ x. map content_info_value x.contents.items };
+    ghost value = { λ x. map safe_contents_content_info_value x.contents.items };
 
-    ghost format = { parsed };
-
-    fn put<W: Writer>(&self, w: &mut W) -> Result<(), WriteError> {
-        put_within(0x30, &self.contents, w)
+    fn with_components<U: Task>(&self, task: &mut U) -> U::Out {
+        task.run(&self.contents)
     }
 
-    fn well_formed_at(&self, limit: u8) -> bool {
-        self.contents.components_well_formed_at(limit)
-    }
-}
-
-impl DerDeserialize for ParsedAuthenticatedSafeDataRepr {
-    fn read(alloc: Global, r: &mut Reader<'_>, nest: u8) -> Result<Self, Error> {
-        let contents = read_within::<Vec<SafeContentsContentInfo>>(alloc, r, nest, 0x30)?;
+    fn read_fields(alloc: Global, r: &mut Reader<'_>, nest: u8) -> Result<Self, Error> {
+        let contents = ReadComponents::read_components(alloc, r, nest)?;
         Ok(ParsedAuthenticatedSafeDataRepr { contents })
     }
 
-    ghost lawful = { lawful_parsed };
-}
-
-impl EqualByText for ParsedAuthenticatedSafeDataRepr {
-    ghost equal_by_text = { λ x y. list_equal _ _ content_info_equal x.contents.items y.contents.items };
-}
-
-impl TryClone for ParsedAuthenticatedSafeDataRepr {
-    fn try_clone(&self, alloc: Global) -> Result<Self, Error> {
+    fn clone_fields(&self, alloc: Global) -> Result<Self, Error> {
         clone_of!(self, alloc; ParsedAuthenticatedSafeDataRepr { contents })
     }
+
+    ghost equal = { λ x y. list_equal _ _ safe_contents_content_info_equal x.contents.items y.contents.items };
 }
 
 impl AuthenticatedSafeDataRepr for ParsedAuthenticatedSafeDataRepr {

@@ -4,9 +4,9 @@ ghost use Rattle.std.specs.Prelude.{◌≡◌, Option};
 ghost use Rattle.std.proofs.Common.{rules};
 ghost use Rattle.std.proofs.lemmas.Bool.Decides.{Decides-eqb};
 ghost use Rattle.asn1_core.specs.Der.{with_end, option_value, SeesEqual, option_equal, two_equal};
-ghost use Rattle.pkcs12_algs.specs.Digests.{mac_value};
-ghost use Rattle.pkcs12_algs.specs.Equal.{mac_equal};
-ghost use Rattle.x509_pkcs12.specs.Equal.{seen_as};
+ghost use Rattle.pkcs12_algs.specs.Digests.{mac_data_value};
+ghost use Rattle.pkcs12_algs.specs.AlgorithmsEqual.{mac_data_equal};
+ghost use Rattle.x509_pkcs12.specs.SeenAs.{seen_as};
 ghost use Rattle.x509_pkcs12.specs.Pfxs.{PfxValue, pfx, lawful_pfx};
 
 use crate::auth_safes::AuthenticatedSafeContentInfo;
@@ -28,7 +28,7 @@ pub struct Pfx<R: AuthenticatedSafeDataRepr> {
 impl<R: AuthenticatedSafeDataRepr> DerSerialize for Pfx<R> {
     ghost Value = { PfxValue R.Value };
 
-    ghost value = { λ p. (p.version, (⟦<AuthenticatedSafeContentInfo<R> as DerSerialize>⟧.value p.auth_safe, (option_value mac_value p.mac_data, tt))) };
+    ghost value = { λ p. (p.version, (⟦<AuthenticatedSafeContentInfo<R> as DerSerialize>⟧.value p.auth_safe, (option_value mac_data_value p.mac_data, tt))) };
 
     ghost format = { pfx R.format };
 
@@ -68,7 +68,7 @@ impl<R: AuthenticatedSafeDataRepr> EqualByText for Pfx<R> {
         let same = seen_as R.Repr.equal R.seen in
         let authentic : SeesEqual ⟦<AuthenticatedSafeContentInfo<R> as PartialEq>⟧.eq ⟦<AuthenticatedSafeContentInfo<R> as DerSerialize>⟧.value = Prim.search rules in
         two_equal (Decides-eqb x.version y.version) (two_equal (authentic x.auth_safe y.auth_safe)
-        (with_end (option_equal _ mac_value mac_equal x.mac_data y.mac_data))) };
+        (with_end (option_equal _ mac_data_value mac_data_equal x.mac_data y.mac_data))) };
 }
 
 impl<R: AuthenticatedSafeDataRepr> TryClone for Pfx<R> {

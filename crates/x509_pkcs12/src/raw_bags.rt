@@ -2,21 +2,22 @@
 
 ghost use Rattle.std.specs.Prelude.{◌≡◌, [], MatchOption, map};
 ghost use Rattle.std.proofs.Common.{refl};
+ghost use Rattle.asn1_core.specs.Asn1.{SEQUENCE};
 ghost use Rattle.asn1_core.specs.Der.{AnswersInput, octet_string};
 ghost use Rattle.x509_base.specs.AttributesByOid.{with_oid, IsFirst, GivesOnly};
 ghost use Rattle.x509_base.specs.Names.{attribute_value};
-ghost use Rattle.x509_pkcs12.specs.RawBags.{raw_bag_contents, raw_bag_value, RawContentsValue, raw_contents_value, raw_contents, lawful_raw_contents, attributes_of};
-ghost use Rattle.x509_pkcs12.specs.RawBagsEqual.{raw_bag_equal, raw_contents_equal};
+ghost use Rattle.x509_pkcs12.specs.RawBags.{raw_safe_bag, raw_safe_bag_value, raw_safe_contents, raw_safe_contents_value, attributes_of};
+ghost use Rattle.x509_pkcs12.specs.RawBagsEqual.{raw_safe_bag_equal, raw_safe_contents_equal};
 ghost use Rattle.x509_pkcs12.specs.Utf16.{utf16_string};
 ghost use Rattle.x509_pkcs12.specs.Utf16Octets.{octets_of_utf16};
-ghost use Rattle.x509_pkcs12.specs.Oids.{oid};
-ghost use Rattle.x509_pkcs12.specs.declared.parts.oids.TheConstants.{FRIENDLY_NAME, LOCAL_KEY_ID};
+ghost use Rattle.pkcs12_bags.specs.Oids.{oid};
+ghost use Rattle.pkcs12_bags.specs.declared.parts.oids.TheConstants.{FRIENDLY_NAME, LOCAL_KEY_ID};
 
-use crate::parts::oids::{FRIENDLY_NAME, LOCAL_KEY_ID, octets_of_known};
 use crate::representations::AuthenticatedSafeDataRepr;
 use crate::utf16_strings::Utf16String;
 use asn1_core::from_bytes;
 use asn1_core::prelude::*;
+use pkcs12_bags::parts::oids::{FRIENDLY_NAME, LOCAL_KEY_ID, octets_of_known};
 use std::alloc::Global;
 use x509_base::{Attribute, FirstAttribute, first_attribute, only_value_as};
 
@@ -50,7 +51,7 @@ impl RawSafeBag {
 
     /// The attributes, none where they are absent.
     pub fn attributes(&self) -> &[Attribute]
-        ensures { map attribute_value result.now ≡ attributes_of (raw_bag_value self.now) }
+        ensures { map attribute_value result.now ≡ attributes_of (raw_safe_bag_value self.now) }
     {
         match &self.bag_attributes {
             Some(attributes) => attributes.0.as_slice(),
@@ -60,8 +61,8 @@ impl RawSafeBag {
 
     /// The first attribute with an object identifier, which is given by its contents octets.
     pub fn attribute(&self, oid: &[u8]) -> Option<FirstAttribute<'_>>
-        ensures { MatchOption result (with_oid oid.now (attributes_of (raw_bag_value self.now)) ≡ [])
-            (λ first. IsFirst (with_oid oid.now (attributes_of (raw_bag_value self.now))) (attribute_value first.attribute.now) first.is_only) }
+        ensures { MatchOption result (with_oid oid.now (attributes_of (raw_safe_bag_value self.now)) ≡ [])
+            (λ first. IsFirst (with_oid oid.now (attributes_of (raw_safe_bag_value self.now))) (attribute_value first.attribute.now) first.is_only) }
     {
         first_attribute(self.attributes(), oid)
     }
@@ -69,23 +70,23 @@ impl RawSafeBag {
     /// The name that is shown to a user (RFC 2985, 5.5.1). `None` where there is no such attribute; what is no BMPString
     /// in UTF-16 is refused, as is a second one, or one without value or with several.
     pub fn friendly_name(&self, alloc: Global) -> Result<Option<Utf16String>, Error>
-        ensures { GivesOnly octets_of_utf16 utf16_string (with_oid (oid FRIENDLY_NAME) (attributes_of (raw_bag_value self.now))) result }
+        ensures { GivesOnly octets_of_utf16 utf16_string (with_oid (oid FRIENDLY_NAME) (attributes_of (raw_safe_bag_value self.now))) result }
     {
         only_value_as(alloc, self.attributes(), octets_of_known(FRIENDLY_NAME))
     }
 
     /// What ties a key to its certificate (RFC 2985, 5.5.2), alike.
     pub fn local_key_id(&self, alloc: Global) -> Result<Option<OctetStringAsn1>, Error>
-        ensures { GivesOnly (λ octets. octets.0.items) octet_string (with_oid (oid LOCAL_KEY_ID) (attributes_of (raw_bag_value self.now))) result }
+        ensures { GivesOnly (λ octets. octets.0.items) octet_string (with_oid (oid LOCAL_KEY_ID) (attributes_of (raw_safe_bag_value self.now))) result }
     {
         only_value_as(alloc, self.attributes(), octets_of_known(LOCAL_KEY_ID))
     }
 }
 
 impl Sequence for RawSafeBag {
-    ghost asn1 = { raw_bag_contents };
+    ghost asn1 = { raw_safe_bag };
 
-    ghost value = { raw_bag_value };
+    ghost value = { raw_safe_bag_value };
 
     fn with_components<U: Task>(&self, task: &mut U) -> U::Out {
         with_components_of!(self, task; RawSafeBag { bag_id, bag_value, bag_attributes OPTIONAL })
@@ -99,7 +100,7 @@ impl Sequence for RawSafeBag {
         clone_fields_of!(self, alloc; RawSafeBag { bag_id, bag_value, bag_attributes OPTIONAL })
     }
 
-    ghost equal = { raw_bag_equal };
+    ghost equal = { raw_safe_bag_equal };
 }
 
 /// `SafeContents ::= SEQUENCE OF SafeBag` (RFC 7292, 4.2), of bags that are not parsed: bags in a bag are its value.
@@ -107,11 +108,11 @@ impl Sequence for RawSafeBag {
 pub struct RawSafeContents(pub Vec<RawSafeBag>);
 
 impl DerSerialize for RawSafeContents {
-    ghost Value = { RawContentsValue };
+    ghost Value = { raw_safe_contents.Value };
 
-    ghost value = { raw_contents_value };
+    ghost value = { raw_safe_contents_value };
 
-    ghost format = { raw_contents };
+    ghost format = { (SEQUENCE raw_safe_contents).format };
 
     fn put<W: Writer>(&self, w: &mut W) -> Result<(), WriteError> {
         put_within(0x30, &self.0, w)
@@ -127,11 +128,11 @@ impl DerDeserialize for RawSafeContents {
         Ok(RawSafeContents(read_within(alloc, r, nest, 0x30)?))
     }
 
-    ghost lawful = { lawful_raw_contents };
+    ghost lawful = { (SEQUENCE raw_safe_contents).law };
 }
 
 impl EqualByText for RawSafeContents {
-    ghost equal_by_text = { raw_contents_equal };
+    ghost equal_by_text = { raw_safe_contents_equal };
 }
 
 impl TryClone for RawSafeContents {

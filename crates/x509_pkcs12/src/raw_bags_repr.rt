@@ -1,10 +1,10 @@
 //! The representation that keeps the values of bags as they are.
 
-ghost use Rattle.std.specs.Prelude.{List, map};
+ghost use Rattle.std.specs.Prelude.{map};
 ghost use Rattle.std.proofs.Common.{refl, rules};
 ghost use Rattle.asn1_core.specs.Der.{list_equal, SeesEqual};
-ghost use Rattle.x509_pkcs12.specs.RawBagsEqual.{raw_contents_equal};
-ghost use Rattle.x509_pkcs12.specs.RawSafes.{RawInfoValue, raw_safe, lawful_raw_safe};
+ghost use Rattle.x509_pkcs12.specs.RawBagsEqual.{raw_safe_contents_equal};
+ghost use Rattle.x509_pkcs12.specs.RawBagsRepr.{raw_bags_authenticated_safe_data_repr};
 
 use crate::auth_safes::AuthenticatedSafeContentInfo;
 use crate::pfxs::Pfx;
@@ -26,42 +26,28 @@ pub struct RawBagsAuthenticatedSafeDataRepr {
 /// A PFX of which the bags are not parsed.
 pub type RawBagsPfx = Pfx<RawBagsAuthenticatedSafeDataRepr>;
 
-impl DerSerialize for RawBagsAuthenticatedSafeDataRepr {
-    ghost Value = { List RawInfoValue };
+impl Sequence for RawBagsAuthenticatedSafeDataRepr {
+    ghost asn1 = { raw_bags_authenticated_safe_data_repr };
 
     ghost value = { λ x. map ⟦<RawBagsContentInfo as DerSerialize>⟧.value x.contents.items };
 
-    ghost format = { raw_safe };
-
-    fn put<W: Writer>(&self, w: &mut W) -> Result<(), WriteError> {
-        put_within(0x30, &self.contents, w)
+    fn with_components<U: Task>(&self, task: &mut U) -> U::Out {
+        task.run(&self.contents)
     }
 
-    fn well_formed_at(&self, limit: u8) -> bool {
-        self.contents.components_well_formed_at(limit)
-    }
-}
-
-impl DerDeserialize for RawBagsAuthenticatedSafeDataRepr {
-    fn read(alloc: Global, r: &mut Reader<'_>, nest: u8) -> Result<Self, Error> {
-        let contents = read_within::<Vec<RawBagsContentInfo>>(alloc, r, nest, 0x30)?;
+    fn read_fields(alloc: Global, r: &mut Reader<'_>, nest: u8) -> Result<Self, Error> {
+        let contents = ReadComponents::read_components(alloc, r, nest)?;
         Ok(RawBagsAuthenticatedSafeDataRepr { contents })
     }
 
-    ghost lawful = { lawful_raw_safe };
-}
-
-impl EqualByText for RawBagsAuthenticatedSafeDataRepr {
-    ghost equal_by_text = { λ x y.
-        let bags = raw_contents_equal in
-        let infos : SeesEqual ⟦<RawBagsContentInfo as PartialEq>⟧.eq ⟦<RawBagsContentInfo as DerSerialize>⟧.value = Prim.search rules in
-        list_equal _ _ infos x.contents.items y.contents.items };
-}
-
-impl TryClone for RawBagsAuthenticatedSafeDataRepr {
-    fn try_clone(&self, alloc: Global) -> Result<Self, Error> {
+    fn clone_fields(&self, alloc: Global) -> Result<Self, Error> {
         clone_of!(self, alloc; RawBagsAuthenticatedSafeDataRepr { contents })
     }
+
+    ghost equal = { λ x y.
+        let bags = raw_safe_contents_equal in
+        let infos : SeesEqual ⟦<RawBagsContentInfo as PartialEq>⟧.eq ⟦<RawBagsContentInfo as DerSerialize>⟧.value = Prim.search rules in
+        list_equal _ _ infos x.contents.items y.contents.items };
 }
 
 impl AuthenticatedSafeDataRepr for RawBagsAuthenticatedSafeDataRepr {

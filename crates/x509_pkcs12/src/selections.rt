@@ -3,14 +3,14 @@
 ghost use Rattle.std.specs.Prelude.{◌≡◌, MatchResult, map};
 ghost use Rattle.std.specs.List.{filter};
 ghost use Rattle.asn1_core_element.specs.declared.error.Error.TheVariants.{Memory};
-ghost use Rattle.x509_pkcs12.specs.BagValues.{bag_value};
-ghost use Rattle.x509_pkcs12.specs.Selections.{is_certificate, is_key};
+ghost use Rattle.pkcs12_bags.specs.BagValues.{bag_value};
+ghost use Rattle.pkcs12_bags.specs.Selections.{is_certificate, is_key};
 ghost use Rattle.x509_pkcs12.specs.Walks.{pfx_walk};
 
 use crate::parsed::ParsedAuthenticatedSafeDataRepr;
 use crate::pfxs::Pfx;
-use crate::safe_bags::{SafeBag, certificates_among, keys_among};
 use asn1_core::{DerSerialize, Error};
+use pkcs12_bags::safe_bags::{SafeBag, certificates_among, keys_among};
 use std::alloc::Global;
 
 impl Pfx<ParsedAuthenticatedSafeDataRepr> {

@@ -3,16 +3,16 @@
 ghost use Rattle.std.specs.Prelude.{◌≡◌, MatchResult, map};
 ghost use Rattle.std.specs.List.{flat_map};
 ghost use Rattle.asn1_core_element.specs.declared.error.Error.TheVariants.{Memory};
-ghost use Rattle.x509_pkcs12.specs.BagValues.{bag_value};
-ghost use Rattle.x509_pkcs12.specs.Contents.{content_info_value};
+ghost use Rattle.pkcs12_bags.specs.BagValues.{bag_value};
+ghost use Rattle.x509_pkcs12.specs.ContentInfos.{safe_contents_content_info_value};
 ghost use Rattle.x509_pkcs12.specs.Walks.{content_walk, pfx_walk};
 
 use crate::auth_safes::AuthenticatedSafeContentInfo;
-use crate::contents::SafeContentsContentInfo;
+use crate::content_infos::SafeContentsContentInfo;
 use crate::parsed::ParsedAuthenticatedSafeDataRepr;
 use crate::pfxs::Pfx;
-use crate::safe_bags::SafeBag;
 use asn1_core::{DerSerialize, Error};
+use pkcs12_bags::safe_bags::SafeBag;
 use std::alloc::Global;
 
 impl Pfx<ParsedAuthenticatedSafeDataRepr> {
@@ -32,7 +32,7 @@ fn bags_of_contents(
     alloc: Global,
     contents: &Vec<SafeContentsContentInfo>,
 ) -> Result<Vec<&SafeBag>, Error>
-    ensures { MatchResult result (λ bags. map (λ bag. bag_value bag.now) bags.items ≡ flat_map content_walk (map content_info_value contents.now.items)) (λ e. e ≡ Memory) }
+    ensures { MatchResult result (λ bags. map (λ bag. bag_value bag.now) bags.items ≡ flat_map content_walk (map safe_contents_content_info_value contents.now.items)) (λ e. e ≡ Memory) }
 {
     let mut bags = Vec::new(alloc);
     for content in contents {

@@ -1,0 +1,3 @@
+pub mod ContentsReads
+mod Walked
+mod Kept

@@ -1,6 +1,0 @@
-use Rattle.std.proofs.Common.{◌≡◌, take, map}
-use Rattle.x509_pkcs12.specs.BagValues.{bag_value}
-use Rattle.x509_pkcs12.proofs.safe_bags.bags.+copy.Given as goal
-
-abbrev pub invariant-SafeContentsTryClone::try_clone-loop-bag : goal.invariant-SafeContentsTryClone::try_clone-loop-bag
-invariant-SafeContentsTryClone::try_clone-loop-bag l = map bag_value l.bags.items ≡ map bag_value (take l.bag-index l.bag-items)

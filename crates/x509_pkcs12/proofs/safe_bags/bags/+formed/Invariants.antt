@@ -1,9 +1,0 @@
-use Rattle.std.proofs.Common.{◌↔◌, drop, map}
-use Rattle.std.specs.List.{AllByRecursion}
-use Rattle.asn1_core.specs.Der.{each}
-use Rattle.x509_pkcs12.specs.Bags.{safe_bag}
-use Rattle.x509_pkcs12.specs.BagValues.{bag_value}
-use Rattle.x509_pkcs12.proofs.safe_bags.bags.+formed.Given as goal
-
-abbrev pub invariant-SafeContentsDerSerialize::well_formed_at-loop-bag : goal.invariant-SafeContentsDerSerialize::well_formed_at-loop-bag
-invariant-SafeContentsDerSerialize::well_formed_at-loop-bag l = AllByRecursion (safe_bag.IsWellFormed l.limit) (map bag_value (drop l.bag-index l.bag-items)) ↔ (each safe_bag).IsWellFormed l.limit (map bag_value l.bag-items)

@@ -1,7 +1,0 @@
-use Rattle.std.proofs.Common.{◌≡◌, map, drop}
-use Rattle.x509_pkcs12.specs.Attributes.{attribute_value}
-use Rattle.x509_pkcs12.specs.FirstAttributes.{first_name}
-use Rattle.x509_pkcs12.proofs.safe_bags.names.name_among.Given as goal
-
-abbrev pub invariant-loop-attribute : goal.invariant-loop-attribute
-invariant-loop-attribute l = first_name (map attribute_value (drop l.attribute-index l.attribute-items)) ≡ first_name (map attribute_value l.attribute-items)
