@@ -3,9 +3,6 @@
 //! begin with `#` are repeated. `scripts/ber` compares the answers with those of a converter of its own.
 #![tactic(auto)]
 
-#[cfg(test)]
-mod tests;
-
 use asn1_core_streams::{StdSource, read_all};
 use ber_der::{is_der, to_der_located, to_der_unambiguous};
 use std::io::{self, BufWriter, Write};

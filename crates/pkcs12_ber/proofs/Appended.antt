@@ -1,9 +1,11 @@
 -- Contents in DER, one after another.
-use Rattle.std.proofs.Common.{◌≡◌, ℕ, ◌+◌, ◌<◌, ◌≤◌, List, [], ◌∷◌, ◌++◌, length, get_or, map, take, drop, refl, sym, ap, subst, ◌∙◌}
+use Rattle.std.proofs.Common.{◌≡◌, ℕ, ◌+◌, ◌<◌, ◌≤◌, List, [], ◌∷◌, ◌++◌, length, get_or, map, take, drop, refl, sym, ap, subst, ◌∙◌, inl, arith}
 use Rattle.std.specs.List.{flat_map}
-use Rattle.std.proofs.lemmas.List.{append_assoc, append-nil, map-append, take_all, take_more, drop_more, take-append-drop}
+use Rattle.std.proofs.lemmas.List.{append_assoc, append-nil, length-map, get_or-map, map-append, take_all, take_more, drop_more, take-append-drop}
 use Rattle.asn1_core.specs.Der.{Octets}
 use Rattle.x509_pkcs12.specs.AuthSafes.{AuthSafeValue}
+use Rattle.pkcs12_ber.specs.Places.{InData}
+use Rattle.pkcs12_ber.specs.declared.reading.Place.TheVariants.{Data}
 use Rattle.pkcs12_ber.specs.InDer.{info, IsInfoInDer, AreInDer, HasAppended, HaveNoDer}
 
 abbrev Info : Type 0
@@ -61,6 +63,9 @@ module _ {T : Type 0} (f : T → Info) (xs : List T) (i : ℕ) (x : T) (h : i < 
 
   pub none_of_all : HaveNoDer (f x ∷ []) → HaveNoDer (map f xs)
   none_of_all none = subst HaveNoDer (sym around) (none_among (map f (take i xs)) (map f (drop (i + 1) xs)) (f x) none)
+
+  pub in_one : {at : ℕ} → InData (f x ∷ []) (Data 0 at) → InData (map f xs) (Data i at)
+  in_one {at} p = (p.0, omega (arith, h, length-map xs f), get_or-map f xs i x (inl p.0) h ∙ ap f (sym e) ∙ p.2, p.3)
 
 pub all_appended : {T : Type 0} (f : T → Info) (xs : List T) (i : ℕ) {old new : List ℕ} → length xs ≤ i → HasAppended (map f (take i xs)) old new → HasAppended (map f xs) old new
 all_appended f xs i {old} {new} l p = subst (λ ys. HasAppended (map f ys) old new) (take_all i xs l) p

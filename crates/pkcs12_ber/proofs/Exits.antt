@@ -10,8 +10,11 @@ use Rattle.ber_der.specs.declared.contexts.Role.TheVariants.{Whole}
 use Rattle.x509_pkcs12.specs.Agree.{DataReadsAs}
 use Rattle.x509_pkcs12.specs.AuthSafes.{AuthSafeValue}
 use Rattle.pkcs12_ber.specs.Files.{ReadsInDer, HasNoReading, HasNoContents}
-use Rattle.pkcs12_ber.specs.InDer.{info, IsInfoInDer, IsSafeInDer, HasNoSafe, HasAppended, HaveNoDer}
+use Rattle.pkcs12_ber.specs.InDer.{info, safe, IsInfoInDer, IsSafeInDer, HasNoSafe, HasAppended, HaveNoDer}
 use Rattle.pkcs12_ber.specs.Pfxs.{ber_pfx}
+use Rattle.pkcs12_ber.specs.Places.{InAuthSafe, InData, InOctets}
+use Rattle.pkcs12_ber.specs.declared.reading.Place.{Place}
+use Rattle.pkcs12_ber.specs.declared.reading.Place.TheVariants.{File, AuthSafe, Data, FileDer, AuthSafeDer, Contents}
 use Rattle.pkcs12_ber.proofs.Appended.{one_appended}
 use Rattle.pkcs12_ber.proofs.Safes.{one_safe}
 
@@ -21,9 +24,21 @@ refused P Q p q = subst (λ r. MatchResult r P Q) (sym p.1) (subst Q (sym p.2) q
 
 -- a content was written in DER
 pub written : (c d : AuthSafeValue Octets) (o old new : List ℕ) (r : Result (Unit {0}) (Error × ℕ)) → c ≡ inl o → IsInfoInDer (inl o) d → MatchResult r (λ _. new ≡ old ++ info.text d) (λ e. e.0 ≡ Memory)
-    → MatchResult r (λ _. HasAppended (c ∷ []) old new) (λ e. e.0 ≢ Memory → HaveNoDer (c ∷ []))
+    → MatchResult r (λ _. HasAppended (c ∷ []) old new) (λ e. e.0 ≢ Memory → HaveNoDer (c ∷ []) × InData (c ∷ []) (Data 0 e.1))
 written c d o old new (Ok x) i p h = one_appended c d old new (subst (λ a. IsInfoInDer a d) (sym i) p) h
 written c d o old new (Err e) i p h = λ m. absurd (m h)
+
+-- places in data, and in the contents of the octets that a MAC covers
+pub in_data : {a : AuthSafeValue Octets} {o : List ℕ} (place : Place) → a ≡ inl o → InOctets o place → InAuthSafe a place
+in_data {a} {o} place e p = subst (λ x. InAuthSafe x place) (sym e) p
+
+pub in_octets : (octets outer : List ℕ) (contents : List (AuthSafeValue Octets)) → IsBer 64 Whole octets outer → safe.Reads 64 outer contents → (place : Place) → InData contents place → InOctets octets place
+in_octets octets outer contents is reads (Data index at) p = (outer, contents, is, reads, p)
+in_octets octets outer contents is reads (File at) p = absurd p
+in_octets octets outer contents is reads (AuthSafe at) p = absurd p
+in_octets octets outer contents is reads (FileDer at) p = absurd p
+in_octets octets outer contents is reads (AuthSafeDer at) p = absurd p
+in_octets octets outer contents is reads (Contents at) p = absurd p
 
 -- the file's DER is no PFX
 pub no_octets : (b d : List ℕ) (e : Error) → IsBer 64 Whole b d → HasNoValue (sequence ber_pfx.format) 64 d e → HasNoBerValue (sequence ber_pfx.format) b e

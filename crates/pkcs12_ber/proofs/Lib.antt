@@ -2,3 +2,4 @@ mod Appended
 mod Safes
 mod Readings
 mod Exits
+mod MacPlaces

@@ -4,3 +4,4 @@ pub mod Pfxs
 pub mod PfxsEqual
 pub mod InDer
 pub mod Files
+pub mod Places

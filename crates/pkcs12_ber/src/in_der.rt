@@ -1,11 +1,13 @@
 //! What the MAC covers, in DER.
 
-ghost use Rattle.std.specs.Prelude.{◌≡◌, ◌≢◌, [], ◌∷◌, ◌++◌, map, MatchResult};
+ghost use Rattle.std.specs.Prelude.{◌≡◌, ◌≢◌, ◌≤◌, [], ◌∷◌, ◌++◌, length, map, MatchResult};
 ghost use Rattle.std.proofs.Common.{inl};
 ghost use Rattle.asn1_core.specs.Der.{element};
 ghost use Rattle.asn1_core_element.specs.declared.error.Error.TheVariants.{Memory};
 ghost use Rattle.pkcs12_ber.specs.Contents.{content_info_value};
 ghost use Rattle.pkcs12_ber.specs.InDer.{info, IsInfoInDer, IsSafeInDer, HasNoSafe, HasAppended, HaveNoDer};
+ghost use Rattle.pkcs12_ber.specs.Places.{InData, InOctets};
+ghost use Rattle.pkcs12_ber.specs.declared.reading.Place.TheVariants.{Data};
 
 use crate::contents::BerContentInfo;
 use crate::reading::Place;
@@ -29,7 +31,7 @@ fn append(alloc: Global, content: &BerContentInfo, out: &mut Vec<u8>) -> Result<
 fn data_in_der(alloc: Global, octets: &[u8]) -> Result<BerContentInfo, (Error, usize)>
     ensures { MatchResult result
         (λ c. IsInfoInDer (inl octets.now) (content_info_value c))
-        (λ e. e.0 ≢ Memory → HaveNoDer (inl octets.now ∷ [])) }
+        (λ e. e.0 ≢ Memory → HaveNoDer (inl octets.now ∷ []) × (e.1 ≤ length octets.now)) }
 {
     let der = to_der_located(alloc, octets)?;
     Ok(BerContentInfo::Data(OctetStringAsn1(der)))
@@ -44,7 +46,7 @@ fn append_in_der(
 ) -> Result<(), (Error, usize)>
     ensures { MatchResult result
         (λ _. HasAppended (content_info_value content.now ∷ []) out.old.items out.new.items)
-        (λ e. e.0 ≢ Memory → HaveNoDer (content_info_value content.now ∷ [])) }
+        (λ e. e.0 ≢ Memory → HaveNoDer (content_info_value content.now ∷ []) × InData (content_info_value content.now ∷ []) (Data 0 e.1)) }
 {
     match content {
         BerContentInfo::Data(octets) => {
@@ -59,7 +61,7 @@ fn append_in_der(
 fn all_in_der(alloc: Global, contents: &[BerContentInfo]) -> Result<Vec<u8>, (Error, Place)>
     ensures { MatchResult result
         (λ out. HasAppended (map content_info_value contents.now) [] out.items)
-        (λ e. e.0 ≢ Memory → HaveNoDer (map content_info_value contents.now)) }
+        (λ e. e.0 ≢ Memory → HaveNoDer (map content_info_value contents.now) × InData (map content_info_value contents.now) e.1) }
 {
     let mut out = Vec::new(alloc);
     for (index, content) in contents.iter().enumerate() {
@@ -85,7 +87,7 @@ fn sequence(alloc: Global, contents: &[u8]) -> Result<Vec<u8>, Error>
 /// An `AuthenticatedSafe` in BER, in DER with DER in all its data.
 #[tactic(auto, using(crate::proofs::Safes::no_outer, crate::proofs::Safes::no_contents, crate::proofs::Safes::no_ders, crate::proofs::Safes::safe_is))]
 pub(crate) fn safe_in_der(alloc: Global, octets: &[u8]) -> Result<Vec<u8>, (Error, Place)>
-    ensures { MatchResult result (λ der. IsSafeInDer octets.now der.items) (λ e. e.0 ≢ Memory → HasNoSafe octets.now) }
+    ensures { MatchResult result (λ der. IsSafeInDer octets.now der.items) (λ e. e.0 ≢ Memory → HasNoSafe octets.now × InOctets octets.now e.1) }
 {
     let outer = match to_der_located(alloc, octets) {
         Ok(outer) => outer,

@@ -5,12 +5,12 @@
 pub mod contents;
 pub mod in_der;
 pub mod laws;
+pub mod mac_ranges;
 pub mod pfxs;
 pub mod reading;
-#[cfg(test)]
-mod tests;
 
 pub use contents::BerContentInfo;
 pub use laws::{a_file_has_one_reading, der_files_read_as_pfx};
+pub use mac_ranges::ber_mac_range;
 pub use pfxs::BerPfx;
 pub use reading::{Place, read_ber_pfx};

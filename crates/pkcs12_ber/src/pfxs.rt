@@ -2,7 +2,7 @@
 
 ghost use Rattle.std.specs.Prelude.{◌≡◌, ℕ, Ok, Err, MatchResult};
 ghost use Rattle.asn1_core.specs.Der.{option_value, version};
-ghost use Rattle.pkcs12_algs.specs.Digests.{digest_value};
+ghost use Rattle.pkcs12_algs.specs.Digests.{pkcs12_digest_algorithm_value};
 ghost use Rattle.x509_pkcs12.specs.MacInputs.{mac_input};
 ghost use Rattle.x509_pkcs12.specs.MacOctets.{mac_octets};
 ghost use Rattle.pkcs12_ber.specs.Pfxs.{ber_pfx, ber_pfx_value};
@@ -88,7 +88,7 @@ impl BerPfx {
     /// All that a check of the file's MAC takes beside the password.
     pub fn mac_input(&self) -> Result<MacInput<'_>, NoMac>
         ensures { MatchResult result
-            (λ m. mac_input (ber_pfx_value self.now) ≡ Ok (m.octets.now, (digest_value m.digest_algorithm.now, (m.digest.now, (m.salt.now, m.iterations)))))
+            (λ m. mac_input (ber_pfx_value self.now) ≡ Ok (m.octets.now, (pkcs12_digest_algorithm_value m.digest_algorithm.now, (m.digest.now, (m.salt.now, m.iterations)))))
             (λ e. mac_input (ber_pfx_value self.now) ≡ Err e) }
     {
         let BerContentInfo::Data(octets) = &self.auth_safe else {

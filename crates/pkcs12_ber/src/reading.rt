@@ -9,6 +9,7 @@ ghost use Rattle.x509_pkcs12.specs.Agree.{DataReadsAs};
 ghost use Rattle.pkcs12_ber.specs.Contents.{content_info_value};
 ghost use Rattle.pkcs12_ber.specs.Files.{ReadsInDer, IsBerFile, HasNoReading, HasNoContents};
 ghost use Rattle.pkcs12_ber.specs.Pfxs.{ber_pfx, ber_pfx_value};
+ghost use Rattle.pkcs12_ber.specs.Places.{InAuthSafe, InFile, LiesIn};
 
 use crate::contents::BerContentInfo;
 use crate::in_der::safe_in_der;
@@ -21,7 +22,8 @@ use x509_pkcs12::{AuthenticatedSafeContentInfo, AuthenticatedSafeDataRepr, Pfx};
 
 /// Where a file was refused: an offset, counted from 0, and in which bytes. What `to_der_located` refuses is in the first
 /// three of these, what `from_bytes_located` refuses in their DER; the docs of these two say which byte it is. For want of
-/// memory it is how far the reading came.
+/// memory it is how far the reading came. Proved of any other refusal is that there are these bytes, and that the offset is
+/// at most their length (`LiesIn`).
 #[derive(Clone, Copy, Debug, PartialEq, Eq)]
 pub enum Place {
     /// In the file.
@@ -41,7 +43,7 @@ pub enum Place {
 /// A file, with the octets that the MAC covers.
 fn read_octets(alloc: Global, file: &[u8]) -> Result<BerPfx, (Error, Place)>
     ensures { MatchResult result (λ p. IsBerValueOf ⟦<BerPfx as DerSerialize>⟧.format file.now (ber_pfx_value p))
-        (λ e. HasNoBerValue ⟦<BerPfx as DerSerialize>⟧.format file.now e.0) }
+        (λ e. HasNoBerValue ⟦<BerPfx as DerSerialize>⟧.format file.now e.0 × InFile file.now e.1) }
 {
     let der = match to_der_located(alloc, file) {
         Ok(der) => der,
@@ -61,7 +63,7 @@ fn read_contents<R: AuthenticatedSafeDataRepr>(
 ) -> Result<AuthenticatedSafeContentInfo<R>, (Error, Place)>
     ensures { MatchResult result
         (λ a. DataReadsAs (ReadsInDer R.format) (content_info_value content.now) (⟦<AuthenticatedSafeContentInfo<R> as DerSerialize>⟧.value a))
-        (λ e. e.0 ≢ Memory → HasNoContents R.format (content_info_value content.now)) }
+        (λ e. e.0 ≢ Memory → HasNoContents R.format (content_info_value content.now) × InAuthSafe (content_info_value content.now) e.1) }
 {
     match content {
         BerContentInfo::Data(octets) => {
@@ -116,7 +118,7 @@ pub fn read_ber_pfx<R: AuthenticatedSafeDataRepr>(
 ) -> Result<(BerPfx, Pfx<R>), (Error, Place)>
     ensures { MatchResult result
         (λ p. IsBerFile R.format file.now (ber_pfx_value p.0) (⟦<Pfx<R> as DerSerialize>⟧.value p.1))
-        (λ e. e.0 ≢ Memory → HasNoReading R.format file.now) }
+        (λ e. e.0 ≢ Memory → HasNoReading R.format file.now × LiesIn file.now e.1) }
 {
     let octets = read_octets(alloc, file)?;
     let auth_safe = read_contents(alloc, &octets.auth_safe)?;

@@ -1,5 +1,5 @@
-//! What no row tries, with ample memory: the calls that `main` doesn't make, with the example of X.690, 8.7.3 and 10.2, of
-//! a string in segments.
+//! Conversions by the calls that `ber_trial` doesn't make, with ample memory, of the example of X.690, 8.7.3 and 10.2, a
+//! string in segments.
 
 use asn1_core::{Error, OctetStringAsn1};
 use ber_der::{from_ber, to_der, to_der_limited};

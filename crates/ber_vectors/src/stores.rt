@@ -1,8 +1,9 @@
 //! Files in BER, with ample memory. `openssl asn1parse` shows them as they are told here.
 
-use crate::{BerPfx, Place, read_ber_pfx};
 use asn1_core::prelude::*;
 use asn1_core::{from_bytes, to_vec};
+use ber_der::to_der;
+use pkcs12_ber::{BerPfx, Place, ber_mac_range, read_ber_pfx};
 use std::test::Fail;
 use x509_pkcs12::{NoMac, RawAuthenticatedSafeDataRepr};
 
@@ -33,6 +34,9 @@ const ONE_CONTENT_DER: &[u8] =
 /// A PFX whose authSafe is of the type 1.2.3, without a content.
 const OTHER: &[u8] = b"\x30\x09\x02\x01\x03\x30\x04\x06\x02\x2A\x03";
 
+/// The same with NULL as its content.
+const OTHER_CONTENT: &[u8] = b"\x30\x0D\x02\x01\x03\x30\x08\x06\x02\x2A\x03\xA0\x02\x05\x00";
+
 #[test]
 fn the_octets_are_those_of_the_file(rt: HostRuntime) -> Result<(), Fail> {
     for (file, octets) in [
@@ -42,6 +46,20 @@ fn the_octets_are_those_of_the_file(rt: HostRuntime) -> Result<(), Fail> {
         let read = read_ber_pfx::<RawAuthenticatedSafeDataRepr>(rt.alloc(), file).ok();
         let covered = read.as_ref().and_then(|read| read.0.mac_octets());
         assert_eq!(rt; covered, Some(octets));
+    }
+    Ok(())
+}
+
+#[test]
+fn the_octets_are_in_the_der(rt: HostRuntime) -> Result<(), Fail> {
+    for (file, ends) in [
+        (NO_CONTENTS, Some((22, 26))),
+        (ONE_CONTENT, Some((22, 57))),
+        (OTHER_CONTENT, None),
+    ] {
+        let der = to_der(rt.alloc(), file)?;
+        let range = ber_mac_range(rt.alloc(), &der)?;
+        assert_eq!(rt; range.map(|range| (range.start, range.end)), ends);
     }
     Ok(())
 }
@@ -81,7 +99,11 @@ fn places_say_in_which_bytes(rt: HostRuntime) -> Result<(), Fail> {
 
 #[test]
 fn each_alternative_is_cloned(rt: HostRuntime) -> Result<(), Fail> {
-    for (file, refused) in [(NO_CONTENTS_DER, NoMac::NoMacData), (OTHER, NoMac::NoData)] {
+    for (file, refused) in [
+        (NO_CONTENTS_DER, NoMac::NoMacData),
+        (OTHER, NoMac::NoData),
+        (OTHER_CONTENT, NoMac::NoData),
+    ] {
         let pfx: BerPfx = from_bytes(rt.alloc(), file)?;
         assert_eq!(rt; pfx.mac_input().err(), Some(refused));
         let copy = pfx.try_clone(rt.alloc())?;
