@@ -1,10 +1,7 @@
 //! The attributes that a signer signs (RFC 5652, 5.3).
 
-ghost use Rattle.std.specs.Prelude.{◌≡◌, List, []};
-ghost use Rattle.std.proofs.Common.{arith};
-ghost use Rattle.x509_base.specs.Names.{AttributeValue};
-ghost use Rattle.pkcs7_attributes.specs.Attributes.{attributes_value, attributes, lawful_attributes, no_attributes, no_attributes_left_out};
-ghost use Rattle.pkcs7_attributes.specs.Equal.{attributes_equal};
+ghost use Rattle.std.specs.Prelude.{◌≡◌, []};
+ghost use Rattle.pkcs7_attributes.specs.Attributes.{attributes_value, signed_attributes, attributes_equal, no_attributes, no_attributes_left_out};
 
 use asn1_core::prelude::*;
 use std::alloc::Global;
@@ -25,11 +22,11 @@ impl Attributes {
 }
 
 impl DerSerialize for Attributes {
-    ghost Value = { List AttributeValue };
+    ghost Value = { signed_attributes.Value };
 
     ghost value = { attributes_value };
 
-    ghost format = { attributes };
+    ghost format = { signed_attributes.format };
 
     fn put<W: Writer>(&self, w: &mut W) -> Result<(), WriteError> {
         put_within(0xA0, &self.0.0, w)
@@ -45,7 +42,7 @@ impl DerDeserialize for Attributes {
         Ok(Attributes(Asn1SequenceOf(read_within(alloc, r, nest, 0xA0)?)))
     }
 
-    ghost lawful = { lawful_attributes };
+    ghost lawful = { signed_attributes.law };
 }
 
 impl FirstTags for Attributes {

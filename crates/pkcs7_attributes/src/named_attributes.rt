@@ -6,7 +6,7 @@ ghost use Rattle.pkcs7_attributes.specs.Attributes.{attributes_value};
 ghost use Rattle.pkcs7_attributes.specs.NamedAttributes.{content_type_oid, message_digest_oid, signing_time_oid};
 ghost use Rattle.x509_base.specs.AttributesByOid.{with_oid, IsFirst, GivesOnly};
 ghost use Rattle.x509_base.specs.Names.{attribute_value};
-ghost use Rattle.x509_base.specs.Times.{time, time_of};
+ghost use Rattle.x509_base.specs.Times.{time, time_value};
 
 use crate::attributes::Attributes;
 use asn1_core::prelude::*;
@@ -48,7 +48,7 @@ impl Attributes {
 
     /// When the signer says that it signed (11.3).
     pub fn signing_time(&self, alloc: Global) -> Result<Option<Time>, Error>
-        ensures { GivesOnly time_of time (with_oid signing_time_oid (attributes_value self.now)) result }
+        ensures { GivesOnly time_value time.format (with_oid signing_time_oid (attributes_value self.now)) result }
     {
         only_value_as(alloc, &self.0.0, &SIGNING_TIME)
     }

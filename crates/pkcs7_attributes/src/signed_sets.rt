@@ -2,7 +2,7 @@
 
 ghost use Rattle.std.specs.Prelude.{◌≡◌, ◌↔◌, IsTrue, List, []};
 ghost use Rattle.asn1_core.specs.Der.{option_value};
-ghost use Rattle.x509_base.specs.Names.{AttributeValue};
+ghost use Rattle.x509_base.specs.Names.{attribute};
 ghost use Rattle.pkcs7_attributes.specs.Attributes.{attributes, attributes_value};
 ghost use Rattle.pkcs7_attributes.specs.SignedSets.{attributes_as_set, some_attributes, IsRetagged};
 
@@ -38,7 +38,7 @@ fn is_none(attributes: &Vec<Attribute>) -> bool
 }
 
 impl DerSerialize for AttributesAsSet<'_> {
-    ghost Value = { List AttributeValue };
+    ghost Value = { List attribute.Value };
 
     ghost value = { λ set. attributes_value set.0.now };
 
@@ -55,5 +55,5 @@ impl DerSerialize for AttributesAsSet<'_> {
 
 /// The octets that a signature covers have the contents of the attributes in the file.
 pub fn set_has_the_same_contents()
-    ensures { (vs : List AttributeValue) → IsRetagged (attributes.text vs) (attributes_as_set.text vs) }
+    ensures { (vs : List attribute.Value) → IsRetagged (attributes.text vs) (attributes_as_set.text vs) }
 {}

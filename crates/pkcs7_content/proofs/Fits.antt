@@ -1,11 +1,12 @@
 -- Which contents are well-formed after which content types.
+use Rattle.asn1_core.specs.Asn1.{SEQUENCE}
 use Rattle.std.specs.Prelude.{◌≡◌, ◌↔◌, ◌⊎◌, ℕ, List, Option, Some, None}
 use Rattle.std.proofs.Common.{refl, sym, ap, subst, inl, inr}
 use Rattle.pkcs7_content.specs.Contents.{ContentValues, ContentComponents, IsPlain, content_components}
-use Rattle.pkcs7_content.specs.IndirectData.{IndirectDataValue, indirect_data}
+use Rattle.pkcs7_content.specs.IndirectData.{spc_indirect_data_content}
 use Rattle.pkcs7_content.specs.declared.contents.Kind.{Kind}
 use Rattle.pkcs7_content.specs.declared.contents.Kind.TheVariants.{IndirectData, TrustList, PlainData, Foreign}
-use Rattle.pkcs7_content.specs.TrustLists.{CtlValue, ctl}
+use Rattle.pkcs7_content.specs.TrustLists.{ctl}
 
 -- contents that are the same
 content_same : {a b : ContentValues} {u w : Unit {0}} → ◌≡◌ {A = ContentComponents} (Some a, u) (Some b, w) → a ≡ b
@@ -17,13 +18,13 @@ some_none : {a : ContentValues} {u w : Unit {0}} → ◌≡◌ {A = ContentCompo
 some_none {a} e = let o : ◌≡◌ {A = Option ContentValues} (Some a) None = ap (λ x. x.0) e in cc
 
 -- values of different alternatives differ
-distinct_first : {a : IndirectDataValue} {b : List ℕ ⊎ (List ℕ ⊎ CtlValue)} → ◌≡◌ {A = ContentValues} (inl a) (inr b) → ⊥
+distinct_first : {a : spc_indirect_data_content.Value} {b : List ℕ ⊎ (List ℕ ⊎ ctl.Value)} → ◌≡◌ {A = ContentValues} (inl a) (inr b) → ⊥
 distinct_first e = cc
 
-distinct_last : {a : CtlValue} {x : List ℕ} → ◌≡◌ {A = ContentValues} (inr (inr (inr a))) (inr (inl x)) → ⊥
+distinct_last : {a : ctl.Value} {x : List ℕ} → ◌≡◌ {A = ContentValues} (inr (inr (inr a))) (inr (inl x)) → ⊥
 distinct_last e = cc
 
-distinct_data : {a : CtlValue} {x : List ℕ} → ◌≡◌ {A = ContentValues} (inr (inr (inr a))) (inr (inr (inl x))) → ⊥
+distinct_data : {a : ctl.Value} {x : List ℕ} → ◌≡◌ {A = ContentValues} (inr (inr (inr a))) (inr (inr (inl x))) → ⊥
 distinct_data e = cc
 
 module _ (k : ℕ) where
@@ -45,17 +46,17 @@ module _ (k : ℕ) where
   data_fits PlainData x = (λ p. ((Some x, tt), refl, (tt, tt)), λ h. tt)
   data_fits Foreign x = (λ p. ((Some x, tt), refl, (tt, tt)), λ h. tt)
 
-  same_indirect : {a b : IndirectDataValue} → ◌≡◌ {A = ContentValues} (inl a) (inl b) → a ≡ b
+  same_indirect : {a b : spc_indirect_data_content.Value} → ◌≡◌ {A = ContentValues} (inl a) (inl b) → a ≡ b
   same_indirect e = cc
 
-  pub indirect_fits : (v : IndirectDataValue) → indirect_data.IsWellFormed k v ↔ (content_components IndirectData).IsWellFormed k (Some (inl v), tt)
-  indirect_fits v = (λ w. ((v, tt), refl, (w, tt)), λ h. subst (indirect_data.IsWellFormed k) (same_indirect (content_same h.1)) h.2.0)
+  pub indirect_fits : (v : spc_indirect_data_content.Value) → (SEQUENCE spc_indirect_data_content).format.IsWellFormed k v ↔ (content_components IndirectData).IsWellFormed k (Some (inl v), tt)
+  indirect_fits v = (λ w. ((v, tt), refl, (w, tt)), λ h. subst ((SEQUENCE spc_indirect_data_content).format.IsWellFormed k) (same_indirect (content_same h.1)) h.2.0)
 
-  same_list : {a b : CtlValue} → ◌≡◌ {A = ContentValues} (inr (inr (inr a))) (inr (inr (inr b))) → a ≡ b
+  same_list : {a b : ctl.Value} → ◌≡◌ {A = ContentValues} (inr (inr (inr a))) (inr (inr (inr b))) → a ≡ b
   same_list e = cc
 
-  pub list_fits : (v : CtlValue) → ctl.IsWellFormed k v ↔ (content_components TrustList).IsWellFormed k (Some (inr (inr (inr v))), tt)
-  list_fits v = (λ w. ((v, tt), refl, (w, tt)), λ h. subst (ctl.IsWellFormed k) (same_list (content_same h.1)) h.2.0)
+  pub list_fits : (v : ctl.Value) → (SEQUENCE ctl).format.IsWellFormed k v ↔ (content_components TrustList).IsWellFormed k (Some (inr (inr (inr v))), tt)
+  list_fits v = (λ w. ((v, tt), refl, (w, tt)), λ h. subst ((SEQUENCE ctl).format.IsWellFormed k) (same_list (content_same h.1)) h.2.0)
 
   -- a test of some content for some kind is a test of equal content for an equal kind
   pub fits_as : {A B : Type 0} {s t : Kind} {c d : ContentComponents} → s ≡ t → c ≡ d → A ↔ B → B ↔ (content_components s).IsWellFormed k d → A ↔ (content_components t).IsWellFormed k c

@@ -4,12 +4,13 @@
 -- chain policies OCTET STRING (CONTAINING RootProgramChainPolicy)
 -- certificate policies OCTET STRING (CONTAINING SEQUENCE OF CertPolicy)
 -- any others ANY
-use Rattle.std.specs.Prelude.{◌⊎◌, ℕ, List, ◌≡◌, map}
-use Rattle.asn1_core.specs.Der.{no_tag, Format, within, set_of, object_identifier, octet_string, raw, OidOctets, ElementOctets, IsLawful, IsLawfulComponents, lawful_within, lawful_set, lawful_each, lawful_sequence, lawful_object_identifier, lawful_octet_string, lawful_raw, octets_of, sequence_of, either}
+use Rattle.asn1_core.specs.Asn1.{SEQUENCE}
+use Rattle.std.specs.Prelude.{◌⊎◌, ◌↔◌, ℕ, Bool, true, List, ◌≡◌, map}
+use Rattle.asn1_core.specs.Der.{no_tag, Format, within, set_of, object_identifier, octet_string, raw, OidOctets, ElementOctets, IsLawful, IsLawfulComponents, lawful_within, lawful_set, lawful_each, lawful_sequence, lawful_object_identifier, lawful_octet_string, lawful_raw, octets_of, sequence_of, either, SeesEqual, list_equal, octets_equal, raw_equal, same_first, same_second, equal_octets}
 use Rattle.asn1_core.specs.Words as Words
-use Rattle.std.proofs.Common.{inl, inr, arith, refl}
+use Rattle.std.proofs.Common.{inl, inr, arith, ap, refl}
 use Rattle.asn1_choices.specs.DefinedBy.{DefinedBy, alternative, by_itself, only_written}
-use Rattle.pkcs7_content.specs.Policies.{ChainPolicyValue, chain_policy, CertPolicyValue, cert_policy, lawful_chain_policy, lawful_cert_policy, chain_policy_value, cert_policy_value}
+use Rattle.pkcs7_content.specs.Policies.{root_program_chain_policy, cert_policy, root_program_chain_policy_value, root_program_chain_policy_equal, cert_policy_value, cert_policy_equal}
 use Rattle.pkcs7_content.specs.Properties.{property_of, shape_of}
 use Rattle.pkcs7_content.specs.declared.trust_lists.properties.Shape.{Shape}
 use Rattle.pkcs7_content.specs.declared.trust_lists.properties.Shape.TheVariants.{Octets, Usages, ChainPolicies, CertPolicies, Raws}
@@ -24,6 +25,8 @@ use Rattle.pkcs7_content.specs.declared.trust_lists.policies.CertPolicy.{CertPol
 use Rattle.asn1_core.specs.declared.raw.Asn1RawDer.{Asn1RawDer}
 use Rattle.pkcs7_content.specs.declared.trust_lists.values.CTLEntryAttributeValues.{CTLEntryAttributeValues}
 use Rattle.pkcs7_content.specs.declared.trust_lists.values.CTLEntryAttributeValues.TheVariants.{CertAuthRootSha256HashPropId, CertDisallowedFileTimePropId, CertFriendlyName, CertKeyIdentifierPropId, CertSubjectNameMd5HashPropId, UnknownReservedPropId126, DisallowedEnhkeyUsage, CertEnhkeyUsagePropId, UnknownReservedPropId127, CertRootProgramChainPolicy, CertRootProgramCertPoliciesPropId, Unknown}
+use Rattle.asn1_core.specs.contracts.objects.ObjectIdentifierAsn1PartialEq.TheImpl as OidEq
+use Rattle.pkcs7_content.specs.contracts.trust_lists.values.CTLEntryAttributeValuesPartialEq.TheImpl as ValuesEq
 
 abbrev pub octets_set : Format (List Words.Octets)
 octets_set = set_of octet_string
@@ -34,18 +37,18 @@ UsageValue = List OidOctets
 abbrev pub usages_set : Format (List UsageValue)
 usages_set = set_of (within 0x04 (sequence_of object_identifier))
 
-abbrev pub chain_policies_set : Format (List ChainPolicyValue)
-chain_policies_set = set_of (within 0x04 chain_policy)
+abbrev pub chain_policies_set : Format (List root_program_chain_policy.Value)
+chain_policies_set = set_of (within 0x04 (SEQUENCE root_program_chain_policy).format)
 
-abbrev pub cert_policies_set : Format (List (List CertPolicyValue))
-cert_policies_set = set_of (within 0x04 (sequence_of cert_policy))
+abbrev pub cert_policies_set : Format (List (List cert_policy.Value))
+cert_policies_set = set_of (within 0x04 (sequence_of (SEQUENCE cert_policy).format))
 
 abbrev pub raws_set : Format (List ElementOctets)
 raws_set = set_of raw
 
 -- octets and usages come with the number of their property, since several properties have such values
 abbrev pub AttributeValues : Type 0
-AttributeValues = (ℕ × List Words.Octets) ⊎ ((ℕ × List UsageValue) ⊎ (List ChainPolicyValue ⊎ (List (List CertPolicyValue) ⊎ List ElementOctets)))
+AttributeValues = (ℕ × List Words.Octets) ⊎ ((ℕ × List UsageValue) ⊎ (List root_program_chain_policy.Value ⊎ (List (List cert_policy.Value) ⊎ List ElementOctets)))
 
 abbrev pub octets_in : Asn1SetOf OctetStringAsn1 → List Words.Octets
 octets_in s = map (λ x. x.0.items) s.0.items
@@ -53,10 +56,10 @@ octets_in s = map (λ x. x.0.items) s.0.items
 abbrev pub usages_in : Asn1SetOf (OctetStringAsn1Container (Asn1SequenceOf ObjectIdentifierAsn1)) → List UsageValue
 usages_in s = map (λ x. map (λ o. octets_of o.0) x.0.0.items) s.0.items
 
-abbrev pub chain_policies_in : Asn1SetOf (OctetStringAsn1Container RootProgramChainPolicy) → List ChainPolicyValue
-chain_policies_in s = map (λ x. chain_policy_value x.0) s.0.items
+abbrev pub chain_policies_in : Asn1SetOf (OctetStringAsn1Container RootProgramChainPolicy) → List root_program_chain_policy.Value
+chain_policies_in s = map (λ x. root_program_chain_policy_value x.0) s.0.items
 
-abbrev pub cert_policies_in : Asn1SetOf (OctetStringAsn1Container (Asn1SequenceOf CertPolicy)) → List (List CertPolicyValue)
+abbrev pub cert_policies_in : Asn1SetOf (OctetStringAsn1Container (Asn1SequenceOf CertPolicy)) → List (List cert_policy.Value)
 cert_policies_in s = map (λ x. map cert_policy_value x.0.0.items) s.0.items
 
 abbrev pub raws_in : Asn1SetOf Asn1RawDer → List ElementOctets
@@ -111,8 +114,8 @@ lawful_held F f = lawful_within F f.components 0x04 (omega arith)
 lawful_values_components : (s : Shape) (n : ℕ) → IsLawfulComponents (values_components s n)
 lawful_values_components Octets n = lawful_alternative attribute_values _ octets_set (itself (λ a. refl) (λ a. refl) (λ a. refl)) (lawful_set _ lawful_octet_string).components
 lawful_values_components Usages n = lawful_alternative attribute_values _ usages_set (itself (λ a. refl) (λ a. refl) (λ a. refl)) (lawful_set _ (lawful_held _ (lawful_sequence (lawful_each _ lawful_object_identifier)))).components
-lawful_values_components ChainPolicies n = lawful_alternative attribute_values _ chain_policies_set (itself (λ a. refl) (λ a. refl) (λ a. refl)) (lawful_set _ (lawful_held _ lawful_chain_policy)).components
-lawful_values_components CertPolicies n = lawful_alternative attribute_values _ cert_policies_set (itself (λ a. refl) (λ a. refl) (λ a. refl)) (lawful_set _ (lawful_held _ (lawful_sequence (lawful_each _ lawful_cert_policy)))).components
+lawful_values_components ChainPolicies n = lawful_alternative attribute_values _ chain_policies_set (itself (λ a. refl) (λ a. refl) (λ a. refl)) (lawful_set _ (lawful_held _ (SEQUENCE root_program_chain_policy).law)).components
+lawful_values_components CertPolicies n = lawful_alternative attribute_values _ cert_policies_set (itself (λ a. refl) (λ a. refl) (λ a. refl)) (lawful_set _ (lawful_held _ (lawful_sequence (lawful_each _ (SEQUENCE cert_policy).law)))).components
 lawful_values_components Raws n = lawful_alternative attribute_values _ raws_set (itself (λ a. refl) (λ a. refl) (λ a. refl)) (lawful_set _ lawful_raw).components
 
 written_alike : (s : Shape) (n : ℕ) (v : AttributeValues) → (values_components s n).text v ≡ attribute_values.text v
@@ -127,3 +130,33 @@ values_are_defined_by = record {
   lawful = λ o. lawful_values_components (shape_of (property_of o)) (property_of o);
   alike = λ o v. written_alike (shape_of (property_of o)) (property_of o) v;
 }
+
+-- where the numbers are the same, a test of what comes with them is one of the pairs
+same_number : {B : Type 0} {n : ℕ} {p : Bool} {a c : B} → (p ≡ true) ↔ (a ≡ c) → (p ≡ true) ↔ (◌≡◌ {A = ℕ × B} (n, a) (n, c))
+same_number {B} {n} f = (λ e. ap (λ x. (n, x)) (f.0 e), λ e. f.1 (ap (λ x. x.1) e))
+
+oid_equal : SeesEqual OidEq.ghosts.eq (λ x. octets_of x.0)
+oid_equal x y = equal_octets x.0 y.0
+
+-- a different number for each alternative: that of the property, or one above all of those
+abbrev number_at : AttributeValues → ℕ
+number_at (inl p) = p.0
+number_at (inr (inl p)) = p.0
+number_at (inr (inr (inl x))) = 256
+number_at (inr (inr (inr (inl x)))) = 257
+number_at (inr (inr (inr (inr x)))) = 258
+
+pub attribute_values_equal : SeesEqual ValuesEq.ghosts.eq attribute_values_value
+attribute_values_equal (CertAuthRootSha256HashPropId s) (CertAuthRootSha256HashPropId t) = same_first (same_number (list_equal _ _ octets_equal s.0.items t.0.items))
+attribute_values_equal (CertDisallowedFileTimePropId s) (CertDisallowedFileTimePropId t) = same_first (same_number (list_equal _ _ octets_equal s.0.items t.0.items))
+attribute_values_equal (CertFriendlyName s) (CertFriendlyName t) = same_first (same_number (list_equal _ _ octets_equal s.0.items t.0.items))
+attribute_values_equal (CertKeyIdentifierPropId s) (CertKeyIdentifierPropId t) = same_first (same_number (list_equal _ _ octets_equal s.0.items t.0.items))
+attribute_values_equal (CertSubjectNameMd5HashPropId s) (CertSubjectNameMd5HashPropId t) = same_first (same_number (list_equal _ _ octets_equal s.0.items t.0.items))
+attribute_values_equal (UnknownReservedPropId126 s) (UnknownReservedPropId126 t) = same_first (same_number (list_equal _ _ octets_equal s.0.items t.0.items))
+attribute_values_equal (DisallowedEnhkeyUsage s) (DisallowedEnhkeyUsage t) = same_second (same_first (same_number (list_equal _ _ (λ a b. list_equal _ _ oid_equal a.0.0.items b.0.0.items) s.0.items t.0.items)))
+attribute_values_equal (CertEnhkeyUsagePropId s) (CertEnhkeyUsagePropId t) = same_second (same_first (same_number (list_equal _ _ (λ a b. list_equal _ _ oid_equal a.0.0.items b.0.0.items) s.0.items t.0.items)))
+attribute_values_equal (UnknownReservedPropId127 s) (UnknownReservedPropId127 t) = same_second (same_first (same_number (list_equal _ _ (λ a b. list_equal _ _ oid_equal a.0.0.items b.0.0.items) s.0.items t.0.items)))
+attribute_values_equal (CertRootProgramChainPolicy s) (CertRootProgramChainPolicy t) = same_second (same_second (same_first (list_equal _ _ (λ a b. root_program_chain_policy_equal a.0 b.0) s.0.items t.0.items)))
+attribute_values_equal (CertRootProgramCertPoliciesPropId s) (CertRootProgramCertPoliciesPropId t) = same_second (same_second (same_second (same_first (list_equal _ _ (λ a b. list_equal _ _ cert_policy_equal a.0.0.items b.0.0.items) s.0.items t.0.items))))
+attribute_values_equal (Unknown s) (Unknown t) = same_second (same_second (same_second (same_second (list_equal _ _ raw_equal s.0.items t.0.items))))
+attribute_values_equal x y = (λ e. cc, λ e. absurd (omega (arith, ap number_at e)))

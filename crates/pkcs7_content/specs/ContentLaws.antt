@@ -1,15 +1,16 @@
 -- The laws of encapsulated content.
+use Rattle.asn1_core.specs.Asn1.{SEQUENCE}
 use Rattle.std.specs.Prelude.{◌≡◌, ℕ, ◌+◌, List, [], ◌++◌, Some, None}
 use Rattle.std.proofs.Common.{arith, refl, sym, ap, subst, inl, inr}
 use Rattle.asn1_core.specs.Der.{IsLawful, IsLawfulComponents, part, nothing, within, octet_string, followed_by, perhaps, lawful_nothing, lawful_within, lawful_octet_string, element, IsOid, oid_from_test, lawful_sequence}
 use Rattle.asn1_choices.specs.DefinedBy.{Alternative}
 use Rattle.asn1_choices.specs.DefinedByLaws.{IsDefinedBy, IsAlternative, itself, lawful_alternative, lawful_any_defined_by}
 use Rattle.pkcs7_content.specs.Contents.{ContentValues, content_values, ContentComponents, written_content, content_kind, as_data, as_octets, OctetsComponents, octets_components, to_data, to_octets, perhaps_in, data_alternative, octets_alternative, content_components, content_defined_by, encapsulated}
-use Rattle.pkcs7_content.specs.IndirectData.{indirect_data, lawful_indirect_data}
+use Rattle.pkcs7_content.specs.IndirectData.{spc_indirect_data_content}
 use Rattle.pkcs7_content.specs.Oids.{data_oid}
 use Rattle.pkcs7_content.specs.declared.contents.Kind.{Kind}
 use Rattle.pkcs7_content.specs.declared.contents.Kind.TheVariants.{IndirectData, TrustList, PlainData, Foreign}
-use Rattle.pkcs7_content.specs.TrustLists.{ctl, lawful_ctl}
+use Rattle.pkcs7_content.specs.TrustLists.{ctl}
 
 pub data_oid_is : (octets : List ℕ) → octets ≡ data_oid → IsOid octets
 data_oid_is octets e = subst IsOid (sym e) (oid_from_test data_oid refl)
@@ -60,8 +61,8 @@ pub octets_is_alternative : IsAlternative written_content octets_alternative oct
 octets_is_alternative = perhaps_is_alternative to_octets (record { text = λ x. refl; normal = λ x. refl; least = λ x. refl; alike = octets_alike; still = λ x. refl })
 
 lawful_content_components : (t : Kind) → IsLawfulComponents (content_components t)
-lawful_content_components IndirectData = lawful_alternative written_content _ (part (within 0xA0 indirect_data) nothing) (itself (λ a. refl) (λ a. refl) (λ a. refl)) (followed_by (lawful_within indirect_data lawful_indirect_data.components 0xA0 (omega arith)) lawful_nothing)
-lawful_content_components TrustList = lawful_alternative written_content _ (part (within 0xA0 ctl) nothing) (itself (λ a. refl) (λ a. refl) (λ a. refl)) (followed_by (lawful_within ctl lawful_ctl.components 0xA0 (omega arith)) lawful_nothing)
+lawful_content_components IndirectData = lawful_alternative written_content _ (part (within 0xA0 (SEQUENCE spc_indirect_data_content).format) nothing) (itself (λ a. refl) (λ a. refl) (λ a. refl)) (followed_by (lawful_within (SEQUENCE spc_indirect_data_content).format (SEQUENCE spc_indirect_data_content).law.components 0xA0 (omega arith)) lawful_nothing)
+lawful_content_components TrustList = lawful_alternative written_content _ (part (within 0xA0 (SEQUENCE ctl).format) nothing) (itself (λ a. refl) (λ a. refl) (λ a. refl)) (followed_by (lawful_within (SEQUENCE ctl).format (SEQUENCE ctl).law.components 0xA0 (omega arith)) lawful_nothing)
 lawful_content_components PlainData = lawful_alternative written_content data_alternative octets_components data_is_alternative lawful_octets_components
 lawful_content_components Foreign = lawful_alternative written_content octets_alternative octets_components octets_is_alternative lawful_octets_components
 

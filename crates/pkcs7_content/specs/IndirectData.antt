@@ -2,15 +2,15 @@
 -- SpcAttributeTypeAndOptionalValue ::= SEQUENCE { type OBJECT IDENTIFIER, value ANY DEFINED BY type }, the value being
 -- an SpcPeImageData or an SpcSipInfo
 use Rattle.std.specs.Prelude.{◌⊎◌, ℕ, List, ◌≡◌, if◌then◌else◌}
-use Rattle.asn1_core.specs.Asn1.{asn1, Contents, contents, ◌then◌, end}
-use Rattle.asn1_core.specs.Der.{Format, sequence, OidOctets, IsLawful, IsLawfulComponents, octets_of, either, lawful_sequence}
+use Rattle.asn1_core.specs.Asn1.{asn1, Contents, contents, ◌then◌, end, SEQUENCE}
+use Rattle.asn1_core.specs.Der.{Format, sequence, OidOctets, IsLawful, IsLawfulComponents, octets_of, either, lawful_sequence, SeesEqual, der_equal, same_first, same_second}
 use Rattle.std.specs.Str.{bytes_eq}
-use Rattle.std.proofs.Common.{inl, inr, refl}
+use Rattle.std.proofs.Common.{rules, inl, inr, refl}
 use Rattle.asn1_choices.specs.DefinedBy.{DefinedBy, any_defined_by, alternative, by_itself, no_alternative, only_written}
-use Rattle.x509_base.specs.Digests.{lawful_digest_info, digest_info_value}
+use Rattle.x509_base.specs.Digests.{digest_info, digest_info_value}
 use Rattle.pkcs7_content.specs.Oids.{pe_image_oid, sip_info_oid}
-use Rattle.pkcs7_content.specs.PeImages.{PeImageValue, pe_image_data, pe_image_value}
-use Rattle.pkcs7_content.specs.SipInfos.{SipInfoValue, sip_info, lawful_sip_info, sip_info_value}
+use Rattle.pkcs7_content.specs.PeImages.{PeImageValue, pe_image_data, spc_pe_image_data_value, spc_pe_image_data_equal}
+use Rattle.pkcs7_content.specs.SipInfos.{spc_sip_info, spc_sip_info_value, spc_sip_info_equal}
 use Rattle.pkcs7_content.specs.declared.indirect_data.Subject.{Subject}
 use Rattle.pkcs7_content.specs.declared.indirect_data.Subject.TheVariants.{PeImage, SipInfo, Foreign}
 use Rattle.asn1_choices.specs.DefinedByLaws.{IsDefinedBy, itself, lawful_alternative, lawful_no_alternative, lawful_any_defined_by}
@@ -19,16 +19,20 @@ use Rattle.pkcs7_content.specs.declared.indirect_data.SpcAttributeAndOptionalVal
 use Rattle.pkcs7_content.specs.declared.indirect_data.SpcAttributeAndOptionalValueValue.TheVariants as Spc
 use Rattle.pkcs7_content.specs.declared.indirect_data.SpcAttributeAndOptionalValue.{SpcAttributeAndOptionalValue}
 use Rattle.pkcs7_content.specs.declared.indirect_data.SpcIndirectDataContent.{SpcIndirectDataContent}
+use Rattle.x509_base.specs.contracts.digests.DigestInfoPartialEq.TheImpl as DigestEq
+use Rattle.pkcs7_content.specs.contracts.indirect_data.SpcAttributeAndOptionalValueValuePartialEq.TheImpl as ValueEq
+use Rattle.pkcs7_content.specs.contracts.indirect_data.SpcAttributeAndOptionalValuePartialEq.TheImpl as AttributeEq
+use Rattle.pkcs7_content.specs.contracts.indirect_data.SpcIndirectDataContentPartialEq.TheImpl as IndirectEq
 
 abbrev pub SpcValue : Type 0
-SpcValue = PeImageValue ⊎ SipInfoValue
+SpcValue = PeImageValue ⊎ spc_sip_info.Value
 
 abbrev pub spc_value : SpcAttributeAndOptionalValueValue → SpcValue
-spc_value (Spc.SpcPeImageData x) = inl (pe_image_value x)
-spc_value (Spc.SpcSipInfo x) = inr (sip_info_value x)
+spc_value (Spc.SpcPeImageData x) = inl (spc_pe_image_data_value x)
+spc_value (Spc.SpcSipInfo x) = inr (spc_sip_info_value x)
 
 abbrev pub spc_values : Format SpcValue
-spc_values = only_written (either pe_image_data sip_info)
+spc_values = only_written (either pe_image_data (SEQUENCE spc_sip_info).format)
 
 -- what an object identifier says is signed
 abbrev pub subject_of : List ℕ → Subject
@@ -36,7 +40,7 @@ subject_of o = if bytes_eq o pe_image_oid then PeImage else if bytes_eq o sip_in
 
 abbrev pub spc_components : Subject → Format SpcValue
 spc_components PeImage = alternative spc_values (by_itself inl) pe_image_data
-spc_components SipInfo = alternative spc_values (by_itself inr) sip_info
+spc_components SipInfo = alternative spc_values (by_itself inr) (SEQUENCE spc_sip_info).format
 spc_components Foreign = no_alternative spc_values
 
 abbrev pub spc_defined_by : DefinedBy SpcValue
@@ -53,7 +57,7 @@ spc_attribute = sequence (any_defined_by spc_defined_by)
 
 lawful_spc_components : (s : Subject) → IsLawfulComponents (spc_components s)
 lawful_spc_components PeImage = lawful_alternative spc_values _ pe_image_data (itself (λ a. refl) (λ a. refl) (λ a. refl)) lawful_pe_image_data.components
-lawful_spc_components SipInfo = lawful_alternative spc_values _ sip_info (itself (λ a. refl) (λ a. refl) (λ a. refl)) lawful_sip_info.components
+lawful_spc_components SipInfo = lawful_alternative spc_values _ (SEQUENCE spc_sip_info).format (itself (λ a. refl) (λ a. refl) (λ a. refl)) (SEQUENCE spc_sip_info).law.components
 lawful_spc_components Foreign = lawful_no_alternative spc_values
 
 written_alike : (s : Subject) (v : SpcValue) → (spc_components s).text v ≡ spc_values.text v
@@ -68,17 +72,22 @@ pub lawful_spc_attribute : IsLawful spc_attribute
 lawful_spc_attribute = lawful_sequence (lawful_any_defined_by spc_defined_by spc_is_defined_by)
 
 -- SpcIndirectDataContent ::= SEQUENCE { data SpcAttributeTypeAndOptionalValue, messageDigest DigestInfo }
-abbrev pub indirect_data_contents : Contents
-indirect_data_contents = contents (asn1 lawful_spc_attribute then asn1 lawful_digest_info then end) refl
+abbrev pub spc_indirect_data_content : Contents
+spc_indirect_data_content = contents (asn1 lawful_spc_attribute then SEQUENCE digest_info then end) refl
 
-abbrev pub IndirectDataValue : Type 0
-IndirectDataValue = indirect_data_contents.Value
+abbrev pub spc_indirect_data_content_value : SpcIndirectDataContent → spc_indirect_data_content.Value
+spc_indirect_data_content_value x = (spc_attribute_value x.spc_data, (digest_info_value x.message_digest, tt))
 
-abbrev pub indirect_data : Format IndirectDataValue
-indirect_data = sequence indirect_data_contents.format
+pub spc_value_equal : SeesEqual ValueEq.ghosts.eq spc_value
+spc_value_equal (Spc.SpcPeImageData x) (Spc.SpcPeImageData y) = same_first (spc_pe_image_data_equal x y)
+spc_value_equal (Spc.SpcSipInfo x) (Spc.SpcSipInfo y) = same_second (spc_sip_info_equal x y)
+spc_value_equal x y = (λ e. cc, λ e. cc)
 
-pub lawful_indirect_data : IsLawful indirect_data
-lawful_indirect_data = lawful_sequence indirect_data_contents.law
+pub spc_attribute_equal : SeesEqual AttributeEq.ghosts.eq spc_attribute_value
+spc_attribute_equal x y = search (der_equal, spc_value_equal) depth 20
 
-abbrev pub indirect_data_value : SpcIndirectDataContent → IndirectDataValue
-indirect_data_value x = (spc_attribute_value x.spc_data, (digest_info_value x.message_digest, tt))
+digest_equal : SeesEqual DigestEq.ghosts.eq digest_info_value
+digest_equal x y = search rules
+
+pub spc_indirect_data_content_equal : SeesEqual IndirectEq.ghosts.eq spc_indirect_data_content_value
+spc_indirect_data_content_equal x y = search (der_equal, spc_attribute_equal, digest_equal) depth 20

@@ -11,5 +11,4 @@ pub mod Policies
 pub mod Properties
 pub mod AttributeValues
 pub mod TrustLists
-pub mod TrustListsEqual
 pub mod Borrowed

@@ -1,16 +1,17 @@
 -- The laws of what Authenticode says of a PE image.
 use Rattle.std.specs.Prelude.{◌≡◌, ◌↔◌, ℕ, ◌+◌, ◌≤◌, Bool, List, Option, Some, None, true, false}
 use Rattle.std.proofs.Common.{arith, refl, sym, ap, ◌∙◌, subst}
+use Rattle.asn1_core.specs.Asn1.{Asn1, asn1}
 use Rattle.asn1_core.specs.Der.{IsLawful, IsLawfulComponents, lawful_sequence, followed_by, lawful_explicit, lawful_nothing, perhaps, element_same, begins_next, next_distinct, IsLoosening, lawful_loosened, least_unless}
 use Rattle.std.specs.Str.{bytes_eq}
 use Rattle.std.proofs.lemmas.Slice.Eq.{bytes_eq-Decides}
 use Rattle.asn1_leaves.specs.Strings.{lawful_bit_string}
 use Rattle.asn1_leaves_strings.specs.Bits.{IsBits}
-use Rattle.x509_base.specs.SpcLinks.{LinkValue, lawful_spc_link}
+use Rattle.x509_base.specs.SpcLinks.{spc_link}
 use Rattle.pkcs7_content.specs.PeImages.{default_flags, PeImageValue, file_components, pe_image_spelled, HasFlags, flags_written, pe_image_data}
 
 lawful_file_components : IsLawfulComponents file_components
-lawful_file_components = followed_by (lawful_explicit (omega arith) lawful_spc_link) lawful_nothing
+lawful_file_components = followed_by (lawful_explicit (omega arith) spc_link.law) lawful_nothing
 
 pub lawful_pe_image_spelled : IsLawful pe_image_spelled
 lawful_pe_image_spelled = lawful_sequence (perhaps lawful_bit_string refl lawful_file_components)
@@ -18,11 +19,11 @@ lawful_pe_image_spelled = lawful_sequence (perhaps lawful_bit_string refl lawful
 pub default_is_bits : IsBits default_flags
 default_is_bits = (omega arith, λ e. cc)
 
-flags_kept : (k : ℕ) (a : Option (List ℕ) × (LinkValue × Unit {0})) → pe_image_spelled.IsWellFormed k a → pe_image_spelled.IsWellFormed k (flags_written.written (flags_written.read a))
+flags_kept : (k : ℕ) (a : Option (List ℕ) × (spc_link.Value × Unit {0})) → pe_image_spelled.IsWellFormed k a → pe_image_spelled.IsWellFormed k (flags_written.written (flags_written.read a))
 flags_kept k (Some f, l) h = h
 flags_kept k (None, l) h = (default_is_bits, h.1)
 
-flags_chosen : (k : ℕ) (b : List ℕ) (a : Option (List ℕ) × (LinkValue × Unit {0})) → pe_image_spelled.Reads k b a → (HasFlags b ↔ (flags_written.written (flags_written.read a) ≡ a))
+flags_chosen : (k : ℕ) (b : List ℕ) (a : Option (List ℕ) × (spc_link.Value × Unit {0})) → pe_image_spelled.Reads k b a → (HasFlags b ↔ (flags_written.written (flags_written.read a) ≡ a))
 flags_chosen k b (Some f, l) s = (
   λ w. refl,
   λ e. (s.0, s.1, begins_next (λ t. t ≡ 0x03) s.2.0 s.2.1 s.0 (lawful_bit_string.element k s.2.0 f s.2.3) s.2.2),
@@ -38,12 +39,12 @@ one_unless : (t : Bool) → least_unless t 1 ≤ 1
 one_unless true = omega arith
 one_unless false = omega arith
 
-flags_fewer : (a : Option (List ℕ) × (LinkValue × Unit {0})) → flags_written.least (flags_written.read a) ≤ pe_image_spelled.least a
+flags_fewer : (a : Option (List ℕ) × (spc_link.Value × Unit {0})) → flags_written.least (flags_written.read a) ≤ pe_image_spelled.least a
 flags_fewer (None, l) = omega arith
 flags_fewer (Some f, l) = omega (arith, one_unless (bytes_eq f default_flags))
 
 -- the default flags are what is read where flags are absent, others are read from their own encoding
-flags_reached : (t : Bool) (k : ℕ) (v : PeImageValue) → bytes_eq v.0 default_flags ≡ t → pe_image_spelled.IsWellFormed k (flags_written.written v) → (a : Option (List ℕ) × (LinkValue × Unit {0})) × pe_image_spelled.IsWellFormed k a × (flags_written.read a ≡ v) × (pe_image_spelled.least a ≡ flags_written.least v)
+flags_reached : (t : Bool) (k : ℕ) (v : PeImageValue) → bytes_eq v.0 default_flags ≡ t → pe_image_spelled.IsWellFormed k (flags_written.written v) → (a : Option (List ℕ) × (spc_link.Value × Unit {0})) × pe_image_spelled.IsWellFormed k a × (flags_written.read a ≡ v) × (pe_image_spelled.least a ≡ flags_written.least v)
 flags_reached true k v e h = (
   (None, v.1),
   (tt, h.1),
@@ -65,3 +66,6 @@ flags_loosening = record {
 
 pub lawful_pe_image_data : IsLawful pe_image_data
 lawful_pe_image_data = lawful_loosened pe_image_spelled lawful_pe_image_spelled flags_written flags_loosening
+
+abbrev pub spc_pe_image_data : Asn1
+spc_pe_image_data = asn1 lawful_pe_image_data

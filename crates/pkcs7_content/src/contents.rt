@@ -4,9 +4,8 @@ ghost use Rattle.std.specs.Prelude.{◌≡◌, ◌↔◌, Some, false, IsTrue, M
 ghost use Rattle.asn1_core.specs.Der.{option_value, octets_of, GivesComponents};
 ghost use Rattle.std.proofs.Common.{inl, inr};
 ghost use Rattle.asn1_core_element.specs.declared.error.Error.TheVariants.{Memory};
-ghost use Rattle.pkcs7_content.specs.Contents.{ContentValues, content_values, ContentComponents, content_kind, IsPlain, octets_components, content_components, content_defined_by, EncapsulatedValue, encapsulated, content_value, content_components_value, encapsulated_value};
+ghost use Rattle.pkcs7_content.specs.Contents.{ContentValues, content_values, ContentComponents, content_kind, IsPlain, octets_components, content_components, content_defined_by, EncapsulatedValue, encapsulated, content_value, content_components_value, encapsulated_value, content_value_equal, encapsulated_equal};
 ghost use Rattle.pkcs7_content.specs.ContentLaws.{content_is_defined_by, lawful_encapsulated};
-ghost use Rattle.pkcs7_content.specs.Equal.{content_value_equal, encapsulated_equal};
 ghost use Rattle.pkcs7_content.specs.Oids.{data_oid};
 
 use crate::indirect_data::SpcIndirectDataContent;

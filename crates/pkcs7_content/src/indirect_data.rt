@@ -1,8 +1,7 @@
 //! What Authenticode signs.
 
 ghost use Rattle.std.specs.Prelude.{◌≡◌, ◌↔◌, IsTrue};
-ghost use Rattle.pkcs7_content.specs.Equal.{spc_value_equal, spc_attribute_equal, indirect_data_equal};
-ghost use Rattle.pkcs7_content.specs.IndirectData.{SpcValue, spc_values, subject_of, spc_defined_by, SpcAttributeValue, spc_attribute, indirect_data_contents, spc_is_defined_by, lawful_spc_attribute, spc_value, spc_attribute_value, indirect_data_value};
+ghost use Rattle.pkcs7_content.specs.IndirectData.{SpcValue, spc_values, subject_of, spc_defined_by, SpcAttributeValue, spc_attribute, spc_indirect_data_content, spc_is_defined_by, lawful_spc_attribute, spc_value, spc_attribute_value, spc_indirect_data_content_value, spc_value_equal, spc_attribute_equal, spc_indirect_data_content_equal};
 
 use crate::oids::{PE_IMAGE, SIP_INFO};
 use crate::pe_images::SpcPeImageData;
@@ -179,9 +178,9 @@ pub struct SpcIndirectDataContent {
 }
 
 impl Sequence for SpcIndirectDataContent {
-    ghost asn1 = { indirect_data_contents };
+    ghost asn1 = { spc_indirect_data_content };
 
-    ghost value = { indirect_data_value };
+    ghost value = { spc_indirect_data_content_value };
 
     fn with_components<U: Task>(&self, task: &mut U) -> U::Out {
         with_components_of!(self, task; SpcIndirectDataContent { spc_data, message_digest })
@@ -195,5 +194,5 @@ impl Sequence for SpcIndirectDataContent {
         clone_fields_of!(self, alloc; SpcIndirectDataContent { spc_data, message_digest })
     }
 
-    ghost equal = { indirect_data_equal };
+    ghost equal = { spc_indirect_data_content_equal };
 }

@@ -5,9 +5,8 @@ ghost use Rattle.std.proofs.Common.{rules, arith};
 ghost use Rattle.asn1_core_element.specs.declared.error.Error.TheVariants.{Memory};
 ghost use Rattle.asn1_leaves.specs.Strings.{bit_string, lawful_bit_string};
 ghost use Rattle.asn1_leaves_strings.specs.Octets.{contents_of};
-ghost use Rattle.pkcs7_content.specs.Equal.{pe_image_equal};
-ghost use Rattle.pkcs7_content.specs.PeImages.{default_flags, PeImageValue, pe_image_data, pe_image_value};
-ghost use Rattle.pkcs7_content.specs.PeImageLaws.{lawful_pe_image_data};
+ghost use Rattle.pkcs7_content.specs.PeImages.{default_flags, spc_pe_image_data_value, spc_pe_image_data_equal};
+ghost use Rattle.pkcs7_content.specs.PeImageLaws.{spc_pe_image_data};
 
 use asn1_core::prelude::*;
 use asn1_leaves::{BitString, BitStringAsn1};
@@ -80,11 +79,11 @@ pub struct SpcPeImageData {
 type PeImageComponents = Maybe<SpcPeImageFlags, Part<ExplicitContextTag0<SpcLink>, End>>;
 
 impl DerSerialize for SpcPeImageData {
-    ghost Value = { PeImageValue };
+    ghost Value = { spc_pe_image_data.Value };
 
-    ghost value = { pe_image_value };
+    ghost value = { spc_pe_image_data_value };
 
-    ghost format = { pe_image_data };
+    ghost format = { spc_pe_image_data.format };
 
     fn put<W: Writer>(&self, w: &mut W) -> Result<(), WriteError> {
         put_of!(self, w; flags, file)
@@ -108,11 +107,11 @@ impl DerDeserialize for SpcPeImageData {
         }
     }
 
-    ghost lawful = { lawful_pe_image_data };
+    ghost lawful = { spc_pe_image_data.law };
 }
 
 impl EqualByText for SpcPeImageData {
-    ghost equal_by_text = { pe_image_equal };
+    ghost equal_by_text = { spc_pe_image_data_equal };
 }
 
 impl TryClone for SpcPeImageData {

@@ -1,7 +1,6 @@
 //! What Authenticode says of a file that a subject interface package signs.
 
-ghost use Rattle.pkcs7_content.specs.Equal.{sip_info_equal};
-ghost use Rattle.pkcs7_content.specs.SipInfos.{sip_info_contents, sip_info_value};
+ghost use Rattle.pkcs7_content.specs.SipInfos.{spc_sip_info, spc_sip_info_value, spc_sip_info_equal};
 
 use asn1_core::prelude::*;
 use asn1_leaves::IntegerAsn1;
@@ -29,9 +28,9 @@ macro_rules! sip_info {
 }
 
 impl Sequence for SpcSipInfo {
-    ghost asn1 = { sip_info_contents };
+    ghost asn1 = { spc_sip_info };
 
-    ghost value = { sip_info_value };
+    ghost value = { spc_sip_info_value };
 
     fn with_components<U: Task>(&self, task: &mut U) -> U::Out {
         sip_info!(with_components_of(self, task))
@@ -45,5 +44,5 @@ impl Sequence for SpcSipInfo {
         sip_info!(clone_fields_of(self, alloc))
     }
 
-    ghost equal = { sip_info_equal };
+    ghost equal = { spc_sip_info_equal };
 }

@@ -1,7 +1,6 @@
 //! Attributes of the entries of trust lists.
 
-ghost use Rattle.pkcs7_content.specs.TrustListsEqual.{attribute_equal};
-ghost use Rattle.pkcs7_content.specs.TrustLists.{EntryAttributeValue, entry_attribute, lawful_entry_attribute, entry_attribute_value};
+ghost use Rattle.pkcs7_content.specs.TrustLists.{EntryAttributeValue, entry_attribute, lawful_entry_attribute, entry_attribute_value, entry_attribute_equal};
 ghost use Rattle.pkcs7_content.specs.AttributeValues.{attribute_values_value};
 
 use crate::trust_lists::values::CTLEntryAttributeValues;
@@ -43,7 +42,7 @@ impl DerDeserialize for CTLEntryAttribute {
 }
 
 impl EqualByText for CTLEntryAttribute {
-    ghost equal_by_text = { attribute_equal };
+    ghost equal_by_text = { entry_attribute_equal };
 }
 
 impl TryClone for CTLEntryAttribute {

@@ -1,7 +1,6 @@
 //! Trust lists and their entries.
 
-ghost use Rattle.pkcs7_content.specs.TrustListsEqual.{entry_equal, ctl_equal};
-ghost use Rattle.pkcs7_content.specs.TrustLists.{entry_contents, entry_value, ctl_contents, ctl_value};
+ghost use Rattle.pkcs7_content.specs.TrustLists.{ctl_entry, ctl_entry_value, ctl, ctl_value, ctl_entry_equal, ctl_equal};
 
 use crate::trust_lists::attributes::CTLEntryAttribute;
 use asn1_core::prelude::*;
@@ -17,9 +16,9 @@ pub struct CTLEntry {
 }
 
 impl Sequence for CTLEntry {
-    ghost asn1 = { entry_contents };
+    ghost asn1 = { ctl_entry };
 
-    ghost value = { entry_value };
+    ghost value = { ctl_entry_value };
 
     fn with_components<U: Task>(&self, task: &mut U) -> U::Out {
         with_components_of!(self, task; CTLEntry { cert_fingerprint, attributes })
@@ -33,7 +32,7 @@ impl Sequence for CTLEntry {
         clone_fields_of!(self, alloc; CTLEntry { cert_fingerprint, attributes })
     }
 
-    ghost equal = { entry_equal };
+    ghost equal = { ctl_entry_equal };
 }
 
 /// `CertificateTrustList ::= SEQUENCE { version DEFAULT v1, subjectUsage, listIdentifier OPTIONAL, sequenceNumber
@@ -62,7 +61,7 @@ macro_rules! ctl {
 }
 
 impl Sequence for Ctl {
-    ghost asn1 = { ctl_contents };
+    ghost asn1 = { ctl };
 
     ghost value = { ctl_value };
 

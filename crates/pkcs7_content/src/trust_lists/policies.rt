@@ -1,7 +1,6 @@
 //! Policies, as attributes of trust lists hold them.
 
-ghost use Rattle.pkcs7_content.specs.TrustListsEqual.{chain_policy_equal, qualifier_equal, cert_policy_equal};
-ghost use Rattle.pkcs7_content.specs.Policies.{chain_policy_contents, chain_policy_value, qualifier_contents, qualifier_value, cert_policy_contents, cert_policy_value};
+ghost use Rattle.pkcs7_content.specs.Policies.{root_program_chain_policy, root_program_chain_policy_value, policy_qualifier, policy_qualifier_value, cert_policy, cert_policy_value, root_program_chain_policy_equal, policy_qualifier_equal, cert_policy_equal};
 
 use asn1_core::prelude::*;
 use asn1_leaves::BitStringAsn1;
@@ -14,9 +13,9 @@ pub struct RootProgramChainPolicy {
 }
 
 impl Sequence for RootProgramChainPolicy {
-    ghost asn1 = { chain_policy_contents };
+    ghost asn1 = { root_program_chain_policy };
 
-    ghost value = { chain_policy_value };
+    ghost value = { root_program_chain_policy_value };
 
     fn with_components<U: Task>(&self, task: &mut U) -> U::Out {
         with_components_of!(self, task; RootProgramChainPolicy { oid })
@@ -30,7 +29,7 @@ impl Sequence for RootProgramChainPolicy {
         clone_fields_of!(self, alloc; RootProgramChainPolicy { oid })
     }
 
-    ghost equal = { chain_policy_equal };
+    ghost equal = { root_program_chain_policy_equal };
 }
 
 /// `PolicyQualifier ::= SEQUENCE { oid OBJECT IDENTIFIER, bits BIT STRING }`
@@ -41,9 +40,9 @@ pub struct PolicyQualifier {
 }
 
 impl Sequence for PolicyQualifier {
-    ghost asn1 = { qualifier_contents };
+    ghost asn1 = { policy_qualifier };
 
-    ghost value = { qualifier_value };
+    ghost value = { policy_qualifier_value };
 
     fn with_components<U: Task>(&self, task: &mut U) -> U::Out {
         with_components_of!(self, task; PolicyQualifier { oid, bits })
@@ -57,7 +56,7 @@ impl Sequence for PolicyQualifier {
         clone_fields_of!(self, alloc; PolicyQualifier { oid, bits })
     }
 
-    ghost equal = { qualifier_equal };
+    ghost equal = { policy_qualifier_equal };
 }
 
 /// `CertPolicy ::= SEQUENCE { oid OBJECT IDENTIFIER, qualifier SEQUENCE OF PolicyQualifier }`
@@ -68,7 +67,7 @@ pub struct CertPolicy {
 }
 
 impl Sequence for CertPolicy {
-    ghost asn1 = { cert_policy_contents };
+    ghost asn1 = { cert_policy };
 
     ghost value = { cert_policy_value };
 

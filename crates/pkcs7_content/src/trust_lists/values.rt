@@ -3,8 +3,7 @@
 ghost use Rattle.std.specs.Prelude.{◌≡◌, ◌↔◌, IsTrue};
 ghost use Rattle.std.proofs.Common.{rules, inl, inr};
 ghost use Rattle.asn1_core.specs.Der.{GivesComponents};
-ghost use Rattle.pkcs7_content.specs.TrustListsEqual.{values_equal};
-ghost use Rattle.pkcs7_content.specs.AttributeValues.{AttributeValues, attribute_values, values_defined_by, values_are_defined_by, octets_in, usages_in, attribute_values_value};
+ghost use Rattle.pkcs7_content.specs.AttributeValues.{AttributeValues, attribute_values, values_defined_by, values_are_defined_by, octets_in, usages_in, attribute_values_value, attribute_values_equal};
 ghost use Rattle.pkcs7_content.specs.Properties.{shape_of};
 ghost use Rattle.pkcs7_content.specs.Borrowed.{borrowed_values, IsBorrowed};
 ghost use Rattle.pkcs7_content.specs.declared.trust_lists.properties.Shape.TheVariants.{Octets, Usages};
@@ -210,7 +209,7 @@ impl AnyDefinedBy for CTLEntryAttributeValues {
 }
 
 impl EqualByText for CTLEntryAttributeValues {
-    ghost equal_by_text = { values_equal };
+    ghost equal_by_text = { attribute_values_equal };
 }
 
 impl TryClone for CTLEntryAttributeValues {

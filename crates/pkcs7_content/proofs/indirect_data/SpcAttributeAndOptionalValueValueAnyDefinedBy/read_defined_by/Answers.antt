@@ -1,8 +1,9 @@
+use Rattle.asn1_core.specs.Asn1.{SEQUENCE}
 use Rattle.std.proofs.Common.{rules}
 use Rattle.asn1_choices.proofs.DefinedByReads.{alternative_refused, refused_at}
 use Rattle.pkcs7_content.specs.IndirectData.{spc_values, spc_components}
 use Rattle.pkcs7_content.specs.PeImages.{pe_image_data}
-use Rattle.pkcs7_content.specs.SipInfos.{sip_info}
+use Rattle.pkcs7_content.specs.SipInfos.{spc_sip_info}
 use Rattle.pkcs7_content.proofs.indirect_data.SpcAttributeAndOptionalValueValueAnyDefinedBy.read_defined_by.Goals as goal
 
 pub returns-in_err-image-in-PeImage : goal.returns-in_err-image-in-PeImage
@@ -12,5 +13,5 @@ returns-in_err-image-in-PeImage c =
 
 pub returns-in_err-info-in-SipInfo : goal.returns-in_err-info-in-SipInfo
 returns-in_err-info-in-SipInfo c =
-    let r = refused_at spc_components c.in-SipInfo.ensures (alternative_refused spc_values _ sip_info c.in_err-info-in-SipInfo.ensures) in
+    let r = refused_at spc_components c.in-SipInfo.ensures (alternative_refused spc_values _ (SEQUENCE spc_sip_info).format c.in_err-info-in-SipInfo.ensures) in
     search rules
