@@ -4,10 +4,10 @@ use Rattle.asn1_choices.specs.ByTag.{any_tag, tagged_is, other_is}
 use Rattle.asn1_core.specs.Der.{raw, Position, HasRead, HasRefused, NextIs}
 use Rattle.asn1_core_element.specs.declared.error.Error.{Error}
 use Rattle.asn1_core_element.specs.declared.error.Error.TheVariants.{Memory}
-use Rattle.pkcs7_signed.specs.Certificates.{CertificateValue, IsSequenceTag, certificate_choice}
+use Rattle.pkcs7_signed.specs.Certificates.{IsSequenceTag, certificate_choices}
 
 module _ (k : ℕ) {old new : Position} where
-  pub certificate_has_read : {c : List ℕ} → HasRead raw k old new c → NextIs IsSequenceTag c → HasRead certificate_choice k old new (inl c)
+  pub certificate_has_read : {c : List ℕ} → HasRead raw k old new c → NextIs IsSequenceTag c → HasRead certificate_choices.format k old new (inl c)
   certificate_has_read t n = record {
     taken = t.taken;
     split = t.split;
@@ -19,7 +19,7 @@ module _ (k : ℕ) {old new : Position} where
     at_most = t.at_most;
   }
 
-  pub other_has_read : {c : List ℕ} → HasRead raw k old new c → (NextIs IsSequenceTag c → ⊥) → HasRead certificate_choice k old new (inr c)
+  pub other_has_read : {c : List ℕ} → HasRead raw k old new c → (NextIs IsSequenceTag c → ⊥) → HasRead certificate_choices.format k old new (inr c)
   other_has_read t n = record {
     taken = t.taken;
     split = t.split;
@@ -31,9 +31,9 @@ module _ (k : ℕ) {old new : Position} where
     at_most = t.at_most;
   }
 
-  none_too : {e : Error} → HasRefused raw k old new e → e ≢ Memory → (taken rest : List ℕ) (v : CertificateValue) → old.left ≡ taken ++ rest → certificate_choice.Reads k taken v → ⊥
+  none_too : {e : Error} → HasRefused raw k old new e → e ≢ Memory → (taken rest : List ℕ) (v : certificate_choices.Value) → old.left ≡ taken ++ rest → certificate_choices.format.Reads k taken v → ⊥
   none_too g m taken rest (inl c) s r = g.none m taken rest c s (r.0, any_tag r.1)
   none_too g m taken rest (inr c) s r = g.none m taken rest c s (r.0, any_tag r.1)
 
-  pub certificate_refused : {e : Error} → HasRefused raw k old new e → HasRefused certificate_choice k old new e
+  pub certificate_refused : {e : Error} → HasRefused raw k old new e → HasRefused certificate_choices.format k old new e
   certificate_refused {e} g = record { kind = g.kind; none = none_too {e = e} g; counts = g.counts; at_most = g.at_most }

@@ -1,47 +1,39 @@
 -- CertificateChoices ::= CHOICE { certificate Certificate, extendedCertificate [0] .., v1AttrCert [1] ..,
 --   v2AttrCert [2] .., other [3] .. } (RFC 5652, 10.2.2), each as it is: only a certificate has the tag of a SEQUENCE
 -- CertificateSet ::= SET OF CertificateChoices, under its tag [0] IMPLICIT (RFC 5652, 5.1 and 10.2.3)
-use Rattle.std.specs.Prelude.{◌≡◌, ◌≤◌, ◌⊎◌, ℕ, List, [], map}
+use Rattle.std.specs.Prelude.{◌≡◌, ◌≤◌, ℕ, List, [], map}
 use Rattle.std.proofs.Common.{inl, inr, arith}
-use Rattle.asn1_choices.specs.KnownOrRaw.{known_or_raw, lawful_known_or_raw}
-use Rattle.asn1_core.specs.Der.{one_tag, Format, IsLawful, element_of, lawful_element_of, ElementOctets, implicit_set, element, empty_left_out, is_default, IsDefault, lawful_implicit_set}
+use Rattle.asn1_choices.specs.KnownOrRaw.{lawful_known_or_raw}
+use Rattle.asn1_core.specs.Asn1.{Asn1, asn1, asn1_tagged}
+use Rattle.asn1_core.specs.Der.{one_tag, each, element_of, lawful_element_of, element, empty_left_out, is_default, IsDefault, lawful_implicit_set, within_tagged}
 use Rattle.pkcs7_signed.specs.declared.parts.certificates.CertificateChoices.{CertificateChoices}
 use Rattle.pkcs7_signed.specs.declared.parts.certificates.CertificateChoices.TheVariants.{Certificate, Other}
 use Rattle.pkcs7_signed.specs.declared.parts.certificates.CertificateSet.{CertificateSet}
 
--- a certificate, or another choice
-abbrev pub CertificateValue : Type 0
-CertificateValue = ElementOctets ⊎ ElementOctets
-
-abbrev pub certificate_value : CertificateChoices → CertificateValue
-certificate_value (Certificate c) = inl c.0.items
-certificate_value (Other c) = inr c.0.items
-
 abbrev pub IsSequenceTag : ℕ → Type 0
 IsSequenceTag t = t ≡ 0x30
 
-abbrev pub certificate_choice : Format CertificateValue
-certificate_choice = known_or_raw (element_of (one_tag 0x30))
+-- a certificate, or another choice
+abbrev pub certificate_choices : Asn1
+certificate_choices = asn1 (lawful_known_or_raw (element_of (one_tag 0x30)) (lawful_element_of (one_tag 0x30)))
 
-pub lawful_certificate_choice : IsLawful certificate_choice
-lawful_certificate_choice = lawful_known_or_raw (element_of (one_tag 0x30)) (lawful_element_of (one_tag 0x30))
+abbrev pub certificate_choices_value : CertificateChoices → certificate_choices.Value
+certificate_choices_value (Certificate c) = inl c.0.items
+certificate_choices_value (Other c) = inr c.0.items
 
-abbrev pub certificates_value : CertificateSet → List CertificateValue
-certificates_value x = map certificate_value x.0.items
+abbrev pub certificate_set : Asn1
+certificate_set = asn1_tagged (lawful_implicit_set (omega arith) certificate_choices.law) 0xA0 (within_tagged 0xA0 (omega arith) (each certificate_choices.format))
 
-abbrev pub certificate_set : Format (List CertificateValue)
-certificate_set = implicit_set 0 certificate_choice
-
-pub lawful_certificate_set : IsLawful certificate_set
-lawful_certificate_set = lawful_implicit_set (omega arith) lawful_certificate_choice
+abbrev pub certificate_set_value : CertificateSet → certificate_set.Value
+certificate_set_value x = map certificate_choices_value x.0.items
 
 -- the empty set, which is left out
 abbrev pub no_certificates : List ℕ
 no_certificates = element 0xA0 []
 
-pub no_certificates_left_out : IsDefault (is_default certificate_set no_certificates) no_certificates certificate_set
-no_certificates_left_out = empty_left_out 0xA0 (omega arith) certificate_choice lawful_certificate_choice
+pub no_certificates_left_out : IsDefault (is_default certificate_set.format no_certificates) no_certificates certificate_set.format
+no_certificates_left_out = empty_left_out 0xA0 (omega arith) certificate_choices.format certificate_choices.law
 
-pub some_certificate : (v : CertificateValue) → 1 ≤ certificate_choice.least v
+pub some_certificate : (v : certificate_choices.Value) → 1 ≤ certificate_choices.format.least v
 some_certificate (inl c) = omega arith
 some_certificate (inr c) = omega arith

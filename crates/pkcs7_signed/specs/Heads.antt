@@ -1,4 +1,5 @@
 -- The values of a signer's parts, and of those of signed data, before what holds further signers.
+use Rattle.asn1_core.specs.Asn1.{SEQUENCE}
 use Rattle.std.specs.Prelude.{◌≡◌, ℕ, List, [], ◌++◌, Option, map}
 use Rattle.std.proofs.Common.{refl, ap, ◌∙◌, append_assoc, Vec, Global}
 use Rattle.asn1_core.specs.Der.{Format, nothing, number_below, version, octet_string, option_value, ElementOctets, is_default, text_unless, text_if}
@@ -8,12 +9,12 @@ use Rattle.pkcs7_content.specs.Versions.{number_of}
 use Rattle.pkcs7_content.specs.declared.contents.EncapsulatedContentInfo.{EncapsulatedContentInfo}
 use Rattle.pkcs7_content.specs.declared.versions.CmsVersion.{CmsVersion}
 use Rattle.x509_base.specs.Algorithms.{algorithm_identifier}
-use Rattle.x509_base.specs.AlgorithmParts.{algorithm_value}
-use Rattle.pkcs7_signed.specs.Algorithms.{algorithms, algorithms_value}
+use Rattle.x509_base.specs.AlgorithmParts.{algorithm_identifier_value}
+use Rattle.pkcs7_signed.specs.Algorithms.{digest_algorithm_identifiers, digest_algorithm_identifiers_value}
 use Rattle.pkcs7_attributes.specs.Attributes.{attributes, attributes_value, no_attributes}
-use Rattle.pkcs7_signed.specs.Certificates.{certificate_set, certificates_value, no_certificates}
-use Rattle.pkcs7_signed.specs.Revocations.{revocations, revocations_value}
-use Rattle.pkcs7_signed.specs.SignerParts.{signer_id, signer_id_value}
+use Rattle.pkcs7_signed.specs.Certificates.{certificate_set, certificate_set_value, no_certificates}
+use Rattle.pkcs7_signed.specs.Revocations.{revocation_info_choices, revocation_info_choices_value}
+use Rattle.pkcs7_signed.specs.SignerParts.{signer_identifier, signer_identifier_value}
 use Rattle.pkcs7_signed.specs.declared.parts.algorithms.DigestAlgorithmIdentifier.{DigestAlgorithmIdentifier}
 use Rattle.pkcs7_signed.specs.declared.parts.algorithms.DigestAlgorithmIdentifiers.{DigestAlgorithmIdentifiers}
 use Rattle.pkcs7_signed.specs.declared.parts.algorithms.SignatureAlgorithmIdentifier.{SignatureAlgorithmIdentifier}
@@ -31,10 +32,10 @@ abbrev pub elements : Vec Asn1RawDer Global → List ElementOctets
 elements v = map (λ x. x.0.items) v.items
 
 abbrev pub signer_parts_value : {R : Type 0} → CmsVersion → SignerIdentifier → DigestAlgorithmIdentifier → Attributes → SignatureAlgorithmIdentifier → SignatureValue → R → SignerParts R
-signer_parts_value v s d a g o r = (number_of v, (signer_id_value s, (algorithm_value d.0, (attributes_value a, (algorithm_value g.0, (o.0.0.items, r))))))
+signer_parts_value v s d a g o r = (number_of v, (signer_identifier_value s, (algorithm_identifier_value d.0, (attributes_value a, (algorithm_identifier_value g.0, (o.0.0.items, r))))))
 
 abbrev pub signed_parts_value : {R : Type 0} → CmsVersion → DigestAlgorithmIdentifiers → EncapsulatedContentInfo → CertificateSet → Option RevocationInfoChoices → R → SignedParts R
-signed_parts_value v d i c l r = (number_of v, (algorithms_value d, (encapsulated_value i, (certificates_value c, (option_value revocations_value l, r)))))
+signed_parts_value v d i c l r = (number_of v, (digest_algorithm_identifiers_value d, (encapsulated_value i, (certificate_set_value c, (option_value revocation_info_choices_value l, r)))))
 
 abbrev pub signer_head_value : SignerHead → SignerParts (Unit {0})
 signer_head_value x = signer_parts_value x.version x.sid.now x.digest_algorithm.now x.signed_attrs.now x.signature_algorithm.now x.signature.now tt
@@ -55,12 +56,12 @@ six_after a b c d e f t = appended a _ t _ (five_after b c d e f t)
 module _ {R : Type 0} (F : Format R) (r : R) where
   pub signer_head_text : (p : SignerParts (Unit {0})) → (signer_parts nothing).text p ++ F.text r ≡ (signer_parts F).text (signer_end p r)
   signer_head_text p =
-      six_after ((version 1).text p.0) (signer_id.text p.1.0) (algorithm_identifier.text p.1.1.0)
+      six_after ((version 1).text p.0) (signer_identifier.format.text p.1.0) ((SEQUENCE algorithm_identifier).format.text p.1.1.0)
       (text_unless (is_default attributes no_attributes p.1.1.1.0) (attributes.text p.1.1.1.0))
-      (algorithm_identifier.text p.1.1.1.1.0) (octet_string.text p.1.1.1.1.1.0) (F.text r)
+      ((SEQUENCE algorithm_identifier).format.text p.1.1.1.1.0) (octet_string.text p.1.1.1.1.1.0) (F.text r)
 
   pub signed_head_text : (p : SignedParts (Unit {0})) → (signed_parts nothing).text p ++ F.text r ≡ (signed_parts F).text (signed_end p r)
   signed_head_text p =
-      five_after ((number_below 6).text p.0) (algorithms.text p.1.0) (encapsulated.text p.1.1.0)
-      (text_unless (is_default certificate_set no_certificates p.1.1.1.0) (certificate_set.text p.1.1.1.0))
-      (text_if revocations.text p.1.1.1.1.0) (F.text r)
+      five_after ((number_below 6).text p.0) (digest_algorithm_identifiers.format.text p.1.0) (encapsulated.text p.1.1.0)
+      (text_unless (is_default certificate_set.format no_certificates p.1.1.1.0) (certificate_set.format.text p.1.1.1.0))
+      (text_if revocation_info_choices.format.text p.1.1.1.1.0) (F.text r)

@@ -3,12 +3,12 @@ use Rattle.std.proofs.Common.{◌≡◌, ◌↔◌, List, [], ◌∷◌, map, Bo
 use Rattle.std.specs.List.{AllByRecursion}
 use lib.Pointwise.{pointwise}
 use Rattle.asn1_core.specs.Der.{octets_equal, raw_equal, with_end, same_first, same_second, SeesEqual, two_equal, option_equal, list_equal, equal_octets}
-use Rattle.x509_base.specs.Equal.{algorithm_equal}
+use Rattle.x509_base.specs.AlgorithmParts.{algorithm_identifier_equal}
 use Rattle.pkcs7_content.specs.Equal.{encapsulated_equal}
 use Rattle.pkcs7_content.specs.Versions.{number_of}
 use Rattle.pkcs7_content.specs.contracts.versions.CmsVersionPartialEq.TheImpl as Version
 use Rattle.pkcs7_attributes.specs.Equal.{attributes_equal as signed_attributes_equal}
-use Rattle.pkcs7_signed.specs.PartsEqual.{algorithms_equal, certificates_equal, revocations_equal, signer_id_equal}
+use Rattle.pkcs7_signed.specs.PartsEqual.{digest_algorithm_identifiers_equal, certificate_set_equal, revocation_info_choices_equal, signer_identifier_equal}
 use Rattle.pkcs7_signed.specs.Heads.{elements}
 use Rattle.pkcs7_signed.specs.Components.{UnsignedValues}
 use Rattle.pkcs7_signed.specs.Signers.{Value, signers, certificates, signer_out, signer_into, certificate_out, certificate_into, attribute_out, attribute_into}
@@ -100,14 +100,14 @@ mutual
   pub signed_equal : SeesEqual Signed.ghosts.eq signed_value
   signed_equal (SignedData' v d i c l s) (SignedData' w e j b m t) =
       told (Signed.Laws.is _ _) (value_signed _) (value_signed _)
-      (two_equal (version_equal v w) (two_equal (algorithms_equal d e) (two_equal (encapsulated_equal i j) (two_equal (certificates_equal c.0 b.0) (two_equal (option_equal _ _ revocations_equal l m) (signers_equal s t))))))
+      (two_equal (version_equal v w) (two_equal (digest_algorithm_identifiers_equal d e) (two_equal (encapsulated_equal i j) (two_equal (certificate_set_equal c.0 b.0) (two_equal (option_equal _ _ revocation_info_choices_equal l m) (signers_equal s t))))))
 
   pub signer_equal : SeesEqual Signer.ghosts.eq signer_value
   signer_equal (SignerInfo' v s d a g o u) (SignerInfo' w t e b h p n) =
       told (Signer.Laws.is _ _) (search (rules, the_lemmas)) (search (rules, the_lemmas))
       (of_rows signer_out signer_into signer_there
-      (two_equal (version_equal v w) (two_equal (signer_id_equal s t) (two_equal (algorithm_equal d.0 e.0) (two_equal (signed_attributes_equal a.0 b.0)
-      (two_equal (algorithm_equal g.0 h.0) (two_equal (octets_equal o.0 p.0) (with_end (attributes_equal u n)))))))))
+      (two_equal (version_equal v w) (two_equal (signer_identifier_equal s t) (two_equal (algorithm_identifier_equal d.0 e.0) (two_equal (signed_attributes_equal a.0 b.0)
+      (two_equal (algorithm_identifier_equal g.0 h.0) (two_equal (octets_equal o.0 p.0) (with_end (attributes_equal u n)))))))))
 
   pub signers_equal : SeesEqual Signers.ghosts.eq signers_value
   signers_equal (SignersInfos' s k) y = told (Signers.Laws.is _ _) (value_signers _) (value_signers _) (list_told Signer.ghosts.eq signer_value (items_shown-the_row-SignerInfo-1 s k) (all_signers k) _)

@@ -2,11 +2,10 @@
 #![tactic(auto)]
 
 mod boxed;
-mod clones;
 mod heads;
 mod oids;
 pub mod parts;
-mod reading;
+mod recursion;
 pub mod signers;
 
 pub use parts::{

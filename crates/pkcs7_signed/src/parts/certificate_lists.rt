@@ -1,12 +1,11 @@
 //! Revocation lists (RFC 5280, 5.1).
 
-ghost use Rattle.std.specs.Prelude.{◌≡◌};
-ghost use Rattle.std.proofs.Common.{arith};
-ghost use Rattle.asn1_core.specs.Der.{option_value};
+ghost use Rattle.std.specs.Prelude.{◌≡◌, ℕ};
+ghost use Rattle.asn1_core.specs.Der.{option_value, version};
 ghost use Rattle.x509_base.specs.Extensions.{extensions_value};
-ghost use Rattle.x509_base.specs.Versions.{number_of};
-ghost use Rattle.pkcs7_signed.specs.CertificateLists.{TbsListValue, tbs_list_value, tbs_list, lawful_tbs_list, certificate_list_contents, certificate_list_value};
-ghost use Rattle.pkcs7_signed.specs.PartsEqual.{tbs_list_equal, certificate_list_equal};
+ghost use Rattle.x509_base.specs.Versions.{version_value};
+ghost use Rattle.pkcs7_signed.specs.CertificateLists.{tbs_cert_list, tbs_cert_list_value, certificate_list, certificate_list_value};
+ghost use Rattle.pkcs7_signed.specs.PartsEqual.{tbs_cert_list_equal, certificate_list_equal};
 
 use crate::parts::revoked::RevokedCertificates;
 use asn1_core::prelude::*;
@@ -29,9 +28,39 @@ pub struct TbsCertList {
     pub crl_extension: ExplicitContextTag0<Option<Extensions>>,
 }
 
+/// A version as a component, which is well-formed only if it is v2.
+#[derive(Drop)]
+struct OnlyV2(Version);
+
+impl DerSerialize for OnlyV2 {
+    ghost Value = { ℕ };
+
+    ghost value = { λ x. version_value x.0 };
+
+    ghost format = { version 1 };
+
+    fn put<W: Writer>(&self, w: &mut W) -> Result<(), WriteError> {
+        self.0.put(w)
+    }
+
+    fn well_formed_at(&self, _limit: u8) -> bool {
+        matches!(self.0, Version::V2)
+    }
+}
+
+/// The version as a component, where there is one.
+fn as_v2(version: Option<Version>) -> Option<OnlyV2>
+    ensures { option_value (λ x. version_value x.0) result ≡ option_value version_value version }
+{
+    match version {
+        Some(version) => Some(OnlyV2(version)),
+        None => None,
+    }
+}
+
 /// The version that was read, where one was.
 fn version_of(read: Option<FixedVersion<1>>) -> Option<Version>
-    ensures { option_value number_of result ≡ option_value (λ _. 1) read }
+    ensures { option_value version_value result ≡ option_value (λ _. 1) read }
 {
     match read {
         Some(FixedVersion) => Some(Version::V2),
@@ -59,40 +88,23 @@ fn untagged(extensions: Option<ExplicitContextTag0<Extensions>>) -> Option<Exten
     }
 }
 
-impl DerSerialize for TbsCertList {
-    ghost Value = { TbsListValue };
+impl Sequence for TbsCertList {
+    ghost asn1 = { tbs_cert_list };
 
-    ghost value = { tbs_list_value };
+    ghost value = { tbs_cert_list_value };
 
-    ghost format = { tbs_list };
-
-    fn put<W: Writer>(&self, w: &mut W) -> Result<(), WriteError> {
-        put_of!(self, w;
-            version OPTIONAL, signature, issuer, this_update, next_update OPTIONAL,
+    fn with_components<U: Task>(&self, task: &mut U) -> U::Out {
+        task.run(&body_of!(self;
+            (as_v2(self.version)) OPTIONAL, signature, issuer, this_update, next_update OPTIONAL,
             revoked_certificates OPTIONAL, (tagged(&self.crl_extension.0)) OPTIONAL
-        )
+        ))
     }
 
-    fn well_formed_at(&self, limit: u8) -> bool {
-        match self.version {
-            None | Some(Version::V2) => {
-                let after_version = body_of!(self;
-                    signature, issuer, this_update, next_update OPTIONAL,
-                    revoked_certificates OPTIONAL, (tagged(&self.crl_extension.0)) OPTIONAL
-                );
-                after_version.components_well_formed_at(limit)
-            }
-            Some(_) => false,
-        }
-    }
-}
-
-impl DerDeserialize for TbsCertList {
-    fn read(alloc: Global, r: &mut Reader<'_>, nest: u8) -> Result<Self, Error> {
+    fn read_fields(alloc: Global, r: &mut Reader<'_>, nest: u8) -> Result<Self, Error> {
         let fields_of!(
             version OPTIONAL, signature, issuer, this_update, next_update OPTIONAL,
             revoked_certificates OPTIONAL, extensions OPTIONAL
-        ) = read_within(alloc, r, nest, 0x30)?;
+        ) = ReadComponents::read_components(alloc, r, nest)?;
         Ok(TbsCertList {
             version: version_of(version),
             signature,
@@ -104,20 +116,14 @@ impl DerDeserialize for TbsCertList {
         })
     }
 
-    ghost lawful = { lawful_tbs_list };
-}
-
-impl EqualByText for TbsCertList {
-    ghost equal_by_text = { tbs_list_equal };
-}
-
-impl TryClone for TbsCertList {
-    fn try_clone(&self, alloc: Global) -> Result<Self, Error> {
+    fn clone_fields(&self, alloc: Global) -> Result<Self, Error> {
         clone_of!(self, alloc; TbsCertList {
             signature, issuer, this_update, next_update, revoked_certificates, crl_extension;
             version
         })
     }
+
+    ghost equal = { tbs_cert_list_equal };
 }
 
 /// `CertificateList ::= SEQUENCE { tbsCertList TBSCertList, signatureAlgorithm AlgorithmIdentifier, signatureValue BIT
@@ -130,7 +136,7 @@ pub struct CertificateList {
 }
 
 impl Sequence for CertificateList {
-    ghost asn1 = { certificate_list_contents };
+    ghost asn1 = { certificate_list };
 
     ghost value = { certificate_list_value };
 

@@ -1,10 +1,10 @@
 //! Certificates, each kept as it is (RFC 5652, 10.2.2 and 10.2.3).
 
-ghost use Rattle.std.specs.Prelude.{◌≡◌, ◌↔◌, IsTrue, List, []};
+ghost use Rattle.std.specs.Prelude.{◌≡◌, ◌↔◌, IsTrue, []};
 ghost use Rattle.std.proofs.Common.{arith};
 ghost use Rattle.asn1_core.specs.Der.{NextIs, each, within_tagged};
-ghost use Rattle.pkcs7_signed.specs.Certificates.{CertificateValue, IsSequenceTag, certificate_value, certificate_choice, lawful_certificate_choice, certificates_value, certificate_set, lawful_certificate_set, no_certificates, no_certificates_left_out};
-ghost use Rattle.pkcs7_signed.specs.PartsEqual.{certificate_equal, certificates_equal};
+ghost use Rattle.pkcs7_signed.specs.Certificates.{IsSequenceTag, certificate_choices, certificate_choices_value, certificate_set, certificate_set_value, no_certificates, no_certificates_left_out};
+ghost use Rattle.pkcs7_signed.specs.PartsEqual.{certificate_choices_equal, certificate_set_equal};
 
 use asn1_core::prelude::*;
 use std::alloc::Global;
@@ -30,27 +30,23 @@ fn is_sequence(element: &Asn1RawDer) -> bool
 }
 
 impl DerSerialize for CertificateChoices {
-    ghost Value = { CertificateValue };
+    ghost Value = { certificate_choices.Value };
 
-    ghost value = { certificate_value };
+    ghost value = { certificate_choices_value };
 
-    ghost format = { certificate_choice };
+    ghost format = { certificate_choices.format };
 
     fn put<W: Writer>(&self, w: &mut W) -> Result<(), WriteError> {
         match self {
-            CertificateChoices::Certificate(element) => element.put(w),
-            CertificateChoices::Other(element) => element.put(w),
+            Self::Certificate(element) => element.put(w),
+            Self::Other(element) => element.put(w),
         }
     }
 
     fn well_formed_at(&self, limit: u8) -> bool {
         match self {
-            CertificateChoices::Certificate(element) => {
-                is_sequence(element) && element.well_formed_at(limit)
-            }
-            CertificateChoices::Other(element) => {
-                !is_sequence(element) && element.well_formed_at(limit)
-            }
+            Self::Certificate(element) => is_sequence(element) && element.well_formed_at(limit),
+            Self::Other(element) => !is_sequence(element) && element.well_formed_at(limit),
         }
     }
 }
@@ -59,28 +55,24 @@ impl DerDeserialize for CertificateChoices {
     fn read(alloc: Global, r: &mut Reader<'_>, nest: u8) -> Result<Self, Error> {
         let element = Asn1RawDer::read(alloc, r, nest)?;
         if is_sequence(&element) {
-            Ok(CertificateChoices::Certificate(element))
+            Ok(Self::Certificate(element))
         } else {
-            Ok(CertificateChoices::Other(element))
+            Ok(Self::Other(element))
         }
     }
 
-    ghost lawful = { lawful_certificate_choice };
+    ghost lawful = { certificate_choices.law };
 }
 
 impl EqualByText for CertificateChoices {
-    ghost equal_by_text = { certificate_equal };
+    ghost equal_by_text = { certificate_choices_equal };
 }
 
 impl TryClone for CertificateChoices {
     fn try_clone(&self, alloc: Global) -> Result<Self, Error> {
         match self {
-            CertificateChoices::Certificate(element) => {
-                Ok(CertificateChoices::Certificate(element.try_clone(alloc)?))
-            }
-            CertificateChoices::Other(element) => {
-                Ok(CertificateChoices::Other(element.try_clone(alloc)?))
-            }
+            Self::Certificate(element) => Ok(Self::Certificate(element.try_clone(alloc)?)),
+            Self::Other(element) => Ok(Self::Other(element.try_clone(alloc)?)),
         }
     }
 }
@@ -99,11 +91,11 @@ impl CertificateSet {
 }
 
 impl DerSerialize for CertificateSet {
-    ghost Value = { List CertificateValue };
+    ghost Value = { certificate_set.Value };
 
-    ghost value = { certificates_value };
+    ghost value = { certificate_set_value };
 
-    ghost format = { certificate_set };
+    ghost format = { certificate_set.format };
 
     fn put<W: Writer>(&self, w: &mut W) -> Result<(), WriteError> {
         put_within(0xA0, &self.0, w)
@@ -119,7 +111,7 @@ impl DerDeserialize for CertificateSet {
         Ok(CertificateSet(read_within(alloc, r, nest, 0xA0)?))
     }
 
-    ghost lawful = { lawful_certificate_set };
+    ghost lawful = { certificate_set.law };
 }
 
 impl DerTagged for CertificateSet {
@@ -135,7 +127,7 @@ impl DerTagged for CertificateSet {
         Ok(CertificateSet(read_inside(alloc, r, nest, 0xA0)?))
     }
 
-    ghost tagged = { within_tagged 0xA0 (Prim.omega arith) (each certificate_choice) };
+    ghost tagged = { within_tagged 0xA0 (Prim.omega arith) (each certificate_choices.format) };
 }
 
 impl HasDefault for CertificateSet {
@@ -154,7 +146,7 @@ impl HasDefault for CertificateSet {
 }
 
 impl EqualByText for CertificateSet {
-    ghost equal_by_text = { certificates_equal };
+    ghost equal_by_text = { certificate_set_equal };
 }
 
 impl TryClone for CertificateSet {

@@ -1,10 +1,10 @@
 //! Information about revoked certificates (RFC 5652, 10.2.1).
 
-ghost use Rattle.std.specs.Prelude.{◌≡◌, List, []};
+ghost use Rattle.std.specs.Prelude.{◌≡◌, []};
 ghost use Rattle.std.proofs.Common.{arith};
 ghost use Rattle.asn1_core.specs.Der.{each, within_tagged};
-ghost use Rattle.pkcs7_signed.specs.PartsEqual.{other_format_equal, revocation_equal, revocations_equal};
-ghost use Rattle.pkcs7_signed.specs.Revocations.{other_format_contents, other_format_value, RevocationValue, revocation_value, revocation, lawful_revocation, revocations_value, revocations, lawful_revocations};
+ghost use Rattle.pkcs7_signed.specs.PartsEqual.{other_revocation_info_format_equal, revocation_info_choice_equal, revocation_info_choices_equal};
+ghost use Rattle.pkcs7_signed.specs.Revocations.{other_revocation_info_format, other_revocation_info_format_value, revocation_info_choice, revocation_info_choice_value, revocation_info_choices, revocation_info_choices_value};
 
 use crate::parts::certificate_lists::CertificateList;
 use crate::parts::certificates::CertificateSet;
@@ -20,19 +20,18 @@ pub struct OtherRevocationInfoFormat {
 }
 
 impl Sequence for OtherRevocationInfoFormat {
-    ghost asn1 = { other_format_contents };
+    ghost asn1 = { other_revocation_info_format };
 
-    ghost value = { other_format_value };
+    ghost value = { other_revocation_info_format_value };
 
     fn with_components<U: Task>(&self, task: &mut U) -> U::Out {
         task.run(&body_of!(self; other_rev_info_format, (Null)))
     }
 
     fn read_fields(alloc: Global, r: &mut Reader<'_>, nest: u8) -> Result<Self, Error> {
-        let components: Part<_, Part<Null, End>> = ReadComponents::read_components(alloc, r, nest)?;
-        let Part(other_rev_info_format, _) = components;
+        let Part(format, Part(Null, End)) = ReadComponents::read_components(alloc, r, nest)?;
         Ok(OtherRevocationInfoFormat {
-            other_rev_info_format,
+            other_rev_info_format: format,
             other_rev_info: (),
         })
     }
@@ -44,7 +43,7 @@ impl Sequence for OtherRevocationInfoFormat {
         })
     }
 
-    ghost equal = { other_format_equal };
+    ghost equal = { other_revocation_info_format_equal };
 }
 
 /// `RevocationInfoChoice ::= CHOICE { crl CertificateList, other [1] IMPLICIT OtherRevocationInfoFormat }`
@@ -54,54 +53,33 @@ pub enum RevocationInfoChoice {
     Other(ImplicitContextTag1<OtherRevocationInfoFormat>),
 }
 
-impl DerSerialize for RevocationInfoChoice {
-    ghost Value = { RevocationValue };
+impl Asn1Type for RevocationInfoChoice {
+    ghost asn1 = { revocation_info_choice };
 
-    ghost value = { revocation_value };
+    ghost value = { revocation_info_choice_value };
 
-    ghost format = { revocation };
-
-    fn put<W: Writer>(&self, w: &mut W) -> Result<(), WriteError> {
+    fn with_encoded<U: Task>(&self, task: &mut U) -> U::Out {
         match self {
-            RevocationInfoChoice::Crl(list) => list.put(w),
-            RevocationInfoChoice::Other(other) => other.put(w),
+            Self::Crl(list) => task.run_on(list),
+            Self::Other(other) => task.run_on(other),
         }
     }
 
-    fn well_formed_at(&self, limit: u8) -> bool {
-        match self {
-            RevocationInfoChoice::Crl(list) => list.well_formed_at(limit),
-            RevocationInfoChoice::Other(other) => other.well_formed_at(limit),
-        }
-    }
-}
-
-impl DerDeserialize for RevocationInfoChoice {
-    fn read(alloc: Global, r: &mut Reader<'_>, nest: u8) -> Result<Self, Error> {
+    fn read_encoded(alloc: Global, r: &mut Reader<'_>, nest: u8) -> Result<Self, Error> {
         match Either::read_one(alloc, r, nest)? {
-            Either::First(list) => Ok(RevocationInfoChoice::Crl(list)),
-            Either::Second(other) => Ok(RevocationInfoChoice::Other(other)),
+            Either::First(list) => Ok(Self::Crl(list)),
+            Either::Second(other) => Ok(Self::Other(other)),
         }
     }
 
-    ghost lawful = { lawful_revocation };
-}
-
-impl EqualByText for RevocationInfoChoice {
-    ghost equal_by_text = { revocation_equal };
-}
-
-impl TryClone for RevocationInfoChoice {
-    fn try_clone(&self, alloc: Global) -> Result<Self, Error> {
+    fn clone_value(&self, alloc: Global) -> Result<Self, Error> {
         match self {
-            RevocationInfoChoice::Crl(list) => {
-                Ok(RevocationInfoChoice::Crl(list.try_clone(alloc)?))
-            }
-            RevocationInfoChoice::Other(other) => {
-                Ok(RevocationInfoChoice::Other(other.try_clone(alloc)?))
-            }
+            Self::Crl(list) => Ok(Self::Crl(list.try_clone(alloc)?)),
+            Self::Other(other) => Ok(Self::Other(other.try_clone(alloc)?)),
         }
     }
+
+    ghost equal = { revocation_info_choice_equal };
 }
 
 /// `RevocationInfoChoices ::= SET OF RevocationInfoChoice`, under its tag `[1] IMPLICIT`.
@@ -118,11 +96,11 @@ impl RevocationInfoChoices {
 }
 
 impl DerSerialize for RevocationInfoChoices {
-    ghost Value = { List RevocationValue };
+    ghost Value = { revocation_info_choices.Value };
 
-    ghost value = { revocations_value };
+    ghost value = { revocation_info_choices_value };
 
-    ghost format = { revocations };
+    ghost format = { revocation_info_choices.format };
 
     fn put<W: Writer>(&self, w: &mut W) -> Result<(), WriteError> {
         put_within(0xA1, &self.0, w)
@@ -140,7 +118,7 @@ impl DerDeserialize for RevocationInfoChoices {
         Ok(RevocationInfoChoices(read_within(alloc, r, nest, 0xA1)?))
     }
 
-    ghost lawful = { lawful_revocations };
+    ghost lawful = { revocation_info_choices.law };
 }
 
 impl DerTagged for RevocationInfoChoices {
@@ -156,11 +134,11 @@ impl DerTagged for RevocationInfoChoices {
         Ok(RevocationInfoChoices(read_inside(alloc, r, nest, 0xA1)?))
     }
 
-    ghost tagged = { within_tagged 0xA1 (Prim.omega arith) (each revocation) };
+    ghost tagged = { within_tagged 0xA1 (Prim.omega arith) (each revocation_info_choice.format) };
 }
 
 impl EqualByText for RevocationInfoChoices {
-    ghost equal_by_text = { revocations_equal };
+    ghost equal_by_text = { revocation_info_choices_equal };
 }
 
 impl TryClone for RevocationInfoChoices {

@@ -1,9 +1,7 @@
 //! Entries of revocation lists (RFC 5280, 5.1).
 
-ghost use Rattle.std.specs.Prelude.{◌≡◌, List};
-ghost use Rattle.std.proofs.Common.{arith, ⊎_elim};
-ghost use Rattle.pkcs7_signed.specs.PartsEqual.{revoked_equal, all_revoked_equal};
-ghost use Rattle.pkcs7_signed.specs.Revoked.{RevokedValue, revoked_contents, revoked_value, all_revoked_value, all_revoked, lawful_all_revoked};
+ghost use Rattle.pkcs7_signed.specs.PartsEqual.{revoked_certificate_equal, revoked_certificates_equal};
+ghost use Rattle.pkcs7_signed.specs.Revoked.{revoked_certificate, revoked_certificate_value, revoked_certificates, revoked_certificates_value};
 
 use crate::parts::signers::CertificateSerialNumber;
 use asn1_core::prelude::*;
@@ -20,9 +18,9 @@ pub struct RevokedCertificate {
 }
 
 impl Sequence for RevokedCertificate {
-    ghost asn1 = { revoked_contents };
+    ghost asn1 = { revoked_certificate };
 
-    ghost value = { revoked_value };
+    ghost value = { revoked_certificate_value };
 
     fn with_components<U: Task>(&self, task: &mut U) -> U::Out {
         with_components_of!(self, task; RevokedCertificate {
@@ -42,49 +40,29 @@ impl Sequence for RevokedCertificate {
         })
     }
 
-    ghost equal = { revoked_equal };
+    ghost equal = { revoked_certificate_equal };
 }
 
 /// `revokedCertificates SEQUENCE OF SEQUENCE { .. }`
 #[derive(Debug, Drop, PartialEq, Eq)]
 pub struct RevokedCertificates(pub Asn1SequenceOf<RevokedCertificate>);
 
-impl DerSerialize for RevokedCertificates {
-    ghost Value = { List RevokedValue };
+impl Sequence for RevokedCertificates {
+    ghost asn1 = { revoked_certificates };
 
-    ghost value = { all_revoked_value };
+    ghost value = { revoked_certificates_value };
 
-    ghost format = { all_revoked };
-
-    fn put<W: Writer>(&self, w: &mut W) -> Result<(), WriteError> {
-        self.0.put(w)
+    fn with_components<U: Task>(&self, task: &mut U) -> U::Out {
+        task.run(&self.0.0)
     }
 
-    fn well_formed_at(&self, limit: u8) -> bool {
-        self.0.well_formed_at(limit)
-    }
-}
-
-impl DerDeserialize for RevokedCertificates {
-    fn read(alloc: Global, r: &mut Reader<'_>, nest: u8) -> Result<Self, Error> {
-        Ok(RevokedCertificates(Asn1SequenceOf::read(alloc, r, nest)?))
+    fn read_fields(alloc: Global, r: &mut Reader<'_>, nest: u8) -> Result<Self, Error> {
+        Ok(RevokedCertificates(Asn1SequenceOf(ReadComponents::read_components(alloc, r, nest)?)))
     }
 
-    ghost lawful = { lawful_all_revoked };
-}
-
-impl FirstTags for RevokedCertificates {
-    fn begins(tag: u8) -> bool {
-        tag == 0x30
-    }
-}
-
-impl EqualByText for RevokedCertificates {
-    ghost equal_by_text = { all_revoked_equal };
-}
-
-impl TryClone for RevokedCertificates {
-    fn try_clone(&self, alloc: Global) -> Result<Self, Error> {
+    fn clone_fields(&self, alloc: Global) -> Result<Self, Error> {
         Ok(RevokedCertificates(self.0.try_clone(alloc)?))
     }
+
+    ghost equal = { revoked_certificates_equal };
 }

@@ -1,10 +1,9 @@
 //! What identifies the signer of a signature, and the signature (RFC 5652, 5.3 and 10.2.4).
 
-ghost use Rattle.std.proofs.Common.{arith};
-ghost use Rattle.asn1_core.specs.Der.{Octets, IntegerOctets, octet_string, lawful_octet_string, octets_equal};
-ghost use Rattle.asn1_leaves.specs.Integers.{integer, lawful_integer};
-ghost use Rattle.pkcs7_signed.specs.PartsEqual.{serial_equal, issuer_serial_equal, signer_id_equal};
-ghost use Rattle.pkcs7_signed.specs.SignerParts.{serial_number, issuer_serial_contents, issuer_serial_value, SignerIdValue, signer_id_value, signer_id, lawful_signer_id};
+ghost use Rattle.asn1_core.specs.Asn1.{OCTET_STRING};
+ghost use Rattle.asn1_core.specs.Der.{octets_equal};
+ghost use Rattle.pkcs7_signed.specs.PartsEqual.{certificate_serial_number_equal, issuer_and_serial_number_equal, signer_identifier_equal};
+ghost use Rattle.pkcs7_signed.specs.SignerParts.{certificate_serial_number, certificate_serial_number_value, issuer_and_serial_number, issuer_and_serial_number_value, signer_identifier, signer_identifier_value};
 
 use asn1_core::prelude::*;
 use asn1_leaves::IntegerAsn1;
@@ -15,38 +14,24 @@ use x509_base::{Name, SubjectKeyIdentifier};
 #[derive(Debug, Drop, PartialEq, Eq)]
 pub struct CertificateSerialNumber(pub IntegerAsn1);
 
-impl DerSerialize for CertificateSerialNumber {
-    ghost Value = { IntegerOctets };
+impl Asn1Type for CertificateSerialNumber {
+    ghost asn1 = { certificate_serial_number };
 
-    ghost value = { serial_number };
+    ghost value = { certificate_serial_number_value };
 
-    ghost format = { integer };
-
-    fn put<W: Writer>(&self, w: &mut W) -> Result<(), WriteError> {
-        self.0.put(w)
+    fn with_encoded<U: Task>(&self, task: &mut U) -> U::Out {
+        task.run_on(&self.0)
     }
 
-    fn well_formed_at(&self, limit: u8) -> bool {
-        self.0.well_formed_at(limit)
-    }
-}
-
-impl DerDeserialize for CertificateSerialNumber {
-    fn read(alloc: Global, r: &mut Reader<'_>, nest: u8) -> Result<Self, Error> {
+    fn read_encoded(alloc: Global, r: &mut Reader<'_>, nest: u8) -> Result<Self, Error> {
         Ok(CertificateSerialNumber(IntegerAsn1::read(alloc, r, nest)?))
     }
 
-    ghost lawful = { lawful_integer };
-}
-
-impl EqualByText for CertificateSerialNumber {
-    ghost equal_by_text = { serial_equal };
-}
-
-impl TryClone for CertificateSerialNumber {
-    fn try_clone(&self, alloc: Global) -> Result<Self, Error> {
+    fn clone_value(&self, alloc: Global) -> Result<Self, Error> {
         Ok(CertificateSerialNumber(self.0.try_clone(alloc)?))
     }
+
+    ghost equal = { certificate_serial_number_equal };
 }
 
 /// `IssuerAndSerialNumber ::= SEQUENCE { issuer Name, serialNumber CertificateSerialNumber }`
@@ -57,9 +42,9 @@ pub struct IssuerAndSerialNumber {
 }
 
 impl Sequence for IssuerAndSerialNumber {
-    ghost asn1 = { issuer_serial_contents };
+    ghost asn1 = { issuer_and_serial_number };
 
-    ghost value = { issuer_serial_value };
+    ghost value = { issuer_and_serial_number_value };
 
     fn with_components<U: Task>(&self, task: &mut U) -> U::Out {
         with_components_of!(self, task; IssuerAndSerialNumber { issuer, serial_number })
@@ -73,7 +58,7 @@ impl Sequence for IssuerAndSerialNumber {
         clone_fields_of!(self, alloc; IssuerAndSerialNumber { issuer, serial_number })
     }
 
-    ghost equal = { issuer_serial_equal };
+    ghost equal = { issuer_and_serial_number_equal };
 }
 
 /// `SignerIdentifier ::= CHOICE { issuerAndSerialNumber IssuerAndSerialNumber, subjectKeyIdentifier [0]
@@ -84,93 +69,59 @@ pub enum SignerIdentifier {
     SubjectKeyIdentifier(ImplicitContextTag0<SubjectKeyIdentifier>),
 }
 
-impl DerSerialize for SignerIdentifier {
-    ghost Value = { SignerIdValue };
+impl Asn1Type for SignerIdentifier {
+    ghost asn1 = { signer_identifier };
 
-    ghost value = { signer_id_value };
+    ghost value = { signer_identifier_value };
 
-    ghost format = { signer_id };
-
-    fn put<W: Writer>(&self, w: &mut W) -> Result<(), WriteError> {
+    fn with_encoded<U: Task>(&self, task: &mut U) -> U::Out {
         match self {
-            SignerIdentifier::IssuerAndSerialNumber(certificate) => certificate.put(w),
-            SignerIdentifier::SubjectKeyIdentifier(key) => key.put(w),
+            Self::IssuerAndSerialNumber(certificate) => task.run_on(certificate),
+            Self::SubjectKeyIdentifier(key) => task.run_on(key),
         }
     }
 
-    fn well_formed_at(&self, limit: u8) -> bool {
-        match self {
-            SignerIdentifier::IssuerAndSerialNumber(certificate) => {
-                certificate.well_formed_at(limit)
-            }
-            SignerIdentifier::SubjectKeyIdentifier(key) => key.well_formed_at(limit),
-        }
-    }
-}
-
-impl DerDeserialize for SignerIdentifier {
-    fn read(alloc: Global, r: &mut Reader<'_>, nest: u8) -> Result<Self, Error> {
+    fn read_encoded(alloc: Global, r: &mut Reader<'_>, nest: u8) -> Result<Self, Error> {
         match Either::read_one(alloc, r, nest)? {
-            Either::First(certificate) => Ok(SignerIdentifier::IssuerAndSerialNumber(certificate)),
-            Either::Second(key) => Ok(SignerIdentifier::SubjectKeyIdentifier(key)),
+            Either::First(certificate) => Ok(Self::IssuerAndSerialNumber(certificate)),
+            Either::Second(key) => Ok(Self::SubjectKeyIdentifier(key)),
         }
     }
 
-    ghost lawful = { lawful_signer_id };
-}
-
-impl EqualByText for SignerIdentifier {
-    ghost equal_by_text = { signer_id_equal };
-}
-
-impl TryClone for SignerIdentifier {
-    fn try_clone(&self, alloc: Global) -> Result<Self, Error> {
+    fn clone_value(&self, alloc: Global) -> Result<Self, Error> {
         match self {
-            SignerIdentifier::IssuerAndSerialNumber(certificate) => {
-                let certificate = certificate.try_clone(alloc)?;
-                Ok(SignerIdentifier::IssuerAndSerialNumber(certificate))
+            Self::IssuerAndSerialNumber(certificate) => {
+                Ok(Self::IssuerAndSerialNumber(certificate.try_clone(alloc)?))
             }
-            SignerIdentifier::SubjectKeyIdentifier(key) => {
-                Ok(SignerIdentifier::SubjectKeyIdentifier(key.try_clone(alloc)?))
+            Self::SubjectKeyIdentifier(key) => {
+                Ok(Self::SubjectKeyIdentifier(key.try_clone(alloc)?))
             }
         }
     }
+
+    ghost equal = { signer_identifier_equal };
 }
 
 /// `SignatureValue ::= OCTET STRING`
 #[derive(Debug, Drop, PartialEq, Eq)]
 pub struct SignatureValue(pub OctetStringAsn1);
 
-impl DerSerialize for SignatureValue {
-    ghost Value = { Octets };
+impl Asn1Type for SignatureValue {
+    ghost asn1 = { OCTET_STRING };
 
     ghost value = { λ x. x.0.0.items };
 
-    ghost format = { octet_string };
-
-    fn put<W: Writer>(&self, w: &mut W) -> Result<(), WriteError> {
-        self.0.put(w)
+    fn with_encoded<U: Task>(&self, task: &mut U) -> U::Out {
+        task.run_on(&self.0)
     }
 
-    fn well_formed_at(&self, limit: u8) -> bool {
-        self.0.well_formed_at(limit)
-    }
-}
-
-impl DerDeserialize for SignatureValue {
-    fn read(alloc: Global, r: &mut Reader<'_>, nest: u8) -> Result<Self, Error> {
+    fn read_encoded(alloc: Global, r: &mut Reader<'_>, nest: u8) -> Result<Self, Error> {
         Ok(SignatureValue(OctetStringAsn1::read(alloc, r, nest)?))
     }
 
-    ghost lawful = { lawful_octet_string };
-}
-
-impl EqualByText for SignatureValue {
-    ghost equal_by_text = { λ x y. octets_equal x.0 y.0 };
-}
-
-impl TryClone for SignatureValue {
-    fn try_clone(&self, alloc: Global) -> Result<Self, Error> {
+    fn clone_value(&self, alloc: Global) -> Result<Self, Error> {
         Ok(SignatureValue(self.0.try_clone(alloc)?))
     }
+
+    ghost equal = { λ x y. octets_equal x.0 y.0 };
 }
