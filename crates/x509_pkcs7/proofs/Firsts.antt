@@ -5,7 +5,7 @@ use Rattle.x509_pkcs7.specs.Matches.{IsFirst}
 
 module _ {X V : Type 0} (f : X → V) (xs : List X) (i : ℕ) (x : X) (h : i < length xs) (e : x ≡ get_or xs i x) where
   -- the values from an item on
-  from_here : map f (drop i xs) ≡ f x ∷ map f (drop (i + 1) xs)
+  pub from_here : map f (drop i xs) ≡ f x ∷ map f (drop (i + 1) xs)
   from_here = ap (map f) (drop-cons xs i x h ∙ ap (λ j. get_or xs i x ∷ drop j xs) (sym (add-one i)) ∙ ap (λ y. y ∷ drop (i + 1) xs) (sym e))
 
   module _ (test : V → Bool) (before : find test (map f (drop i xs)) ≡ find test (map f xs)) where

@@ -1,23 +1,23 @@
 -- The extensions of a certificate and the identifier of its key: there is one answer at most.
+use Rattle.asn1_core.specs.Asn1.{SEQUENCE}
 use Rattle.std.specs.Prelude.{◌≡◌, ◌≢◌, ◌↔◌, ℕ, IsTrue, Bool, true, false, List, Option, None, Some, Result, Ok, Err, MatchResult, map}
 use Rattle.std.proofs.Common.{refl, sym, ap, subst, ◌∙◌, inl, inr, true≢false}
 use Rattle.std.proofs.lemmas.Bool.{false_from_ne_true}
 use Rattle.std.proofs.lemmas.Slice.Eq.{bytes_eq-Decides}
 use Rattle.std.specs.List.{find}
 use Rattle.std.specs.Str.{bytes_eq}
-use Rattle.asn1_core.specs.Der.{HasNoValue, octet_string, lawful_octet_string, Octets, ElementOctets}
+use Rattle.asn1_core.specs.Der.{HasNoValue, octet_string, lawful_octet_string, Octets, ElementOctets, IsValueOf, option_value}
 use Rattle.asn1_core_element.specs.declared.error.Error.{Error}
 use Rattle.asn1_core_element.specs.declared.error.Error.TheVariants.{Memory}
-use Rattle.asn1_core.specs.Der.{IsValueOf, option_value}
 use Rattle.asn1_core.specs.declared.implicit.ImplicitContextTag0.{ImplicitContextTag0}
-use Rattle.pkcs7_signed.specs.SignerParts.{SignerIdValue, signer_id_value}
+use Rattle.pkcs7_signed.specs.SignerParts.{signer_identifier, signer_identifier_value}
 use Rattle.pkcs7_signed.specs.declared.parts.signers.SignerIdentifier.{SignerIdentifier}
 use Rattle.pkcs7_signed.specs.declared.parts.signers.SignerIdentifier.TheVariants as By
-use Rattle.x509_base.specs.Extensions.{ExtensionValue, extension_value, extensions_value}
+use Rattle.x509_base.specs.Extensions.{extension, extension_value, extensions_value}
 use Rattle.x509_base.specs.declared.extensions.Extension.{Extension}
 use Rattle.x509_base.specs.declared.extensions.Extensions.{Extensions}
 use Rattle.x509_base.specs.declared.digests.SubjectKeyIdentifier.{SubjectKeyIdentifier}
-use Rattle.x509_pkcs7.specs.Heads.{CertificateValue, certificate}
+use Rattle.x509_pkcs7.specs.Heads.{certificate_head}
 use Rattle.x509_pkcs7.specs.Matches.{IsNamedBy, NeedsExtensions, IsSigners}
 use Rattle.x509_pkcs7.specs.KeyIdentifiers.{explicit_extensions, lawful_explicit_extensions, has_tag, subject_key_identifier_oid, rest_of, AreExtensionsOf, extension_with, IsKeyIdOf, HasExtensions, HasNone, Answers}
 
@@ -39,17 +39,17 @@ pub oid_passed : (a b : List ℕ) → (IsTrue false ↔ (a ≡ b)) → false ≡
 oid_passed a b f = sym (false_from_ne_true (bytes_eq a b) (λ e. true≢false (sym (f.1 ((bytes_eq-Decides a b).0 e)))))
 
 module _ (rest : List ElementOctets) where
-  none_read : (b c : ElementOctets) (e : Error) → find (has_tag 0xA3) rest ≡ Some b → c ≡ b → HasNoValue explicit_extensions 64 c e → e ≢ Memory → (v : Option (List ExtensionValue)) → AreExtensionsOf rest v → ⊥
+  none_read : (b c : ElementOctets) (e : Error) → find (has_tag 0xA3) rest ≡ Some b → c ≡ b → HasNoValue explicit_extensions 64 c e → e ≢ Memory → (v : Option (List extension.Value)) → AreExtensionsOf rest v → ⊥
   none_read b c e f g h m None a = some_none f a
   none_read b c e f g h m (Some es) a = h.none m es (subst (λ x. explicit_extensions.Reads 64 x es) (some_same a.1 f ∙ sym g) a.2)
 
   pub no_extensions : (b c : ElementOctets) (e : Error) → find (has_tag 0xA3) rest ≡ Some b → c ≡ b → HasNoValue explicit_extensions 64 c e → HasNone AreExtensionsOf rest e
   no_extensions b c e f g h = record { there = some_none f; kind = h.kind; none = none_read b c e f g h }
 
-  one_list : (xs ys : List ExtensionValue) → AreExtensionsOf rest (Some xs) → AreExtensionsOf rest (Some ys) → xs ≡ ys
+  one_list : (xs ys : List extension.Value) → AreExtensionsOf rest (Some xs) → AreExtensionsOf rest (Some ys) → xs ≡ ys
   one_list xs ys p q = lawful_explicit_extensions.components.one_value 64 q.0 xs ys (subst (λ b. explicit_extensions.Reads 64 b xs) (some_same p.1 q.1) p.2) q.2
 
-  not_absent : (xs : List ExtensionValue) → AreExtensionsOf rest (Some xs) → AreExtensionsOf rest None → ⊥
+  not_absent : (xs : List extension.Value) → AreExtensionsOf rest (Some xs) → AreExtensionsOf rest None → ⊥
   not_absent xs p n = some_none p.1 n
 
   no_key_of_none : (e : Error) → HasNone AreExtensionsOf rest e → e ≢ Memory → (v : Option Octets) → IsKeyIdOf rest v → ⊥
@@ -61,8 +61,8 @@ module _ (rest : List ElementOctets) where
   no_key_without e h = record { there = h.there; kind = h.kind; none = no_key_of_none e h }
 
   -- the extension with the key's identifier
-  pub record IsKeyExtension (x : ExtensionValue) : Type 0 where
-    pub es : List ExtensionValue
+  pub record IsKeyExtension (x : extension.Value) : Type 0 where
+    pub es : List extension.Value
     pub are : AreExtensionsOf rest (Some es)
     pub first : extension_with subject_key_identifier_oid es ≡ Some x
 
@@ -73,10 +73,10 @@ module _ (rest : List ElementOctets) where
     first = ap (λ ys. extension_with subject_key_identifier_oid (map extension_value ys)) (sym g) ∙ sym f;
   }
 
-  same_first_one : (x : ExtensionValue) (k : IsKeyExtension x) (ys : List ExtensionValue) → AreExtensionsOf rest (Some ys) → extension_with subject_key_identifier_oid ys ≡ Some x
+  same_first_one : (x : extension.Value) (k : IsKeyExtension x) (ys : List extension.Value) → AreExtensionsOf rest (Some ys) → extension_with subject_key_identifier_oid ys ≡ Some x
   same_first_one x k ys b = ap (extension_with subject_key_identifier_oid) (one_list ys k.es b k.are) ∙ k.first
 
-  module _ (x : ExtensionValue) (k : IsKeyExtension x) (c : List ℕ) (g : c ≡ x.1.1.0) where
+  module _ (x : extension.Value) (k : IsKeyExtension x) (c : List ℕ) (g : c ≡ x.1.1.0) where
     no_key_read : (e : Error) → HasNoValue octet_string 64 c e → e ≢ Memory → (v : Option Octets) → IsKeyIdOf rest v → ⊥
     no_key_read e h m None (inl n) = not_absent k.es k.are n
     no_key_read e h m None (inr b) = some_none (same_first_one x k b.0 b.1) b.2
@@ -88,7 +88,7 @@ module _ (rest : List ElementOctets) where
     pub key_in : (key : List ℕ) → octet_string.Reads 64 c key → IsKeyIdOf rest (Some key)
     key_in key r = (k.es, k.are, x, k.first, subst (λ y. octet_string.Reads 64 y key) g r)
 
-  one_key : (v w : Octets) → IsKeyIdOf rest (Some v) → IsKeyIdOf rest (Some w) → v ≡ w
+  pub one_key : (v w : Octets) → IsKeyIdOf rest (Some v) → IsKeyIdOf rest (Some w) → v ≡ w
   one_key v w p q =
       let x : p.2 ≡ q.2 = some_same p.3 (same_first_one q.2 (record { es = q.0; are = q.1; first = q.3 }) p.0 p.1) in
       lawful_octet_string.components.one_value 64 q.2.1.1.0 v w (subst (λ y. octet_string.Reads 64 y.1.1.0 v) x p.4) q.4
@@ -97,7 +97,7 @@ module _ (rest : List ElementOctets) where
   pub same_key : (b : Bool) (own key : Octets) → IsKeyIdOf rest (Some own) → (IsTrue b ↔ (own ≡ key)) → IsTrue b ↔ IsKeyIdOf rest (Some key)
   same_key b own key k f = (λ t. subst (λ y. IsKeyIdOf rest (Some y)) (f.0 t) k, λ q. f.1 (one_key own key k q))
 
-  not_none : (key : Octets) → IsKeyIdOf rest None → IsKeyIdOf rest (Some key) → ⊥
+  pub not_none : (key : Octets) → IsKeyIdOf rest None → IsKeyIdOf rest (Some key) → ⊥
   not_none key (inl n) q = not_absent q.0 q.1 n
   not_none key (inr n) q = some_none (same_first_one q.2 (record { es = q.0; are = q.1; first = q.3 }) n.0 n.1) n.2
 
@@ -110,15 +110,15 @@ not_it P Q (Ok b) e n q m = (λ t. absurd (true≢false (sym t ∙ m.0)), λ p. 
 not_it P Q (Err x) e n q m = subst Q (sym m.0) q
 
 -- a signer that names the identifier of a key
-pub named_by_key : (s : SignerIdentifier) (k : ImplicitContextTag0 SubjectKeyIdentifier) (v : CertificateValue) (r : Result Bool Error) → s ≡ By.SubjectKeyIdentifier k → MatchResult r (λ b. IsTrue b ↔ IsKeyIdOf (rest_of v) (Some k.0.0.0.items)) (λ e. (e ≡ Memory) × HasExtensions (rest_of v)) → MatchResult r (λ b. IsTrue b ↔ IsNamedBy (signer_id_value s) v) (λ e. (e ≡ Memory) × NeedsExtensions (signer_id_value s) v)
-named_by_key s k v r e m = subst (λ x. MatchResult r (λ b. IsTrue b ↔ IsNamedBy (signer_id_value x) v) (λ y. (y ≡ Memory) × NeedsExtensions (signer_id_value x) v)) (sym e) m
+pub named_by_key : (s : SignerIdentifier) (k : ImplicitContextTag0 SubjectKeyIdentifier) (v : certificate_head.Value) (r : Result Bool Error) → s ≡ By.SubjectKeyIdentifier k → MatchResult r (λ b. IsTrue b ↔ IsKeyIdOf (rest_of v) (Some k.0.0.0.items)) (λ e. (e ≡ Memory) × HasExtensions (rest_of v)) → MatchResult r (λ b. IsTrue b ↔ IsNamedBy (signer_identifier_value s) v) (λ e. (e ≡ Memory) × NeedsExtensions (signer_identifier_value s) v)
+named_by_key s k v r e m = subst (λ x. MatchResult r (λ b. IsTrue b ↔ IsNamedBy (signer_identifier_value x) v) (λ y. (y ≡ Memory) × NeedsExtensions (signer_identifier_value x) v)) (sym e) m
 
 -- an element that was read is a signer's where what was read is
-pub signers_if_named : (id : SignerIdValue) (b : List ℕ) (v : CertificateValue) (r : Result Bool Error) → IsValueOf certificate 64 b v → MatchResult r (λ t. IsTrue t ↔ IsNamedBy id v) (λ e. (e ≡ Memory) × NeedsExtensions id v) → MatchResult r (λ t. IsTrue t ↔ IsSigners id b) (λ e. e ≡ Memory)
+pub signers_if_named : (id : signer_identifier.Value) (b : List ℕ) (v : certificate_head.Value) (r : Result Bool Error) → IsValueOf (SEQUENCE certificate_head).format 64 b v → MatchResult r (λ t. IsTrue t ↔ IsNamedBy id v) (λ e. (e ≡ Memory) × NeedsExtensions id v) → MatchResult r (λ t. IsTrue t ↔ IsSigners id b) (λ e. e ≡ Memory)
 signers_if_named id b v (Ok t) o m = (λ h. (v, o.reads, m.0 h), λ s. m.1 (subst (IsNamedBy id) (o.only s.0 s.1) s.2))
 signers_if_named id b v (Err e) o m = m.0
 
-pub not_signers : (id : SignerIdValue) (b : List ℕ) (r : Result Bool Error) (e : Error) → HasNoValue certificate 64 b e → MatchResult r (λ t. (t ≡ false) × (e ≢ Memory)) (λ x. (x ≡ Memory) × (e ≡ Memory)) → MatchResult r (λ t. IsTrue t ↔ IsSigners id b) (λ x. x ≡ Memory)
+pub not_signers : (id : signer_identifier.Value) (b : List ℕ) (r : Result Bool Error) (e : Error) → HasNoValue (SEQUENCE certificate_head).format 64 b e → MatchResult r (λ t. (t ≡ false) × (e ≢ Memory)) (λ x. (x ≡ Memory) × (e ≡ Memory)) → MatchResult r (λ t. IsTrue t ↔ IsSigners id b) (λ x. x ≡ Memory)
 not_signers id b r e h m = not_it (IsSigners id b) (λ x. x ≡ Memory) r e (λ n s. h.none n s.0 s.1) refl m
 
 pub not_key : (rest : List ElementOctets) (key : Octets) (r : Result Bool Error) (e : Error) → HasNone IsKeyIdOf rest e → MatchResult r (λ t. (t ≡ false) × (e ≢ Memory)) (λ x. (x ≡ Memory) × (e ≡ Memory)) → MatchResult r (λ t. IsTrue t ↔ IsKeyIdOf rest (Some key)) (λ x. (x ≡ Memory) × HasExtensions rest)

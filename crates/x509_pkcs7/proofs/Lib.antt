@@ -1,3 +1,6 @@
 pub mod Firsts
 pub mod KeyIds
 pub mod NotEmpty
+pub mod Elements
+pub mod AllFirsts
+pub mod SomeValues

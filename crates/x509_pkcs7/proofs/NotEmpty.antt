@@ -13,10 +13,10 @@ has_item [] i h e = omega (arith, h)
 has_item (x ∷ xs) i h e = cc
 
 -- where all pieces together are empty, each is
-piece_empty : {X Y : Type 0} (f : X → List Y) (xs : List X) (i : ℕ) (x : X) → i < length xs → x ≡ get_or xs i x → flat_map f xs ≡ [] → f x ≡ []
+pub piece_empty : {X Y : Type 0} (f : X → List Y) (xs : List X) (i : ℕ) (x : X) → i < length xs → x ≡ get_or xs i x → flat_map f xs ≡ [] → f x ≡ []
 piece_empty f xs i x h g e = nil_from_length (f x) (omega (arith, length-flat_map-take f xs i x h, ap (λ y. length (f y)) g, ap length e))
 
-map_empty : {X Y : Type 0} (f : X → Y) (xs : List X) → map f xs ≡ [] → xs ≡ []
+pub map_empty : {X Y : Type 0} (f : X → Y) (xs : List X) → map f xs ≡ [] → xs ≡ []
 map_empty f xs e = nil_from_length xs (omega (arith, length-map xs f, ap length e))
 
 -- an attribute that has nested signatures, among all

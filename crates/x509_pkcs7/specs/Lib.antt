@@ -1,12 +1,11 @@
+pub mod Versions
 pub mod ContentInfos
 pub mod Recipients
 pub mod Enveloped
 pub mod Descriptors
-pub mod Equal
 pub mod RawContents
 pub mod RawSigners
 pub mod RawSigned
-pub mod RawEqual
 pub mod Heads
 pub mod KeyIdentifiers
 pub mod Matches
@@ -14,3 +13,6 @@ pub mod Hashed
 pub mod TimeStamps
 pub mod Nested
 pub mod Pages
+pub mod RawHashed
+pub mod RawAttributes
+pub mod AllSigners

@@ -6,15 +6,15 @@ use Rattle.std.specs.Int.{from_le_bytes, w32}
 use Rattle.std.specs.Str.{bytes_eq}
 use Rattle.asn1_core.specs.Asn1.{Contents, contents, ◌then◌, end, OBJECT_IDENTIFIER, OCTET_STRING, SET_OF}
 use Rattle.asn1_core.specs.Der.{octets_of, arcs, der_equal, SeesEqual, Octets, OidOctets}
-use Rattle.x509_base.specs.SpcLinks.{LinkValue}
+use Rattle.x509_base.specs.SpcLinks.{spc_link}
 use Rattle.x509_base.specs.SpcObjects.{page_hash_class}
 use Rattle.x509_pkcs7.specs.declared.verifier.pages.PageHashes.{PageHashes}
 use Rattle.x509_pkcs7.specs.contracts.verifier.pages.PageHashesPartialEq.TheImpl as PagesEq
 
-abbrev pub page_hashes_contents : Contents
-page_hashes_contents = contents (OBJECT_IDENTIFIER then SET_OF OCTET_STRING then end) refl
+abbrev pub page_hashes : Contents
+page_hashes = contents (OBJECT_IDENTIFIER then SET_OF OCTET_STRING then end) refl
 
-abbrev pub page_hashes_value : PageHashes → page_hashes_contents.Value
+abbrev pub page_hashes_value : PageHashes → page_hashes.Value
 page_hashes_value x = (octets_of x.ty.0, (map (λ o. o.0.items) x.value.0.items, tt))
 
 pub page_hashes_equal : SeesEqual PagesEq.ghosts.eq page_hashes_value
@@ -25,7 +25,7 @@ abbrev pub page_hashes_in : Octets → Octets → Option Octets
 page_hashes_in class octets = if bytes_eq class page_hash_class then Some octets else None
 
 -- the same of the object that a link is
-abbrev pub page_hashes_linked : LinkValue → Option Octets
+abbrev pub page_hashes_linked : spc_link.Value → Option Octets
 page_hashes_linked (inl url) = None
 page_hashes_linked (inr (inl object)) = page_hashes_in object.0 object.1.0
 page_hashes_linked (inr (inr file)) = None
@@ -53,5 +53,5 @@ entry_of_first None tables i = None
 entry_of_first (Some n) [] i = None
 entry_of_first (Some n) (table ∷ more) i = entry_in n table i
 
-abbrev pub entry_of : page_hashes_contents.Value → ℕ → Option (ℕ × Octets)
+abbrev pub entry_of : page_hashes.Value → ℕ → Option (ℕ × Octets)
 entry_of v i = entry_of_first (digest_len_of v.0) v.1.0 i

@@ -3,16 +3,26 @@
 --   RevocationInfoChoices OPTIONAL, signerInfos SignerInfos } (RFC 5652, 5.1), over the signers' format
 -- ContentInfo ::= SEQUENCE { contentType ContentType, content [0] EXPLICIT ANY DEFINED BY contentType } (RFC 5652, 3)
 --   of id-signedData
-use Rattle.std.specs.Prelude.{ℕ, List, [], ◌∷◌, Option, map}
-use Rattle.std.proofs.Common.{arith, refl}
-use Rattle.asn1_core.specs.Der.{Format, IsLawful, IsLawfulComponents, sequence, part, optional, nothing, number_below, set_of, explicit, implicit_set, raw, only_oid, arcs, option_value, ElementOctets, omitted, is_default, lawful_sequence, followed_by, perhaps, lawful_number, lawful_nothing, lawful_set, lawful_explicit, lawful_implicit_set, lawful_only_oid, lawful_raw, unless}
+use Rattle.asn1_core.specs.Asn1.{SEQUENCE}
+use Rattle.std.specs.Prelude.{ℕ, List, [], ◌∷◌, Option, map, ◌≡◌, ◌↔◌, ◌&&◌, Bool, true}
+use Rattle.std.proofs.Common.{arith, refl, ap}
+use Rattle.asn1_core.specs.Der.{Format, IsLawful, IsLawfulComponents, sequence, part, optional, nothing, number_below, set_of, explicit, implicit_set, raw, only_oid, arcs, option_value, ElementOctets, omitted, is_default, lawful_sequence, followed_by, perhaps, lawful_number, lawful_nothing, lawful_set, lawful_explicit, lawful_implicit_set, lawful_only_oid, lawful_raw, unless, SeesEqual, der_equal, two_equal, with_end, list_equal, option_equal}
 use Rattle.pkcs7_content.specs.Versions.{number_of}
-use Rattle.pkcs7_signed.specs.Algorithms.{algorithms_value, algorithms, lawful_algorithms}
-use Rattle.pkcs7_signed.specs.Certificates.{CertificateValue, certificates_value, certificate_set, lawful_certificate_set, no_certificates, no_certificates_left_out}
-use Rattle.x509_base.specs.Algorithms.{AlgorithmValue}
-use Rattle.x509_pkcs7.specs.RawContents.{raw_encapsulated_contents, raw_encapsulated_value, raw_encapsulated, lawful_raw_encapsulated}
+use Rattle.pkcs7_signed.specs.Algorithms.{digest_algorithm_identifiers_value, digest_algorithm_identifiers}
+use Rattle.pkcs7_signed.specs.Certificates.{certificate_choices, certificate_set_value, certificate_set, no_certificates, no_certificates_left_out}
+use Rattle.x509_base.specs.Algorithms.{algorithm_identifier}
+use Rattle.x509_pkcs7.specs.RawContents.{raw_encapsulated_content_info, raw_encapsulated_content_info_value, raw_encapsulated_equal}
 use Rattle.x509_pkcs7.specs.declared.raw_signed.RawSignedData.{RawSignedData}
 use Rattle.x509_pkcs7.specs.declared.raw_signed.RawRevocationInfoChoices.{RawRevocationInfoChoices}
+use Rattle.std.specs.Option.{option_eq}
+use lib.Pointwise.{pointwise}
+use Rattle.pkcs7_signed.specs.PartsEqual.{digest_algorithm_identifiers_equal, certificate_set_equal}
+use Rattle.x509_pkcs7.specs.Versions.{version_equal}
+use Rattle.pkcs7_content.specs.contracts.versions.CmsVersionPartialEq.TheImpl as Version
+use Rattle.pkcs7_signed.specs.contracts.parts.algorithms.DigestAlgorithmIdentifiersPartialEq.TheImpl as Algorithms
+use Rattle.x509_pkcs7.specs.contracts.raw_contents.RawEncapsulatedContentInfoPartialEq.TheImpl as Encapsulated
+use Rattle.pkcs7_signed.specs.contracts.parts.certificates.CertificateSetPartialEq.TheImpl as Certificates
+use Rattle.x509_pkcs7.specs.contracts.raw_signed.RawRevocationInfoChoicesPartialEq.TheImpl as Revocations
 
 abbrev pub raw_revocations_value : RawRevocationInfoChoices → List ElementOctets
 raw_revocations_value x = map (λ e. e.0.items) x.0.items
@@ -25,37 +35,37 @@ lawful_raw_revocations = lawful_implicit_set (omega arith) lawful_raw
 
 -- what follows the content
 abbrev pub SetsValue : Type 0 → Type 0
-SetsValue V = List CertificateValue × (Option (List ElementOctets) × (List V × Unit {0}))
+SetsValue V = List certificate_choices.Value × (Option (List ElementOctets) × (List V × Unit {0}))
 
 abbrev pub RawSignedValue : Type 0 → Type 0
-RawSignedValue V = ℕ × (List AlgorithmValue × (raw_encapsulated_contents.Value × SetsValue V))
+RawSignedValue V = ℕ × (List algorithm_identifier.Value × (raw_encapsulated_content_info.Value × SetsValue V))
 
 abbrev pub raw_signed_value : {S V : Type 0} → (S → V) → RawSignedData S → RawSignedValue V
 raw_signed_value value x = (
   number_of x.version,
   (
-    algorithms_value x.digest_algorithms,
+    digest_algorithm_identifiers_value x.digest_algorithms,
     (
-      raw_encapsulated_value x.content_info,
-      (certificates_value x.certificates.0, (option_value raw_revocations_value x.crls, (map value x.signers_infos.0.0.items, tt))),
+      raw_encapsulated_content_info_value x.content_info,
+      (certificate_set_value x.certificates.0, (option_value raw_revocations_value x.crls, (map value x.signers_infos.0.0.items, tt))),
     ),
   ),
 )
 
 module _ {V : Type 0} where
   abbrev pub sets_components : Format V → Format (SetsValue V)
-  sets_components F = omitted (is_default certificate_set no_certificates) no_certificates certificate_set (optional raw_revocations (part (set_of F) nothing))
+  sets_components F = omitted (is_default certificate_set.format no_certificates) no_certificates certificate_set.format (optional raw_revocations (part (set_of F) nothing))
 
   abbrev pub raw_signed : Format V → Format (RawSignedValue V)
-  raw_signed F = sequence (part (number_below 6) (part algorithms (part raw_encapsulated (sets_components F))))
+  raw_signed F = sequence (part (number_below 6) (part digest_algorithm_identifiers.format (part (SEQUENCE raw_encapsulated_content_info).format (sets_components F))))
 
   lawful_sets_components : (F : Format V) → IsLawful F → IsLawfulComponents (sets_components F)
   lawful_sets_components F f =
-      unless lawful_certificate_set no_certificates_left_out refl
+      unless certificate_set.law no_certificates_left_out refl
       (perhaps lawful_raw_revocations refl (followed_by (lawful_set F f) lawful_nothing))
 
   pub lawful_raw_signed : (F : Format V) → IsLawful F → IsLawful (raw_signed F)
-  lawful_raw_signed F f = lawful_sequence (followed_by (lawful_number 6) (followed_by lawful_algorithms (followed_by lawful_raw_encapsulated (lawful_sets_components F f))))
+  lawful_raw_signed F f = lawful_sequence (followed_by (lawful_number 6) (followed_by digest_algorithm_identifiers.law (followed_by (SEQUENCE raw_encapsulated_content_info).law (lawful_sets_components F f))))
 
 -- id-signedData (RFC 5652, 5.1)
 abbrev pub signed_data_oid : List ℕ
@@ -69,3 +79,26 @@ raw_certificate F = sequence (part (only_oid signed_data_oid) (part (explicit 0 
 
 pub lawful_raw_certificate : {V : Type 0} (F : Format V) → IsLawful F → IsLawful (raw_certificate F)
 lawful_raw_certificate F f = lawful_sequence (followed_by (lawful_only_oid signed_data_oid) (followed_by (lawful_explicit (omega arith) (lawful_raw_signed F f)) lawful_nothing))
+
+pub raw_revocations_equal : SeesEqual Revocations.ghosts.eq raw_revocations_value
+raw_revocations_equal x y = search der_equal depth 20
+
+-- over the test and the value of signers
+abbrev pub signed_test : {S : Type 0} → (S → S → Bool) → RawSignedData S → RawSignedData S → Bool
+signed_test eq x y =
+    Version.ghosts.eq x.version y.version && (Algorithms.ghosts.eq x.digest_algorithms y.digest_algorithms
+    && (Encapsulated.ghosts.eq x.content_info y.content_info && (Certificates.ghosts.eq x.certificates.0 y.certificates.0
+    && (option_eq Revocations.ghosts.eq x.crls y.crls && pointwise eq x.signers_infos.0.0.items y.signers_infos.0.0.items))))
+
+pub raw_signed_equal : {S V : Type 0} (eq : S → S → Bool) (value : S → V) → SeesEqual eq value → SeesEqual (signed_test eq) (raw_signed_value value)
+raw_signed_equal eq value same x y =
+    two_equal (version_equal x.version y.version)
+    (two_equal (digest_algorithm_identifiers_equal x.digest_algorithms y.digest_algorithms)
+    (two_equal (raw_encapsulated_equal x.content_info y.content_info)
+    (two_equal (certificate_set_equal x.certificates.0 y.certificates.0)
+    (two_equal (option_equal _ raw_revocations_value raw_revocations_equal x.crls y.crls)
+    (with_end (list_equal eq value same x.signers_infos.0.0.items y.signers_infos.0.0.items))))))
+
+-- after a field that is always the same
+pub with_head : {A B : Type 0} {p : Bool} {c : A} {b d : B} → (p ≡ true) ↔ (b ≡ d) → (p ≡ true) ↔ (◌≡◌ {A = A × B} (c, b) (c, d))
+with_head {A} {B} {p} {c} f = (λ e. ap (λ x. (c, x)) (f.0 e), λ e. f.1 (ap (λ x. x.1) e))

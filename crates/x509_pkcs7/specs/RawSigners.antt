@@ -1,58 +1,76 @@
 -- UnsignedAttributes ::= SET SIZE (1..MAX) OF Attribute (RFC 5652, 5.3)
 use Rattle.std.specs.Prelude.{ℕ, List, [], map}
 use Rattle.std.proofs.Common.{arith, refl}
-use Rattle.asn1_core.specs.Asn1.{asn1, Asn1Default, Contents, contents, ◌then◌, ◌DEFAULT◌, end, INTEGER_BELOW, OCTET_STRING}
-use Rattle.asn1_core.specs.Der.{Format, IsLawful, is_default, IsDefault, element, empty_left_out, implicit_set, lawful_implicit_set}
+use Rattle.asn1_core.specs.Asn1.{asn1, Asn1Default, Contents, contents, ◌then◌, ◌DEFAULT◌, end, INTEGER_BELOW, OCTET_STRING, SEQUENCE}
+use Rattle.asn1_core.specs.Der.{Format, IsLawful, is_default, IsDefault, element, empty_left_out, implicit_set, lawful_implicit_set, SeesEqual, der_equal, two_equal, with_end, octets_equal}
 use Rattle.pkcs7_content.specs.Versions.{number_of}
 use Rattle.pkcs7_attributes.specs.Attributes.{attributes_value, lawful_attributes, no_attributes, no_attributes_left_out}
-use Rattle.pkcs7_signed.specs.SignerParts.{signer_id_value, lawful_signer_id}
-use Rattle.x509_base.specs.AlgorithmLaws.{lawful_algorithm_identifier}
-use Rattle.x509_base.specs.AlgorithmParts.{algorithm_value}
-use Rattle.x509_base.specs.Names.{AttributeValue, attribute_value, attribute, lawful_attribute}
+use Rattle.pkcs7_signed.specs.SignerParts.{signer_identifier_value, signer_identifier}
+use Rattle.x509_base.specs.AlgorithmLaws.{algorithm_identifier}
+use Rattle.x509_base.specs.AlgorithmParts.{algorithm_identifier_value, algorithm_identifier_equal}
+use Rattle.x509_base.specs.Names.{attribute, attribute_value, attribute_equal}
 use Rattle.x509_pkcs7.specs.declared.raw_signers.RawSignerInfo.{RawSignerInfo}
 use Rattle.x509_pkcs7.specs.declared.raw_signers.RawUnsignedAttributes.{RawUnsignedAttributes}
+use Rattle.pkcs7_attributes.specs.Equal.{attributes_equal}
+use Rattle.pkcs7_signed.specs.PartsEqual.{signer_identifier_equal}
+use Rattle.x509_pkcs7.specs.Versions.{version_equal}
+use Rattle.x509_pkcs7.specs.contracts.raw_signers.RawUnsignedAttributesPartialEq.TheImpl as Unsigned
+use Rattle.x509_pkcs7.specs.contracts.raw_signers.RawSignerInfoPartialEq.TheImpl as Signer
 
-abbrev pub unsigned_attributes_value : RawUnsignedAttributes → List AttributeValue
+abbrev pub unsigned_attributes_value : RawUnsignedAttributes → List attribute.Value
 unsigned_attributes_value x = map attribute_value x.0.items
 
-abbrev pub unsigned_attributes : Format (List AttributeValue)
-unsigned_attributes = implicit_set 1 attribute
+abbrev pub unsigned_attributes : Format (List attribute.Value)
+unsigned_attributes = implicit_set 1 (SEQUENCE attribute).format
 
 pub lawful_unsigned_attributes : IsLawful unsigned_attributes
-lawful_unsigned_attributes = lawful_implicit_set (omega arith) lawful_attribute
+lawful_unsigned_attributes = lawful_implicit_set (omega arith) (SEQUENCE attribute).law
 
 -- the empty set, which is left out
 abbrev pub no_unsigned_attributes : List ℕ
 no_unsigned_attributes = element 0xA1 []
 
 pub no_unsigned_attributes_left_out : IsDefault (is_default unsigned_attributes no_unsigned_attributes) no_unsigned_attributes unsigned_attributes
-no_unsigned_attributes_left_out = empty_left_out 0xA1 (omega arith) attribute lawful_attribute
+no_unsigned_attributes_left_out = empty_left_out 0xA1 (omega arith) (SEQUENCE attribute).format (SEQUENCE attribute).law
 
 abbrev pub SIGNED_ATTRIBUTES : Asn1Default
-SIGNED_ATTRIBUTES = record { type = asn1 lawful_attributes; text = no_attributes; left_out = no_attributes_left_out }
+SIGNED_ATTRIBUTES = record { type = asn1 lawful_attributes; text = no_attributes; inside = 0; left_out = no_attributes_left_out }
 
 abbrev pub UNSIGNED_ATTRIBUTES : Asn1Default
-UNSIGNED_ATTRIBUTES = record { type = asn1 lawful_unsigned_attributes; text = no_unsigned_attributes; left_out = no_unsigned_attributes_left_out }
+UNSIGNED_ATTRIBUTES = record { type = asn1 lawful_unsigned_attributes; text = no_unsigned_attributes; inside = 0; left_out = no_unsigned_attributes_left_out }
 
 -- SignerInfo ::= SEQUENCE { version CMSVersion, sid SignerIdentifier, digestAlgorithm DigestAlgorithmIdentifier,
 --   signedAttrs [0] IMPLICIT SignedAttributes OPTIONAL, signatureAlgorithm SignatureAlgorithmIdentifier, signature
 --   SignatureValue, unsignedAttrs [1] IMPLICIT UnsignedAttributes OPTIONAL }, an empty set being left out
-abbrev pub raw_signer_contents : Contents
-raw_signer_contents =
-    contents (INTEGER_BELOW 6 then asn1 lawful_signer_id then asn1 lawful_algorithm_identifier then SIGNED_ATTRIBUTES DEFAULT
-    asn1 lawful_algorithm_identifier then OCTET_STRING then UNSIGNED_ATTRIBUTES DEFAULT end) refl
+abbrev pub raw_signer_info : Contents
+raw_signer_info =
+    contents (INTEGER_BELOW 6 then signer_identifier then SEQUENCE algorithm_identifier then SIGNED_ATTRIBUTES DEFAULT
+    SEQUENCE algorithm_identifier then OCTET_STRING then UNSIGNED_ATTRIBUTES DEFAULT end) refl
 
-abbrev pub raw_signer_value : RawSignerInfo → raw_signer_contents.Value
-raw_signer_value x = (
+abbrev pub raw_signer_info_value : RawSignerInfo → raw_signer_info.Value
+raw_signer_info_value x = (
   number_of x.version,
   (
-    signer_id_value x.sid,
+    signer_identifier_value x.sid,
     (
-      algorithm_value x.digest_algorithm.0,
+      algorithm_identifier_value x.digest_algorithm.0,
       (
         attributes_value x.signed_attrs.0,
-        (algorithm_value x.signature_algorithm.0, (x.signature.0.0.items, (unsigned_attributes_value x.unsigned_attrs.0, tt))),
+        (algorithm_identifier_value x.signature_algorithm.0, (x.signature.0.0.items, (unsigned_attributes_value x.unsigned_attrs.0, tt))),
       ),
     ),
   ),
 )
+
+pub unsigned_attributes_equal : SeesEqual Unsigned.ghosts.eq unsigned_attributes_value
+unsigned_attributes_equal x y = search (der_equal, attribute_equal) depth 20
+
+pub raw_signer_equal : SeesEqual Signer.ghosts.eq raw_signer_info_value
+raw_signer_equal x y =
+    two_equal (version_equal x.version y.version)
+    (two_equal (signer_identifier_equal x.sid y.sid)
+    (two_equal (algorithm_identifier_equal x.digest_algorithm.0 y.digest_algorithm.0)
+    (two_equal (attributes_equal x.signed_attrs.0 y.signed_attrs.0)
+    (two_equal (algorithm_identifier_equal x.signature_algorithm.0 y.signature_algorithm.0)
+    (two_equal (octets_equal x.signature.0 y.signature.0)
+    (with_end (unsigned_attributes_equal x.unsigned_attrs.0 y.unsigned_attrs.0)))))))

@@ -2,8 +2,7 @@
 
 ghost use Rattle.std.specs.Prelude.{◌≡◌};
 ghost use Rattle.asn1_core.specs.Der.{AnswersInput};
-ghost use Rattle.x509_pkcs7.specs.ContentInfos.{content_info_contents, content_info_value};
-ghost use Rattle.x509_pkcs7.specs.Equal.{content_info_equal};
+ghost use Rattle.x509_pkcs7.specs.ContentInfos.{content_info, content_info_value, content_info_equal};
 
 use asn1_core::from_bytes;
 use asn1_core::prelude::*;
@@ -38,7 +37,7 @@ impl ContentInfo {
 }
 
 impl Sequence for ContentInfo {
-    ghost asn1 = { content_info_contents };
+    ghost asn1 = { content_info };
 
     ghost value = { content_info_value };
 

@@ -1,7 +1,6 @@
 //! Protection descriptors: to whom data are protected (MS-GKDI, DPAPI-NG).
 
-ghost use Rattle.x509_pkcs7.specs.Descriptors.{descriptor_contents, descriptor_value, general_descriptor_contents, general_descriptor_value};
-ghost use Rattle.x509_pkcs7.specs.Equal.{descriptor_equal, general_descriptor_equal};
+ghost use Rattle.x509_pkcs7.specs.Descriptors.{protection_descriptor, protection_descriptor_value, general_protection_descriptor, general_protection_descriptor_value, descriptor_equal, general_descriptor_equal};
 
 use asn1_core::prelude::*;
 use asn1_leaves::Utf8StringAsn1;
@@ -16,9 +15,9 @@ pub struct ProtectionDescriptor {
 }
 
 impl Sequence for ProtectionDescriptor {
-    ghost asn1 = { descriptor_contents };
+    ghost asn1 = { protection_descriptor };
 
-    ghost value = { descriptor_value };
+    ghost value = { protection_descriptor_value };
 
     fn with_components<U: Task>(&self, task: &mut U) -> U::Out {
         with_components_of!(self, task; ProtectionDescriptor { descriptor_type, descriptor_value })
@@ -44,9 +43,9 @@ pub struct GeneralProtectionDescriptor {
 }
 
 impl Sequence for GeneralProtectionDescriptor {
-    ghost asn1 = { general_descriptor_contents };
+    ghost asn1 = { general_protection_descriptor };
 
-    ghost value = { general_descriptor_value };
+    ghost value = { general_protection_descriptor_value };
 
     fn with_components<U: Task>(&self, task: &mut U) -> U::Out {
         with_components_of!(self, task; GeneralProtectionDescriptor { descriptor_type, descriptors })

@@ -2,10 +2,9 @@
 
 ghost use Rattle.std.specs.Prelude.{map};
 ghost use Rattle.asn1_core.specs.Der.{list_equal, option_equal, two_equal, with_end};
-ghost use Rattle.x509_base.specs.Equal.{attribute_equal};
-ghost use Rattle.x509_base.specs.Names.{attribute_value};
-ghost use Rattle.x509_pkcs7.specs.Enveloped.{encrypted_content_contents, encrypted_content_value, originator_contents, originator_value, EnvelopedValue, enveloped_value, enveloped, lawful_enveloped};
-ghost use Rattle.x509_pkcs7.specs.Equal.{version_equal, encrypted_content_equal, originator_equal};
+ghost use Rattle.x509_base.specs.Names.{attribute_equal, attribute_value};
+ghost use Rattle.x509_pkcs7.specs.Enveloped.{encrypted_content_info, encrypted_content_info_value, originator_info, originator_info_value, EnvelopedValue, enveloped_value, enveloped, lawful_enveloped, encrypted_content_equal, originator_equal};
+ghost use Rattle.x509_pkcs7.specs.Versions.{version_equal};
 
 use crate::contents::ContentType;
 use crate::recipients::RecipientInfo;
@@ -38,9 +37,9 @@ pub struct EncryptedContentInfo {
 }
 
 impl Sequence for EncryptedContentInfo {
-    ghost asn1 = { encrypted_content_contents };
+    ghost asn1 = { encrypted_content_info };
 
-    ghost value = { encrypted_content_value };
+    ghost value = { encrypted_content_info_value };
 
     fn with_components<U: Task>(&self, task: &mut U) -> U::Out {
         let content = MaybeRef(&self.encrypted_content.0, End);
@@ -77,9 +76,9 @@ pub struct OriginatorInfo {
 }
 
 impl Sequence for OriginatorInfo {
-    ghost asn1 = { originator_contents };
+    ghost asn1 = { originator_info };
 
-    ghost value = { originator_value };
+    ghost value = { originator_info_value };
 
     fn with_components<U: Task>(&self, task: &mut U) -> U::Out {
         task.run(&MaybeRef(&self.certs.0, MaybeRef(&self.crls.0, End)))
@@ -160,7 +159,7 @@ impl<R: DerDeserialize> DerDeserialize for EnvelopedData<R> {
 impl<R: EqualByText> EqualByText for EnvelopedData<R> {
     ghost equal_by_text = { λ x y.
         two_equal (version_equal x.version y.version)
-        (two_equal (option_equal _ (λ o. originator_value o.0) (λ a b. originator_equal a.0 b.0) x.originator_info.0 y.originator_info.0)
+        (two_equal (option_equal _ (λ o. originator_info_value o.0) (λ a b. originator_equal a.0 b.0) x.originator_info.0 y.originator_info.0)
         (two_equal (list_equal R.eq R.DerSerialize.value R.equal_by_text x.recipient_infos.0.items y.recipient_infos.0.items)
         (two_equal (encrypted_content_equal x.encrypted_content_info y.encrypted_content_info)
         (with_end (option_equal _ (λ a. map attribute_value a.0.0.items) (λ a b. list_equal _ _ attribute_equal a.0.0.items b.0.0.items) x.unprotected_attrs.0 y.unprotected_attrs.0))))) };

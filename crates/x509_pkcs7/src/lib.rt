@@ -46,6 +46,7 @@ pub use recipients::{
 };
 pub use verifier::{
     Accuracy, CertificateHead, GenTime, PageHashes, TbsCertificateHead, TimeStampAuthority,
-    TimeStampExtensions, TstInfo, certificate_element, certificates, first_extension,
-    hashed_octets, nested_signatures, page_hash_octets, signer_certificate, signers,
+    TimeStampExtensions, TstInfo, attribute_values, certificate_element, certificates,
+    first_extension, hashed_octets, nested_signatures, page_hash_octets, signer_certificate,
+    signer_certificates, signers,
 };

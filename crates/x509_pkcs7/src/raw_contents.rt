@@ -2,8 +2,7 @@
 
 ghost use Rattle.std.specs.Prelude.{◌≡◌};
 ghost use Rattle.asn1_core.specs.Der.{option_value};
-ghost use Rattle.x509_pkcs7.specs.RawContents.{raw_encapsulated_contents, raw_encapsulated_value, AnswersContent};
-ghost use Rattle.x509_pkcs7.specs.RawEqual.{raw_encapsulated_equal};
+ghost use Rattle.x509_pkcs7.specs.RawContents.{raw_encapsulated_content_info, raw_encapsulated_content_info_value, AnswersContent, raw_encapsulated_equal};
 
 use asn1_core::from_bytes;
 use asn1_core::prelude::*;
@@ -42,9 +41,9 @@ impl RawEncapsulatedContentInfo {
 }
 
 impl Sequence for RawEncapsulatedContentInfo {
-    ghost asn1 = { raw_encapsulated_contents };
+    ghost asn1 = { raw_encapsulated_content_info };
 
-    ghost value = { raw_encapsulated_value };
+    ghost value = { raw_encapsulated_content_info_value };
 
     fn with_components<U: Task>(&self, task: &mut U) -> U::Out {
         with_components_of!(self, task; RawEncapsulatedContentInfo { content_type, content OPTIONAL })

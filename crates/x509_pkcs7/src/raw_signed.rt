@@ -3,8 +3,7 @@
 ghost use Rattle.std.specs.Prelude.{◌≡◌, ℕ, List, map};
 ghost use Rattle.std.proofs.Common.{arith};
 ghost use Rattle.asn1_core.specs.Der.{set_of, lawful_set, list_equal, with_end, kept, only_oid, lawful_only_oid, ElementOctets};
-ghost use Rattle.x509_pkcs7.specs.RawEqual.{raw_revocations_equal, raw_signed_equal, with_head};
-ghost use Rattle.x509_pkcs7.specs.RawSigned.{signed_data_oid, raw_revocations_value, raw_revocations, lawful_raw_revocations, RawSignedValue, raw_signed_value, raw_signed, lawful_raw_signed, RawCertificateValue, raw_certificate, lawful_raw_certificate};
+ghost use Rattle.x509_pkcs7.specs.RawSigned.{signed_data_oid, raw_revocations_value, raw_revocations, lawful_raw_revocations, RawSignedValue, raw_signed_value, raw_signed, lawful_raw_signed, RawCertificateValue, raw_certificate, lawful_raw_certificate, raw_revocations_equal, raw_signed_equal, with_head};
 
 use crate::raw_contents::RawEncapsulatedContentInfo;
 use crate::raw_signers::RawSignerInfo;

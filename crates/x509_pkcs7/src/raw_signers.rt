@@ -1,9 +1,8 @@
 //! Signers of every version, whose unsigned attributes keep their values as they are (RFC 5652, 5.3).
 
 ghost use Rattle.std.specs.Prelude.{List};
-ghost use Rattle.x509_base.specs.Names.{AttributeValue};
-ghost use Rattle.x509_pkcs7.specs.RawSigners.{unsigned_attributes_value, unsigned_attributes, lawful_unsigned_attributes, no_unsigned_attributes, no_unsigned_attributes_left_out, raw_signer_contents, raw_signer_value};
-ghost use Rattle.x509_pkcs7.specs.RawEqual.{unsigned_attributes_equal, raw_signer_equal};
+ghost use Rattle.x509_base.specs.Names.{attribute};
+ghost use Rattle.x509_pkcs7.specs.RawSigners.{unsigned_attributes_value, unsigned_attributes, lawful_unsigned_attributes, no_unsigned_attributes, no_unsigned_attributes_left_out, raw_signer_info, raw_signer_info_value, unsigned_attributes_equal, raw_signer_equal};
 
 use asn1_core::prelude::*;
 use pkcs7_content::CmsVersion;
@@ -20,7 +19,7 @@ use x509_base::Attribute;
 pub struct RawUnsignedAttributes(pub Vec<Attribute>);
 
 impl DerSerialize for RawUnsignedAttributes {
-    ghost Value = { List AttributeValue };
+    ghost Value = { List attribute.Value };
 
     ghost value = { unsigned_attributes_value };
 
@@ -90,9 +89,9 @@ pub struct RawSignerInfo {
 }
 
 impl Sequence for RawSignerInfo {
-    ghost asn1 = { raw_signer_contents };
+    ghost asn1 = { raw_signer_info };
 
-    ghost value = { raw_signer_value };
+    ghost value = { raw_signer_info_value };
 
     fn with_components<U: Task>(&self, task: &mut U) -> U::Out {
         task.run(&body_of!(self;

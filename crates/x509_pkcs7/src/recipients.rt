@@ -1,7 +1,6 @@
 //! Recipients of enveloped data who have a key encryption key (RFC 5652, 6.2.3).
 
-ghost use Rattle.x509_pkcs7.specs.Equal.{other_key_equal, kek_id_equal, kek_recipient_equal, recipient_equal};
-ghost use Rattle.x509_pkcs7.specs.Recipients.{other_key_contents, other_key_value, kek_id_contents, kek_id_value, KekRecipientValue, kek_recipient_contents, kek_recipient_value, recipient_value, recipient, lawful_recipient};
+ghost use Rattle.x509_pkcs7.specs.Recipients.{other_key_attribute, other_key_attribute_value, kek_identifier, kek_identifier_value, kek_recipient_info, kek_recipient_info_value, recipient_info, recipient_info_value, other_key_equal, kek_id_equal, kek_recipient_equal, recipient_equal};
 
 use asn1_core::prelude::*;
 use asn1_leaves::GeneralizedTimeAsn1;
@@ -24,9 +23,9 @@ pub struct OtherKeyAttribute {
 }
 
 impl Sequence for OtherKeyAttribute {
-    ghost asn1 = { other_key_contents };
+    ghost asn1 = { other_key_attribute };
 
-    ghost value = { other_key_value };
+    ghost value = { other_key_attribute_value };
 
     fn with_components<U: Task>(&self, task: &mut U) -> U::Out {
         with_components_of!(self, task; OtherKeyAttribute { key_attr_id, key_attr OPTIONAL })
@@ -53,9 +52,9 @@ pub struct KekIdentifier {
 }
 
 impl Sequence for KekIdentifier {
-    ghost asn1 = { kek_id_contents };
+    ghost asn1 = { kek_identifier };
 
-    ghost value = { kek_id_value };
+    ghost value = { kek_identifier_value };
 
     fn with_components<U: Task>(&self, task: &mut U) -> U::Out {
         let optional = MaybeRef(&self.date.0, MaybeRef(&self.other.0, End));
@@ -91,9 +90,9 @@ pub struct KekRecipientInfo {
 }
 
 impl Sequence for KekRecipientInfo {
-    ghost asn1 = { kek_recipient_contents };
+    ghost asn1 = { kek_recipient_info };
 
-    ghost value = { kek_recipient_value };
+    ghost value = { kek_recipient_info_value };
 
     fn with_components<U: Task>(&self, task: &mut U) -> U::Out {
         with_components_of!(self, task; KekRecipientInfo {
@@ -124,11 +123,11 @@ pub enum RecipientInfo {
 }
 
 impl DerSerialize for RecipientInfo {
-    ghost Value = { KekRecipientValue };
+    ghost Value = { recipient_info.Value };
 
-    ghost value = { recipient_value };
+    ghost value = { recipient_info_value };
 
-    ghost format = { recipient };
+    ghost format = { recipient_info.format };
 
     fn put<W: Writer>(&self, w: &mut W) -> Result<(), WriteError> {
         match self {
@@ -148,7 +147,7 @@ impl DerDeserialize for RecipientInfo {
         Ok(RecipientInfo::Kek(read_retagged(alloc, r, nest, 0xA2)?))
     }
 
-    ghost lawful = { lawful_recipient };
+    ghost lawful = { recipient_info.law };
 }
 
 impl FirstTags for RecipientInfo {

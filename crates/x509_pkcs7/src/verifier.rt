@@ -2,6 +2,7 @@
 //! as they name a signer, and which certificate is a signer's (RFC 5652, 5.3 and 5.4; RFC 5280, 4.1); of Authenticode,
 //! nested signatures and page hashes.
 
+pub mod all_signers;
 pub mod hashed;
 pub mod heads;
 pub mod key_identifiers;
@@ -9,8 +10,11 @@ pub mod matches;
 pub mod nested;
 pub mod pages;
 pub mod parts;
+pub mod raw_attributes;
+pub mod raw_hashed;
 pub mod time_stamps;
 
+pub use all_signers::signer_certificates;
 pub use hashed::hashed_octets;
 pub use heads::{CertificateHead, TbsCertificateHead};
 pub use key_identifiers::first_extension;
@@ -18,4 +22,5 @@ pub use matches::{certificate_element, signer_certificate};
 pub use nested::nested_signatures;
 pub use pages::{PageHashes, page_hash_octets};
 pub use parts::{certificates, signers};
+pub use raw_attributes::attribute_values;
 pub use time_stamps::{Accuracy, GenTime, TimeStampAuthority, TimeStampExtensions, TstInfo};

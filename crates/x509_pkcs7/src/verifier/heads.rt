@@ -2,8 +2,8 @@
 
 ghost use Rattle.std.specs.Prelude.{◌≡◌};
 ghost use Rattle.asn1_core.specs.Der.{option_value};
-ghost use Rattle.x509_base.specs.Versions.{number_of};
-ghost use Rattle.x509_pkcs7.specs.Heads.{tbs_head_contents, tbs_head_value, tbs_head_equal, certificate_contents, certificate_value, certificate_equal};
+ghost use Rattle.x509_base.specs.Versions.{version_value};
+ghost use Rattle.x509_pkcs7.specs.Heads.{tbs_certificate_head, tbs_certificate_head_value, tbs_head_equal, certificate_head, certificate_head_value, certificate_equal};
 
 use asn1_core::prelude::*;
 use asn1_leaves::BitStringAsn1;
@@ -13,7 +13,7 @@ use x509_base::{AlgorithmIdentifier, Name, Version};
 
 /// The version in its tag, where there is one.
 fn tagged(version: Option<Version>) -> Option<ExplicitContextTag0<Version>>
-    ensures { option_value (λ x. number_of x.0) result ≡ option_value number_of version }
+    ensures { option_value (λ x. version_value x.0) result ≡ option_value version_value version }
 {
     match version {
         Some(version) => Some(ExplicitContextTag0(version)),
@@ -23,7 +23,7 @@ fn tagged(version: Option<Version>) -> Option<ExplicitContextTag0<Version>>
 
 /// The version without its tag.
 fn untagged(version: Option<ExplicitContextTag0<Version>>) -> Option<Version>
-    ensures { option_value number_of result ≡ option_value (λ x. number_of x.0) version }
+    ensures { option_value version_value result ≡ option_value (λ x. version_value x.0) version }
 {
     match version {
         Some(ExplicitContextTag0(version)) => Some(version),
@@ -62,9 +62,9 @@ type HeadComponents = Maybe<
 >;
 
 impl Sequence for TbsCertificateHead {
-    ghost asn1 = { tbs_head_contents };
+    ghost asn1 = { tbs_certificate_head };
 
-    ghost value = { tbs_head_value };
+    ghost value = { tbs_certificate_head_value };
 
     fn with_components<U: Task>(&self, task: &mut U) -> U::Out {
         let key = Part(Ref(&self.subject_public_key_info), &self.rest);
@@ -110,9 +110,9 @@ pub struct CertificateHead {
 }
 
 impl Sequence for CertificateHead {
-    ghost asn1 = { certificate_contents };
+    ghost asn1 = { certificate_head };
 
-    ghost value = { certificate_value };
+    ghost value = { certificate_head_value };
 
     fn with_components<U: Task>(&self, task: &mut U) -> U::Out {
         with_components_of!(self, task; CertificateHead {

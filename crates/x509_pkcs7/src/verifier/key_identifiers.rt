@@ -1,11 +1,11 @@
 //! The extensions of a certificate, and the identifier of its key (RFC 5280, 4.2.1.2).
 
-ghost use Rattle.std.specs.Prelude.{◌≡◌, ◌↔◌, List, map, IsTrue};
+ghost use Rattle.std.specs.Prelude.{◌≡◌, map};
 ghost use Rattle.std.specs.List.{find};
 ghost use Rattle.asn1_core.specs.Der.{option_value};
-ghost use Rattle.x509_base.specs.Extensions.{ExtensionValue, extension_value, extensions_value};
-ghost use Rattle.x509_pkcs7.specs.Heads.{certificate_value};
-ghost use Rattle.x509_pkcs7.specs.KeyIdentifiers.{explicit_extensions, lawful_explicit_extensions, has_tag, rest_of, AreExtensionsOf, extension_with, IsKeyIdOf, Answers};
+ghost use Rattle.x509_base.specs.Extensions.{extension_value, extensions_value};
+ghost use Rattle.x509_pkcs7.specs.Heads.{certificate_head_value};
+ghost use Rattle.x509_pkcs7.specs.KeyIdentifiers.{has_tag, rest_of, AreExtensionsOf, extension_with, IsKeyIdOf, Answers};
 
 use crate::verifier::heads::CertificateHead;
 use asn1_core::from_bytes;
@@ -16,35 +16,6 @@ use x509_base::{Extension, Extensions, SubjectKeyIdentifier};
 
 /// `id-ce-subjectKeyIdentifier`
 const SUBJECT_KEY_IDENTIFIER: [u8; 3] = [0x55, 0x1D, 0x0E];
-
-/// `[3] EXPLICIT Extensions`
-#[derive(Drop)]
-struct ExplicitExtensions(Extensions);
-
-impl DerSerialize for ExplicitExtensions {
-    ghost Value = { List ExtensionValue };
-
-    ghost value = { λ x. extensions_value x.0 };
-
-    ghost format = { explicit_extensions };
-
-    fn put<W: Writer>(&self, w: &mut W) -> Result<(), WriteError> {
-        put_within(0xA3, &Alone(Ref(&self.0)), w)
-    }
-
-    fn well_formed_at(&self, limit: u8) -> bool {
-        self.0.well_formed_at(limit)
-    }
-}
-
-impl DerDeserialize for ExplicitExtensions {
-    fn read(alloc: Global, r: &mut Reader<'_>, nest: u8) -> Result<Self, Error> {
-        let Alone(extensions) = read_within::<Alone<Extensions>>(alloc, r, nest, 0xA3)?;
-        Ok(ExplicitExtensions(extensions))
-    }
-
-    ghost lawful = { lawful_explicit_extensions };
-}
 
 /// Whether the element has that tag.
 fn is_tagged(element: &Asn1RawDer, tag: u8) -> bool
@@ -84,11 +55,11 @@ impl CertificateHead {
     /// The extensions: those of the first element under `[3]`. `None` where there is no such element, and this is never
     /// refused; one that holds something else is refused, as `from_bytes` refuses it. Reading them takes memory.
     pub fn extensions(&self, alloc: Global) -> Result<Option<Extensions>, Error>
-        ensures { Answers (option_value extensions_value) AreExtensionsOf (rest_of (certificate_value self.now)) result }
+        ensures { Answers (option_value extensions_value) AreExtensionsOf (rest_of (certificate_head_value self.now)) result }
     {
         match first_tagged(&self.tbs_certificate.rest, 0xA3) {
             Some(element) => {
-                let ExplicitExtensions(found) = from_bytes(alloc, element.0.as_slice())?;
+                let Explicit::<3, Extensions>(found) = from_bytes(alloc, element.0.as_slice())?;
                 Ok(Some(found))
             }
             None => Ok(None),
@@ -102,7 +73,7 @@ impl CertificateHead {
         &self,
         alloc: Global,
     ) -> Result<Option<SubjectKeyIdentifier>, Error>
-        ensures { Answers (option_value (λ k. k.0.0.items)) IsKeyIdOf (rest_of (certificate_value self.now)) result }
+        ensures { Answers (option_value (λ k. k.0.0.items)) IsKeyIdOf (rest_of (certificate_head_value self.now)) result }
     {
         let Some(extensions) = self.extensions(alloc)? else {
             return Ok(None);

@@ -4,9 +4,9 @@ ghost use Rattle.std.specs.Prelude.{◌≡◌, ◌≢◌, ◌↔◌, IsTrue, Som
 ghost use Rattle.std.proofs.Common.{inl};
 ghost use Rattle.asn1_core.specs.Der.{option_value};
 ghost use Rattle.asn1_core_element.specs.declared.error.Error.TheVariants.{Memory};
-ghost use Rattle.pkcs7_signed.specs.Certificates.{certificate_value as choice_value};
-ghost use Rattle.pkcs7_signed.specs.SignerParts.{issuer_serial_value, signer_id_value};
-ghost use Rattle.x509_pkcs7.specs.Heads.{certificate_value};
+ghost use Rattle.pkcs7_signed.specs.Certificates.{certificate_choices_value};
+ghost use Rattle.pkcs7_signed.specs.SignerParts.{issuer_and_serial_number_value, signer_identifier_value};
+ghost use Rattle.x509_pkcs7.specs.Heads.{certificate_head_value};
 ghost use Rattle.x509_pkcs7.specs.KeyIdentifiers.{rest_of, IsKeyIdOf, HasExtensions};
 ghost use Rattle.x509_pkcs7.specs.Matches.{IsNamedBy, NeedsExtensions, IsSigners, choice_octets, IsFirst};
 
@@ -19,7 +19,7 @@ use x509_base::SubjectKeyIdentifier;
 
 /// The element that a certificate of signed data is, or another choice.
 pub fn certificate_element(certificate: &CertificateChoices) -> &Asn1RawDer
-    ensures { result.now.0.items ≡ choice_octets (choice_value certificate.now) }
+    ensures { result.now.0.items ≡ choice_octets (certificate_choices_value certificate.now) }
 {
     match certificate {
         CertificateChoices::Certificate(element) => element,
@@ -28,14 +28,14 @@ pub fn certificate_element(certificate: &CertificateChoices) -> &Asn1RawDer
 }
 
 /// Whether two values are equal.
-fn is_same<T: EqualByText>(a: &T, b: &T) -> bool
+pub(crate) fn is_same<T: EqualByText>(a: &T, b: &T) -> bool
     ensures { IsTrue result ↔ (T.value a.now ≡ T.value b.now) }
 {
     a == b
 }
 
 /// What is refused isn't what is looked for, unless memory was refused: then, and only then, this refuses too.
-fn without_answer(error: Error) -> Result<bool, Error>
+pub(crate) fn without_answer(error: Error) -> Result<bool, Error>
     ensures { MatchResult result
         (λ b. (b ≡ false) × (error ≢ Memory))
         (λ e. (e ≡ Memory) × (error ≡ Memory)) }
@@ -52,8 +52,8 @@ impl CertificateHead {
     /// signer names a key and the certificate has extensions.
     pub fn is_named_by(&self, alloc: Global, signer: &SignerIdentifier) -> Result<bool, Error>
         ensures { MatchResult result
-            (λ b. IsTrue b ↔ IsNamedBy (signer_id_value signer.now) (certificate_value self.now))
-            (λ e. (e ≡ Memory) × NeedsExtensions (signer_id_value signer.now) (certificate_value self.now)) }
+            (λ b. IsTrue b ↔ IsNamedBy (signer_identifier_value signer.now) (certificate_head_value self.now))
+            (λ e. (e ≡ Memory) × NeedsExtensions (signer_identifier_value signer.now) (certificate_head_value self.now)) }
     {
         match signer {
             SignerIdentifier::IssuerAndSerialNumber(named) => Ok(self.is_issued_as(named)),
@@ -62,8 +62,8 @@ impl CertificateHead {
     }
 
     /// Whether the issuer and the serial number are these.
-    fn is_issued_as(&self, named: &IssuerAndSerialNumber) -> bool
-        ensures { IsTrue result ↔ IsNamedBy (inl (issuer_serial_value named.now)) (certificate_value self.now) }
+    pub(crate) fn is_issued_as(&self, named: &IssuerAndSerialNumber) -> bool
+        ensures { IsTrue result ↔ IsNamedBy (inl (issuer_and_serial_number_value named.now)) (certificate_head_value self.now) }
     {
         let tbs = &self.tbs_certificate;
         is_same(&tbs.issuer, &named.issuer) && is_same(&tbs.serial_number, &named.serial_number)
@@ -72,8 +72,8 @@ impl CertificateHead {
     /// Whether this is the identifier of the key. A certificate without extensions has none, and is never refused.
     fn has_key(&self, alloc: Global, key: &SubjectKeyIdentifier) -> Result<bool, Error>
         ensures { MatchResult result
-            (λ b. IsTrue b ↔ IsKeyIdOf (rest_of (certificate_value self.now)) (Some key.now.0.0.items))
-            (λ e. (e ≡ Memory) × HasExtensions (rest_of (certificate_value self.now))) }
+            (λ b. IsTrue b ↔ IsKeyIdOf (rest_of (certificate_head_value self.now)) (Some key.now.0.0.items))
+            (λ e. (e ≡ Memory) × HasExtensions (rest_of (certificate_head_value self.now))) }
     {
         match self.subject_key_identifier(alloc) {
             Ok(Some(own)) => Ok(is_same(&own, key)),
@@ -86,7 +86,7 @@ impl CertificateHead {
 /// Whether an element is a certificate that a signer names.
 fn is_signers(alloc: Global, element: &[u8], signer: &SignerIdentifier) -> Result<bool, Error>
     ensures { MatchResult result
-        (λ b. IsTrue b ↔ IsSigners (signer_id_value signer.now) element.now)
+        (λ b. IsTrue b ↔ IsSigners (signer_identifier_value signer.now) element.now)
         (λ e. e ≡ Memory) }
 {
     match from_bytes::<CertificateHead>(alloc, element) {
@@ -104,7 +104,7 @@ pub fn signer_certificate<'a>(
     signer: &SignerIdentifier,
 ) -> Result<Option<&'a Asn1RawDer>, Error>
     ensures { MatchResult result
-        (λ found. IsFirst (IsSigners (signer_id_value signer.now)) (map (λ c. choice_octets (choice_value c)) certificates.now) (option_value (λ e. e.now.0.items) found))
+        (λ found. IsFirst (IsSigners (signer_identifier_value signer.now)) (map (λ c. choice_octets (certificate_choices_value c)) certificates.now) (option_value (λ e. e.now.0.items) found))
         (λ e. (e ≡ Memory) × (certificates.now ≢ [])) }
 {
     for certificate in certificates {

@@ -11,7 +11,9 @@ use pkcs7_signed::{SignerInfo, UnsignedAttribute, UnsignedAttributeValue};
 use std::alloc::Global;
 
 /// `szOID_NESTED_SIGNATURE`
-const NESTED_SIGNATURE: [u8; 10] = [0x2B, 0x06, 0x01, 0x04, 0x01, 0x82, 0x37, 0x02, 0x04, 0x01];
+pub(crate) const NESTED_SIGNATURE: [u8; 10] = [
+    0x2B, 0x06, 0x01, 0x04, 0x01, 0x82, 0x37, 0x02, 0x04, 0x01,
+];
 
 /// The nested signatures of a signer, in their order: all values of its unsigned attributes `1.3.6.1.4.1.311.2.4.1`,
 /// each as it is. A value should be a `Pkcs7Certificate`, which `from_bytes` reads from its octets. None where there is no
@@ -30,7 +32,10 @@ pub fn nested_signatures(alloc: Global, signer: &SignerInfo) -> Result<Vec<&Asn1
 
 /// Appends some elements. To append none is never refused.
 #[tactic(auto, using(crate::proofs::NotEmpty::has_item))]
-fn push_all<'a>(found: &mut Vec<&'a Asn1RawDer>, elements: &'a [Asn1RawDer]) -> Result<(), Error>
+pub(crate) fn push_all<'a>(
+    found: &mut Vec<&'a Asn1RawDer>,
+    elements: &'a [Asn1RawDer],
+) -> Result<(), Error>
     ensures { MatchResult result
         (λ _. map (λ e. e.now.0.items) found.new.items ≡ map (λ e. e.now.0.items) found.old.items ++ map (λ e. e.0.items) elements.now)
         (λ e. (e ≡ Memory) × (elements.now ≢ [])) }

@@ -2,8 +2,8 @@
 
 ghost use Rattle.std.specs.Prelude.{◌≡◌};
 ghost use Rattle.asn1_core.specs.Der.{option_value};
-ghost use Rattle.x509_base.specs.SpcLinks.{link_value};
-ghost use Rattle.x509_pkcs7.specs.Pages.{page_hashes_contents, page_hashes_value, page_hashes_equal, page_hashes_in, page_hashes_linked, digest_len_of, entry_in, entry_of};
+ghost use Rattle.x509_base.specs.SpcLinks.{spc_link_value};
+ghost use Rattle.x509_pkcs7.specs.Pages.{page_hashes, page_hashes_value, page_hashes_equal, page_hashes_in, page_hashes_linked, digest_len_of, entry_in, entry_of};
 
 use asn1_core::prelude::*;
 use pkcs7_content::SpcPeImageData;
@@ -24,7 +24,7 @@ const BY_SHA256: [u8; 10] = [0x2B, 0x06, 0x01, 0x04, 0x01, 0x82, 0x37, 0x02, 0x0
 /// The octets that are the page hashes of an image, which `from_bytes` reads as `Asn1SetOf<PageHashes>`: the data of the
 /// serialized object that the image has as its file, if the class of that object is that of page hashes.
 pub fn page_hash_octets(image: &SpcPeImageData) -> Option<&[u8]>
-    ensures { option_value (λ octets. octets.now) result ≡ page_hashes_linked (link_value image.now.file.0) }
+    ensures { option_value (λ octets. octets.now) result ≡ page_hashes_linked (spc_link_value image.now.file.0) }
 {
     match &image.file.0 {
         SpcLink::Moniker(object) => serialized_page_hashes(&object.0.0.0),
@@ -96,7 +96,7 @@ fn entry_at(table: &[u8], digest_len: usize, index: usize) -> Option<(u32, &[u8]
 }
 
 impl Sequence for PageHashes {
-    ghost asn1 = { page_hashes_contents };
+    ghost asn1 = { page_hashes };
 
     ghost value = { page_hashes_value };
 

@@ -1,11 +1,9 @@
 //! What a time stamp signs (RFC 3161, 2.4.2): the content of signed data whose content type is `id-ct-TSTInfo`, in its
 //! octets.
 
-ghost use Rattle.std.specs.Prelude.{◌≡◌, List};
-ghost use Rattle.std.proofs.Common.{rules, arith};
-ghost use Rattle.asn1_core.specs.Der.{any_octets, raw, octets_equal, raw_equal, Octets, ElementOctets};
-ghost use Rattle.x509_base.specs.Extensions.{ExtensionValue};
-ghost use Rattle.x509_pkcs7.specs.TimeStamps.{generation_time, lawful_generation_time, accuracy_value, accuracy, lawful_accuracy, accuracy_equal, authority, lawful_authority, time_stamp_extensions_value, time_stamp_extensions, lawful_time_stamp_extensions, time_stamp_extensions_equal, tst_info_contents, tst_info_value, tst_info_equal};
+ghost use Rattle.std.proofs.Common.{rules};
+ghost use Rattle.asn1_core.specs.Der.{any_octets, Octets};
+ghost use Rattle.x509_pkcs7.specs.TimeStamps.{generation_time, lawful_generation_time, accuracy, accuracy_value, accuracy_equal, tst_info, tst_info_value, tst_info_equal};
 
 use asn1_core::prelude::*;
 use asn1_leaves::IntegerAsn1;
@@ -68,134 +66,31 @@ impl TryClone for GenTime {
 #[derive(Debug, Drop, PartialEq, Eq)]
 pub struct Accuracy(pub Vec<Asn1RawDer>);
 
-impl DerSerialize for Accuracy {
-    ghost Value = { List ElementOctets };
+impl Sequence for Accuracy {
+    ghost asn1 = { accuracy };
 
     ghost value = { accuracy_value };
 
-    ghost format = { accuracy };
-
-    fn put<W: Writer>(&self, w: &mut W) -> Result<(), WriteError> {
-        put_within(0x30, &self.0, w)
+    fn with_components<U: Task>(&self, task: &mut U) -> U::Out {
+        task.run(&self.0)
     }
 
-    fn well_formed_at(&self, limit: u8) -> bool {
-        self.0.components_well_formed_at(limit)
-    }
-}
-
-impl DerDeserialize for Accuracy {
-    fn read(alloc: Global, r: &mut Reader<'_>, nest: u8) -> Result<Self, Error> {
-        Ok(Accuracy(read_within(alloc, r, nest, 0x30)?))
+    fn read_fields(alloc: Global, r: &mut Reader<'_>, nest: u8) -> Result<Self, Error> {
+        Ok(Accuracy(ReadComponents::read_components(alloc, r, nest)?))
     }
 
-    ghost lawful = { lawful_accuracy };
-}
-
-impl FirstTags for Accuracy {
-    fn begins(tag: u8) -> bool {
-        tag == 0x30
-    }
-}
-
-impl EqualByText for Accuracy {
-    ghost equal_by_text = { accuracy_equal };
-}
-
-impl TryClone for Accuracy {
-    fn try_clone(&self, alloc: Global) -> Result<Self, Error> {
+    fn clone_fields(&self, alloc: Global) -> Result<Self, Error> {
         Ok(Accuracy(self.0.try_clone(alloc)?))
     }
+
+    ghost equal = { accuracy_equal };
 }
 
 /// `[0] GeneralName`, the name as it is.
-#[derive(Debug, Drop, PartialEq, Eq)]
-pub struct TimeStampAuthority(pub Asn1RawDer);
-
-impl DerSerialize for TimeStampAuthority {
-    ghost Value = { ElementOctets };
-
-    ghost value = { λ x. x.0.0.items };
-
-    ghost format = { authority };
-
-    fn put<W: Writer>(&self, w: &mut W) -> Result<(), WriteError> {
-        put_within(0xA0, &Alone(Ref(&self.0)), w)
-    }
-
-    fn well_formed_at(&self, limit: u8) -> bool {
-        self.0.well_formed_at(limit)
-    }
-}
-
-impl DerDeserialize for TimeStampAuthority {
-    fn read(alloc: Global, r: &mut Reader<'_>, nest: u8) -> Result<Self, Error> {
-        let Alone(name) = read_within::<Alone<Asn1RawDer>>(alloc, r, nest, 0xA0)?;
-        Ok(TimeStampAuthority(name))
-    }
-
-    ghost lawful = { lawful_authority };
-}
-
-impl FirstTags for TimeStampAuthority {
-    fn begins(tag: u8) -> bool {
-        tag == 0xA0
-    }
-}
-
-impl EqualByText for TimeStampAuthority {
-    ghost equal_by_text = { λ x y. raw_equal x.0 y.0 };
-}
-
-impl TryClone for TimeStampAuthority {
-    fn try_clone(&self, alloc: Global) -> Result<Self, Error> {
-        Ok(TimeStampAuthority(self.0.try_clone(alloc)?))
-    }
-}
+pub type TimeStampAuthority = Explicit<0, Asn1RawDer>;
 
 /// `[1] IMPLICIT Extensions`
-#[derive(Debug, Drop, PartialEq, Eq)]
-pub struct TimeStampExtensions(pub Vec<Extension>);
-
-impl DerSerialize for TimeStampExtensions {
-    ghost Value = { List ExtensionValue };
-
-    ghost value = { time_stamp_extensions_value };
-
-    ghost format = { time_stamp_extensions };
-
-    fn put<W: Writer>(&self, w: &mut W) -> Result<(), WriteError> {
-        put_within(0xA1, &self.0, w)
-    }
-
-    fn well_formed_at(&self, limit: u8) -> bool {
-        self.0.components_well_formed_at(limit)
-    }
-}
-
-impl DerDeserialize for TimeStampExtensions {
-    fn read(alloc: Global, r: &mut Reader<'_>, nest: u8) -> Result<Self, Error> {
-        Ok(TimeStampExtensions(read_within(alloc, r, nest, 0xA1)?))
-    }
-
-    ghost lawful = { lawful_time_stamp_extensions };
-}
-
-impl FirstTags for TimeStampExtensions {
-    fn begins(tag: u8) -> bool {
-        tag == 0xA1
-    }
-}
-
-impl EqualByText for TimeStampExtensions {
-    ghost equal_by_text = { time_stamp_extensions_equal };
-}
-
-impl TryClone for TimeStampExtensions {
-    fn try_clone(&self, alloc: Global) -> Result<Self, Error> {
-        Ok(TimeStampExtensions(self.0.try_clone(alloc)?))
-    }
-}
+pub type TimeStampExtensions = Implicit<1, Asn1SequenceOf<Extension>>;
 
 /// `TSTInfo ::= SEQUENCE { version INTEGER { v1(1) }, policy TSAPolicyId, messageImprint MessageImprint, serialNumber
 /// INTEGER, genTime GeneralizedTime, accuracy Accuracy OPTIONAL, ordering BOOLEAN DEFAULT FALSE, nonce INTEGER OPTIONAL,
@@ -214,49 +109,47 @@ pub struct TstInfo {
     pub extensions: Option<TimeStampExtensions>,
 }
 
+// The version is no field.
+
+macro_rules! put_after_version {
+    ($value:ident, $task:ident; $type:ident { $($parts:tt)* }) => {
+        $task.run(&Part(FixedVersion::<1>, body_of!($value; $($parts)*)))
+    };
+}
+
+macro_rules! read_after_version {
+    ($alloc:ident, $r:ident, $nest:ident; $type:ident { $($parts:tt)* }) => {{
+        let components: Part<FixedVersion<1>, types_of!($($parts)*)> =
+            ReadComponents::read_components($alloc, $r, $nest)?;
+        let Part(_, fields_of!($($parts)*)) = components;
+        Ok(struct_of!($type; ; $($parts)*))
+    }};
+}
+
+macro_rules! tst_info {
+    ($by:ident($($with:ident),*)) => {
+        $by!($($with),*; TstInfo {
+            policy, message_imprint, serial_number, gen_time, accuracy OPTIONAL,
+            DefaultFalse(ordering) DEFAULT, nonce OPTIONAL, tsa OPTIONAL, extensions OPTIONAL
+        })
+    };
+}
+
 impl Sequence for TstInfo {
-    ghost asn1 = { tst_info_contents };
+    ghost asn1 = { tst_info };
 
     ghost value = { tst_info_value };
 
     fn with_components<U: Task>(&self, task: &mut U) -> U::Out {
-        task.run(&body_of!(self;
-            (FixedVersion::<1>), policy, message_imprint, serial_number, gen_time,
-            accuracy OPTIONAL, DefaultFalse(ordering) DEFAULT, nonce OPTIONAL, tsa OPTIONAL,
-            extensions OPTIONAL
-        ))
+        tst_info!(put_after_version(self, task))
     }
 
     fn read_fields(alloc: Global, r: &mut Reader<'_>, nest: u8) -> Result<Self, Error> {
-        let components: Part<
-            FixedVersion<1>,
-            types_of!(
-            policy, message_imprint, serial_number, gen_time, accuracy OPTIONAL,
-            DefaultFalse(ordering) DEFAULT, nonce OPTIONAL, tsa OPTIONAL, extensions OPTIONAL
-        ),
-        > = ReadComponents::read_components(alloc, r, nest)?;
-        let fields_of!(
-            (_), policy, message_imprint, serial_number, gen_time, accuracy OPTIONAL,
-            DefaultFalse(ordering) DEFAULT, nonce OPTIONAL, tsa OPTIONAL, extensions OPTIONAL
-        ) = components;
-        Ok(TstInfo {
-            policy,
-            message_imprint,
-            serial_number,
-            gen_time,
-            accuracy,
-            ordering,
-            nonce,
-            tsa,
-            extensions,
-        })
+        tst_info!(read_after_version(alloc, r, nest))
     }
 
     fn clone_fields(&self, alloc: Global) -> Result<Self, Error> {
-        clone_of!(self, alloc; TstInfo {
-            policy, message_imprint, serial_number, gen_time, accuracy, nonce, tsa, extensions;
-            ordering
-        })
+        tst_info!(clone_fields_of(self, alloc))
     }
 
     ghost equal = { tst_info_equal };

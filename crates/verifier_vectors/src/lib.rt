@@ -1,0 +1,5 @@
+//! Tests of what a verifier asks of signed data by public calls, over files that openssl made.
+#![tactic(auto)]
+
+#[cfg(test)]
+mod raw_signers;

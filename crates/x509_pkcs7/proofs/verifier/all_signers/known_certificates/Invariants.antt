@@ -1,0 +1,8 @@
+use Rattle.std.proofs.Common.{List, ◌++◌, map, drop}
+use Rattle.pkcs7_signed.specs.Certificates.{certificate_choices_value}
+use Rattle.x509_pkcs7.specs.AllSigners.{KnownValue, known_value, AreKnownOf}
+use Rattle.x509_pkcs7.specs.Matches.{choice_octets}
+use Rattle.x509_pkcs7.proofs.verifier.all_signers.known_certificates.Given as goal
+
+abbrev pub invariant-loop-certificate : goal.invariant-loop-certificate
+invariant-loop-certificate l = (more : List KnownValue) → AreKnownOf (map (λ c. choice_octets (certificate_choices_value c)) (drop l.certificate-index l.certificates)) more → AreKnownOf (map (λ c. choice_octets (certificate_choices_value c)) l.certificates) (map known_value l.found.items ++ more)

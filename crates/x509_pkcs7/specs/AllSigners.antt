@@ -1,0 +1,58 @@
+-- Which certificate is each signer's, where each certificate is read once (RFC 5652, 5.3).
+use Rattle.std.specs.Prelude.{◌≡◌, ◌↔◌, List, [], ◌∷◌, ◌++◌, Option, None, Some}
+use Rattle.std.proofs.Common.{inl, inr}
+use Rattle.asn1_core.specs.Der.{ElementOctets, Octets, option_value}
+use Rattle.pkcs7_signed.specs.SignerParts.{signer_identifier}
+use Rattle.x509_base.specs.declared.digests.SubjectKeyIdentifier.{SubjectKeyIdentifier}
+use Rattle.x509_pkcs7.specs.Heads.{certificate_head, certificate_head_value}
+use Rattle.x509_pkcs7.specs.KeyIdentifiers.{rest_of, IsKeyIdOf}
+use Rattle.x509_pkcs7.specs.Matches.{IsNamedBy, IsSigners, IsFirst}
+use Rattle.x509_pkcs7.specs.declared.verifier.all_signers.KnownCertificate.{KnownCertificate}
+
+-- for each signer, in their order, the first certificate that it names, or none: what `signer_certificate` returns for it
+abbrev pub AreSigners : List ElementOctets → List signer_identifier.Value → List (Option ElementOctets) → Type 0
+AreSigners certificates [] found = found ≡ []
+AreSigners certificates (id ∷ ids) [] = ⊥
+AreSigners certificates (id ∷ ids) (first ∷ found) = IsFirst (IsSigners id) certificates first × AreSigners certificates ids found
+
+-- what is known of a certificate: its octets, its parts, and the identifier of its key, if it has one that is read
+abbrev pub KnownValue : Type 0
+KnownValue = ElementOctets × (certificate_head.Value × Option Octets)
+
+abbrev pub key_octets : Option SubjectKeyIdentifier → Option Octets
+key_octets key = option_value (λ k. k.0.0.items) key
+
+abbrev pub known_value : KnownCertificate → KnownValue
+known_value k = (k.element.now.0.items, (certificate_head_value k.head, key_octets k.key))
+
+-- it has that issuer and that serial number, or that identifier of its key
+abbrev pub IsKnownAs : signer_identifier.Value → KnownValue → Type 0
+IsKnownAs (inl i) k = IsNamedBy (inl i) k.1.0
+IsKnownAs (inr key) k = k.1.1 ≡ Some key
+
+-- the identifier of the key, or none where there is none that is read
+abbrev pub IsKnownKey : certificate_head.Value → Option Octets → Type 0
+IsKnownKey v own = (key : Octets) → (own ≡ Some key) ↔ IsKeyIdOf (rest_of v) (Some key)
+
+-- what is known of that certificate says which signers name it
+pub record IsKnownOf (b : ElementOctets) (k : KnownValue) : Type 0 where
+  pub octets : k.0 ≡ b
+  pub named : (id : signer_identifier.Value) → IsKnownAs id k ↔ IsSigners id b
+
+-- what is known of an element, or nothing where it isn't read as a certificate
+abbrev pub IsKnownOrNone : ElementOctets → Option KnownValue → Type 0
+IsKnownOrNone b None = (id : signer_identifier.Value) → IsSigners id b → ⊥
+IsKnownOrNone b (Some k) = IsKnownOf b k
+
+-- the first among what is known is the first among the certificates, whoever is the signer
+abbrev pub AreKnownOf : List ElementOctets → List KnownValue → Type 0
+AreKnownOf certificates known = (id : signer_identifier.Value) (found : Option KnownValue) → IsFirst (IsKnownAs id) known found → IsFirst (IsSigners id) certificates (option_value (λ k. k.0) found)
+
+-- none or one
+abbrev pub listed : Option KnownValue → List KnownValue
+listed None = []
+listed (Some k) = k ∷ []
+
+-- one more is known, or none where the element isn't read
+abbrev pub IsAppended : ElementOctets → List KnownValue → List KnownValue → Type 0
+IsAppended b old new = (more : Option KnownValue) × IsKnownOrNone b more × (new ≡ old ++ listed more)
