@@ -1,13 +1,14 @@
 -- Parts of signed data, as octets: projections of its value.
+use Rattle.asn1_core.specs.Asn1.{SEQUENCE}
 use Rattle.std.specs.Prelude.{ℕ, List, Option, None, Some, slice_get}
 use Rattle.std.proofs.Common.{inl, inr}
 use Rattle.asn1_core.specs.Der.{option_value}
 use Rattle.x509_base.specs.Algorithms.{algorithm_identifier}
 use Rattle.x509_base.specs.Names.{name}
 use Rattle.pkcs7_content.specs.Contents.{ContentValues, content_values}
-use Rattle.pkcs7_signed.specs.Certificates.{CertificateValue}
+use Rattle.pkcs7_signed.specs.Certificates.{certificate_choices}
 use Rattle.pkcs7_attributes.specs.SignedSets.{attributes_as_set, some_attributes}
-use Rattle.pkcs7_signed.specs.SignerParts.{SignerIdValue}
+use Rattle.pkcs7_signed.specs.SignerParts.{signer_identifier}
 use Rattle.pkcs7_signed.specs.Parts.{SignerParts, after_signed}
 use Rattle.pkcs7_signed.specs.Signers.{Value, signers, certificates, certificate, signer_out, certificate_out}
 use Rattle.x509_pkcs7.specs.Hashed.{content_is_element}
@@ -20,15 +21,15 @@ use Rattle.x509_containers.specs.declared.parts.signed.SignerPart.{SignerPart}
 use Rattle.x509_containers.specs.declared.parts.signed.SignerPart.TheVariants.{SignedAttributes, Issuer, SerialNumber, KeyIdentifier, DigestAlgorithm, SignatureAlgorithm, Signature}
 
 -- the encoding of the issuer, and the contents octets of the serial number, or of the key identifier
-abbrev pub issuer_of : SignerIdValue → Option (List ℕ)
-issuer_of (inl by_issuer) = Some (name.text by_issuer.0)
+abbrev pub issuer_of : signer_identifier.Value → Option (List ℕ)
+issuer_of (inl by_issuer) = Some ((SEQUENCE name).format.text by_issuer.0)
 issuer_of (inr key) = None
 
-abbrev pub serial_number_of : SignerIdValue → Option (List ℕ)
+abbrev pub serial_number_of : signer_identifier.Value → Option (List ℕ)
 serial_number_of (inl by_issuer) = Some by_issuer.1.0
 serial_number_of (inr key) = None
 
-abbrev pub key_identifier_of : SignerIdValue → Option (List ℕ)
+abbrev pub key_identifier_of : signer_identifier.Value → Option (List ℕ)
 key_identifier_of (inl by_issuer) = None
 key_identifier_of (inr key) = Some key
 
@@ -39,13 +40,13 @@ of_signer Issuer s = issuer_of s.1.0
 of_signer SerialNumber s = serial_number_of s.1.0
 of_signer KeyIdentifier s = key_identifier_of s.1.0
 of_signer DigestAlgorithm s = Some s.1.1.0.0
-of_signer SignatureAlgorithm s = Some (algorithm_identifier.text s.1.1.1.1.0)
+of_signer SignatureAlgorithm s = Some ((SEQUENCE algorithm_identifier).format.text s.1.1.1.1.0)
 of_signer Signature s = Some s.1.1.1.1.1.0
 
 abbrev pub signers_in : Value certificates → List (Value signers)
 signers_in v = after_signed (certificate_out v).1
 
-abbrev pub certificates_in : Value certificates → List CertificateValue
+abbrev pub certificates_in : Value certificates → List certificate_choices.Value
 certificates_in v = (certificate_out v).1.1.1.1.0
 
 abbrev pub content_in : Value certificates → Option ContentValues

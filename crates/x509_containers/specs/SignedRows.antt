@@ -13,7 +13,7 @@ use Rattle.pkcs7_signed.specs.declared.signers.Pkcs7Certificate.{Pkcs7Certificat
 use Rattle.pkcs7_signed.specs.declared.signers.SignedData.{SignedData, out-SignedData}
 use Rattle.pkcs7_signed.specs.declared.signers.SignerInfo.{SignerInfo}
 use Rattle.pkcs7_signed.specs.declared.signers.SignersInfos.{out-SignersInfos}
-use Rattle.pkcs7_signed.specs.Certificates.{certificates_value}
+use Rattle.pkcs7_signed.specs.Certificates.{certificate_set_value}
 use Rattle.x509_pkcs7.specs.Hashed.{IsHashed, IsNotHashed, AreContentsOf, content_is_element}
 use Rattle.x509_containers.specs.Copies.{copied, CopiesOutOf}
 use Rattle.x509_containers.specs.SignedParts.{signers_in, certificates_in, content_in, hashed_of, of_signer}
@@ -27,7 +27,7 @@ signers_are x =
     ap (λ r. after_signed r.1) (out_certificate x) ∙ ap after_signed (value_signed (data_in x))
     ∙ value_signers (out-SignedData (data_in x)).signers_infos
 
-pub certificates_are : (x : Pkcs7Certificate) → certificates_in (certificate_value x) ≡ certificates_value (out-SignedData (data_in x)).certificates.0
+pub certificates_are : (x : Pkcs7Certificate) → certificates_in (certificate_value x) ≡ certificate_set_value (out-SignedData (data_in x)).certificates.0
 certificates_are x = ap (λ r. r.1.1.1.1.0) (out_certificate x) ∙ ap (λ r. r.1.1.1.0) (value_signed (data_in x))
 
 pub of_signer_is : (part : SignerPart) (x : SignerInfo) → of_signer part (signer_out (signer_value x)) ≡ of_signer {R = List (Value attributes) × Unit {0}} part (parts_of_signer x (attributes_in x, tt))

@@ -2,22 +2,22 @@
 use Rattle.std.specs.Prelude.{◌≡◌, Option, Some, None}
 use Rattle.std.proofs.Common.{refl, ap, ◌∙◌}
 use Rattle.asn1_core.specs.Der.{ElementOctets}
-use Rattle.x509_pkcs12.specs.Attributes.{AttributesValue, attributes_value}
-use Rattle.x509_pkcs12.specs.BagParts.{EncryptedKeyValue, encrypted_key_value}
-use Rattle.x509_pkcs12.specs.BagLevels.{value_components}
-use Rattle.x509_pkcs12.specs.BagValues.{with_attributes, bag_value, kind_value}
-use Rattle.x509_pkcs12.specs.Bags.{bag_out}
-use Rattle.x509_pkcs12.specs.declared.safe_bags.bags.SafeBag.{SafeBag}
-use Rattle.x509_pkcs12.specs.declared.safe_bags.bags.SafeBagKind as K
-use Rattle.x509_pkcs12.specs.declared.safe_bags.bags.SafeBagKind.{SafeBagKind}
+use Rattle.pkcs12_bags.specs.Attributes.{AttributesValue, attributes_value}
+use Rattle.pkcs12_bags.specs.BagParts.{encrypted_key_bag, encrypted_key_bag_value}
+use Rattle.pkcs12_bags.specs.BagLevels.{value_components}
+use Rattle.pkcs12_bags.specs.BagValues.{with_attributes, bag_value, kind_value}
+use Rattle.pkcs12_bags.specs.Bags.{bag_out}
+use Rattle.pkcs12_bags.specs.declared.safe_bags.bags.SafeBag.{SafeBag}
+use Rattle.pkcs12_bags.specs.declared.safe_bags.bags.SafeBagKind as K
+use Rattle.pkcs12_bags.specs.declared.safe_bags.bags.SafeBagKind.{SafeBagKind}
 use Rattle.x509_containers.specs.StoreParts.{key_in, encrypted_key_in}
 
 abbrev pub key_of_kind : SafeBagKind → Option ElementOctets
 key_of_kind (K.Key x) = Some x.0.items
 key_of_kind k = None
 
-abbrev pub encrypted_key_of_kind : SafeBagKind → Option EncryptedKeyValue
-encrypted_key_of_kind (K.EncryptedKey x) = Some (encrypted_key_value x)
+abbrev pub encrypted_key_of_kind : SafeBagKind → Option encrypted_key_bag.Value
+encrypted_key_of_kind (K.EncryptedKey x) = Some (encrypted_key_bag_value x)
 encrypted_key_of_kind k = None
 
 key_kind : (k : SafeBagKind) (n : AttributesValue) → key_in (with_attributes (kind_value k) n) ≡ key_of_kind k

@@ -3,7 +3,7 @@
 #![tactic(auto)]
 
 mod kinds;
-mod parts;
+pub mod parts;
 pub mod program;
 
 pub use asn1_choices::AnyDefinedBy;
@@ -216,6 +216,7 @@ pub use x509_pkcs7::TimeStampAuthority;
 pub use x509_pkcs7::TimeStampExtensions;
 pub use x509_pkcs7::TstInfo;
 pub use x509_pkcs7::UnprotectedAttributes;
+pub use x509_pkcs7::attribute_values;
 pub use x509_pkcs7::certificate_element;
 pub use x509_pkcs7::certificates;
 pub use x509_pkcs7::first_extension;
@@ -223,6 +224,7 @@ pub use x509_pkcs7::hashed_octets;
 pub use x509_pkcs7::nested_signatures;
 pub use x509_pkcs7::page_hash_octets;
 pub use x509_pkcs7::signer_certificate;
+pub use x509_pkcs7::signer_certificates;
 pub use x509_pkcs7::signers;
 pub use x509_pkcs12::AuthenticatedSafeContentInfo;
 pub use x509_pkcs12::AuthenticatedSafeDataRepr;

@@ -11,7 +11,7 @@ mod signed;
 mod stores;
 
 use asn1_core::Error;
-pub use macs::{MacPart, mac_iterations, mac_part};
+pub use macs::{MacPart, mac_iterations, mac_part, part_of_mac};
 pub use signed::{SignedPart, SignerPart, signed_part};
 use std::alloc::Global;
 pub use stores::{StorePart, store_part};

@@ -6,6 +6,7 @@ use crate::checks::{
 };
 use crate::rows::Row;
 use example_stamp::Stamp;
+use example_stamp::labels::Label;
 use example_stamp::parcels::Parcel;
 use example_ticket::{Holder, Ticket};
 use std::alloc::Global;
@@ -41,6 +42,7 @@ pub fn is_so_of_a_list(alloc: Global, word: &str, row: &Row) -> Option<Result<()
         }
         "octetstringasn1container-u8" => in_each_way::<OctetStringAsn1Container<u8>>(alloc, row),
         "holder" => in_each_way::<Holder>(alloc, row),
+        "label" => in_each_way::<Label>(alloc, row),
         "parcel" => in_each_way::<Parcel>(alloc, row),
         "stamp" => in_each_way::<Stamp>(alloc, row),
         "ticket" => in_each_way::<Ticket>(alloc, row),

@@ -2,7 +2,7 @@
 
 ghost use Rattle.std.specs.Prelude.{MatchResult, Some};
 ghost use Rattle.asn1_core.specs.Der.{raw, HasNoValue};
-ghost use Rattle.pkcs12_algs.specs.Digests.{mac_value};
+ghost use Rattle.pkcs12_algs.specs.Digests.{mac_data_value};
 ghost use Rattle.x509_containers.specs.Copies.{Copies};
 ghost use Rattle.x509_containers.specs.Inputs.{GivesPart};
 ghost use Rattle.x509_containers.specs.MacParts.{HasCount, in_mac, of_mac};
@@ -50,9 +50,9 @@ pub fn mac_iterations(alloc: Global, input: &[u8]) -> Result<Option<u32>, Error>
     }
 }
 
-/// A copy of a part of a MAC. Refuses by `Memory` alone.
-fn part_of_mac(alloc: Global, part: MacPart, mac: MacData) -> Result<Option<Vec<u8>>, Error>
-    ensures { Copies (Some (of_mac part (mac_value mac))) result }
+/// A part of a MAC, for files that are read as another type than `RawPfx`. Refuses by `Memory` only, and is never `None`.
+pub fn part_of_mac(alloc: Global, part: MacPart, mac: MacData) -> Result<Option<Vec<u8>>, Error>
+    ensures { Copies (Some (of_mac part (mac_data_value mac))) result }
 {
     let MacData { mac, salt, .. } = mac;
     let Pkcs12DigestInfo {

@@ -2,9 +2,9 @@
 
 ghost use Rattle.std.specs.Prelude.{◌≡◌, is_some, map, slice_get};
 ghost use Rattle.asn1_core.specs.Der.{option_value};
-ghost use Rattle.x509_pkcs12.specs.BagParts.{encrypted_key_value};
-ghost use Rattle.x509_pkcs12.specs.BagValues.{bag_value};
-ghost use Rattle.x509_pkcs12.specs.Bags.{bag_out};
+ghost use Rattle.pkcs12_bags.specs.BagParts.{encrypted_key_bag_value};
+ghost use Rattle.pkcs12_bags.specs.BagValues.{bag_value};
+ghost use Rattle.pkcs12_bags.specs.Bags.{bag_out};
 ghost use Rattle.x509_containers.specs.Copies.{Copies, of_some};
 ghost use Rattle.x509_containers.specs.Inputs.{GivesPart};
 ghost use Rattle.x509_containers.specs.StoreParts.{all_in, encrypted_key_in, in_store, key_in, octets_in, store_part};
@@ -116,7 +116,7 @@ fn key(bag: &SafeBag) -> Option<&KeyBag>
 }
 
 fn encrypted_key(bag: &SafeBag) -> Option<&EncryptedKeyBag>
-    ensures { option_value (λ key. encrypted_key_value key.now) result ≡ encrypted_key_in (bag_out (bag_value bag.now)) }
+    ensures { option_value (λ key. encrypted_key_bag_value key.now) result ≡ encrypted_key_in (bag_out (bag_value bag.now)) }
 {
     match &bag.kind {
         SafeBagKind::EncryptedKey(key) => Some(key),

@@ -1,5 +1,5 @@
 use Rattle.std.proofs.Common.{◌≡◌, map, drop, slice_get}
-use Rattle.x509_pkcs12.specs.BagValues.{bag_value}
+use Rattle.pkcs12_bags.specs.BagValues.{bag_value}
 use Rattle.x509_containers.specs.StoreParts.{all_in}
 use Rattle.x509_containers.proofs.parts.stores.bag_among.Given as goal
 
