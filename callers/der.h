@@ -11,7 +11,7 @@
  *    der_from_ber it has no DER. Which of the four it is isn't proved: tests tell them apart.
  *  - That memory was refused where a call answers DER_NO_MEMORY isn't proved. Tests show that calls with memory enough
  *    don't answer it, on inputs of up to 190 KB and of hundreds of parts, and that calls keep no memory.
- *  - The functions in this file, in C, are tested and not proved.
+ *  - The functions in this file, in C, are tested and not proved, nor are der_version and der_processor.
  *
  * What a caller has to keep to:
  *  - word, input, out and the pointers to numbers aren't null, also where a length is 0. word and input point to so
@@ -26,8 +26,10 @@
  *    aligned to each power of two up to 16 that divides its size.
  *  - No call is made from a signal handler, nor from the child that a process with threads forked.
  *  - The stack has room for the nesting of the input: see DER_MAX_NESTING.
- *  - The system is Linux, and the processor has what x86-64-v2 asks for, such as SSE4.2 and POPCNT. On an older one a
- *    library that `rt lib` built ends the program by an illegal instruction; one of `rt lib --cpu x86-64` serves there.
+ *  - The system is Linux, and the processor is one that the library was built for, which der_processor says. Where that
+ *    is x86-64, any of them is; where it is x86-64-v2, one that has SSE4.2 and POPCNT. On an older one the loader starts
+ *    no program with an installed library, or an illegal instruction ends the program. scripts/install and .ci/library
+ *    take x86-64 by default, and `rt lib` takes x86-64-v2.
  * Calls share nothing, so threads may make them side by side, each with an out and numbers of its own. */
 #ifndef DER_H
 #define DER_H
@@ -38,6 +40,14 @@
 
 #ifdef __cplusplus
 extern "C" {
+#endif
+
+/* The version of an installed library, and the processors that it was built for, as constant strings: "0.2.0", and
+ * "x86-64" or "x86-64-v2". A caller compares der_version with DER_VERSION, with which an installed header begins, by
+ * strcmp. A library that `rt lib` left has neither call. */
+#ifdef DER_VERSION
+const char *der_version(void);
+const char *der_processor(void);
 #endif
 
 /* The most levels of nesting that an input may have: bags in bags, signed data in time stamps, counter signatures of

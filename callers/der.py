@@ -23,7 +23,7 @@ The shared library is made of the static ones, at the top of a clone, after `rt 
 import ctypes
 import enum
 import os
-from typing import List, NamedTuple, Optional, Union
+from typing import List, NamedTuple, Optional, Tuple, Union
 
 # The most levels of nesting that an input may have.
 MAX_NESTING = 64
@@ -43,9 +43,12 @@ class Refused(ValueError):
     """
 
     def __init__(self, reason: str, place: int) -> None:
-        super().__init__(f"{reason} at {place}")
+        super().__init__(reason, place)
         self.reason = reason
         self.place = place
+
+    def __str__(self) -> str:
+        return f"{self.reason} at {self.place}"
 
 
 class UnknownKind(LookupError):
@@ -135,6 +138,7 @@ class Library:
 
     def check(self, kind: str, data: Bytes, limit: int = MAX_NESTING) -> Verdict:
         """What an input of a kind is, with at most limit levels of nesting (a limit above 64 counts as 64)."""
+        data = _octets(data)
         length, place = ctypes.c_size_t(), ctypes.c_size_t()
         status = self._library.der_check_word_limited(
             *_input(kind, data, limit), ctypes.byref(length), ctypes.byref(place)
@@ -144,6 +148,7 @@ class Library:
 
     def rewrite(self, kind: str, data: Bytes, limit: int = MAX_NESTING) -> bytes:
         """The normal encoding of an input of a kind."""
+        data = _octets(data)
         room, written = len(data) + 64, ctypes.c_size_t()
         while True:
             out = ctypes.create_string_buffer(room)
@@ -160,8 +165,9 @@ class Library:
 
     def mac_range(self, data: Bytes) -> Optional[range]:
         """Where a PKCS #12 file has the octets that its MAC covers. None where its authSafe isn't data."""
+        data = _octets(data)
         start, length = ctypes.c_size_t(), ctypes.c_size_t()
-        status = self._library.der_mac_range(bytes(data), len(data), ctypes.byref(start), ctypes.byref(length))
+        status = self._library.der_mac_range(data, len(data), ctypes.byref(start), ctypes.byref(length))
         if status == NO_RANGE:
             return None
         if status in REASONS:
@@ -171,9 +177,10 @@ class Library:
 
     def mac(self, data: Bytes) -> Optional[Mac]:
         """What a verifier of a PKCS #12 file's MAC needs. None where its authSafe isn't data, or it has no MAC."""
+        data = _octets(data)
         start, length, iterations = ctypes.c_size_t(), ctypes.c_size_t(), ctypes.c_size_t()
         numbers = map(ctypes.byref, (start, length, iterations))
-        status = self._library.der_mac(bytes(data), len(data), *numbers)
+        status = self._library.der_mac(data, len(data), *numbers)
         if status in (NO_RANGE, NO_PART):
             return None
         if status in REASONS:
@@ -192,11 +199,12 @@ class Library:
 
         Raises Refused where there is none. der.h says what is refused, and which element has two readings.
         """
+        data = _octets(data)
         room, written, place = len(data) + 64, ctypes.c_size_t(), ctypes.c_size_t()
         while True:
             out = ctypes.create_string_buffer(room)
             status = self._library.der_from_ber(
-                bytes(data), len(data), out, room, ctypes.byref(written), ctypes.byref(place)
+                data, len(data), out, room, ctypes.byref(written), ctypes.byref(place)
             )
             if status == NORMAL:
                 return out.raw[: written.value]
@@ -212,11 +220,14 @@ class Library:
         """
         if index < 0:
             raise ValueError(f"an index of {index}")
+        if index >= 1 << 64:
+            return None
+        data = _octets(data)
         room, written = len(data) + 64, ctypes.c_size_t()
         while True:
             out = ctypes.create_string_buffer(room)
             status = self._library.der_part_octets(
-                part.value[0], index, bytes(data), len(data), out, room, ctypes.byref(written)
+                part.value[0], index, data, len(data), out, room, ctypes.byref(written)
             )
             if status == NORMAL:
                 return out.raw[: written.value]
@@ -230,7 +241,8 @@ class Library:
 
     def kinds(self) -> List[str]:
         """The words of all kinds."""
-        words, out, written = [], ctypes.create_string_buffer(64), ctypes.c_size_t()
+        words: List[str] = []
+        out, written = ctypes.create_string_buffer(64), ctypes.c_size_t()
         while self._library.der_kind_word(len(words), out, len(out), ctypes.byref(written)) == NORMAL:
             words.append(out.raw[: written.value].decode())
         return words
@@ -238,7 +250,8 @@ class Library:
 
 def dotted(contents: bytes) -> str:
     """An object identifier, as "1.3.14.3.2.26", by its contents octets."""
-    arcs, arc = [], 0
+    arcs: List[int] = []
+    arc = 0
     for octet in contents:
         arc = arc << 7 | octet & 0x7F
         if octet < 0x80:
@@ -247,12 +260,17 @@ def dotted(contents: bytes) -> str:
     return ".".join(map(str, arcs))
 
 
-def _input(kind: str, data: Bytes, limit: int) -> tuple:
+def _octets(data: Bytes) -> bytes:
+    """The octets of an input, whatever its items are; TypeError where it has none."""
+    return data if isinstance(data, bytes) else bytes(memoryview(data))
+
+
+def _input(kind: str, data: bytes, limit: int) -> Tuple[bytes, int, int, bytes, int]:
     """The arguments that say what is asked of which input."""
     if limit < 0:
         raise ValueError(f"a limit of {limit} levels")
     word = kind.encode()
-    return word, len(word), min(limit, MAX_NESTING), bytes(data), len(data)
+    return word, len(word), min(limit, MAX_NESTING), data, len(data)
 
 
 def _raise_for(status: int, kind: str, place: int) -> None:

@@ -1,0 +1,52 @@
+//! The calls, as `der.h` declares them.
+use std::os::raw::c_char;
+
+extern "C" {
+    pub fn der_check_word_limited(
+        word: *const u8,
+        word_len: usize,
+        limit: u8,
+        input: *const u8,
+        input_len: usize,
+        normal_len: *mut usize,
+        place: *mut usize,
+    ) -> u32;
+    pub fn der_rewrite_word_limited(
+        word: *const u8,
+        word_len: usize,
+        limit: u8,
+        input: *const u8,
+        input_len: usize,
+        out: *mut u8,
+        out_len: usize,
+        written: *mut usize,
+    ) -> u32;
+    pub fn der_kind_word(index: usize, out: *mut u8, out_len: usize, written: *mut usize) -> u32;
+    pub fn der_part_octets(
+        number: usize,
+        index: usize,
+        input: *const u8,
+        input_len: usize,
+        out: *mut u8,
+        out_len: usize,
+        written: *mut usize,
+    ) -> u32;
+    pub fn der_mac_range(input: *const u8, input_len: usize, start: *mut usize, len: *mut usize) -> u32;
+    pub fn der_mac(
+        input: *const u8,
+        input_len: usize,
+        start: *mut usize,
+        len: *mut usize,
+        iterations: *mut usize,
+    ) -> u32;
+    pub fn der_from_ber(
+        input: *const u8,
+        input_len: usize,
+        out: *mut u8,
+        out_len: usize,
+        written: *mut usize,
+        place: *mut usize,
+    ) -> u32;
+    pub fn der_version() -> *const c_char;
+    pub fn der_processor() -> *const c_char;
+}

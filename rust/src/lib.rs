@@ -1,0 +1,305 @@
+//! Safe calls of the library for C: checks and rewritings of DER, the parts of containers that a verifier needs, as
+//! octets, and conversions of BER to DER.
+//!
+//! ```
+//! // the shortest PKCS #12 file
+//! let file = b"\x30\x16\x02\x01\x03\x30\x11\x06\x09\x2A\x86\x48\x86\xF7\x0D\x01\x07\x01\xA0\x04\x04\x02\x30\x00";
+//! let verdict = vuyhanip::check("rawpfx", file)?;
+//! assert!(verdict.is_normal && verdict.len == 24);
+//! # Ok::<(), vuyhanip::Error>(())
+//! ```
+//!
+//! A kind is the name of a type in lower case. Only [`from_ber`] takes BER: pass every other call what it returned.
+//! What is proved of the library is said in `der.h`; this crate isn't proved. Calls share nothing, so threads may make
+//! them side by side.
+#![warn(missing_docs)]
+
+mod calls;
+
+use std::ffi::CStr;
+use std::fmt;
+use std::ops::Range;
+
+/// The most levels of nesting that an input may have.
+pub const MAX_NESTING: u8 = 64;
+
+const NORMAL: u32 = 0;
+const LOOSE: u32 = 1;
+const NO_ROOM: u32 = 9;
+const NO_RANGE: u32 = 10;
+const NO_PART: u32 = 11;
+
+/// Why an input is refused.
+#[derive(Debug, Clone, Copy, PartialEq, Eq)]
+pub enum Reason {
+    /// No element begins at the place, or bytes are left over from there on.
+    Malformed,
+    /// The contents end at the place without an element.
+    Missing,
+    /// The element that begins there has a tag or contents that are refused.
+    Invalid,
+    /// The element that begins there is nested too deep.
+    TooDeep,
+}
+
+/// What a call returns in place of an answer.
+#[derive(Debug, Clone, Copy, PartialEq, Eq)]
+#[non_exhaustive]
+pub enum Error {
+    /// No kind has that word.
+    UnknownKind,
+    /// The input is no encoding of its kind, or for [`from_ber`] has no DER. `place` is an offset in it.
+    Refused {
+        /// Why it is refused.
+        reason: Reason,
+        /// Where it is refused.
+        place: usize,
+    },
+    /// What is to be written has 2^64 bytes or more.
+    TooLong,
+    /// The library's request for memory was refused, which says nothing of the input.
+    NoMemory,
+    /// A status that a library of another version may return.
+    Unknown(u32),
+}
+
+impl fmt::Display for Error {
+    fn fmt(&self, f: &mut fmt::Formatter<'_>) -> fmt::Result {
+        match self {
+            Error::UnknownKind => f.write_str("unknown kind"),
+            Error::Refused { reason, place } => {
+                let word = match reason {
+                    Reason::Malformed => "malformed",
+                    Reason::Missing => "missing",
+                    Reason::Invalid => "invalid",
+                    Reason::TooDeep => "too deep",
+                };
+                write!(f, "refused: {word} at {place}")
+            }
+            Error::TooLong => f.write_str("too long"),
+            Error::NoMemory => f.write_str("no memory"),
+            Error::Unknown(status) => write!(f, "unknown status {status}"),
+        }
+    }
+}
+
+impl std::error::Error for Error {}
+
+fn error(status: u32, place: usize) -> Error {
+    let reason = match status {
+        2 => return Error::UnknownKind,
+        3 => Reason::Malformed,
+        4 => Reason::Missing,
+        5 => Reason::Invalid,
+        6 => Reason::TooDeep,
+        7 => return Error::TooLong,
+        8 => return Error::NoMemory,
+        _ => return Error::Unknown(status),
+    };
+    Error::Refused { reason, place }
+}
+
+/// What an accepted input is.
+#[derive(Debug, Clone, Copy, PartialEq, Eq)]
+pub struct Verdict {
+    /// Whether it is the normal encoding of its value.
+    pub is_normal: bool,
+    /// How many bytes that encoding has.
+    pub len: usize,
+    /// In a loose input, the offset from which on it ends as that encoding does.
+    pub loose_end: Option<usize>,
+}
+
+/// What an input of a kind is.
+pub fn check(kind: &str, input: &[u8]) -> Result<Verdict, Error> {
+    check_limited(kind, MAX_NESTING, input)
+}
+
+/// The same with at most `limit` levels of nesting. A limit above [`MAX_NESTING`] counts as that.
+pub fn check_limited(kind: &str, limit: u8, input: &[u8]) -> Result<Verdict, Error> {
+    let (mut len, mut place) = (0, 0);
+    let (word, word_len) = (kind.as_ptr(), kind.len());
+    // SAFETY: the pointers of slices aren't null and have their lengths; the numbers are borrowed for the call
+    let status = unsafe {
+        calls::der_check_word_limited(word, word_len, limit, input.as_ptr(), input.len(), &mut len, &mut place)
+    };
+    match status {
+        NORMAL => Ok(Verdict { is_normal: true, len, loose_end: None }),
+        LOOSE => Ok(Verdict { is_normal: false, len, loose_end: Some(place) }),
+        _ => Err(error(status, place)),
+    }
+}
+
+/// The normal encoding of an input of a kind.
+pub fn rewrite(kind: &str, input: &[u8]) -> Result<Vec<u8>, Error> {
+    rewrite_limited(kind, MAX_NESTING, input)
+}
+
+/// The same with at most `limit` levels of nesting.
+pub fn rewrite_limited(kind: &str, limit: u8, input: &[u8]) -> Result<Vec<u8>, Error> {
+    let len = check_limited(kind, limit, input)?.len;
+    let (word, word_len) = (kind.as_ptr(), kind.len());
+    let (status, out) = written(len, |out, out_len, written| {
+        // SAFETY: as above; `out` has `out_len` bytes, and is borrowed for the call
+        unsafe {
+            calls::der_rewrite_word_limited(
+                word, word_len, limit, input.as_ptr(), input.len(), out, out_len, written,
+            )
+        }
+    });
+    if status == NORMAL { Ok(out) } else { Err(error(status, 0)) }
+}
+
+/// What a call writes into room, first of so many bytes, and then of as many as it asks for.
+fn written(room: usize, mut call: impl FnMut(*mut u8, usize, &mut usize) -> u32) -> (u32, Vec<u8>) {
+    let mut out = vec![0; room];
+    loop {
+        let mut len = 0;
+        let status = call(out.as_mut_ptr(), out.len(), &mut len);
+        if status != NO_ROOM || len <= out.len() {
+            out.truncate(if status == NORMAL { len } else { 0 });
+            return (status, out);
+        }
+        out.resize(len, 0);
+    }
+}
+
+/// The DER of an input in BER, with at most [`MAX_NESTING`] levels. DER that isn't refused comes back as it is.
+pub fn from_ber(input: &[u8]) -> Result<Vec<u8>, Error> {
+    let mut place = 0;
+    let (status, out) = written(input.len(), |out, out_len, written| {
+        // SAFETY: as above
+        unsafe { calls::der_from_ber(input.as_ptr(), input.len(), out, out_len, written, &mut place) }
+    });
+    if status == NORMAL { Ok(out) } else { Err(error(status, place)) }
+}
+
+/// A part of a container. What each is, `der.h` says, and the kind that the input is read as is [`Part::kind`].
+#[derive(Debug, Clone, Copy, PartialEq, Eq)]
+#[allow(missing_docs)]
+pub enum Part {
+    HashedContent,
+    Certificate,
+    SignedAttributes,
+    Issuer,
+    SerialNumber,
+    KeyIdentifier,
+    DigestAlgorithm,
+    SignatureAlgorithm,
+    Signature,
+    StoreCertificate,
+    StoreKey,
+    StoreEncryptedKey,
+    StoreBag,
+    MacDigestAlgorithm,
+    MacDigest,
+    MacSalt,
+}
+
+impl Part {
+    /// The kind that the input is read as.
+    pub fn kind(self) -> &'static str {
+        match self as usize {
+            0..=8 => "pkcs7certificate",
+            9..=12 => "pfx",
+            _ => "rawpfx",
+        }
+    }
+}
+
+/// A part of a container, as octets: of certificates, signers, keys and bags that with the index, from 0 on. `None`
+/// where the container has no such part, or not so many.
+pub fn part(part: Part, index: usize, input: &[u8]) -> Result<Option<Vec<u8>>, Error> {
+    let (status, out) = written(input.len() + 64, |out, out_len, written| {
+        // SAFETY: as above
+        unsafe { calls::der_part_octets(part as usize, index, input.as_ptr(), input.len(), out, out_len, written) }
+    });
+    match status {
+        NORMAL => Ok(Some(out)),
+        NO_PART => Ok(None),
+        _ => Err(located(status, part.kind(), input)),
+    }
+}
+
+/// An error with the place at which a check refuses the input too.
+fn located(status: u32, kind: &str, input: &[u8]) -> Error {
+    match error(status, 0) {
+        Error::Refused { .. } => check(kind, input).err().unwrap_or(Error::Unknown(status)),
+        other => other,
+    }
+}
+
+/// Where a PKCS #12 file has the octets that a MAC covers, whether it has one or not. `None` where its authSafe isn't
+/// data.
+pub fn mac_range(input: &[u8]) -> Result<Option<Range<usize>>, Error> {
+    let (mut start, mut len) = (0, 0);
+    // SAFETY: as above
+    match unsafe { calls::der_mac_range(input.as_ptr(), input.len(), &mut start, &mut len) } {
+        NORMAL => Ok(Some(start..start + len)),
+        NO_RANGE => Ok(None),
+        status => Err(located(status, "rawpfx", input)),
+    }
+}
+
+/// What a verifier of a PKCS #12 file's MAC needs beside the password. Nothing says that the MAC is right.
+#[derive(Debug, Clone, PartialEq, Eq)]
+pub struct Mac {
+    /// Where the file has the octets that the MAC covers.
+    pub covered: Range<usize>,
+    /// The contents octets of the digest algorithm's object identifier.
+    pub digest_algorithm: Vec<u8>,
+    /// The MAC that the file has.
+    pub digest: Vec<u8>,
+    /// Its salt.
+    pub salt: Vec<u8>,
+    /// How often the key derivation hashes.
+    pub iterations: usize,
+}
+
+/// What the file's MAC is made of. `None` where it has no MAC, or its authSafe isn't data.
+pub fn mac(input: &[u8]) -> Result<Option<Mac>, Error> {
+    let (mut start, mut len, mut iterations) = (0, 0, 0);
+    // SAFETY: as above
+    match unsafe { calls::der_mac(input.as_ptr(), input.len(), &mut start, &mut len, &mut iterations) } {
+        NORMAL => Ok(Some(Mac {
+            covered: start..start + len,
+            digest_algorithm: part(Part::MacDigestAlgorithm, 0, input)?.unwrap_or_default(),
+            digest: part(Part::MacDigest, 0, input)?.unwrap_or_default(),
+            salt: part(Part::MacSalt, 0, input)?.unwrap_or_default(),
+            iterations,
+        })),
+        NO_RANGE | NO_PART => Ok(None),
+        status => Err(located(status, "rawpfx", input)),
+    }
+}
+
+/// The words of all kinds.
+pub fn kinds() -> Vec<String> {
+    let mut words = Vec::new();
+    loop {
+        // SAFETY: as above
+        let (status, word) = written(64, |out, out_len, written| unsafe {
+            calls::der_kind_word(words.len(), out, out_len, written)
+        });
+        if status != NORMAL {
+            return words;
+        }
+        words.push(String::from_utf8_lossy(&word).into_owned());
+    }
+}
+
+/// The version of the library that is linked, which is that of this crate where they were installed together.
+pub fn version() -> &'static str {
+    // SAFETY: it takes nothing and returns a constant string
+    text(unsafe { CStr::from_ptr(calls::der_version()) })
+}
+
+/// The processors that it was built for: `x86-64` or `x86-64-v2`.
+pub fn processor() -> &'static str {
+    // SAFETY: as of the version
+    text(unsafe { CStr::from_ptr(calls::der_processor()) })
+}
+
+fn text(word: &'static CStr) -> &'static str {
+    word.to_str().unwrap_or("unknown")
+}

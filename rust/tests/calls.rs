@@ -1,0 +1,109 @@
+//! Each call, over files that openssl made, whose offsets and octets are those that `openssl asn1parse` shows, and over
+//! examples of X.690.
+use vuyhanip::{Error, Part, Reason, Verdict};
+
+/// A key store.
+const STORE: &[u8] = include_bytes!("store.p12");
+/// Signed data of one signer, with two certificates.
+const SIGNED: &[u8] = include_bytes!("signed.p7m");
+const SHA256: &[u8] = &[0x60, 0x86, 0x48, 1, 0x65, 3, 4, 2, 1];
+/// A digest info without the NULL that its algorithm has in DER, up to the digest.
+const LOOSE: &[u8] = &[0x30, 0x1F, 0x30, 7, 6, 5, 0x2B, 0x0E, 3, 2, 0x1A, 4, 0x14];
+const NORMAL: &[u8] = &[0x30, 0x21, 0x30, 9, 6, 5, 0x2B, 0x0E, 3, 2, 0x1A, 5, 0, 4, 0x14];
+
+fn with_digest(front: &[u8]) -> Vec<u8> {
+    [front, &[7; 20]].concat()
+}
+
+#[test]
+fn the_library_is_of_the_same_version() {
+    assert_eq!(vuyhanip::version(), env!("CARGO_PKG_VERSION").replace("-dev.", ".dev"));
+    assert!(vuyhanip::processor().starts_with("x86-64"));
+}
+
+#[test]
+fn a_store_is_normal() {
+    assert_eq!(vuyhanip::check("pfx", STORE), Ok(Verdict { is_normal: true, len: 1010, loose_end: None }));
+    assert_eq!(vuyhanip::rewrite("rawpfx", STORE).as_deref(), Ok(STORE));
+}
+
+#[test]
+fn a_digest_info_is_loose_up_to_its_digest() {
+    let verdict = vuyhanip::check("pkcs12digestinfo", &with_digest(LOOSE));
+    assert_eq!(verdict, Ok(Verdict { is_normal: false, len: 35, loose_end: Some(11) }));
+    assert_eq!(vuyhanip::rewrite("pkcs12digestinfo", &with_digest(LOOSE)), Ok(with_digest(NORMAL)));
+}
+
+#[test]
+fn refusals_have_a_reason_and_a_place() {
+    let refused = |reason, place| Error::Refused { reason, place };
+    assert_eq!(vuyhanip::check("pfx", &[]), Err(refused(Reason::Missing, 0)));
+    let cut = vuyhanip::check("pfx", &STORE[..1009]).unwrap_err();
+    assert_eq!((cut, cut.to_string().as_str()), (refused(Reason::Malformed, 0), "refused: malformed at 0"));
+    assert_eq!(vuyhanip::check("pfx", &[STORE, &[0]].concat()), Err(refused(Reason::Malformed, 1010)));
+    assert_eq!(vuyhanip::rewrite("pfx", SIGNED), Err(refused(Reason::Invalid, 4)));
+    assert_eq!(vuyhanip::part(Part::StoreBag, 0, SIGNED), Err(refused(Reason::Invalid, 4)));
+    assert_eq!(vuyhanip::mac(SIGNED), Err(refused(Reason::Invalid, 4)));
+    assert_eq!(vuyhanip::mac_range(SIGNED), Err(refused(Reason::Invalid, 4)));
+    assert_eq!(vuyhanip::check("no kind", STORE), Err(Error::UnknownKind));
+}
+
+#[test]
+fn a_limit_of_levels_is_kept() {
+    assert!(matches!(
+        vuyhanip::check_limited("pkcs7certificate", 0, SIGNED),
+        Err(Error::Refused { reason: Reason::TooDeep, .. })
+    ));
+    assert_eq!(vuyhanip::rewrite_limited("pkcs7certificate", 255, SIGNED).as_deref(), Ok(SIGNED));
+}
+
+#[test]
+fn parts_of_signed_data() {
+    let part = |part, index| vuyhanip::part(part, index, SIGNED).unwrap();
+    assert_eq!(part(Part::HashedContent, 0).as_deref(), Some(&b"hello, world"[..]));
+    assert_eq!(part(Part::Certificate, 0).as_deref(), Some(&SIGNED[74..357]));
+    assert_eq!(part(Part::Certificate, 1).as_deref(), Some(&SIGNED[357..643]));
+    assert_eq!(part(Part::Certificate, 2), None);
+    assert_eq!(part(Part::SignedAttributes, 0), Some([&[0x31], &SIGNED[685..791]].concat()));
+    assert_eq!(part(Part::Issuer, 0).as_deref(), Some(&SIGNED[654..668]));
+    assert_eq!(part(Part::SerialNumber, 0).as_deref(), Some(&[2][..]));
+    assert_eq!(part(Part::KeyIdentifier, 0), None);
+    assert_eq!(part(Part::DigestAlgorithm, 0).as_deref(), Some(SHA256));
+    assert_eq!(part(Part::SignatureAlgorithm, 0).as_deref(), Some(&SIGNED[791..803]));
+    assert_eq!(part(Part::Signature, 0).as_deref(), Some(&SIGNED[805..876]));
+    assert_eq!(part(Part::Signature, 1), None);
+}
+
+#[test]
+fn the_mac_of_a_store() {
+    let mac = vuyhanip::mac(STORE).unwrap().unwrap();
+    assert_eq!((mac.covered, mac.iterations), (30..943, 2048));
+    assert_eq!((mac.digest_algorithm.as_slice(), mac.digest.as_slice()), (SHA256, &STORE[964..996]));
+    assert_eq!(mac.salt, &STORE[998..1006]);
+    assert_eq!(vuyhanip::mac_range(STORE), Ok(Some(30..943)));
+}
+
+#[test]
+fn parts_of_a_store() {
+    let part = |part, index| vuyhanip::part(part, index, STORE).unwrap();
+    assert_eq!(part(Part::StoreEncryptedKey, 0).as_deref(), Some(&STORE[695..875]));
+    assert_eq!(part(Part::StoreEncryptedKey, 1), None);
+    let bag = part(Part::StoreBag, 0).unwrap();
+    assert!(bag.windows(180).any(|octets| octets == &STORE[695..875]));
+    assert_eq!((part(Part::StoreKey, 0), part(Part::StoreCertificate, 0)), (None, None));
+}
+
+/// X.690, 8.1.3.6 and 8.7.3: an OCTET STRING of indefinite length in two segments.
+#[test]
+fn ber_has_its_der() {
+    assert_eq!(vuyhanip::from_ber(&[0x24, 0x80, 4, 1, 0x41, 4, 1, 0x42, 0, 0]), Ok(vec![4, 2, 0x41, 0x42]));
+    assert_eq!(vuyhanip::from_ber(STORE).as_deref(), Ok(STORE));
+    let refused = Error::Refused { reason: Reason::Missing, place: 5 };
+    assert_eq!(vuyhanip::from_ber(&[0x24, 0x80, 4, 1, 0x41]), Err(refused));
+}
+
+#[test]
+fn kinds_have_words() {
+    let kinds = vuyhanip::kinds();
+    assert!(kinds.len() >= 77 && kinds.iter().any(|word| word == "pfx"));
+}
