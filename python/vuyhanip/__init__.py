@@ -1,0 +1,73 @@
+"""Checks and rewritings of DER, the parts of containers that a verifier needs, and conversions of BER to DER; and the
+command `vuyhanip` over files, which is `python -m vuyhanip` too.
+
+    import vuyhanip
+
+    library = vuyhanip.library()
+    library.check("pfx", data)      Verdict(is_normal=True, length=1010, loose_end=None)
+
+help(vuyhanip.der) says what each call does. Where the package is installed, callers/der.py is in it as der, beside
+version and the library for C. In a clone, callers/der.py is taken, and the library of the environment's
+VUYHANIP_LIBRARY, or else crates/der_c/out/libder.so.
+"""
+import ctypes
+import functools
+import importlib.util
+import os
+import sys
+from typing import TYPE_CHECKING
+
+if TYPE_CHECKING:
+    from . import der as der
+    from .der import MAX_NESTING, Library, Mac, Part, Refused, UnknownKind, Verdict, dotted
+else:
+    try:
+        from . import der
+    except ImportError:
+        _top = os.path.dirname(os.path.dirname(os.path.dirname(os.path.realpath(__file__))))
+        _spec = importlib.util.spec_from_file_location(f"{__name__}.der", os.path.join(_top, "callers", "der.py"))
+        der = importlib.util.module_from_spec(_spec)
+        sys.modules[_spec.name] = der
+        _spec.loader.exec_module(der)
+    MAX_NESTING, Library, Mac, Part = der.MAX_NESTING, der.Library, der.Mac, der.Part
+    Refused, UnknownKind, Verdict, dotted = der.Refused, der.UnknownKind, der.Verdict, der.dotted
+
+__all__ = ["MAX_NESTING", "Library", "Mac", "Part", "Refused", "UnknownKind", "Verdict", "dotted", "library"]
+
+_HERE = os.path.dirname(os.path.realpath(__file__))
+
+
+def _version() -> str:
+    """The version that was installed; in a clone there is none."""
+    try:
+        found: str = importlib.import_module(f"{__name__}.version").VERSION
+    except ImportError:
+        return "of a clone"
+    return found
+
+
+__version__ = _version()
+
+
+def _installed(path: str) -> Library:
+    """The library that was installed with this package. ImportError says that it is of another version."""
+    call = ctypes.CDLL(path).der_version
+    call.argtypes, call.restype = [], ctypes.c_char_p
+    version: bytes = call()
+    if version != __version__.encode():
+        raise ImportError(f"{path} is of version {version.decode()}, and this package of {__version__}")
+    return Library(path)
+
+
+@functools.lru_cache(maxsize=None)
+def library() -> Library:
+    """The library of VUYHANIP_LIBRARY, or that was installed with this package, or that is in a clone.
+
+    Raises OSError where there is none, and ImportError where it is of another version than the package.
+    """
+    if "VUYHANIP_LIBRARY" in os.environ:
+        return Library(os.environ["VUYHANIP_LIBRARY"])
+    installed = os.path.join(_HERE, "libvuyhanip.so")
+    if os.path.exists(installed):
+        return _installed(os.path.realpath(installed))
+    return Library(os.path.join(_HERE, "..", "..", "crates", "der_c", "out", "libder.so"))

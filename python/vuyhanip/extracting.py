@@ -1,0 +1,72 @@
+"""The verb extract: the parts of a container as files of their own."""
+import os
+from typing import Iterator, List, NamedTuple, Union
+
+from . import der
+from .checking import Accepted, NoKind, judge
+from .containers import parts_of, signed, time_stamp_token
+from .showing import signed_of_refused
+
+# Who may read a file: certificates as the umask says, keys only their owner.
+OPEN, SECRET = 0o666, 0o600
+
+
+class Piece(NamedTuple):
+    """A file to be written."""
+
+    name: str
+    octets: bytes
+    mode: int = OPEN
+
+
+class Nothing(ValueError):
+    """A file that nothing can be taken out of, and why."""
+
+
+def _numbered(word: str, those: Iterator[bytes], mode: int = OPEN) -> Iterator[Piece]:
+    """Pieces of one word, with numbers from 1 on."""
+    for number, octets in enumerate(those, 1):
+        yield Piece(f"{word}-{number}.der", octets, mode)
+
+
+def pieces(said: Union[Accepted, NoKind]) -> List[Piece]:
+    """What is in a container. Raises Nothing."""
+    data = said.given.octets
+    if isinstance(said, NoKind):
+        token = time_stamp_token(data)
+        if token is None:
+            raise Nothing(f"{said.furthest.kind} {said}")
+        return pieces(judge(token, "pkcs7certificate", True))
+    if said.kind == "pfx":
+        return [
+            *_numbered("certificate", parts_of(der.Part.STORE_CERTIFICATE, data)),
+            *_numbered("key", parts_of(der.Part.STORE_KEY, data), SECRET),
+            *_numbered("encrypted-key", parts_of(der.Part.STORE_ENCRYPTED_KEY, data), SECRET),
+        ]
+    if said.kind != "pkcs7certificate":
+        raise Nothing(signed_of_refused(said) or f"{said.kind}: nothing is taken out of it")
+    it = signed(data)
+    found = [*_numbered("certificate", iter(it.certificates)), *_numbered("revocation-list", iter(it.crls))]
+    return found if it.content is None else [*found, Piece("content", it.content)]
+
+
+def _write(path: str, piece: Piece) -> None:
+    """Writes a file that isn't there yet. Raises FileExistsError where it is."""
+    with open(os.open(path, os.O_WRONLY | os.O_CREAT | os.O_EXCL, piece.mode), "wb") as file:
+        file.write(piece.octets)
+
+
+def extract(data: bytes, folder: str, strict: bool = False) -> List[str]:
+    """Writes what is in a container into a folder, and returns the names. Raises Nothing, files.NoPem and OSError;
+    FileExistsError before anything is written where a file is there that would be overwritten."""
+    found = pieces(judge(data, None, strict))
+    if not found:
+        raise Nothing("nothing in it can be taken out: what it holds is encrypted or elsewhere")
+    paths = [os.path.join(folder, it.name) for it in found]
+    for path in paths:
+        if os.path.lexists(path):
+            raise FileExistsError(None, "is there already", path)
+    os.makedirs(folder, exist_ok=True)
+    for path, piece in zip(paths, found):
+        _write(path, piece)
+    return paths

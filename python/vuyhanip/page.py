@@ -1,0 +1,71 @@
+"""The verb page: a file as one page of HTML, its elements beside its octets."""
+import base64
+import html
+import json
+import re
+from typing import List, NamedTuple, Optional, Tuple, Union
+
+from .checking import Accepted, NoKind, judge
+from .files import NoPem, given
+from .names import NAMES
+from .template import TEMPLATE
+from .trees import Line, lines
+from .values import printable
+
+OBJECT_IDENTIFIER = re.compile(r"OBJECT IDENTIFIER \d+: ([\d.]+)")
+
+
+class Judged(NamedTuple):
+    """What the page says of the file, and the place that it is about."""
+
+    said: str
+    kind: Optional[str]
+    place: Optional[int]
+
+
+def judged(said: Union[Accepted, NoKind]) -> Judged:
+    """What is said of a file. What was converted from BER is shown as it was, so it has no place."""
+    is_ber = "BER" in said.given.forms
+    if isinstance(said, Accepted):
+        return Judged(f"{said.kind} {said}", None if is_ber else said.kind, None if is_ber else said.verdict.loose_end)
+    last = said.furthest
+    return Judged(f"{last.kind} {said}", None if is_ber else last.kind, None if is_ber else last.place)
+
+
+def named(text: str) -> str:
+    """The text of a line, with the name of its object identifier."""
+    found = OBJECT_IDENTIFIER.match(text)
+    if found is None or found[1] not in NAMES:
+        return text
+    known = NAMES[found[1]]
+    return f"{text} ({known.name}, {known.source})"
+
+
+def script_data(it: object) -> str:
+    """JSON that a script element may hold: nothing in it ends the element."""
+    text = json.dumps(it, ensure_ascii=True, separators=(",", ":"))
+    return text.replace("<", "\\u003c").replace(">", "\\u003e").replace("&", "\\u0026")
+
+
+def packed(those: List[Line]) -> Tuple[List[int], List[int], List[str]]:
+    """Lines, as columns."""
+    return [it.offset for it in those], [it.depth for it in those], [named(it.text) for it in those]
+
+
+def page(name: str, data: bytes, kind: Optional[str] = None, strict: bool = False) -> str:
+    """A file as a page."""
+    try:
+        octets, said = given(data, strict).octets, judged(judge(data, kind, strict))
+    except NoPem as fault:
+        octets, said = data, Judged(f"refused: {fault}", None, None)
+    offsets, depths, texts = packed(lines(octets, said.kind, said.place))
+    told = {
+        "octets": base64.b64encode(octets).decode(),
+        "offsets": offsets,
+        "depths": depths,
+        "texts": texts,
+        "place": said.place,
+        "refused": "refused" in said.said,
+    }
+    whole = TEMPLATE.replace("{{title}}", html.escape(printable(name))).replace("{{said}}", html.escape(said.said))
+    return whole.replace("{{data}}", script_data(told))

@@ -1,0 +1,70 @@
+"""Work over many files: in several processes, with a line of progress, and in colours where a terminal is there."""
+import os
+import sys
+import time
+from concurrent.futures import ProcessPoolExecutor
+from concurrent.futures.process import BrokenProcessPool
+from typing import Callable, Iterator, Sequence, TextIO, TypeVar
+
+T = TypeVar("T")
+
+# How long work takes before progress is shown, and how long it is shown before it is shown anew.
+PATIENCE, PAUSE = 1.0, 0.1
+COLOURS = {"normal": "32", "right": "32", "loose": "33", "refused": "31", "wrong": "31", "differs": "31"}
+
+
+class Progress:
+    """A line on standard error that says how many files are done, where that is a terminal."""
+
+    def __init__(self, count: int) -> None:
+        self.count, self.done, self.width = count, 0, 0
+        self.shows = sys.stderr.isatty() and count > 1
+        self.next = time.monotonic() + PATIENCE
+
+    def step(self) -> None:
+        """One more is done."""
+        self.done += 1
+        if self.shows and time.monotonic() >= self.next:
+            self.next = time.monotonic() + PAUSE
+            text = f"{self.done} of {self.count} files"
+            self.width = len(text)
+            sys.stderr.write(f"\r{text}")
+            sys.stderr.flush()
+
+    def clear(self) -> None:
+        """Takes the line away, before another is written or at the end."""
+        if self.width:
+            sys.stderr.write("\r" + " " * self.width + "\r")
+            sys.stderr.flush()
+            self.width = 0
+
+
+def over(names: Sequence[str], job: Callable[[str], T], processes: int) -> Iterator[T]:
+    """What a job says of each file, in their order. Standard input is read in this process."""
+    if processes <= 1 or len(names) < 2 or "-" in names:
+        yield from map(job, names)
+        return
+    with ProcessPoolExecutor(min(processes, len(names))) as pool:
+        pieces = max(1, min(64, len(names) // (8 * processes)))
+        try:
+            yield from pool.map(job, names, chunksize=pieces)
+        except BrokenProcessPool:
+            raise OSError("a process of -j was ended: the files that are left are not done") from None
+
+
+def is_coloured(stream: TextIO) -> bool:
+    """Whether colours go to a stream: to a terminal, and not with NO_COLOR."""
+    return stream.isatty() and not os.environ.get("NO_COLOR") and os.environ.get("TERM") != "dumb"
+
+
+def coloured(line: str, stream: TextIO) -> str:
+    """A line with the words of verdicts in colours."""
+    if not is_coloured(stream):
+        return line
+    return " ".join(_word(it) for it in line.split(" "))
+
+
+def _word(word: str) -> str:
+    """A word, in its colour."""
+    found = COLOURS.get(word.rstrip(":,"))
+    return f"\x1b[{found}m{word}\x1b[0m" if found else word

@@ -1,0 +1,135 @@
+"""The elements of a file as lines, of the program dertree where it is installed, or else of a reader here."""
+import os
+import re
+import shutil
+import subprocess
+from typing import Iterator, List, NamedTuple, Optional, Tuple
+
+from .elements import OCTET_STRING, Element, header, tag_word
+from .values import octets_text, value
+
+# The environment's word for the program.
+DERTREE = "VUYHANIP_DERTREE"
+# Lines of deeper elements aren't indented further.
+DEEPEST_INDENT = 32
+LINE = re.compile(r" *(\d+) +(\d+) +(.*)")
+
+
+class Line(NamedTuple):
+    """What a line shows: where it begins, in how many elements it is, and its text."""
+
+    offset: int
+    depth: int
+    text: str
+
+    def __str__(self) -> str:
+        return f"{self.offset:>7} {self.depth:>3} {'  ' * min(self.depth, DEEPEST_INDENT)}{self.text}"
+
+
+def program() -> Optional[str]:
+    """The program dertree, of the environment, of the system or of a clone. None where it isn't there."""
+    if DERTREE in os.environ:
+        return os.environ[DERTREE] or None
+    here = os.path.dirname(os.path.realpath(__file__))
+    built = os.path.join(here, "..", "..", "crates", "dertree", "out", "dertree")
+    return shutil.which("dertree") or (built if os.access(built, os.X_OK) else None)
+
+
+def lines(data: bytes, kind: Optional[str], place: Optional[int]) -> List[Line]:
+    """The lines of a file that is of a kind, or of any.
+
+    OCTET STRINGs that are one element are open, and those that lead to the place of a refusal.
+    """
+    said = of_dertree(data, kind)
+    if said is None:
+        return list(own_lines(data, place))
+    matches = map(LINE.fullmatch, said)
+    return [Line(int(it[1]), int(it[2]), it[3]) for it in matches if it]
+
+
+def of_dertree(data: bytes, kind: Optional[str]) -> Optional[List[str]]:
+    """What dertree writes of a file of a kind, or of any. None where it isn't there."""
+    found = program()
+    if found is None:
+        return None
+    words = ["--open", "--ber", kind] if kind else ["--open"]
+    ran = subprocess.run([found, *words], input=data, capture_output=True, check=False)
+    if ran.returncode not in (0, 1, 3) or ran.stderr:
+        raise OSError(f"{found}: {ran.stderr.decode(errors='replace').strip() or ran.returncode}")
+    return ran.stdout.decode().split("\n")[:-1]
+
+
+class _Open(NamedTuple):
+    """Contents whose lines are shown, and what tells of them."""
+
+    end: int
+    is_indefinite: bool
+    is_segmented: bool
+
+
+def _ber(data: bytes, at: int, end: int) -> Optional[Tuple[Element, str]]:
+    """The element of BER that begins there and is none of DER, and what DER doesn't allow of it (X.690, 8.1.3)."""
+    if end - at < 2 or data[at] & 0x1F == 0x1F:
+        return None
+    if data[at + 1] == 0x80 and data[at] & 0x20:
+        return Element(data, at, data[at], at + 2, end), ", indefinite length"
+    count = data[at + 1] & 0x7F
+    start = at + 2 + count
+    if data[at + 1] <= 0x80 or start > end:
+        return None
+    length = int.from_bytes(data[at + 2 : start], "big")
+    if start + length > end:
+        return None
+    return Element(data, at, data[at], start, start + length), f" {length}, length in {count + 1} octets"
+
+
+def _first(data: bytes, at: int, around: _Open) -> Tuple[Optional[Element], str]:
+    """What begins there, and the text of its line after the tag; no element where none begins."""
+    if around.is_indefinite and data[at : at + 2] == b"\0\0":
+        return None, "end of contents"
+    found = header(data, at, around.end)
+    if found is not None:
+        return found, f" {found.end - found.start}"
+    ber = _ber(data, at, around.end)
+    if ber is not None:
+        return ber
+    count = around.end - at
+    words = "byte that is" if count == 1 else "bytes that are"
+    return None, f"{count} {words} no element: {octets_text(data[at : around.end])}"
+
+
+def _opens(element: Element, is_indefinite: bool, place: Optional[int]) -> bool:
+    """Whether the contents of an element have lines of their own."""
+    if is_indefinite or element.tag != OCTET_STRING:
+        return is_indefinite or element.is_constructed and element.start < element.end
+    inside = header(element.data, element.start, element.end)
+    leads = place is not None and element.start <= place <= element.end
+    return inside is not None and (inside.end == element.end or leads)
+
+
+def own_lines(data: bytes, place: Optional[int]) -> Iterator[Line]:
+    """The lines as this reader finds them."""
+    at, opened = 0, [_Open(len(data), False, False)]
+    while at < len(data):
+        while len(opened) > 1 and opened[-1].end <= at:
+            opened.pop()
+        depth, around = len(opened) - 1, opened[-1]
+        element, text = _first(data, at, around)
+        if element is None:
+            yield Line(at, depth, text)
+            if text != "end of contents":
+                at = around.end
+                continue
+            at += 2
+            opened.pop()
+            continue
+        text = tag_word(element.tag) + text + (", segment" if around.is_segmented else "")
+        is_indefinite = text.endswith(", indefinite length")
+        if _opens(element, is_indefinite, place):
+            yield Line(at, depth, text)
+            at = element.start
+            opened.append(_Open(element.end, is_indefinite, element.tag == OCTET_STRING | 0x20))
+            continue
+        said = value(element)
+        yield Line(at, depth, f"{text}: {said}" if said else text)
+        at = element.end

@@ -1,0 +1,186 @@
+"""The verb verify: signatures of signers, and the MAC of a store. No certificate is judged."""
+import hashlib
+import hmac
+from typing import List, NamedTuple, Optional, Tuple
+
+from . import der, library
+from .algorithms import algorithm_oid
+from .checking import Accepted, judge
+from .containers import (
+    CONTENT_TYPE,
+    COUNTER_SIGNATURE,
+    DATA,
+    MESSAGE_DIGEST,
+    NESTED_SIGNATURE,
+    TIME_STAMPS,
+    TST_INFO,
+    Attribute,
+    Certificate,
+    Signed,
+    Signer,
+    signed,
+    stamp,
+    time_stamp_token,
+)
+from .elements import OBJECT_IDENTIFIER, OCTET_STRING, Element, NotThere
+from .files import Given
+from .keys import NotChecked, scheme_of, verifies
+from .macs import digest_name, is_right
+from .names import name_of
+from .showing import MOST_LEVELS, signed_of_refused
+from .values import name, oid
+
+RIGHT, WRONG = "signature right", "signature wrong"
+
+
+class Finding(NamedTuple):
+    """What is said of a signer or of a MAC."""
+
+    what: str
+    said: str
+    is_right: bool
+    # the subject of the certificate that a signature was checked with
+    certificate: str = ""
+
+    @property
+    def line(self) -> str:
+        """The words after the file's name."""
+        if self.what == "file":
+            return self.said
+        if self.what.endswith("MAC"):
+            return f"{self.what} {self.said}"
+        by = f" by {self.certificate}" if self.certificate else ""
+        return f"{self.what}: {self.said}{by}, certificate not judged"
+
+
+class Wrong(ValueError):
+    """Why a signature is not right, in words."""
+
+
+def only_value(those: List[Attribute], which: str, tag: int) -> Element:
+    """The one value of the one attribute with an object identifier (RFC 5652, 11). Raises Wrong."""
+    word = name_of(which)
+    found = [it for it in those if it.oid == which]
+    if not found:
+        raise Wrong(f"no {word}")
+    if len(found) > 1 or len(found[0].values) != 1 or found[0].values[0].tag != tag:
+        raise Wrong(f"no {word} that is one value")
+    return found[0].values[0]
+
+
+def covered_by(it: Signed, signer: Signer, content: Optional[bytes]) -> bytes:
+    """The octets that a signature covers, once what they say of the content is so (RFC 5652, 5.4). Raises Wrong."""
+    if signer.covered is None:
+        if it.content_type != DATA:
+            raise Wrong("no signed attributes, which content of its type needs")
+        if content is None:
+            raise Wrong("no content, which --content gives")
+        return content
+    digest = only_value(signer.signed, MESSAGE_DIGEST, OCTET_STRING).contents
+    if oid(only_value(signer.signed, CONTENT_TYPE, OBJECT_IDENTIFIER)) != it.content_type:
+        raise Wrong("content type differs")
+    if content is None:
+        raise Wrong("no content, which --content gives")
+    hashed = digest_name(signer.digest_algorithm)
+    if hashed is None:
+        raise Wrong(f"not checked: the digest {name_of(signer.digest_algorithm)} is not known")
+    if not hmac.compare_digest(hashlib.new(hashed, content).digest(), digest):
+        raise Wrong("digest differs")
+    return signer.covered
+
+
+def signature_said(it: Signed, signer: Signer, content: Optional[bytes]) -> Tuple[str, Optional[Certificate]]:
+    """What is said of a signer's signature, and the certificate that it was checked with."""
+    found = it.certificate_of(signer)
+    try:
+        covered = covered_by(it, signer, content)
+        if found is None:
+            return "no certificate", None
+        scheme = scheme_of(signer.signature_algorithm, signer.digest_algorithm)
+        is_so = verifies(found.key, scheme, signer.signature, covered)
+    except Wrong as fault:
+        return str(fault), found
+    except (NotChecked, NotThere) as fault:
+        return f"not checked: {fault}", found
+    return (RIGHT if is_so else WRONG), found
+
+
+def signer_findings(data: bytes, content: Optional[bytes], before: str = "", level: int = 0) -> List[Finding]:
+    """What is said of each signer, and of the time stamps and nested signatures in it. Raises der.Refused."""
+    it, findings = signed(data), []
+    content = it.content if it.content is not None else content
+    for number, signer in enumerate(it.signers, 1):
+        what = f"{before}signer {number}"
+        said, found = signature_said(it, signer, content)
+        by = name(found.subject) if found and said in (RIGHT, WRONG) else ""
+        findings.append(Finding(what, said, said == RIGHT, by))
+        for attribute in signer.unsigned:
+            findings += _unsigned(signer, attribute, what, level + 1)
+    if not it.signers:
+        findings.append(Finding(f"{before}signers", "none", False))
+    return findings
+
+
+def _unsigned(signer: Signer, attribute: Attribute, what: str, level: int) -> List[Finding]:
+    """What is said of an unsigned attribute that holds signatures."""
+    is_stamp = attribute.oid in TIME_STAMPS
+    if attribute.oid == COUNTER_SIGNATURE:
+        return [Finding(f"{what}, counter signature", "not checked", False)]
+    if not is_stamp and attribute.oid != NESTED_SIGNATURE:
+        return []
+    findings: List[Finding] = []
+    for value in attribute.values:
+        inner = f"{what}, {'time stamp' if is_stamp else 'nested signature'}, "
+        try:
+            if level > MOST_LEVELS:
+                raise NotThere(f"more than {MOST_LEVELS} levels")
+            if is_stamp:
+                findings += _imprint(value.encoding, signer.signature, inner)
+            findings += signer_findings(value.encoding, None, inner, level)
+        except (der.Refused, NotThere) as fault:
+            findings.append(Finding(inner.rstrip(", "), f"refused: {fault}", False))
+    return findings
+
+
+def _imprint(token: bytes, stamped: bytes, before: str) -> List[Finding]:
+    """What is wrong with what a time stamp says that it stamps (RFC 3161, 2.4.2), if anything is."""
+    it = signed(token)
+    if it.content_type != TST_INFO or it.content is None:
+        return [Finding(before.rstrip(", "), "no TSTInfo", False)]
+    said = stamp(it.content)
+    digest = digest_name(algorithm_oid(said.digest_algorithm))
+    if digest is None:
+        return [Finding(before.rstrip(", "), "not checked: its digest is not known", False)]
+    if not hmac.compare_digest(hashlib.new(digest, stamped).digest(), said.digest):
+        return [Finding(before.rstrip(", "), "it stamps other octets than this signature", False)]
+    return []
+
+
+def mac_finding(it: Given, password: Optional[str]) -> Finding:
+    """What is said of a store's MAC."""
+    mac = library().mac(it.octets)
+    if mac is None:
+        return Finding("no MAC", "in the file", False)
+    if password is None:
+        return Finding("MAC", "not checked: no password, which --password-file gives", False)
+    try:
+        covered = it.octets[mac.covered.start : mac.covered.stop] if it.covered is None else it.covered
+        is_so = is_right(mac, covered, password)
+    except (ValueError, UnicodeEncodeError) as fault:
+        return Finding("MAC", f"not checked: {fault}", False)
+    return Finding("MAC", "right" if is_so else "wrong", is_so)
+
+
+def verify(data: bytes, content: Optional[bytes], password: Optional[str], strict: bool = False) -> List[Finding]:
+    """What is said of a file. Raises files.NoPem; der.Refused where nothing in it can be verified."""
+    said = judge(data, None, strict)
+    if not isinstance(said, Accepted):
+        token = time_stamp_token(said.given.octets)
+        if token is None:
+            return [Finding("file", f"{said.furthest.kind} {said}", False)]
+        return verify(token, content, password, True)
+    if said.kind in ("pfx", "rawpfx"):
+        return [mac_finding(said.given, password)]
+    if said.kind == "pkcs7certificate":
+        return signer_findings(said.given.octets, content)
+    return [Finding("file", signed_of_refused(said) or f"{said.kind}: nothing in it is verified", False)]
