@@ -293,7 +293,7 @@ WITHOUT_KIND = ("extract", "to-der", "verify")
 def kind_word(text: str) -> str:
     """A word that is a kind's."""
     if text not in library().kinds():
-        raise argparse.ArgumentTypeError(f"{text} is no kind: docs/FORMATS.md lists them")
+        raise argparse.ArgumentTypeError(f"{text} is no kind: docs/API.md lists them")
     return text
 
 
