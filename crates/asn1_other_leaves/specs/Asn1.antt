@@ -1,0 +1,30 @@
+-- The types of this crate in the notation of X.680.
+use Rattle.std.specs.Prelude.{ℕ, ◌^◌, ◌%◌}
+use Rattle.std.proofs.Common.{arith}
+use Rattle.asn1_core_format.specs.Asn1.{Asn1, asn1_tagged}
+use Rattle.asn1_core_format.specs.Numbers.{numbers_below}
+use Rattle.asn1_core_format.specs.TaggedLaws.{leaf_tagged}
+use Rattle.asn1_core.specs.Octets.{any_octets}
+use Rattle.asn1_other_leaves.specs.OtherLeaves.{lawful_enumerated, lawful_kept_octets}
+
+abbrev pub ENUMERATED : Asn1
+ENUMERATED = asn1_tagged lawful_enumerated 0x0A (leaf_tagged 0x0A (omega arith) (numbers_below (2 ^ 8)))
+
+-- a string with that universal tag, whose characters aren't tested
+abbrev pub KEPT_STRING : ℕ → Asn1
+KEPT_STRING n = asn1_tagged (lawful_kept_octets n) (n % 31) (leaf_tagged (n % 31) (omega arith) any_octets)
+
+abbrev pub NUMERIC_STRING : Asn1
+NUMERIC_STRING = KEPT_STRING 0x12
+
+abbrev pub PRINTABLE_STRING : Asn1
+PRINTABLE_STRING = KEPT_STRING 0x13
+
+abbrev pub TELETEX_STRING : Asn1
+TELETEX_STRING = KEPT_STRING 0x14
+
+abbrev pub VISIBLE_STRING : Asn1
+VISIBLE_STRING = KEPT_STRING 0x1A
+
+abbrev pub UNIVERSAL_STRING : Asn1
+UNIVERSAL_STRING = KEPT_STRING 0x1C

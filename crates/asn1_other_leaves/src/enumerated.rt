@@ -1,0 +1,83 @@
+//! ENUMERATED (X.690, 8.4).
+
+ghost use Rattle.std.specs.Prelude.{◌^◌, ℕ};
+ghost use Rattle.std.proofs.Common.{arith, rules};
+ghost use Rattle.asn1_core_format.specs.Numbers.{numbers_below};
+ghost use Rattle.asn1_core_format.specs.TaggedLaws.{leaf_tagged};
+ghost use Rattle.asn1_other_leaves.specs.OtherLeaves.{enumerated, lawful_enumerated};
+
+use asn1_core_element::{Error, Reader};
+use asn1_core_format::{
+    DerDeserialize, DerSerialize, DerTagged, EqualByText, Leaf, TryClone, read_leaf,
+    read_leaf_contents,
+};
+use asn1_core_writers::{WriteError, Writer, put_unsigned};
+use std::alloc::Global;
+
+/// `ENUMERATED`, by its number, which is below 256.
+#[derive(Clone, Copy, Debug, PartialEq, Eq)]
+pub struct EnumeratedAsn1(pub u8);
+
+impl Leaf for EnumeratedAsn1 {
+    ghost Value = { ℕ };
+
+    ghost value = { λ x. x.0 };
+
+    ghost spelling = { numbers_below (2 ^ 8) };
+
+    fn from_contents(alloc: Global, contents: &[u8]) -> Result<Self, Error> {
+        let number = u8::from_contents(alloc, contents)?;
+        Ok(EnumeratedAsn1(number))
+    }
+}
+
+impl DerSerialize for EnumeratedAsn1 {
+    ghost Value = { ℕ };
+
+    ghost value = { λ x. x.0 };
+
+    ghost format = { enumerated };
+
+    fn put<W: Writer>(&self, w: &mut W) -> Result<(), WriteError> {
+        put_unsigned(0x0A, u32::from(self.0), w)
+    }
+
+    fn well_formed_at(&self, _limit: u8) -> bool {
+        let _value = self.0;
+        true
+    }
+}
+
+impl DerDeserialize for EnumeratedAsn1 {
+    fn read(alloc: Global, r: &mut Reader<'_>, nest: u8) -> Result<Self, Error> {
+        read_leaf(alloc, r, nest, 0x0A)
+    }
+
+    ghost lawful = { lawful_enumerated };
+}
+
+impl DerTagged for EnumeratedAsn1 {
+    ghost TAG = { 0x0A };
+
+    const TAG: u8 = 0x0A;
+
+    fn put_as<W: Writer>(&self, tag: u8, w: &mut W) -> Result<(), WriteError> {
+        put_unsigned(tag, u32::from(self.0), w)
+    }
+
+    fn read_contents(alloc: Global, r: &mut Reader<'_>, nest: u8) -> Result<Self, Error> {
+        read_leaf_contents(alloc, r, nest, 0x0A)
+    }
+
+    ghost tagged = { leaf_tagged 0x0A (Prim.omega arith) (numbers_below (2 ^ 8)) };
+}
+
+impl EqualByText for EnumeratedAsn1 {
+    ghost equal_by_text = { Prim.search rules };
+}
+
+impl TryClone for EnumeratedAsn1 {
+    fn try_clone(&self, _alloc: Global) -> Result<Self, Error> {
+        Ok(*self)
+    }
+}

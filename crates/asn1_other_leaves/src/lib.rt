@@ -1,0 +1,14 @@
+//! The universal types that `asn1_core` and `asn1_leaves` have no field for: BOOLEAN without a default, ENUMERATED, NULL,
+//! and strings whose characters aren't tested. Crates that `scripts/asn1` makes of ASN.1 modules hold them.
+#![tactic(auto)]
+
+pub mod constants;
+pub mod enumerated;
+pub mod kept;
+
+pub use constants::{BooleanAsn1, NullAsn1};
+pub use enumerated::EnumeratedAsn1;
+pub use kept::{
+    KeptAsn1, NumericStringAsn1, PrintableStringAsn1, TeletexStringAsn1, UniversalStringAsn1,
+    VisibleStringAsn1,
+};

@@ -1,0 +1,9 @@
+//! The types of PKIXTSP. Made by `scripts/asn1`; not to be edited.
+#![tactic(auto)]
+
+pub mod pkixtsp;
+
+pub use pkixtsp::{
+    Accuracy, ContentInfo, MessageImprint, PkiFailureInfo, PkiFreeText, PkiStatus, PkiStatusInfo,
+    TimeStampReq, TimeStampResp, TimeStampToken, TsaPolicyId, TstInfo,
+};

@@ -1,0 +1,2 @@
+pub mod Pkix1Explicit88
+pub mod Pkix1Implicit88
