@@ -124,6 +124,8 @@ fn is_revocation_normal(
 ) -> Result<Option<bool>, Error> {
     let normal = if is_oid_of(id, &ID_CE_CRL_NUMBER) {
         is_written_so::<CrlNumber>(alloc, octets)?
+    } else if is_oid_of(id, &ID_CE_DELTA_CRL_INDICATOR) {
+        is_written_so::<BaseCrlNumber>(alloc, octets)?
     } else if is_oid_of(id, &ID_CE_CRL_REASONS) {
         is_written_so::<CrlReason>(alloc, octets)?
     } else if is_oid_of(id, &ID_CE_INVALIDITY_DATE) {

@@ -517,6 +517,10 @@ subject_info_access_syntax = SEQUENCE_OF (SEQUENCE access_description)
 abbrev pub crl_number : Asn1
 crl_number = INTEGER
 
+-- BaseCRLNumber ::= CRLNumber (RFC 5280, 5.2.4)
+abbrev pub base_crl_number : Asn1
+base_crl_number = crl_number
+
 -- IssuingDistributionPoint ::= SEQUENCE { distributionPoint [0] DistributionPointName OPTIONAL,
 --   onlyContainsUserCerts [1] BOOLEAN DEFAULT FALSE, onlyContainsCACerts [2] BOOLEAN DEFAULT FALSE,
 --   onlySomeReasons [3] ReasonFlags OPTIONAL, indirectCRL [4] BOOLEAN DEFAULT FALSE, onlyContainsAttributeCerts

@@ -11,13 +11,13 @@ pub use pkix1_explicit88::{
 };
 pub use pkix1_implicit88::{
     AccessDescription, AnotherName, AuthorityInfoAccessSyntax, AuthorityKeyIdentifier,
-    BaseDistance, BasicConstraints, CertPolicyId, CertificateIssuer, CertificatePolicies, CpSuri,
-    CrlDistributionPoints, CrlNumber, CrlReason, DisplayText, DistributionPoint,
-    DistributionPointName, EdiPartyName, ExtKeyUsageSyntax, FreshestCrl, GeneralName, GeneralNames,
-    GeneralSubtree, GeneralSubtrees, InhibitAnyPolicy, InvalidityDate, IssuerAltName,
-    IssuingDistributionPoint, KeyIdentifier, KeyPurposeId, KeyUsage, NameConstraints,
-    NoticeReference, OrAddress, PolicyConstraints, PolicyInformation, PolicyMappings,
-    PolicyMappingsItem, PolicyQualifierId, PolicyQualifierInfo, PrivateKeyUsagePeriod, ReasonFlags,
-    SkipCerts, SubjectAltName, SubjectDirectoryAttributes, SubjectInfoAccessSyntax,
-    SubjectKeyIdentifier, UserNotice,
+    BaseCrlNumber, BaseDistance, BasicConstraints, CertPolicyId, CertificateIssuer,
+    CertificatePolicies, CpSuri, CrlDistributionPoints, CrlNumber, CrlReason, DisplayText,
+    DistributionPoint, DistributionPointName, EdiPartyName, ExtKeyUsageSyntax, FreshestCrl,
+    GeneralName, GeneralNames, GeneralSubtree, GeneralSubtrees, InhibitAnyPolicy, InvalidityDate,
+    IssuerAltName, IssuingDistributionPoint, KeyIdentifier, KeyPurposeId, KeyUsage,
+    NameConstraints, NoticeReference, OrAddress, PolicyConstraints, PolicyInformation,
+    PolicyMappings, PolicyMappingsItem, PolicyQualifierId, PolicyQualifierInfo,
+    PrivateKeyUsagePeriod, ReasonFlags, SkipCerts, SubjectAltName, SubjectDirectoryAttributes,
+    SubjectInfoAccessSyntax, SubjectKeyIdentifier, UserNotice,
 };

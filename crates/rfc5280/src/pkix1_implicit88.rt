@@ -1022,6 +1022,9 @@ pub type SubjectInfoAccessSyntax = Asn1SequenceOf<AccessDescription>;
 /// (0..MAX) isn't tested.
 pub type CrlNumber = IntegerAsn1;
 
+/// `BaseCRLNumber ::= CRLNumber` (RFC 5280, 5.2.4)
+pub type BaseCrlNumber = CrlNumber;
+
 /// `IssuingDistributionPoint ::= SEQUENCE { distributionPoint [0] DistributionPointName OPTIONAL,
 /// onlyContainsUserCerts [1] BOOLEAN DEFAULT FALSE, onlyContainsCACerts [2] BOOLEAN DEFAULT FALSE, onlySomeReasons
 /// [3] ReasonFlags OPTIONAL, indirectCRL [4] BOOLEAN DEFAULT FALSE, onlyContainsAttributeCerts [5] BOOLEAN DEFAULT
@@ -1142,6 +1145,9 @@ pub const ID_CE_CRL_REASONS: [u8; 3] = [0x55, 0x1D, 0x15];
 
 /// `id-ce-invalidityDate`, 2.5.29.24, by its contents octets.
 pub const ID_CE_INVALIDITY_DATE: [u8; 3] = [0x55, 0x1D, 0x18];
+
+/// `id-ce-deltaCRLIndicator`, 2.5.29.27, by its contents octets.
+pub const ID_CE_DELTA_CRL_INDICATOR: [u8; 3] = [0x55, 0x1D, 0x1B];
 
 /// `id-ce-issuingDistributionPoint`, 2.5.29.28, by its contents octets.
 pub const ID_CE_ISSUING_DISTRIBUTION_POINT: [u8; 3] = [0x55, 0x1D, 0x1C];
