@@ -1,8 +1,9 @@
 /* Checks and rewritings of DER, the parts of containers that a verifier needs, as octets, and conversions of BER to
- * DER: the static library der_c. Only der_from_ber takes BER. Pass every other call what it wrote.
+ * DER: the static library der_c. Only der_from_ber takes BER. Pass every other call what it wrote, and der_mac_ber and
+ * der_mac_part_ber where the MAC of a PKCS #12 file is to be verified.
  *
  * What is proved of its calls der_check_word_limited, der_rewrite_word_limited, der_kind_word, der_part_octets,
- * der_mac_range, der_mac and der_from_ber, for all inputs, and what isn't:
+ * der_mac_range, der_mac, der_from_ber, der_mac_ber and der_mac_part_ber, for all inputs, and what isn't:
  *  - A call answers no status but those that are listed at it. What it writes into numbers and into out is as said
  *    below.
  *  - DER_NORMAL, DER_LOOSE, DER_UNKNOWN_KIND, DER_TOO_LONG, DER_NO_ROOM, DER_NO_RANGE and DER_NO_PART are true where
@@ -68,7 +69,7 @@ typedef enum der_status {
   DER_NO_MEMORY = 8,    /* a request for memory was refused: nothing is said of the input */
   DER_NO_ROOM = 9,      /* out is too short: the number of bytes that are needed is written */
   DER_NO_RANGE = 10,    /* authSafe isn't data, so that no octets of the file are covered by a MAC */
-  DER_NO_PART = 11      /* the container has no such part, or not so many; of der_mac: the file has no MAC */
+  DER_NO_PART = 11      /* the container has no such part, or not so many; of the calls on a MAC: the file has none */
 } der_status;
 
 /* The parts of containers. Each is of the type that the input is read as, which is said before it. */
@@ -150,6 +151,17 @@ uint32_t der_mac(const uint8_t *input, size_t input_len, size_t *start, size_t *
  * though it could be an explicit tag around an OCTET STRING. */
 uint32_t der_from_ber(const uint8_t *input, size_t input_len, uint8_t *out, size_t out_len, size_t *written,
                       size_t *place);
+
+/* As der_mac, of a PKCS #12 file that der_from_ber wrote: its authSafe may hold BER, which der_from_ber keeps as it is,
+ * since the MAC covers it, and which der_mac and "rawpfx" refuse as DER_MALFORMED. So of what is in the OCTET STRING
+ * nothing is asked. The *len octets from input + *start on are in what der_from_ber wrote, and in the same order in
+ * the file that it was given, though there they may be in pieces. The statuses are those of der_mac. */
+uint32_t der_mac_ber(const uint8_t *input, size_t input_len, size_t *start, size_t *len, size_t *iterations);
+
+/* As der_part, of the MAC of such a file. number is DER_PART_MAC_DIGEST_ALGORITHM, DER_PART_MAC_DIGEST or
+ * DER_PART_MAC_SALT; at any other one the status is DER_UNKNOWN_KIND. */
+uint32_t der_mac_part_ber(size_t number, const uint8_t *input, size_t input_len, uint8_t *out, size_t out_len,
+                          size_t *written);
 
 /* A limit as the calls take it: one that a byte is too small for counts as DER_MAX_NESTING too. */
 static inline uint8_t der_levels(unsigned limit) {

@@ -8,10 +8,12 @@ DER, from Python.
     library.mac(data)                Mac(covered=range(30, 943), digest_algorithm='2.16.840.1.101.3.4.2.1', ..), or None
     library.part(Part.SIGNATURE, signed, 0)   the octets of a part, or None
     library.from_ber(data)           the DER of an input in BER, as bytes
+    library.mac_ber(der)             as mac, of a file that from_ber returned
     library.kinds()                  ["macdata", ..]
 
 A kind is the name of a type in lower case. What is no encoding of its kind raises Refused, with the reason and the place.
-Only from_ber takes BER. Pass every other call what it returned.
+Only from_ber takes BER. Pass every other call what it returned, and mac_ber where the MAC of a PKCS #12 file is to be
+verified.
 The calls are those of der.h, which says what is proved of them. Calls share nothing, so threads may make them side by
 side.
 
@@ -23,7 +25,7 @@ The shared library is made of the static ones, at the top of a clone, after `rt 
 import ctypes
 import enum
 import os
-from typing import List, NamedTuple, Optional, Tuple, Union
+from typing import Callable, List, NamedTuple, Optional, Tuple, Union
 
 # The most levels of nesting that an input may have.
 MAX_NESTING = 64
@@ -32,6 +34,8 @@ NORMAL, LOOSE, UNKNOWN_KIND, TOO_LONG, NO_MEMORY, NO_ROOM, NO_RANGE, NO_PART = 0
 REASONS = {3: "malformed", 4: "missing", 5: "invalid", 6: "too deep"}
 
 Bytes = Union[bytes, bytearray, memoryview]
+# A call of the library, which returns a status.
+Call = Callable[..., int]
 
 
 class Refused(ValueError):
@@ -132,6 +136,8 @@ class Library:
             ("der_mac", [octets, size, number, number, number]),
             ("der_part_octets", [size, size, octets, size, octets, size, number]),
             ("der_from_ber", [octets, size, octets, size, number, number]),
+            ("der_mac_ber", [octets, size, number, number, number]),
+            ("der_mac_part_ber", [size, octets, size, octets, size, number]),
         ):
             call = getattr(self._library, name)
             call.argtypes, call.restype = arguments, ctypes.c_uint32
@@ -177,10 +183,20 @@ class Library:
 
     def mac(self, data: Bytes) -> Optional[Mac]:
         """What a verifier of a PKCS #12 file's MAC needs. None where its authSafe isn't data, or it has no MAC."""
+        return self._mac(self._library.der_mac, self.part, data)
+
+    def mac_ber(self, data: Bytes) -> Optional[Mac]:
+        """The same of a file that from_ber returned, whose MAC may cover BER. The range is in what from_ber returned.
+
+        Raises Refused where it is no PKCS #12 file, as a check as "rawpfx" does, which refuses it too.
+        """
+        return self._mac(self._library.der_mac_ber, self.mac_part_ber, data)
+
+    def _mac(self, call: Call, part: Callable[[Part, Bytes], Optional[bytes]], data: Bytes) -> Optional[Mac]:
+        """What a call says of a MAC, with the parts of it that another one gives."""
         data = _octets(data)
         start, length, iterations = ctypes.c_size_t(), ctypes.c_size_t(), ctypes.c_size_t()
-        numbers = map(ctypes.byref, (start, length, iterations))
-        status = self._library.der_mac(data, len(data), *numbers)
+        status = call(data, len(data), *map(ctypes.byref, (start, length, iterations)))
         if status in (NO_RANGE, NO_PART):
             return None
         if status in REASONS:
@@ -188,9 +204,9 @@ class Library:
         _raise_for(status, "rawpfx", 0)
         return Mac(
             range(start.value, start.value + length.value),
-            dotted(self.part(Part.MAC_DIGEST_ALGORITHM, data) or b""),
-            self.part(Part.MAC_DIGEST, data) or b"",
-            self.part(Part.MAC_SALT, data) or b"",
+            dotted(part(Part.MAC_DIGEST_ALGORITHM, data) or b""),
+            part(Part.MAC_DIGEST, data) or b"",
+            part(Part.MAC_SALT, data) or b"",
             iterations.value,
         )
 
@@ -222,13 +238,24 @@ class Library:
             raise ValueError(f"an index of {index}")
         if index >= 1 << 64:
             return None
+        return self._part(self._library.der_part_octets, (part.value[0], index), part, data)
+
+    def mac_part_ber(self, part: Part, data: Bytes) -> Optional[bytes]:
+        """A part of the MAC of a PKCS #12 file that from_ber returned. None where it has no MAC.
+
+        Raises Refused as mac_ber does.
+        """
+        if part.kind != "rawpfx":
+            raise ValueError(f"{part.name} is no part of a MAC")
+        return self._part(self._library.der_mac_part_ber, (part.value[0],), part, data)
+
+    def _part(self, call: Call, which: Tuple[int, ...], part: Part, data: Bytes) -> Optional[bytes]:
+        """What a call writes of a part, into as much room as it needs."""
         data = _octets(data)
         room, written = len(data) + 64, ctypes.c_size_t()
         while True:
             out = ctypes.create_string_buffer(room)
-            status = self._library.der_part_octets(
-                part.value[0], index, data, len(data), out, room, ctypes.byref(written)
-            )
+            status = call(*which, data, len(data), out, room, ctypes.byref(written))
             if status == NORMAL:
                 return out.raw[: written.value]
             if status == NO_PART:

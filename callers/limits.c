@@ -12,9 +12,9 @@
 enum { MARK = 0xEE, MARGIN = 64, SPARE = 16 };
 
 /* The calls, by the word that begins their lines. */
-typedef enum { CHECK, LOCATE, LOOSE_END, REWRITE, MAC, MAC_NUMBERS, FROM_BER, PART, KIND } call;
-static const char *const calls[] = {"check",       "locate",   "loose_end", "rewrite", "mac",
-                                    "mac_numbers", "from_ber", "part",      "kind"};
+typedef enum { CHECK, LOCATE, LOOSE_END, REWRITE, MAC, MAC_NUMBERS, FROM_BER, MAC_BER, MAC_PART_BER, PART, KIND } call;
+static const char *const calls[] = {"check",    "locate",  "loose_end",    "rewrite", "mac", "mac_numbers",
+                                    "from_ber", "mac_ber", "mac_part_ber", "part",    "kind"};
 
 /* What a call is given: the index of a kind or the number of a part where it takes one, and a limit if there is one. */
 typedef struct {
@@ -71,7 +71,7 @@ static int is_marked(const number *it) { return it->before == MARKS && it->behin
 
 /* How many numbers a call writes. */
 static int numbers_of(call it) {
-  return it == MAC_NUMBERS ? 3 : it == MAC || it == FROM_BER ? 2 : 1;
+  return it == MAC_NUMBERS || it == MAC_BER ? 3 : it == MAC || it == FROM_BER ? 2 : 1;
 }
 
 /* Makes a call, with so many bytes of out between marks. */
@@ -107,6 +107,12 @@ static answer made(call it, const given *its, uint8_t *room, size_t out_len) {
   case FROM_BER:
     said.status = (der_status)der_from_ber(its->input, its->len, out, out_len, &first.it, &second.it);
     break;
+  case MAC_BER:
+    said.status = (der_status)der_mac_ber(its->input, its->len, &first.it, &second.it, &third.it);
+    break;
+  case MAC_PART_BER:
+    said.status = (der_status)der_mac_part_ber(its->index, its->input, its->len, out, out_len, &first.it);
+    break;
   case PART:
     said.status = der_part((der_part_number)its->index, 0, its->input, its->len, out, out_len, &first.it);
     break;
@@ -121,8 +127,8 @@ static answer made(call it, const given *its, uint8_t *room, size_t out_len) {
     fault(it, "memory is kept");
   if (!is_marked(&first) || !is_marked(&second) || !is_marked(&third))
     fault(it, "it writes beside a number");
-  if ((it == REWRITE || it == FROM_BER || it == PART || it == KIND) && said.status == DER_NORMAL &&
-      (written = said.first) > out_len)
+  if ((it == REWRITE || it == FROM_BER || it == MAC_PART_BER || it == PART || it == KIND) &&
+      said.status == DER_NORMAL && (written = said.first) > out_len)
     fault(it, "it says that it wrote more than there is room for");
   for (at = 0; at < MARGIN + out_len + MARGIN; at++)
     if ((at < MARGIN || at >= MARGIN + written) && room[at] != MARK)
@@ -168,6 +174,15 @@ static int kinds(void) {
   return 0;
 }
 
+/* Makes a call for each part, with room enough and a byte less, and for a number that no part has. */
+static void parts(call it, given *its, uint8_t *room) {
+  for (its->index = 0; its->index <= DER_PART_MAC_SALT + 1; its->index++) {
+    answer said = tried(it, its, room, 2 * its->len);
+    if (said.status == DER_NORMAL && said.first)
+      tried(it, its, room, said.first - 1);
+  }
+}
+
 int main(int count, char **words) {
   static uint8_t input[1 << 20], room[MARGIN + 2 * sizeof input + MARGIN];
   given its = {count > 1 ? words[1] : NULL, input, 0, 0, count == 3, 0};
@@ -196,10 +211,8 @@ int main(int count, char **words) {
     tried(FROM_BER, &its, room, said.first);
     tried(FROM_BER, &its, room, said.first - 1);
   }
-  for (its.index = 0; its.index <= DER_PART_MAC_SALT + 1; its.index++) {
-    said = tried(PART, &its, room, 2 * its.len);
-    if (said.status == DER_NORMAL && said.first)
-      tried(PART, &its, room, said.first - 1);
-  }
+  tried(MAC_BER, &its, room, 0);
+  parts(PART, &its, room);
+  parts(MAC_PART_BER, &its, room);
   return 0;
 }

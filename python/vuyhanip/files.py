@@ -27,8 +27,18 @@ class Given(NamedTuple):
     octets: bytes
     # "PEM" or "PEM block 1 of 2", "BER", or both; nothing where they are the file's own
     forms: Tuple[str, ...] = ()
-    # of a store whose contents were converted too: what its MAC covers, as it was
-    covered: Optional[bytes] = None
+    # of a store whose contents were converted too: its DER before that, with the octets that its MAC covers
+    store: Optional[bytes] = None
+
+    @property
+    def mac(self) -> Optional[der.Mac]:
+        """What a verifier of a store's MAC needs. The range is in its own DER."""
+        return library().mac_ber(self.own)
+
+    @property
+    def own(self) -> bytes:
+        """A store's octets as they were before its contents were converted, if they were."""
+        return self.octets if self.store is None else self.store
 
     @property
     def said(self) -> str:
@@ -79,7 +89,7 @@ def converted(it: Given) -> Optional[Given]:
 
 
 def converted_store(it: Given) -> Optional[Given]:
-    """The DER of a PKCS #12 file whose authSafe holds BER, with the octets that its MAC covers, which are BER.
+    """The DER of a PKCS #12 file whose authSafe holds BER, of which that is converted too.
 
     None where it is no such file.
     """
@@ -96,7 +106,7 @@ def converted_store(it: Given) -> Optional[Given]:
         return None
     new = encoded(SEQUENCE, kind.encoding + encoded(content.tag, encoded(OCTET_STRING, bags)))
     octets = encoded(SEQUENCE, b"".join([version.encoding, new, *(part.encoding for part in mac)]))
-    return Given(octets, it.forms if "BER" in it.forms else (*it.forms, "BER"), string.contents)
+    return Given(octets, it.forms if "BER" in it.forms else (*it.forms, "BER"), it.octets)
 
 
 def _content(info: Element) -> bytes:

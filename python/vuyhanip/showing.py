@@ -1,7 +1,7 @@
 """The verb show: what a container holds, as rows that a person reads."""
 from typing import Callable, Dict, Iterator, List, NamedTuple, Optional, Tuple
 
-from . import der, library
+from . import der
 from .algorithms import algorithm, public_key
 from .checking import Accepted, judge
 from .containers import (
@@ -110,14 +110,14 @@ def attribute_rows(those: List[Attribute]) -> Rows:
 
 def store_rows(it: Given, kind: str) -> Rows:
     """A PKCS #12 file: its MAC, and what can be seen of its contents."""
-    data, mac = it.octets, library().mac(it.octets)
+    data, mac = it.octets, it.mac
     if mac is None:
         yield Row(0, "MAC", "none")
     else:
         count, salt = mac.iterations, octets(len(mac.salt))
         yield Row(0, "MAC", f"{name_of(mac.digest_algorithm)}, iterations {count}, salt of {salt}")
-        place = f"{octets(len(mac.covered))} from {mac.covered.start} on"
-        yield Row(0, "MAC covers", place if it.covered is None else f"{octets(len(it.covered))} of BER")
+        place = "of BER" if it.store is not None else f"from {mac.covered.start} on"
+        yield Row(0, "MAC covers", f"{octets(len(mac.covered))} {place}")
     if kind != "pfx":
         yield Row(0, "bags", "not read, since the file is read as rawpfx: `check --kind pfx` says why")
         return

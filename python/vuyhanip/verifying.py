@@ -3,7 +3,7 @@ import hashlib
 import hmac
 from typing import List, NamedTuple, Optional, Tuple
 
-from . import der, library
+from . import der
 from .algorithms import algorithm_oid
 from .checking import Accepted, judge
 from .containers import (
@@ -158,14 +158,13 @@ def _imprint(token: bytes, stamped: bytes, before: str) -> List[Finding]:
 
 def mac_finding(it: Given, password: Optional[str]) -> Finding:
     """What is said of a store's MAC."""
-    mac = library().mac(it.octets)
+    mac = it.mac
     if mac is None:
         return Finding("no MAC", "in the file", False)
     if password is None:
         return Finding("MAC", "not checked: no password, which --password-file gives", False)
     try:
-        covered = it.octets[mac.covered.start : mac.covered.stop] if it.covered is None else it.covered
-        is_so = is_right(mac, covered, password)
+        is_so = is_right(mac, it.own[mac.covered.start : mac.covered.stop], password)
     except (ValueError, UnicodeEncodeError) as fault:
         return Finding("MAC", f"not checked: {fault}", False)
     return Finding("MAC", "right" if is_so else "wrong", is_so)

@@ -47,6 +47,21 @@ extern "C" {
         written: *mut usize,
         place: *mut usize,
     ) -> u32;
+    pub fn der_mac_ber(
+        input: *const u8,
+        input_len: usize,
+        start: *mut usize,
+        len: *mut usize,
+        iterations: *mut usize,
+    ) -> u32;
+    pub fn der_mac_part_ber(
+        number: usize,
+        input: *const u8,
+        input_len: usize,
+        out: *mut u8,
+        out_len: usize,
+        written: *mut usize,
+    ) -> u32;
     pub fn der_version() -> *const c_char;
     pub fn der_processor() -> *const c_char;
 }

@@ -9,7 +9,8 @@
 //! # Ok::<(), vuyhanip::Error>(())
 //! ```
 //!
-//! A kind is the name of a type in lower case. Only [`from_ber`] takes BER: pass every other call what it returned.
+//! A kind is the name of a type in lower case. Only [`from_ber`] takes BER: pass every other call what it returned, and
+//! [`mac_ber`] where the MAC of a PKCS #12 file is to be verified.
 //! What is proved of the library is said in `der.h`; this crate isn't proved. Calls share nothing, so threads may make
 //! them side by side.
 #![warn(missing_docs)]
@@ -210,10 +211,27 @@ impl Part {
 /// A part of a container, as octets: of certificates, signers, keys and bags that with the index, from 0 on. `None`
 /// where the container has no such part, or not so many.
 pub fn part(part: Part, index: usize, input: &[u8]) -> Result<Option<Vec<u8>>, Error> {
-    let (status, out) = written(input.len() + 64, |out, out_len, written| {
+    part_written(part, input, |out, out_len, written| {
         // SAFETY: as above
         unsafe { calls::der_part_octets(part as usize, index, input.as_ptr(), input.len(), out, out_len, written) }
-    });
+    })
+}
+
+/// A part of the MAC of a file that [`from_ber`] returned. `None` where it has none.
+fn mac_part_ber(part: Part, input: &[u8]) -> Result<Option<Vec<u8>>, Error> {
+    part_written(part, input, |out, out_len, written| {
+        // SAFETY: as above
+        unsafe { calls::der_mac_part_ber(part as usize, input.as_ptr(), input.len(), out, out_len, written) }
+    })
+}
+
+/// What a call writes of a part.
+fn part_written(
+    part: Part,
+    input: &[u8],
+    call: impl FnMut(*mut u8, usize, &mut usize) -> u32,
+) -> Result<Option<Vec<u8>>, Error> {
+    let (status, out) = written(input.len() + 64, call);
     match status {
         NORMAL => Ok(Some(out)),
         NO_PART => Ok(None),
@@ -258,14 +276,29 @@ pub struct Mac {
 
 /// What the file's MAC is made of. `None` where it has no MAC, or its authSafe isn't data.
 pub fn mac(input: &[u8]) -> Result<Option<Mac>, Error> {
+    mac_said(input, calls::der_mac, |it| part(it, 0, input))
+}
+
+/// The same of a file that [`from_ber`] returned, whose MAC may cover BER. The range is in what [`from_ber`] returned.
+/// What is no PKCS #12 file is refused as a check as `rawpfx` refuses it.
+pub fn mac_ber(input: &[u8]) -> Result<Option<Mac>, Error> {
+    mac_said(input, calls::der_mac_ber, |it| mac_part_ber(it, input))
+}
+
+/// What a call says of a MAC, with the parts of it that another one gives.
+fn mac_said(
+    input: &[u8],
+    call: unsafe extern "C" fn(*const u8, usize, *mut usize, *mut usize, *mut usize) -> u32,
+    part: impl Fn(Part) -> Result<Option<Vec<u8>>, Error>,
+) -> Result<Option<Mac>, Error> {
     let (mut start, mut len, mut iterations) = (0, 0, 0);
     // SAFETY: as above
-    match unsafe { calls::der_mac(input.as_ptr(), input.len(), &mut start, &mut len, &mut iterations) } {
+    match unsafe { call(input.as_ptr(), input.len(), &mut start, &mut len, &mut iterations) } {
         NORMAL => Ok(Some(Mac {
             covered: start..start + len,
-            digest_algorithm: part(Part::MacDigestAlgorithm, 0, input)?.unwrap_or_default(),
-            digest: part(Part::MacDigest, 0, input)?.unwrap_or_default(),
-            salt: part(Part::MacSalt, 0, input)?.unwrap_or_default(),
+            digest_algorithm: part(Part::MacDigestAlgorithm)?.unwrap_or_default(),
+            digest: part(Part::MacDigest)?.unwrap_or_default(),
+            salt: part(Part::MacSalt)?.unwrap_or_default(),
             iterations,
         })),
         NO_RANGE | NO_PART => Ok(None),

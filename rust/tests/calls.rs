@@ -102,6 +102,25 @@ fn ber_has_its_der() {
     assert_eq!(vuyhanip::from_ber(&[0x24, 0x80, 4, 1, 0x41]), Err(refused));
 }
 
+/// A store in BER (X.690, 8.1.3.6 and 8.7.3), with BER in two segments that its MAC covers (RFC 7292, 4).
+#[test]
+fn the_mac_of_a_store_in_ber() {
+    let data = [6, 9, 0x2A, 0x86, 0x48, 0x86, 0xF7, 0x0D, 1, 7, 1];
+    let segments = [0xA0, 0x80, 0x24, 0x80, 4, 2, 0x30, 0x80, 4, 2, 0, 0];
+    let digest = [0x30, 0x0D, 0x30, 7, 6, 5, 0x2B, 0x0E, 3, 2, 0x1A, 4, 2, 7, 7];
+    let salt_and_count = [4, 4, 1, 2, 3, 4, 2, 3, 1, 0, 0];
+    let mac_data = [&[0x30, 0x1A][..], &digest, &salt_and_count].concat();
+    let ber = [&[0x30, 0x80, 2, 1, 3, 0x30, 0x80][..], &data, &segments, &[0; 6], &mac_data, &[0; 2]].concat();
+    let der = vuyhanip::from_ber(&ber).unwrap();
+    let mac = vuyhanip::mac_ber(&der).unwrap().unwrap();
+    assert_eq!((&der[mac.covered], mac.iterations), (&[0x30, 0x80, 0, 0][..], 65536));
+    assert_eq!((mac.digest_algorithm.as_slice(), mac.digest.as_slice()), (&digest[6..11], &[7, 7][..]));
+    assert_eq!(mac.salt, [1, 2, 3, 4]);
+    assert!(matches!(vuyhanip::mac(&der), Err(Error::Refused { reason: Reason::Malformed, .. })));
+    assert_eq!(vuyhanip::mac_ber(STORE), vuyhanip::mac(STORE));
+    assert_eq!(vuyhanip::mac_ber(SIGNED), vuyhanip::mac(SIGNED));
+}
+
 #[test]
 fn kinds_have_words() {
     let kinds = vuyhanip::kinds();

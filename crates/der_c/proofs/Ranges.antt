@@ -1,20 +1,21 @@
 -- From the range of a MAC to its status.
 use Rattle.std.proofs.Common.{◌≡◌, ◌≢◌, ℕ, ◌+◌, ◌-◌, ◌≤◌, List, ap, subst, sym, arith, inl, inr, refl}
 use Rattle.std.specs.Prelude.{◌⊎◌, None, Some}
-use Rattle.x509_containers.specs.MacParts.{HasCount}
-use Rattle.asn1_core.specs.Der.{raw, HasNoValue}
+use Rattle.asn1_core.specs.Der.{Format, Octets, HasNoValue}
 use Rattle.asn1_core_element.specs.declared.error.Error.{Error}
 use Rattle.asn1_core_element.specs.declared.error.Error.TheVariants.{Malformed, Missing, Invalid, TooDeep, TooLong, Memory}
-use Rattle.x509_pkcs12.specs.MacRanges.{IsMacRange}
-use Rattle.x509_pkcs12.specs.Pfxs.{pfx}
-use Rattle.der_c.specs.Calls.{status_of, FindsMac, FindsRange}
+use Rattle.x509_containers.specs.MacParts.{HasCountIn}
+use Rattle.x509_pkcs12.specs.MacRanges.{IsMacRangeIn}
+use Rattle.x509_pkcs12.specs.Pfxs.{PfxValue}
+use Rattle.der_c.specs.Calls.{status_of}
+use Rattle.der_c.specs.Macs.{FindsMacIn, FindsRangeIn}
 
-pub found : (b : List ℕ) (start end : ℕ) → IsMacRange b (Some (start, end)) → FindsRange b start (end - start) 0
-found b start end is =
+pub found : (F : Format (PfxValue Octets)) (b : List ℕ) (start end : ℕ) → IsMacRangeIn F b (Some (start, end)) → FindsRangeIn F b start (end - start) 0
+found F b start end is =
     let inside : start ≤ end = is.stands.inside.0 in
     let sum : start + (end - start) ≡ end = omega (arith, inside) in
     record {
-      found = λ h. subst (λ (e : ℕ). IsMacRange b (Some (start, e))) (sym sum) is;
+      found = λ h. subst (λ (e : ℕ). IsMacRangeIn F b (Some (start, e))) (sym sum) is;
       none = λ h. absurd (omega (arith, h));
       refused = λ h. absurd (omega (arith, h));
       no_place = λ h. absurd (h refl);
@@ -30,8 +31,8 @@ in_range TooDeep _ = (omega arith, (omega arith, λ h. omega (arith, h)))
 in_range TooLong is_not = absurd (is_not refl)
 in_range Memory _ = (omega arith, (omega arith, λ h. omega (arith, h)))
 
-pub not_found : (b : List ℕ) (e : Error) (status : ℕ) → status ≡ status_of e → HasNoValue (pfx raw) 64 b e → FindsRange b 0 0 status
-not_found b e status is why =
+pub not_found : (F : Format (PfxValue Octets)) (b : List ℕ) (e : Error) (status : ℕ) → status ≡ status_of e → HasNoValue F 64 b e → FindsRangeIn F b 0 0 status
+not_found F b e status is why =
     let range = in_range e why.kind in
     record {
       found = λ h. absurd (omega (arith, h, is, range.0));
@@ -54,9 +55,9 @@ further status (inl e) = inl e
 further status (inr (inl e)) = inr (inl e)
 further status (inr (inr e)) = inr (inr (inr e))
 
-module _ (b : List ℕ) where
+module _ (F : Format (PfxValue Octets)) (b : List ℕ) where
   -- the answer where there is no range
-  pub no_range_no_mac : (start len status : ℕ) → status ≢ 0 → FindsRange b start len status → FindsMac b start len 0 status
+  pub no_range_no_mac : (start len status : ℕ) → status ≢ 0 → FindsRangeIn F b start len status → FindsMacIn F b start len 0 status
   no_range_no_mac start len status n r = record {
     found = λ h. absurd (n h);
     no_range = r.none;
@@ -67,7 +68,7 @@ module _ (b : List ℕ) where
   }
 
   -- a range and a count
-  pub mac_found : (start len count status : ℕ) → status ≡ 0 → FindsRange b start len status → HasCount b (Some count) → FindsMac b start len count 0
+  pub mac_found : (start len count status : ℕ) → status ≡ 0 → FindsRangeIn F b start len status → HasCountIn F b (Some count) → FindsMacIn F b start len count 0
   mac_found start len count status zero r is = record {
     found = λ h. (r.found zero, is);
     no_range = λ h. absurd (omega (arith, h));
@@ -78,7 +79,7 @@ module _ (b : List ℕ) where
   }
 
   -- a range without a MAC
-  pub no_mac_there : (start len status : ℕ) → status ≡ 0 → FindsRange b start len status → HasCount b None → FindsMac b 0 0 0 11
+  pub no_mac_there : (start len status : ℕ) → status ≡ 0 → FindsRangeIn F b start len status → HasCountIn F b None → FindsMacIn F b 0 0 0 11
   no_mac_there start len status zero r is = record {
     found = λ h. absurd (omega (arith, h));
     no_range = λ h. absurd (omega (arith, h));
@@ -88,6 +89,6 @@ module _ (b : List ℕ) where
     range = inr (inr (inl refl));
   }
 
-  pub mac_not_found : (e : Error) (status : ℕ) → status ≡ status_of e → HasNoValue (pfx raw) 64 b e → FindsMac b 0 0 0 status
+  pub mac_not_found : (e : Error) (status : ℕ) → status ≡ status_of e → HasNoValue F 64 b e → FindsMacIn F b 0 0 0 status
   mac_not_found e status is why =
-      no_range_no_mac 0 0 status (λ h. omega (arith, h, is, (in_range e why.kind).0)) (not_found b e status is why)
+      no_range_no_mac 0 0 status (λ h. omega (arith, h, is, (in_range e why.kind).0)) (not_found F b e status is why)

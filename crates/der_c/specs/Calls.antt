@@ -1,19 +1,17 @@
 -- What the calls from C say of an input, by their status.
-use Rattle.std.specs.Prelude.{◌≡◌, ◌≢◌, ◌≤◌, ◌<◌, ◌⊎◌, ◌+◌, ◌^◌, ℕ, min, List, ◌++◌, length, drop, get_or, Some, None}
-use Rattle.asn1_core.specs.Der.{raw, IsValueOf}
+use Rattle.std.specs.Prelude.{◌≡◌, ◌≢◌, ◌≤◌, ◌<◌, ◌⊎◌, ◌^◌, ℕ, min, List, ◌++◌, length, drop, get_or, Option, Some, None, Result, Ok, Err}
+use Rattle.std.proofs.Common.{Vec, Global}
+use Rattle.asn1_core.specs.Der.{IsValueOf}
 use Rattle.asn1_core_element.specs.declared.error.Error.{Error}
 use Rattle.asn1_core_element.specs.declared.error.Error.TheVariants.{Malformed, Missing, Invalid, TooDeep, TooLong, Memory}
 use Rattle.asn1_core_writers.specs.Comparing.{IsLongestEnd}
 use Rattle.x509_containers.specs.Copies.{IsLong}
 use Rattle.x509_containers.specs.Inputs.{Projection, HasPart}
-use Rattle.x509_containers.specs.MacParts.{HasCount}
 use Rattle.x509_containers.specs.Parts.{parts, projection_of}
 use Rattle.x509_containers.specs.declared.parts.ContainerPart.{ContainerPart}
 use Rattle.der_engine.specs.Engine.{Rewriting}
 use Rattle.x509_containers.specs.Kinds.{kinds, rewriting_at, word_of}
 use Rattle.x509_containers.specs.declared.kinds.Kind.{Kind}
-use Rattle.x509_pkcs12.specs.MacRanges.{IsMacRange}
-use Rattle.x509_pkcs12.specs.Pfxs.{PfxValue, pfx}
 
 -- the status of a refusal
 abbrev pub status_of : Error → ℕ
@@ -74,19 +72,6 @@ pub record RewritesWord (word : List ℕ) (limit : ℕ) (b old new : List ℕ) (
   pub kept : status ≢ 0 → new ≡ old
   pub range : (status ≢ 1) × (status ≤ 9)
 
--- what der_mac_range answers of the input b
-pub record FindsRange (b : List ℕ) (start len status : ℕ) : Type 0 where
-  -- DER_NORMAL: these octets of the file the MAC covers
-  pub found : status ≡ 0 → IsMacRange b (Some (start, start + len))
-  -- DER_NO_RANGE: authSafe isn't data
-  pub none : status ≡ 10 → IsMacRange b None
-  -- DER_MALFORMED, DER_MISSING, DER_INVALID, DER_TOO_DEEP: no raw PFX
-  pub refused : 3 ≤ status → status ≤ 6 → (v : PfxValue (List ℕ)) → (pfx raw).Reads 64 b v → ⊥
-  -- without a range both numbers are none
-  pub no_place : status ≢ 0 → (start ≡ 0) × (len ≡ 0)
-  -- and never DER_TOO_LONG
-  pub range : (status ≡ 0) ⊎ ((status ≡ 10) ⊎ ((3 ≤ status) × ((status ≤ 8) × (status ≢ 7))))
-
 -- what der_kind_word answers of the index of a kind and a buffer
 pub record NamesKind (index : ℕ) (old new : List ℕ) (len status : ℕ) : Type 0 where
   -- DER_NORMAL: its word is at the front of the buffer
@@ -98,24 +83,6 @@ pub record NamesKind (index : ℕ) (old new : List ℕ) (len status : ℕ) : Typ
   pub kept : status ≢ 0 → new ≡ old
   pub range : (status ≡ 0) ⊎ ((status ≡ 2) ⊎ (status ≡ 9))
 
--- the input has octets that a MAC covers, if there is one: its authSafe is data
-abbrev pub HasMacOctets : List ℕ → Type 0
-HasMacOctets b = (start : ℕ) × (end : ℕ) × IsMacRange b (Some (start, end))
-
--- what der_mac answers of the input b
-pub record FindsMac (b : List ℕ) (start len iterations status : ℕ) : Type 0 where
-  -- DER_NORMAL: these octets of the file the MAC covers, and so often its key derivation hashes
-  pub found : status ≡ 0 → IsMacRange b (Some (start, start + len)) × HasCount b (Some iterations)
-  -- DER_NO_RANGE: authSafe isn't data
-  pub no_range : status ≡ 10 → IsMacRange b None
-  -- DER_NO_PART: authSafe is data, and there is no MAC
-  pub no_mac : status ≡ 11 → HasMacOctets b × HasCount b None
-  -- DER_MALFORMED, DER_MISSING, DER_INVALID, DER_TOO_DEEP: no raw PFX
-  pub refused : 3 ≤ status → status ≤ 6 → (v : PfxValue (List ℕ)) → (pfx raw).Reads 64 b v → ⊥
-  pub no_place : status ≢ 0 → (start ≡ 0) × ((len ≡ 0) × (iterations ≡ 0))
-  -- and never DER_TOO_LONG
-  pub range : (status ≡ 0) ⊎ ((status ≡ 10) ⊎ ((status ≡ 11) ⊎ ((3 ≤ status) × ((status ≤ 8) × (status ≢ 7)))))
-
 -- p is the part with that number
 abbrev pub IsPartAt : ℕ → ContainerPart → Type 0
 IsPartAt number p = (number < length parts) × (p ≡ get_or parts number p)
@@ -124,20 +91,44 @@ IsPartAt number p = (number < length parts) × (p ≡ get_or parts number p)
 abbrev pub OfPart : ℕ → ℕ → (Projection → Type 0) → Type 0
 OfPart number index P = (p : ContainerPart) × IsPartAt number p × P (projection_of p index)
 
--- what der_part_octets answers of the input b and a buffer
-pub record CopiesPart (number index : ℕ) (b old new : List ℕ) (len status : ℕ) : Type 0 where
+-- What a call answers of the input b and a buffer that writes a part: one that is asked for, of whose projection Of says
+-- what holds, where there is such a part.
+pub record CopiesOf (Of : (Projection → Type 0) → Type 0) (Unknown : Type 0) (b old new : List ℕ) (len status : ℕ) : Type 0 where
   -- DER_NORMAL: the part is at the front of the buffer, and the rest of it is as it was
-  pub copied : status ≡ 0 → OfPart number index (λ P. (t : List ℕ) × HasPart P b (Some t) × (len ≡ length t) × (new ≡ t ++ drop len old))
+  pub copied : status ≡ 0 → Of (λ P. (t : List ℕ) × HasPart P b (Some t) × (len ≡ length t) × (new ≡ t ++ drop len old))
   -- DER_NO_ROOM: the part needs that many bytes
-  pub no_room : status ≡ 9 → OfPart number index (λ P. (t : List ℕ) × HasPart P b (Some t) × (len ≡ length t) × (length old < len))
+  pub no_room : status ≡ 9 → Of (λ P. (t : List ℕ) × HasPart P b (Some t) × (len ≡ length t) × (length old < len))
   -- DER_NO_PART: the container has no such part
-  pub absent : status ≡ 11 → OfPart number index (λ P. HasPart P b None)
-  -- DER_UNKNOWN_KIND: there are fewer parts
-  pub unknown : status ≡ 2 → length parts ≤ number
+  pub absent : status ≡ 11 → Of (λ P. HasPart P b None)
+  -- DER_UNKNOWN_KIND: no such part can be asked for
+  pub unknown : status ≡ 2 → Unknown
   -- DER_MALFORMED, DER_MISSING, DER_INVALID, DER_TOO_DEEP: the input is no encoding of the type
-  pub refused : 3 ≤ status → status ≤ 6 → OfPart number index (λ P. (v : P.Value) → P.format.Reads 64 b v → ⊥)
+  pub refused : 3 ≤ status → status ≤ 6 → Of (λ P. (v : P.Value) → P.format.Reads 64 b v → ⊥)
   -- DER_TOO_LONG
-  pub long : status ≡ 7 → OfPart number index (λ P. (v : P.Value) × IsValueOf P.format 64 b v × IsLong (P.text v))
+  pub long : status ≡ 7 → Of (λ P. (v : P.Value) × IsValueOf P.format 64 b v × IsLong (P.text v))
   pub no_len : status ≢ 0 → status ≢ 9 → len ≡ 0
   pub kept : status ≢ 0 → new ≡ old
   pub range : (status ≢ 1) × ((status ≢ 10) × (status ≤ 11))
+
+-- what der_part_octets answers of the input b and a buffer: at DER_UNKNOWN_KIND there are fewer parts
+abbrev pub CopiesPart : ℕ → ℕ → List ℕ → List ℕ → List ℕ → ℕ → ℕ → Type 0
+CopiesPart number index = CopiesOf (OfPart number index) (length parts ≤ number)
+
+-- these octets were written to the front of a buffer, or need more room than it has
+pub record PutsOctets (t old new : List ℕ) (len status : ℕ) : Type 0 where
+  pub size : len ≡ length t
+  pub put : status ≡ 0 → new ≡ t ++ drop len old
+  pub no_room : status ≡ 9 → (length old < len) × (new ≡ old)
+  pub range : (status ≡ 0) ⊎ (status ≡ 9)
+
+-- nothing was written, and the status says why
+pub record PutsNothing (why : ℕ) (old new : List ℕ) (len status : ℕ) : Type 0 where
+  pub is : status ≡ why
+  pub no_len : len ≡ 0
+  pub kept : new ≡ old
+
+-- what is written of a part, as it was found
+abbrev pub PutsPart : Result (Option (Vec ℕ Global)) Error → List ℕ → List ℕ → ℕ → ℕ → Type 0
+PutsPart (Ok (Some octets)) old new len status = PutsOctets octets.items old new len status
+PutsPart (Ok None) old new len status = PutsNothing 11 old new len status
+PutsPart (Err e) old new len status = PutsNothing (status_of e) old new len status

@@ -5,14 +5,16 @@
 ghost use Rattle.std.specs.Prelude.{◌≡◌, ◌≤◌, length, MatchOption};
 ghost use Rattle.x509_containers.specs.Kinds.{kinds};
 ghost use Rattle.x509_containers.specs.Parts.{parts};
-ghost use Rattle.der_c.specs.Calls.{status_of, ChecksWord, CopiesPart, FindsMac, FindsRange, IsKindAt, IsPartAt, NamesKind, RewritesWord};
+ghost use Rattle.der_c.specs.Calls.{status_of, ChecksWord, CopiesPart, IsKindAt, IsPartAt, NamesKind, PutsPart, RewritesWord};
 ghost use Rattle.der_c.specs.Conversions.{ConvertsBer};
+
+mod macs;
 
 use ber_der::to_der_located;
 use std::alloc::Global;
 use x509_containers::{
     ContainerPart, Error, Kind, KindOfInput, MAX_NESTING, check_located, container_part,
-    mac_iterations, mac_range, rewrite_limited,
+    rewrite_limited,
 };
 
 /// The number that C sees of a refusal.
@@ -151,65 +153,23 @@ pub extern "C" fn der_from_ber(
     }
 }
 
-/// Which octets of a PKCS #12 file its MAC covers: at 0 `len` octets from `start` on. At 10 it has none, since its
-/// authSafe isn't data. Any other status is as of `der_check_word_limited` for the word `rawpfx` and 64 levels, 7
-/// never. Unless at 0 both numbers are 0.
-#[unsafe(no_mangle)]
-pub extern "C" fn der_mac_range(
-    alloc: Global,
-    input: &[u8],
-    start: &mut usize,
-    len: &mut usize,
-) -> u32
-    ensures { FindsRange input.now start.new len.new result }
+/// Writes a part that was found to the front of `out`, as `der_part_octets` says.
+fn put_part(found: Result<Option<Vec<u8>>, Error>, out: &mut [u8], written: &mut usize) -> u32
+    ensures { PutsPart found out.old out.new written.new result }
 {
-    *start = 0;
-    *len = 0;
-    match mac_range(alloc, input) {
-        Ok(Some(range)) => {
-            *start = range.start;
-            *len = range.end - range.start;
+    *written = 0;
+    match found {
+        Ok(Some(octets)) => {
+            let size = octets.len();
+            *written = size;
+            if out.len() < size {
+                return 9;
+            }
+            out[..size].copy_from_slice(&octets);
             0
         }
-        Ok(None) => 10,
+        Ok(None) => 11,
         Err(error) => status_of(error),
-    }
-}
-
-/// What a verifier of a PKCS #12 file's MAC needs beside octets: at 0 the MAC covers `len` octets from `start` on, and
-/// its key derivation hashes `iterations` times. At 10 the file has no range, at 11 it has one and no MAC. Any other
-/// status is as of `der_mac_range`. Unless at 0 the numbers are 0.
-#[tactic(auto, using(crate::proofs::Ranges::no_range_no_mac, crate::proofs::Ranges::mac_found, crate::proofs::Ranges::no_mac_there, crate::proofs::Ranges::mac_not_found))]
-#[unsafe(no_mangle)]
-pub extern "C" fn der_mac(
-    alloc: Global,
-    input: &[u8],
-    start: &mut usize,
-    len: &mut usize,
-    iterations: &mut usize,
-) -> u32
-    ensures { FindsMac input.now start.new len.new iterations.new result }
-{
-    *iterations = 0;
-    let status = der_mac_range(alloc, input, start, len);
-    if status != 0 {
-        return status;
-    }
-    match mac_iterations(alloc, input) {
-        Ok(Some(count)) => {
-            *iterations = count as usize;
-            0
-        }
-        Ok(None) => {
-            *start = 0;
-            *len = 0;
-            11
-        }
-        Err(error) => {
-            *start = 0;
-            *len = 0;
-            status_of(error)
-        }
     }
 }
 
@@ -217,7 +177,6 @@ pub extern "C" fn der_mac(
 /// `out` is too short, the count that it needs, and otherwise 0. At 2 no part has the number, and at 11 the container has
 /// no such part. Any other status is as of `der_check_word_limited` for the type that the part is of, and 64 levels, 7 of
 /// a part that is too long. Unless at 0 `out` is as it was.
-#[tactic(auto, using(crate::proofs::Parts::not_given, crate::proofs::Parts::none_given))]
 #[unsafe(no_mangle)]
 pub extern "C" fn der_part_octets(
     alloc: Global,
@@ -233,19 +192,7 @@ pub extern "C" fn der_part_octets(
     let Some(part) = part_at(number) else {
         return 2;
     };
-    match container_part(alloc, part, index, input) {
-        Ok(Some(octets)) => {
-            let size = octets.len();
-            *written = size;
-            if out.len() < size {
-                return 9;
-            }
-            out[..size].copy_from_slice(&octets);
-            0
-        }
-        Ok(None) => 11,
-        Err(error) => status_of(error),
-    }
+    put_part(container_part(alloc, part, index, input), out, written)
 }
 
 /// Writes the word of the kind with that index to the front of `out`. At 0 `written` is its length, at 9, where `out` is

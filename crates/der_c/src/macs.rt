@@ -1,0 +1,216 @@
+//! What a verifier of a PKCS #12 file's MAC needs: of files in DER, and of those that `der_from_ber` wrote.
+
+ghost use Rattle.std.specs.Prelude.{◌≡◌, MatchOption, MatchResult, Ok, Err, None, Some};
+ghost use Rattle.asn1_core.specs.Der.{Format, Octets, option_value, raw, HasNoValue};
+ghost use Rattle.der_c.specs.Macs.{ber_file, CopiesMacPart, FindsMac, FindsMacIn, FindsRange, FindsRangeIn, IsMacPartAt, NoMacPartAt};
+ghost use Rattle.x509_containers.specs.Inputs.{GivesPart};
+ghost use Rattle.x509_containers.specs.MacParts.{mac_part_in, HasCountIn};
+ghost use Rattle.x509_containers.specs.declared.parts.ContainerPart.TheVariants.{Mac};
+ghost use Rattle.x509_pkcs12.specs.MacRanges.{IsMacRangeIn};
+ghost use Rattle.x509_pkcs12.specs.Pfxs.{PfxValue, pfx};
+
+use crate::{part_at, put_part, status_of};
+use asn1_core::from_bytes;
+use pkcs12_ber::{BerPfx, ber_mac_range};
+use std::alloc::Global;
+use std::ops::Range;
+use x509_containers::parts::part_of_mac;
+use x509_containers::{ContainerPart, Error, MacPart, mac_iterations, mac_range};
+
+/// A type as which PKCS #12 files are read.
+trait File {
+    ghost format: { Format (PfxValue Octets) };
+
+    /// Where a file has the octets that a MAC covers.
+    fn range(alloc: Global, input: &[u8]) -> Result<Option<Range<usize>>, Error>
+        ensures { MatchResult result
+            (λ range. IsMacRangeIn format input.now (option_value (λ r. (r.start, r.end)) range))
+            (λ e. HasNoValue format 64 input.now e) };
+
+    /// How often the key derivation of its MAC hashes.
+    fn iterations(alloc: Global, input: &[u8]) -> Result<Option<u32>, Error>
+        ensures { MatchResult result (λ count. HasCountIn format input.now count) (λ e. HasNoValue format 64 input.now e) };
+}
+
+/// Files as `RawPfx`, of which the MAC covers DER.
+#[derive(Drop)]
+struct OverDer;
+
+impl File for OverDer {
+    ghost format = { pfx raw };
+
+    fn range(alloc: Global, input: &[u8]) -> Result<Option<Range<usize>>, Error> {
+        mac_range(alloc, input)
+    }
+
+    fn iterations(alloc: Global, input: &[u8]) -> Result<Option<u32>, Error> {
+        mac_iterations(alloc, input)
+    }
+}
+
+/// Files as `BerPfx`, of which the MAC covers any octets.
+#[derive(Drop)]
+struct OverBer;
+
+impl File for OverBer {
+    ghost format = { ber_file };
+
+    fn range(alloc: Global, input: &[u8]) -> Result<Option<Range<usize>>, Error> {
+        ber_mac_range(alloc, input)
+    }
+
+    fn iterations(alloc: Global, input: &[u8]) -> Result<Option<u32>, Error> {
+        ber_mac_iterations(alloc, input)
+    }
+}
+
+/// How often the key derivation of a MAC hashes, 1 where the count is left out, as `mac_iterations` says of a `RawPfx`.
+fn ber_mac_iterations(alloc: Global, input: &[u8]) -> Result<Option<u32>, Error>
+    ensures { MatchResult result (λ count. HasCountIn ber_file input.now count) (λ e. HasNoValue ber_file 64 input.now e) }
+{
+    let file: BerPfx = from_bytes(alloc, input)?;
+    match &file.mac_data {
+        Some(mac) => Ok(Some(mac.effective_iterations())),
+        None => Ok(None),
+    }
+}
+
+fn find_range<T: File>(alloc: Global, input: &[u8], start: &mut usize, len: &mut usize) -> u32
+    ensures { FindsRangeIn T.format input.now start.new len.new result }
+{
+    *start = 0;
+    *len = 0;
+    match T::range(alloc, input) {
+        Ok(Some(range)) => {
+            *start = range.start;
+            *len = range.end - range.start;
+            0
+        }
+        Ok(None) => 10,
+        Err(error) => status_of(error),
+    }
+}
+
+#[tactic(auto, using(crate::proofs::Ranges::no_range_no_mac, crate::proofs::Ranges::mac_found, crate::proofs::Ranges::no_mac_there, crate::proofs::Ranges::mac_not_found))]
+fn find_mac<T: File>(
+    alloc: Global,
+    input: &[u8],
+    start: &mut usize,
+    len: &mut usize,
+    iterations: &mut usize,
+) -> u32
+    ensures { FindsMacIn T.format input.now start.new len.new iterations.new result }
+{
+    *iterations = 0;
+    let status = find_range::<T>(alloc, input, start, len);
+    if status != 0 {
+        return status;
+    }
+    match T::iterations(alloc, input) {
+        Ok(Some(count)) => {
+            *iterations = count as usize;
+            0
+        }
+        Ok(None) => {
+            *start = 0;
+            *len = 0;
+            11
+        }
+        Err(error) => {
+            *start = 0;
+            *len = 0;
+            status_of(error)
+        }
+    }
+}
+
+/// Which octets of a PKCS #12 file its MAC covers: at 0 `len` octets from `start` on. At 10 it has none, since its
+/// authSafe isn't data. Any other status is as of `der_check_word_limited` for the word `rawpfx` and 64 levels, 7
+/// never. Unless at 0 both numbers are 0.
+#[unsafe(no_mangle)]
+pub extern "C" fn der_mac_range(
+    alloc: Global,
+    input: &[u8],
+    start: &mut usize,
+    len: &mut usize,
+) -> u32
+    ensures { FindsRange input.now start.new len.new result }
+{
+    find_range::<OverDer>(alloc, input, start, len)
+}
+
+/// What a verifier of a PKCS #12 file's MAC needs beside octets: at 0 the MAC covers `len` octets from `start` on, and
+/// its key derivation hashes `iterations` times. At 10 the file has no range, at 11 it has one and no MAC. Any other
+/// status is as of `der_mac_range`. Unless at 0 the numbers are 0.
+#[unsafe(no_mangle)]
+pub extern "C" fn der_mac(
+    alloc: Global,
+    input: &[u8],
+    start: &mut usize,
+    len: &mut usize,
+    iterations: &mut usize,
+) -> u32
+    ensures { FindsMac input.now start.new len.new iterations.new result }
+{
+    find_mac::<OverDer>(alloc, input, start, len, iterations)
+}
+
+/// As `der_mac`, of a file whose MAC may cover BER: an input is what `der_from_ber` wrote of it, and the range is in
+/// that.
+#[unsafe(no_mangle)]
+pub extern "C" fn der_mac_ber(
+    alloc: Global,
+    input: &[u8],
+    start: &mut usize,
+    len: &mut usize,
+    iterations: &mut usize,
+) -> u32
+    ensures { FindsMacIn ber_file input.now start.new len.new iterations.new result }
+{
+    find_mac::<OverBer>(alloc, input, start, len, iterations)
+}
+
+#[tactic(auto, using(crate::proofs::MacNumbers::of_signed, crate::proofs::MacNumbers::of_store, crate::proofs::MacNumbers::past_all))]
+fn mac_part_at(number: usize) -> Option<MacPart>
+    ensures { MatchOption result (NoMacPartAt number) (λ part. IsMacPartAt number part) }
+{
+    match part_at(number) {
+        Some(ContainerPart::Mac(part)) => Some(part),
+        Some(ContainerPart::Signed(_)) => None,
+        Some(ContainerPart::Store(_)) => None,
+        None => None,
+    }
+}
+
+/// A part of the MAC of a file in DER whose MAC may cover BER. `None` where it has no MAC.
+#[tactic(auto, using(x509_containers::specs::Inputs::refused, x509_containers::specs::Inputs::gives))]
+fn ber_mac_part(alloc: Global, part: MacPart, input: &[u8]) -> Result<Option<Vec<u8>>, Error>
+    ensures { GivesPart (mac_part_in ber_file part) input.now result }
+{
+    let file: BerPfx = from_bytes(alloc, input)?;
+    let BerPfx { mac_data, .. } = file;
+    match mac_data {
+        Some(mac) => part_of_mac(alloc, part, mac),
+        None => Ok(None),
+    }
+}
+
+/// Writes the part of a MAC with that number to the front of `out`, as `der_part_octets` does, of a file whose MAC may
+/// cover BER: an input is what `der_from_ber` wrote of it. The statuses are as there, 2 for the number of any other
+/// part.
+#[unsafe(no_mangle)]
+pub extern "C" fn der_mac_part_ber(
+    alloc: Global,
+    number: usize,
+    input: &[u8],
+    out: &mut [u8],
+    written: &mut usize,
+) -> u32
+    ensures { CopiesMacPart number input.now out.old out.new written.new result }
+{
+    *written = 0;
+    let Some(part) = mac_part_at(number) else {
+        return 2;
+    };
+    put_part(ber_mac_part(alloc, part, input), out, written)
+}
