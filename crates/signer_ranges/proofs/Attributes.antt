@@ -1,0 +1,50 @@
+-- What signed attributes say of the content.
+use Rattle.std.specs.Prelude.{◌≡◌, ◌≢◌, ◌↔◌, IsTrue, ℕ, Bool, true, false, List, [], ◌∷◌, Option, None, Some}
+use Rattle.std.proofs.Common.{sym, ap, subst, ◌∙◌, true≢false}
+use Rattle.asn1_core.specs.Der.{Format, object_identifier, lawful_object_identifier, octet_string, option_value, ElementOctets, Octets, OidOctets}
+use Rattle.asn1_core_element.specs.declared.error.Error.{Error}
+use Rattle.asn1_core_element.specs.declared.error.Error.TheVariants.{Memory}
+use Rattle.asn1_core_format.specs.Whole.{value_of}
+use Rattle.pkcs7_attributes.specs.NamedAttributes.{content_type_oid, message_digest_oid}
+use Rattle.signer_ranges.specs.Signers.{AreSignedOrBroken, OnlyOrNone, SignsOrNone}
+use Rattle.x509_base.specs.AttributesByOid.{with_oid, IsOnlyOf, HasNoOnly}
+use Rattle.x509_base.specs.Names.{attribute}
+
+pub none_is_only : {V : Type 0} (F : Format V) (found : List attribute.Value) (e : Error) → HasNoOnly F found e → e ≢ Memory → OnlyOrNone F found None
+none_is_only F found e h m v o = h.none m (Some v) o
+
+-- the values of the first attribute
+abbrev first_values : List attribute.Value → List ElementOctets
+first_values [] = []
+first_values (a ∷ others) = a.1.0
+
+one_value : {x y : ElementOctets} → x ∷ [] ≡ y ∷ [] → x ≡ y
+one_value e = cc
+
+module _ (found : List attribute.Value) (type : OidOctets) where
+  one_type : (named : OidOctets) → IsOnlyOf object_identifier found (Some named) → IsOnlyOf object_identifier found (Some type) → named ≡ type
+  one_type named o p =
+      let same : o.0 ≡ p.0 = one_value (ap first_values (sym o.1.1 ∙ p.1.1)) in
+      (value_of object_identifier 64 p.0 type lawful_object_identifier p.2).only named (subst (λ x. object_identifier.Reads 64 x named) same o.2)
+
+  pub is_named : {T : Type 0} (f : T → OidOctets) (d : Option T) (named : T) → d ≡ Some named → OnlyOrNone object_identifier found (option_value f d) → (b : Bool) → (IsTrue b ↔ (f named ≡ type)) → IsTrue b ↔ IsOnlyOf object_identifier found (Some type)
+  is_named f d named e n b s =
+      let o : IsOnlyOf object_identifier found (Some (f named)) = subst (λ x. OnlyOrNone object_identifier found (option_value f x)) e n in
+      (λ t. subst (λ x. IsOnlyOf object_identifier found (Some x)) (s.0 t) o, λ p. s.1 (one_type (f named) o p))
+
+  pub is_not_named : {T : Type 0} (f : T → OidOctets) (d : Option T) → d ≡ None → OnlyOrNone object_identifier found (option_value f d) → IsTrue false ↔ IsOnlyOf object_identifier found (Some type)
+  is_not_named f d e n = (λ t. absurd (true≢false (sym t)), λ p. absurd (subst (λ o. OnlyOrNone object_identifier found (option_value f o)) e n type p))
+
+module _ (attrs : List attribute.Value) (type : OidOctets) (b : Bool) (s : IsTrue b ↔ IsOnlyOf object_identifier (with_oid content_type_oid attrs) (Some type)) where
+  pub signs : (digest : Octets) → true ≡ b → OnlyOrNone octet_string (with_oid message_digest_oid attrs) (Some digest) → SignsOrNone attrs type (Some digest)
+  signs digest t o = record { content = s.0 (sym t); message = o }
+
+  pub signs_no_type : false ≡ b → SignsOrNone attrs type None
+  signs_no_type f digest r = true≢false (sym (s.1 r.content) ∙ sym f)
+
+module _ (attrs : List attribute.Value) (type : OidOctets) {T : Type 0} (f : T → Octets) (d : Option T) (none : d ≡ None) where
+  pub signs_no_digest : OnlyOrNone octet_string (with_oid message_digest_oid attrs) (option_value f d) → SignsOrNone attrs type None
+  signs_no_digest n digest r = subst (λ o. OnlyOrNone octet_string (with_oid message_digest_oid attrs) (option_value f o)) none n digest r.message
+
+  pub is_broken : (b : List ℕ) (empty : Bool) → (IsTrue empty ↔ (attrs ≡ [])) → false ≡ empty → SignsOrNone attrs type (option_value f d) → AreSignedOrBroken b attrs type None
+  is_broken b empty s e n = (λ h. true≢false (sym (s.1 h) ∙ sym e), subst (λ o. SignsOrNone attrs type (option_value f o)) none n)

@@ -1,0 +1,73 @@
+-- The ranges of signers, along lists.
+use Rattle.std.specs.Prelude.{◌≡◌, ℕ, ◌+◌, ◌-◌, ◌<◌, ◌≤◌, List, [], ◌∷◌, ◌++◌, Option, length, take, drop, get_or, map}
+use Rattle.std.proofs.Common.{refl, sym, ap, subst, ◌∙◌, add-one, drop-cons, arith, zero, suc}
+use Rattle.std.proofs.Math.ListN.{drop_of_length-le}
+use Rattle.std.proofs.lemmas.List.{append-nil, append_assoc, take_all, length-drop, take-map, drop-map, length-map}
+use Rattle.asn1_core.specs.Der.{ElementOctets}
+use Rattle.pkcs7_signed.specs.Certificates.{certificate_choices_value}
+use Rattle.pkcs7_signed.specs.declared.parts.certificates.CertificateChoices.{CertificateChoices}
+use Rattle.pkcs7_signed.specs.SignerParts.{signer_identifier}
+use Rattle.signer_ranges.specs.Signers.{SignerValue, FileValue, signers_of, AreRangesOrNone, AreRangesOfAll, IsPartOf}
+use Rattle.signer_ranges.specs.declared.ranges.SignerRanges.{SignerRanges}
+use Rattle.x509_pkcs7.specs.AllSigners.{AreSigners}
+use Rattle.x509_pkcs7.specs.Matches.{choice_octets, IsSigners, IsFirst}
+use Rattle.x509_pkcs7.specs.RawSigners.{raw_signer_info_value}
+use Rattle.x509_pkcs7.specs.declared.raw_signers.RawSignerInfo.{RawSignerInfo}
+
+-- at most so many items from one on, by the way a slice is cut
+module _ {X : Type 0} (xs : List X) (first most : ℕ) where
+  -- from an item to the end
+  rest : take (length xs - first) (drop first xs) ≡ drop first xs
+  rest = take_all (length xs - first) (drop first xs) (omega (arith, length-drop first xs))
+
+  pub past_the_end : length xs < first → [] ≡ take most (drop first xs)
+  past_the_end h = sym (ap (take most) (drop_of_length-le xs {i = first} (omega (arith, h))) ∙ take_all most [] (omega arith))
+
+  pub to_the_end : length (take (length xs - first) (drop first xs)) < most → take (length xs - first) (drop first xs) ≡ take most (drop first xs)
+  to_the_end h = rest ∙ sym (take_all most (drop first xs) (omega (arith, h, ap length rest)))
+
+  pub in_the_middle : take most (take (length xs - first) (drop first xs)) ≡ take most (drop first xs)
+  in_the_middle = ap (take most) rest
+
+module _ {X : Type 0} (f : X → SignerValue) (xs : List X) (i : ℕ) (b : List ℕ) (v : FileValue) where
+  -- the values from an item on
+  from_here : (x : X) → i < length xs → x ≡ get_or xs i x → map f (drop i xs) ≡ f x ∷ map f (drop (i + 1) xs)
+  from_here x h e = ap (map f) (drop-cons xs i x h ∙ ap (λ j. get_or xs i x ∷ drop j xs) (sym (add-one i)) ∙ ap (λ y. y ∷ drop (i + 1) xs) (sym e))
+
+  pub ranges_step : (x : X) → i < length xs → x ≡ get_or xs i x → (r : Option SignerRanges) → AreRangesOrNone b v (f x) r → (old new : List (Option SignerRanges)) → new ≡ old ++ r ∷ [] → ((rest : List (Option SignerRanges)) → AreRangesOfAll b v (map f (drop i xs)) rest → AreRangesOfAll b v (map f xs) (old ++ rest)) → (rest : List (Option SignerRanges)) → AreRangesOfAll b v (map f (drop (i + 1) xs)) rest → AreRangesOfAll b v (map f xs) (new ++ rest)
+  ranges_step x h g r is old new e before rest a =
+      let here : AreRangesOfAll b v (map f (drop i xs)) (r ∷ rest) = subst (λ ss. AreRangesOfAll b v ss (r ∷ rest)) (sym (from_here x h g)) (is, a) in
+      subst (AreRangesOfAll b v (map f xs)) (sym (append_assoc old (r ∷ []) rest) ∙ ap (λ ks. ks ++ rest) (sym e)) (before (r ∷ rest) here)
+
+  pub ranges_all : (found : List (Option SignerRanges)) → length xs ≤ i → ((rest : List (Option SignerRanges)) → AreRangesOfAll b v (map f (drop i xs)) rest → AreRangesOfAll b v (map f xs) (found ++ rest)) → AreRangesOfAll b v (map f xs) found
+  ranges_all found h before = subst (AreRangesOfAll b v (map f xs)) (append-nil found) (before [] (subst (λ ys. AreRangesOfAll b v (map f ys) []) (sym (drop_of_length-le xs h)) refl))
+
+module _ {X Y : Type 0} (id : X → signer_identifier.Value) (g : Y → Option ElementOctets) (cs : List ElementOctets) where
+  -- the certificate of the signer with an index
+  pub certificate_at : (xs : List X) (ys : List Y) (i : ℕ) (x : X) (y : Y) → AreSigners cs (map id xs) (map g ys) → i < length xs → x ≡ get_or xs i x → y ≡ get_or ys i y → IsFirst (IsSigners (id x)) cs (g y)
+  certificate_at [] ys i x y a h e k = absurd (omega (arith, h))
+  certificate_at (c ∷ xs) [] i x y a h e k = absurd a
+  certificate_at (c ∷ xs) (d ∷ ys) zero x y a h e k =
+      subst (λ z. IsFirst (IsSigners (id z)) cs (g y)) (sym e) (subst (λ z. IsFirst (IsSigners (id c)) cs (g z)) (sym k) a.0)
+  certificate_at (c ∷ xs) (d ∷ ys) (suc i) x y a h e k = certificate_at xs ys i x y a.1 (omega (arith, h)) e k
+
+-- a list of two functions' values
+map_twice : {A B C : Type 0} (f : A → B) (g : B → C) (xs : List A) → map (λ x. g (f x)) xs ≡ map g (map f xs)
+map_twice f g [] = refl
+map_twice f g (x ∷ xs) = ap (λ ys. g (f x) ∷ ys) (map_twice f g xs)
+
+-- certificates of signed data, and those that are asked for
+pub certificates_are : (cs ds : List CertificateChoices) (xs ys : List signer_identifier.Value) (found : List (Option ElementOctets)) → ds ≡ cs → xs ≡ ys → AreSigners (map (λ c. choice_octets (certificate_choices_value c)) ds) xs found → AreSigners (map choice_octets (map certificate_choices_value cs)) ys found
+certificates_are cs ds xs ys found e g a =
+    let same : map (λ c. choice_octets (certificate_choices_value c)) ds ≡ map choice_octets (map certificate_choices_value cs) = ap (map (λ c. choice_octets (certificate_choices_value c))) e ∙ map_twice certificate_choices_value choice_octets cs in
+    subst (λ bs. AreSigners bs ys found) same (subst (λ ids. AreSigners (map (λ c. choice_octets (certificate_choices_value c)) ds) ids found) g a)
+
+-- at most so many signers from one on
+pub is_part : (b : List ℕ) (v : FileValue) (first most : ℕ) (found : List (Option SignerRanges)) (xs all asked : List RawSignerInfo) → all ≡ xs → asked ≡ take most (drop first all) → signers_of v ≡ map raw_signer_info_value xs → AreRangesOfAll b v (map raw_signer_info_value asked) found → IsPartOf b v first most (length all) found
+is_part b v first most found xs all asked e g s a =
+    let cut : map raw_signer_info_value (take most (drop first all)) ≡ take most (drop first (map raw_signer_info_value all)) = sym (take-map raw_signer_info_value most (drop first all)) ∙ ap (take most) (sym (drop-map raw_signer_info_value first all)) in
+    let same : map raw_signer_info_value all ≡ signers_of v = ap (map raw_signer_info_value) e ∙ sym s in
+    record {
+      all = sym (length-map all raw_signer_info_value) ∙ ap length same;
+      ranges = subst (λ ss. AreRangesOfAll b v ss found) (ap (map raw_signer_info_value) g ∙ cut ∙ ap (λ ss. take most (drop first ss)) same) a;
+    }

@@ -1,0 +1,19 @@
+use Rattle.asn1_core.specs.Der.{option_value}
+use Rattle.pkcs7_signed.specs.SignerParts.{signer_identifier_value}
+use Rattle.signer_ranges.proofs.Rows.{certificate_at, ranges_all, ranges_step}
+use Rattle.signer_ranges.specs.Files.{file_value}
+use Rattle.signer_ranges.specs.Signers.{certificates_of}
+use Rattle.x509_pkcs7.specs.RawSigners.{raw_signer_info_value}
+use Rattle.signer_ranges.proofs.signers.ranges_of_all.Goals as goal
+
+pub ranges_of-requires-clause-certificate : goal.ranges_of-requires-clause-certificate
+ranges_of-requires-clause-certificate c =
+    certificate_at (λ s. signer_identifier_value s.sid) (λ f. option_value (λ e. e.now.0.items) f) (certificates_of (file_value c.args.known.now.file.now)) c.args.signers.now c.args.certificates.now c.loop-index.index c.index-signers-index.result c.in-Some-get.certificate.now
+    c.requires.certificates c.loop-index-test.true c.index-signers-index.is c.in-Some-get.ensures.lookup.1
+
+pub loop-index-preserved : goal.loop-index-preserved
+loop-index-preserved c =
+    ranges_step raw_signer_info_value c.args.signers.now c.loop-index.index c.args.known.now.input.now (file_value c.args.known.now.file.now) c.index-signers-index.result c.loop-index-test.true c.index-signers-index.is c.in_ok-ranges.ranges c.in_ok-ranges.ensures c.loop-index.found.items c.push.new.self.items c.in_ok-push.ensures.items c.loop-index.invariant
+
+pub returns : goal.returns
+returns c = ranges_all raw_signer_info_value c.args.signers.now c.loop-index.index c.args.known.now.input.now (file_value c.args.known.now.file.now) c.loop-index.found.items c.loop-index-test.false c.loop-index.invariant

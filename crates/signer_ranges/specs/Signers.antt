@@ -1,0 +1,148 @@
+-- What a verification of a signer needs, as ranges of the file (RFC 5652, 5.3 to 5.6, 11.1 and 11.2).
+use Rattle.std.specs.Prelude.{◌≡◌, ◌≢◌, ◌≤◌, ℕ, List, [], ◌∷◌, length, take, drop, map, Option, None, Some, slice_range}
+use Rattle.std.specs.declared.ops.Range.{Range}
+use Rattle.asn1_core.specs.Asn1.{SEQUENCE}
+use Rattle.asn1_core.specs.Der.{Format, object_identifier, octet_string, ElementOctets, Octets, OidOctets}
+use Rattle.asn1_core_format.specs.Whole.{IsValueOf, HasNoValue}
+use Rattle.pkcs7_attributes.specs.Attributes.{attributes}
+use Rattle.pkcs7_attributes.specs.NamedAttributes.{content_type_oid, message_digest_oid}
+use Rattle.pkcs7_signed.specs.SignerParts.{signer_identifier}
+use Rattle.x509_base.specs.AlgorithmLaws.{algorithm_identifier}
+use Rattle.x509_base.specs.AttributesByOid.{with_oid, IsOnlyOf}
+use Rattle.x509_base.specs.Names.{attribute}
+use Rattle.x509_pkcs7.specs.Matches.{choice_octets, IsSigners, IsFirst}
+use Rattle.x509_pkcs7.specs.RawContents.{raw_encapsulated_content_info}
+use Rattle.x509_pkcs7.specs.RawHashed.{content_of, IsRawHashed}
+use Rattle.x509_pkcs7.specs.RawSigned.{RawCertificateValue, raw_certificate}
+use Rattle.x509_pkcs7.specs.RawSigners.{raw_signer_info}
+use Rattle.signer_ranges.specs.declared.ranges.SignedRanges.{SignedRanges}
+use Rattle.signer_ranges.specs.declared.ranges.SignerRanges.{SignerRanges}
+use Rattle.signer_ranges.specs.declared.ranges.Refusal.{Refusal}
+use Rattle.signer_ranges.specs.declared.ranges.Refusal.TheVariants.{Refused, NoRange}
+
+abbrev pub SignerValue : Type 0
+SignerValue = raw_signer_info.Value
+
+abbrev pub FileValue : Type 0
+FileValue = RawCertificateValue SignerValue
+
+abbrev pub signed_file : Format FileValue
+signed_file = raw_certificate (SEQUENCE raw_signer_info).format
+
+abbrev pub content_info_of : FileValue → raw_encapsulated_content_info.Value
+content_info_of v = v.1.0.1.1.0
+
+abbrev pub certificates_of : FileValue → List ElementOctets
+certificates_of v = map choice_octets v.1.0.1.1.1.0
+
+abbrev pub signers_of : FileValue → List SignerValue
+signers_of v = v.1.0.1.1.1.1.1.0
+
+abbrev pub sid_of : SignerValue → signer_identifier.Value
+sid_of s = s.1.0
+
+abbrev pub digest_algorithm_of : SignerValue → algorithm_identifier.Value
+digest_algorithm_of s = s.1.1.0
+
+abbrev pub signed_of : SignerValue → List attribute.Value
+signed_of s = s.1.1.1.0
+
+abbrev pub signature_algorithm_of : SignerValue → algorithm_identifier.Value
+signature_algorithm_of s = s.1.1.1.1.0
+
+abbrev pub signature_of : SignerValue → Octets
+signature_of s = s.1.1.1.1.1.0
+
+-- these octets are in the input from one place to the other
+pub record IsAt (b octets : List ℕ) (start end : ℕ) : Type 0 where
+  pub is : slice_range b start end ≡ octets
+  pub inside : end ≤ length b
+  pub ordered : start ≤ end
+
+-- or there are none
+abbrev pub IsAtOrNone : List ℕ → Option (List ℕ) → Option (Range ℕ) → Type 0
+IsAtOrNone b None None = Unit {0}
+IsAtOrNone b None (Some r) = ⊥
+IsAtOrNone b (Some octets) None = ⊥
+IsAtOrNone b (Some octets) (Some r) = IsAt b octets r.start r.end
+
+-- there is one contentType, that of the content (RFC 5652, 11.1), and one messageDigest, which is this (11.2), each with one
+-- value
+pub record Signs (attrs : List attribute.Value) (content_type : OidOctets) (digest : Octets) : Type 0 where
+  pub content : IsOnlyOf object_identifier (with_oid content_type_oid attrs) (Some content_type)
+  pub message : IsOnlyOf octet_string (with_oid message_digest_oid attrs) (Some digest)
+
+-- or there are none of that kind
+abbrev pub SignsOrNone : List attribute.Value → OidOctets → Option Octets → Type 0
+SignsOrNone attrs content_type None = (digest : Octets) → Signs attrs content_type digest → ⊥
+SignsOrNone attrs content_type (Some digest) = Signs attrs content_type digest
+
+-- the only one, or none where there is none or several
+abbrev pub OnlyOrNone : {V : Type 0} → Format V → List attribute.Value → Option V → Type 0
+OnlyOrNone {V} F found None = (v : V) → IsOnlyOf F found (Some v) → ⊥
+OnlyOrNone F found (Some v) = IsOnlyOf F found (Some v)
+
+-- signed attributes in the file, under the tag [0], and the digest among them
+pub record AreSignedAt (b : List ℕ) (attrs : List attribute.Value) (content_type : OidOctets) (r : SignedRanges) : Type 0 where
+  pub attributes : IsAt b (attributes.text attrs) r.attributes.start r.attributes.end
+  pub digest : Octets
+  pub signs : Signs attrs content_type digest
+  pub message_digest : IsAt b digest r.message_digest.start r.message_digest.end
+
+-- none where there are no signed attributes
+abbrev pub AreSignedOrNone : List ℕ → List attribute.Value → OidOctets → Option SignedRanges → Type 0
+AreSignedOrNone b attrs content_type None = attrs ≡ []
+AreSignedOrNone b attrs content_type (Some r) = AreSignedAt b attrs content_type r
+
+-- nothing where there are attributes that aren't as they have to be
+abbrev pub AreSignedOrBroken : List ℕ → List attribute.Value → OidOctets → Option (Option SignedRanges) → Type 0
+AreSignedOrBroken b attrs content_type None = (attrs ≢ []) × ((digest : Octets) → Signs attrs content_type digest → ⊥)
+AreSignedOrBroken b attrs content_type (Some r) = AreSignedOrNone b attrs content_type r
+
+-- the octets of the content that are hashed, or none where the signature is detached
+abbrev pub IsContentAt : List ℕ → FileValue → Option (Range ℕ) → Type 0
+IsContentAt b v r = (octets : Option Octets) × IsRawHashed (content_of (content_info_of v)) octets × IsAtOrNone b octets r
+
+-- the first certificate that a signer names, or none where it names none of them
+abbrev pub IsCertificateAt : List ℕ → FileValue → signer_identifier.Value → Option (Range ℕ) → Type 0
+IsCertificateAt b v id r = (octets : Option ElementOctets) × IsFirst (IsSigners id) (certificates_of v) octets × IsAtOrNone b octets r
+
+-- all ranges of a signer s of signed data v
+pub record AreRangesOf (b : List ℕ) (v : FileValue) (s : SignerValue) (r : SignerRanges) : Type 0 where
+  pub signed : AreSignedOrNone b (signed_of s) (content_info_of v).0 r.signed
+  pub content : IsContentAt b v r.content
+  pub digest_algorithm : IsAt b ((SEQUENCE algorithm_identifier).format.text (digest_algorithm_of s)) r.digest_algorithm.start r.digest_algorithm.end
+  pub signature_algorithm : IsAt b ((SEQUENCE algorithm_identifier).format.text (signature_algorithm_of s)) r.signature_algorithm.start r.signature_algorithm.end
+  pub signature : IsAt b (signature_of s) r.signature.start r.signature.end
+  pub certificate : IsCertificateAt b v (sid_of s) r.certificate
+
+-- the signed attributes lack one of the two, have it several times, or with no value or several, or the contentType is
+-- another than the content's
+abbrev pub BreaksRules : FileValue → SignerValue → Type 0
+BreaksRules v s = (signed_of s ≢ []) × ((digest : Octets) → Signs (signed_of s) (content_info_of v).0 digest → ⊥)
+
+abbrev pub AreRangesOrNone : List ℕ → FileValue → SignerValue → Option SignerRanges → Type 0
+AreRangesOrNone b v s None = BreaksRules v s
+AreRangesOrNone b v s (Some r) = AreRangesOf b v s r
+
+-- the same for each of some signers, in their order
+abbrev pub AreRangesOfAll : List ℕ → FileValue → List SignerValue → List (Option SignerRanges) → Type 0
+AreRangesOfAll b v [] found = found ≡ []
+AreRangesOfAll b v (s ∷ ss) [] = ⊥
+AreRangesOfAll b v (s ∷ ss) (r ∷ found) = AreRangesOrNone b v s r × AreRangesOfAll b v ss found
+
+-- how many signers signed data has, and the ranges of at most `most` of them from one on
+pub record IsPartOf (b : List ℕ) (v : FileValue) (first most count : ℕ) (found : List (Option SignerRanges)) : Type 0 where
+  pub all : count ≡ length (signers_of v)
+  pub ranges : AreRangesOfAll b v (take most (drop first (signers_of v))) found
+
+-- the same of the value of the input, the only one
+pub record AreFound (b : List ℕ) (first most count : ℕ) (found : List (Option SignerRanges)) : Type 0 where
+  pub value : FileValue
+  pub is_value : IsValueOf signed_file 64 b value
+  pub part : IsPartOf b value first most count found
+
+-- why there are none: the input is no signed data, or memory was refused. That a part has no range isn't described.
+abbrev pub IsRefusal : List ℕ → Refusal → Type 0
+IsRefusal b (Refused e place) = HasNoValue signed_file 64 b e × (place ≤ length b)
+IsRefusal b NoRange = Unit {0}

@@ -1,0 +1,398 @@
+//! The ranges of each signer's parts, from one reading of the file.
+
+ghost use Rattle.std.specs.Prelude.{◌≡◌, ◌≢◌, ◌↔◌, [], IsTrue, Some, MatchResult, IfOk, map, take, drop};
+ghost use Rattle.asn1_core.specs.Der.{object_identifier, octet_string, octets_of, option_value};
+ghost use Rattle.asn1_core_element.specs.declared.error.Error.TheVariants.{Memory};
+ghost use Rattle.pkcs7_attributes.specs.Attributes.{attributes_value};
+ghost use Rattle.pkcs7_attributes.specs.NamedAttributes.{content_type_oid, message_digest_oid};
+ghost use Rattle.pkcs7_signed.specs.SignerParts.{signer_identifier_value};
+ghost use Rattle.signer_ranges.specs.Files.{file_value};
+ghost use Rattle.signer_ranges.specs.Signers.{AreFound, AreRangesOfAll, AreRangesOrNone, AreSignedAt, AreSignedOrBroken, certificates_of, IsAtOrNone, IsContentAt, IsPartOf, IsRefusal, OnlyOrNone, Signs, SignsOrNone};
+ghost use Rattle.x509_base.specs.AttributesByOid.{with_oid, IsOnlyOf};
+ghost use Rattle.x509_pkcs7.specs.AllSigners.{AreSigners};
+ghost use Rattle.x509_pkcs7.specs.Matches.{IsFirst, IsSigners};
+ghost use Rattle.x509_pkcs7.specs.RawSigners.{raw_signer_info_value};
+
+use crate::places::{
+    Place, SignerPlaces, attribute_value_at, file_places, places_from, signer_places,
+};
+use crate::ranges::{
+    Refusal, SignedRanges, SignerRanges, Signers, contents_range, element_range, encoding_range,
+    range_among,
+};
+use asn1_core::{Asn1RawDer, Error, ObjectIdentifierAsn1, OctetStringAsn1, from_bytes_located};
+use asn1_core_oid::is_oid_of;
+use pkcs7_attributes::Attributes;
+use pkcs7_signed::parts::SignerIdentifier;
+use std::alloc::Global;
+use std::ops::Range;
+use x509_base::Attribute;
+use x509_pkcs7::{RawPkcs7Certificate, RawSignerInfo, signer_certificates};
+
+/// `id-messageDigest`
+const MESSAGE_DIGEST: [u8; 9] = [0x2A, 0x86, 0x48, 0x86, 0xF7, 0x0D, 0x01, 0x09, 0x04];
+
+/// Whether two object identifiers are equal.
+fn is_same(a: &ObjectIdentifierAsn1, b: &ObjectIdentifierAsn1) -> bool
+    ensures { IsTrue result ↔ (octets_of a.now.0 ≡ octets_of b.now.0) }
+{
+    a == b
+}
+
+/// Why nothing is read doesn't matter, unless memory was refused: then this refuses too.
+fn without_answer(error: Error) -> Result<(), Error>
+    ensures { IfOk result (λ _. error ≢ Memory) }
+{
+    match error {
+        Error::Memory => Err(Error::Memory),
+        _ => Ok(()),
+    }
+}
+
+/// The only contentType. `None` where there is none, or more than one. Refuses by `Memory` alone, as the next one.
+fn only_type(alloc: Global, attributes: &Attributes) -> Result<Option<ObjectIdentifierAsn1>, Error>
+    ensures { IfOk result (λ t. OnlyOrNone object_identifier (with_oid content_type_oid (attributes_value attributes.now)) (option_value (λ oid. octets_of oid.0) t)) }
+{
+    match attributes.content_type(alloc) {
+        Ok(Some(named)) => Ok(Some(named)),
+        Ok(None) => Ok(None),
+        Err(error) => {
+            without_answer(error)?;
+            Ok(None)
+        }
+    }
+}
+
+/// The only messageDigest. `None` where there is none, or more than one.
+fn only_digest(alloc: Global, attributes: &Attributes) -> Result<Option<OctetStringAsn1>, Error>
+    ensures { IfOk result (λ d. OnlyOrNone octet_string (with_oid message_digest_oid (attributes_value attributes.now)) (option_value (λ o. o.0.items) d)) }
+{
+    match attributes.message_digest(alloc) {
+        Ok(Some(digest)) => Ok(Some(digest)),
+        Ok(None) => Ok(None),
+        Err(error) => {
+            without_answer(error)?;
+            Ok(None)
+        }
+    }
+}
+
+/// Whether there is one contentType, and it is this. Refuses by `Memory` alone.
+fn names_type(
+    alloc: Global,
+    attributes: &Attributes,
+    content_type: &ObjectIdentifierAsn1,
+) -> Result<bool, Error>
+    ensures { IfOk result (λ b. IsTrue b ↔ IsOnlyOf object_identifier (with_oid content_type_oid (attributes_value attributes.now)) (Some (octets_of content_type.now.0))) }
+{
+    match only_type(alloc, attributes)? {
+        Some(named) => Ok(is_same(&named, content_type)),
+        None => Ok(false),
+    }
+}
+
+/// The digest that the content has to have, if the attributes are as they have to be. Refuses by `Memory` alone.
+#[tactic(auto, using(crate::proofs::Attributes::signs, crate::proofs::Attributes::signs_no_type, crate::proofs::Attributes::signs_no_digest))]
+fn signed_digest(
+    alloc: Global,
+    attributes: &Attributes,
+    content_type: &ObjectIdentifierAsn1,
+) -> Result<Option<OctetStringAsn1>, Error>
+    ensures { IfOk result (λ d. SignsOrNone (attributes_value attributes.now) (octets_of content_type.now.0) (option_value (λ o. o.0.items) d)) }
+{
+    let names = names_type(alloc, attributes, content_type)?;
+    if !names {
+        return Ok(None);
+    }
+    match only_digest(alloc, attributes)? {
+        Some(digest) => Ok(Some(digest)),
+        None => Ok(None),
+    }
+}
+
+/// The index of the first messageDigest, or 0.
+fn digest_index(attributes: &[Attribute]) -> usize {
+    for (index, attribute) in attributes.iter().enumerate() {
+        if is_oid_of(&attribute.ty.0, &MESSAGE_DIGEST) {
+            return index;
+        }
+    }
+    0
+}
+
+/// Where attributes and their digest are.
+fn signed_ranges(
+    alloc: Global,
+    input: &[u8],
+    place: Place,
+    attributes: &Attributes,
+    content_type: &ObjectIdentifierAsn1,
+    digest: &OctetStringAsn1,
+) -> Result<SignedRanges, Error>
+    requires { Signs (attributes_value attributes.now) (octets_of content_type.now.0) digest.now.0.items }
+    ensures { IfOk result (λ r. AreSignedAt input.now (attributes_value attributes.now) (octets_of content_type.now.0) r) }
+{
+    let value = attribute_value_at(input, place, digest_index(&attributes.0.0));
+    let message_digest = contents_range(input, value, digest.0.as_slice())?;
+    let attributes = encoding_range(alloc, input, place, attributes)?;
+    Ok(SignedRanges {
+        attributes,
+        message_digest,
+    })
+}
+
+/// The same where there are attributes. The outer `None` is said of those that aren't as they have to be.
+#[tactic(auto, using(crate::proofs::Attributes::is_broken))]
+fn signed_or_none(
+    alloc: Global,
+    input: &[u8],
+    place: Place,
+    attributes: &Attributes,
+    content_type: &ObjectIdentifierAsn1,
+) -> Result<Option<Option<SignedRanges>>, Error>
+    ensures { IfOk result (λ r. AreSignedOrBroken input.now (attributes_value attributes.now) (octets_of content_type.now.0) r) }
+{
+    if is_none(attributes) {
+        return Ok(Some(None));
+    }
+    match signed_digest(alloc, attributes, content_type)? {
+        Some(digest) => {
+            let signed = signed_ranges(alloc, input, place, attributes, content_type, &digest)?;
+            Ok(Some(Some(signed)))
+        }
+        None => Ok(None),
+    }
+}
+
+/// Whether there are no attributes.
+fn is_none(attributes: &Attributes) -> bool
+    ensures { IsTrue result ↔ (attributes_value attributes.now ≡ []) }
+{
+    attributes.0.0.is_empty()
+}
+
+/// Where the content's octets are. `None` where they aren't in the file.
+fn content_range(
+    input: &[u8],
+    file: &RawPkcs7Certificate,
+    place: Option<Place>,
+) -> Result<Option<Range<usize>>, Error>
+    ensures { IfOk result (λ r. IsContentAt input.now (file_value file.now) r) }
+{
+    match file.signed_data.0.content_info.hashed_octets()? {
+        Some(octets) => Ok(Some(contents_range(input, place, octets)?)),
+        None => Ok(None),
+    }
+}
+
+/// A copy of a range.
+fn copied(range: &Option<Range<usize>>) -> Option<Range<usize>>
+    ensures { result ≡ range.now }
+{
+    match range {
+        Some(range) => Some(range.start..range.end),
+        None => None,
+    }
+}
+
+/// Where a signer's certificate is.
+fn certificate_range(
+    input: &[u8],
+    places: &[Place],
+    certificate: Option<&Asn1RawDer>,
+) -> Result<Option<Range<usize>>, Error>
+    ensures { IfOk result (λ r. IsAtOrNone input.now (option_value (λ e. e.now.0.items) certificate.entry) r) }
+{
+    match certificate {
+        Some(element) => Ok(Some(range_among(input, places, element.0.as_slice())?)),
+        None => Ok(None),
+    }
+}
+
+/// A file that was read, and where its parts are.
+#[derive(Drop)]
+struct Known<'a> {
+    input: &'a [u8],
+    file: &'a RawPkcs7Certificate,
+    content: Option<Range<usize>>,
+    certificates: Vec<Place>,
+}
+
+/// The ranges of a signer, whose certificate is known. `None` where its signed attributes aren't as they have to be.
+fn ranges_of(
+    alloc: Global,
+    known: &Known<'_>,
+    signer: &RawSignerInfo,
+    places: SignerPlaces,
+    certificate: Option<&Asn1RawDer>,
+) -> Result<Option<SignerRanges>, Error>
+    requires content { IsContentAt known.now.input.now (file_value known.now.file.now) known.now.content }
+    requires certificate { IsFirst (IsSigners (signer_identifier_value signer.now.sid)) (certificates_of (file_value known.now.file.now)) (option_value (λ e. e.now.0.items) certificate) }
+    ensures { IfOk result (λ r. AreRangesOrNone known.now.input.now (file_value known.now.file.now) (raw_signer_info_value signer.now) r) }
+{
+    let input = known.input;
+    let content_type = &known.file.signed_data.0.content_info.content_type;
+    let attributes = &signer.signed_attrs.0;
+    let signed = match signed_or_none(alloc, input, places.attributes, attributes, content_type)? {
+        Some(signed) => signed,
+        None => return Ok(None),
+    };
+    let digest = encoding_range(
+        alloc,
+        input,
+        places.digest_algorithm,
+        &signer.digest_algorithm.0,
+    )?;
+    let algorithm = &signer.signature_algorithm.0;
+    let signature_algorithm = encoding_range(alloc, input, places.signature_algorithm, algorithm)?;
+    let octets = signer.signature.0.0.as_slice();
+    let signature = contents_range(input, Some(places.signature), octets)?;
+    let certificate = certificate_range(input, &known.certificates, certificate)?;
+    Ok(Some(SignerRanges {
+        signed,
+        content: copied(&known.content),
+        digest_algorithm: digest,
+        signature_algorithm,
+        signature,
+        certificate,
+    }))
+}
+
+/// The ranges of each of some signers that follow one another.
+fn ranges_of_all(
+    alloc: Global,
+    known: &Known<'_>,
+    signers: &[RawSignerInfo],
+    first: Option<Place>,
+    certificates: &[Option<&Asn1RawDer>],
+) -> Result<Vec<Option<SignerRanges>>, Error>
+    requires content { IsContentAt known.now.input.now (file_value known.now.file.now) known.now.content }
+    requires certificates { AreSigners (certificates_of (file_value known.now.file.now)) (map (λ s. signer_identifier_value s.sid) signers.now) (map (λ f. option_value (λ e. e.now.0.items) f) certificates.now) }
+    ensures { IfOk result (λ found. AreRangesOfAll known.now.input.now (file_value known.now.file.now) (map raw_signer_info_value signers.now) found.items) }
+{
+    let mut found = Vec::new(alloc);
+    let mut next = first;
+    for (index, signer) in signers.iter().enumerate() {
+        let Some(place) = next else {
+            return Err(Error::Missing);
+        };
+        let Some(places) = signer_places(known.input, place) else {
+            return Err(Error::Missing);
+        };
+        let Some(certificate) = certificates.get(index) else {
+            return Err(Error::Missing);
+        };
+        let ranges = ranges_of(alloc, known, signer, places, *certificate)?;
+        found.push(ranges)?;
+        next = place.after(known.input);
+    }
+    Ok(found)
+}
+
+/// At most so many signers, from one on.
+fn asked(signers: &[RawSignerInfo], first: usize, most: usize) -> &[RawSignerInfo]
+    ensures { result.now ≡ take most (drop first signers.now) }
+{
+    if first > signers.len() {
+        return &[];
+    }
+    let rest = &signers[first..];
+    if most > rest.len() {
+        return rest;
+    }
+    &rest[..most]
+}
+
+/// How each signer is named.
+fn names_of<'a>(
+    alloc: Global,
+    signers: &'a [RawSignerInfo],
+) -> Result<Vec<&'a SignerIdentifier>, Error>
+    ensures { IfOk result (λ names. map (λ n. signer_identifier_value n.now) names.items ≡ map (λ s. signer_identifier_value s.sid) signers.now) }
+{
+    let mut names = Vec::new(alloc);
+    for signer in signers {
+        names.push(&signer.sid)?;
+    }
+    Ok(names)
+}
+
+/// The certificate of each of some signers.
+fn certificates_of_all<'a>(
+    alloc: Global,
+    file: &'a RawPkcs7Certificate,
+    signers: &[RawSignerInfo],
+) -> Result<Vec<Option<&'a Asn1RawDer>>, Error>
+    ensures { IfOk result (λ found. AreSigners (certificates_of (file_value file.now)) (map (λ s. signer_identifier_value s.sid) signers.now) (map (λ f. option_value (λ e. e.now.0.items) f) found.items)) }
+{
+    let names = names_of(alloc, signers)?;
+    let found = signer_certificates(alloc, &file.signed_data.0.certificates.0.0, &names)?;
+    Ok(found)
+}
+
+/// The element that so many others come before.
+fn nth(input: &[u8], first: Option<Place>, count: usize) -> Option<Place> {
+    let mut next = first;
+    for _ in 0..count {
+        if let Some(place) = next {
+            next = place.after(input);
+        }
+    }
+    next
+}
+
+/// The ranges of some signers of a file that was read.
+fn ranges_in(
+    alloc: Global,
+    input: &[u8],
+    file: &RawPkcs7Certificate,
+    first: usize,
+    most: usize,
+) -> Result<Signers, Error>
+    ensures { IfOk result (λ s. IsPartOf input.now (file_value file.now) first most s.count s.found.items) }
+{
+    let Some(places) = file_places(input) else {
+        return Err(Error::Missing);
+    };
+    let signed = &file.signed_data.0;
+    let certificates = signed.certificates.0.0.len();
+    let known = Known {
+        input,
+        file,
+        content: content_range(input, file, places.content)?,
+        certificates: places_from(alloc, input, places.certificate, certificates)?,
+    };
+    let all = signed.signers_infos.0.0.as_slice();
+    let signers = asked(all, first, most);
+    let place = nth(input, places.signer, first.min(all.len()));
+    let certificates = certificates_of_all(alloc, file, signers)?;
+    let found = ranges_of_all(alloc, &known, signers, place, &certificates)?;
+    Ok(Signers {
+        count: all.len(),
+        found,
+    })
+}
+
+/// What a verification of signers needs, of at most `most` of them from the one with the index `first` on, in signed data
+/// with signers of every version and content of any type. Reads the input once, and compares the octets of each part
+/// with those in its range. Proved is what is in the ranges; that a range is that of the part itself, and not of equal
+/// octets, is tested, and so is that each part has a range.
+pub fn signer_ranges(
+    alloc: Global,
+    input: &[u8],
+    first: usize,
+    most: usize,
+) -> Result<Signers, Refusal>
+    ensures { MatchResult result
+        (λ s. AreFound input.now first most s.count s.found.items)
+        (λ e. IsRefusal input.now e) }
+{
+    match from_bytes_located::<RawPkcs7Certificate>(alloc, input) {
+        Ok(file) => match ranges_in(alloc, input, &file, first, most) {
+            Ok(signers) => Ok(signers),
+            Err(Error::Memory) => Err(Refusal::Refused(Error::Memory, 0)),
+            Err(_) => Err(Refusal::NoRange),
+        },
+        Err((error, place)) => Err(Refusal::Refused(error, place)),
+    }
+}
