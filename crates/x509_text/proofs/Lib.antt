@@ -1,0 +1,5 @@
+pub mod Texts
+pub mod Escaping
+pub mod Strings
+pub mod NamedRows
+pub mod Attributes
