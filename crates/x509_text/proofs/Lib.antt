@@ -3,3 +3,4 @@ pub mod Escaping
 pub mod Strings
 pub mod NamedRows
 pub mod Attributes
+pub mod Encoded

@@ -4,3 +4,4 @@ pub mod Values
 pub mod Tables
 pub mod AttributeTypes
 pub mod Names
+pub mod Encodings
