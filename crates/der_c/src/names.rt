@@ -25,7 +25,6 @@ fn copied(text: &str, out: &mut [u8], written: &mut usize) -> u32
 /// Writes the `Name` that the input encodes to the front of `out`, as text (RFC 4514) in UTF-8. At 0 `written` is its
 /// length, at 9, where `out` is too short, the length that it needs, and otherwise 0. At 3 to 6 the input isn't the
 /// encoding of a `Name`, or a type in it has a number above 2^64; at 8 memory was refused. Unless at 0 `out` is as it was.
-#[tactic(auto, using(crate::proofs::Texts::no_text))]
 #[unsafe(no_mangle)]
 pub extern "C" fn der_name_text(
     alloc: Global,
