@@ -4,3 +4,4 @@ pub mod Strings
 pub mod NamedRows
 pub mod Attributes
 pub mod Encoded
+pub mod Unescaping

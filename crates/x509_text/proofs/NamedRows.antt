@@ -1,5 +1,5 @@
 -- A row of a table.
-use Rattle.std.proofs.Common.{◌≡◌, ◌↔◌, ℕ, ◌+◌, ◌<◌, List, [], ◌∷◌, length, get_or, map, drop, ⊎_elim, inl, inr, refl, sym, ap, subst, ◌∙◌}
+use Rattle.std.proofs.Common.{◌≡◌, ◌↔◌, ℕ, ◌+◌, ◌<◌, List, ◌∷◌, length, get_or, map, drop, ⊎_elim, inl, inr, refl, sym, ap, subst}
 use Rattle.std.proofs.lemmas.List.{drop_more}
 use Rattle.x509_text.specs.declared.tables.Row.{Row}
 use Rattle.x509_text.specs.Tables.{row_value, IsNamed}

@@ -1,5 +1,5 @@
 -- The text of an encoding.
-use Rattle.std.specs.Prelude.{◌≡◌, ◌≢◌, ℕ, List}
+use Rattle.std.specs.Prelude.{◌≢◌, ℕ, List}
 use Rattle.asn1_core.specs.Asn1.{SEQUENCE}
 use Rattle.asn1_core.specs.Der.{IsValueOf}
 use Rattle.asn1_core_element.specs.declared.error.Error.{Error}

@@ -1,5 +1,5 @@
 -- A value of a name as text (RFC 4514, 2.4), by its characters.
-use Rattle.std.specs.Prelude.{◌≡◌, ℕ, List, [], ◌∷◌, ◌++◌, Bool, true, false, eqb, if◌then◌else◌, ◌&&◌, ◌||◌}
+use Rattle.std.specs.Prelude.{ℕ, List, [], ◌∷◌, ◌++◌, Bool, true, false, eqb, if◌then◌else◌, ◌&&◌, ◌||◌}
 
 -- `"`, `+`, `,`, `;`, `<`, `>` and `\`, which are escaped wherever they are
 abbrev pub is_special : ℕ → Bool
@@ -25,3 +25,12 @@ escape_from is_first (c ∷ cs) = escaped is_first (is_nil cs) c ++ escape_from 
 
 abbrev pub escape : List ℕ → List ℕ
 escape cs = escape_from true cs
+
+-- the characters that escapes spell: the state is 0 outside of them, 1 after `\`, and 2 after `\0`
+abbrev pub unescape_from : ℕ → List ℕ → List ℕ
+unescape_from state [] = []
+unescape_from state (c ∷ cs) =
+    if eqb state 2 then 0 ∷ unescape_from 0 cs else if eqb state 1 then (if eqb c 48 then unescape_from 2 cs else c ∷ unescape_from 0 cs) else if eqb c 92 then unescape_from 1 cs else c ∷ unescape_from 0 cs
+
+abbrev pub unescape : List ℕ → List ℕ
+unescape cs = unescape_from 0 cs

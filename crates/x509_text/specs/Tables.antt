@@ -1,5 +1,5 @@
 -- Tables of the names of object identifiers.
-use Rattle.std.specs.Prelude.{◌≡◌, ◌⊎◌, ℕ, List, [], ◌∷◌, map}
+use Rattle.std.specs.Prelude.{◌≡◌, ◌⊎◌, ℕ, List, [], ◌∷◌}
 use Rattle.x509_text.specs.declared.tables.Row.{Row}
 
 -- the contents octets and the name of a row

@@ -5,6 +5,7 @@ pub mod attribute_types;
 mod characters;
 mod encodings;
 mod escapes;
+pub mod laws;
 mod names;
 pub mod tables;
 mod values;
