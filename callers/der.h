@@ -3,7 +3,8 @@
  * der_mac_part_ber where the MAC of a PKCS #12 file is to be verified.
  *
  * What is proved of its calls der_check_word_limited, der_rewrite_word_limited, der_kind_word, der_part_octets,
- * der_mac_range, der_mac, der_from_ber, der_mac_ber and der_mac_part_ber, for all inputs, and what isn't:
+ * der_mac_range, der_mac, der_from_ber, der_mac_ber, der_mac_part_ber, der_name_text and der_oid_text, for all inputs,
+ * and what isn't:
  *  - A call answers no status but those that are listed at it. What it writes into numbers and into out is as said
  *    below.
  *  - DER_NORMAL, DER_LOOSE, DER_UNKNOWN_KIND, DER_TOO_LONG, DER_NO_ROOM, DER_NO_RANGE and DER_NO_PART are true where
@@ -162,6 +163,24 @@ uint32_t der_mac_ber(const uint8_t *input, size_t input_len, size_t *start, size
  * DER_PART_MAC_SALT; at any other one the status is DER_UNKNOWN_KIND. */
 uint32_t der_mac_part_ber(size_t number, const uint8_t *input, size_t input_len, uint8_t *out, size_t out_len,
                           size_t *written);
+
+/* Writes the Name (RFC 5280, 4.1.2.4) that the input encodes, as a subject or an issuer, to the front of out, as text by
+ * RFC 4514 in UTF-8 without a zero byte after it: the last RelativeDistinguishedName first, and within one the last
+ * attribute first, as openssl -nameopt RFC2253 orders them. Types have the short names CN, L, ST, O, OU, C, STREET, DC and
+ * UID; another type is dotted, and its value # and hexadecimal. So is the value of one of these where it is no
+ * UTF8String, BMPString, or PrintableString, TeletexString or IA5String in ASCII. A control character but NUL is itself.
+ *  - DER_NORMAL: *written bytes were written, and the rest of out is as it was.
+ *  - DER_NO_ROOM: *written bytes are needed, and out_len is less.
+ *  - DER_MALFORMED to DER_TOO_DEEP: the input is no encoding of a Name, or, at DER_INVALID, a dotted type in it has a
+ *    number that 64 bits don't hold.
+ *  - DER_NO_MEMORY.
+ * Unless at DER_NORMAL out is as it was, and unless at DER_NORMAL and DER_NO_ROOM *written is 0. */
+uint32_t der_name_text(const uint8_t *input, size_t input_len, uint8_t *out, size_t out_len, size_t *written);
+
+/* Writes an object identifier, by its contents octets, as "1.2.840.113549.1.1.11" to the front of out. What it answers is
+ * as of der_name_text: DER_INVALID, and no other refusal, where the octets are no object identifier's, or have a number
+ * that 64 bits don't hold. */
+uint32_t der_oid_text(const uint8_t *octets, size_t octets_len, uint8_t *out, size_t out_len, size_t *written);
 
 /* A limit as the calls take it: one that a byte is too small for counts as DER_MAX_NESTING too. */
 static inline uint8_t der_levels(unsigned limit) {

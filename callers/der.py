@@ -25,7 +25,7 @@ The shared library is made of the static ones, at the top of a clone, after `rt 
 import ctypes
 import enum
 import os
-from typing import Callable, List, NamedTuple, Optional, Tuple, Union
+from typing import Any, Callable, List, NamedTuple, Optional, Tuple, Union
 
 # The most levels of nesting that an input may have.
 MAX_NESTING = 64
@@ -138,6 +138,8 @@ class Library:
             ("der_from_ber", [octets, size, octets, size, number, number]),
             ("der_mac_ber", [octets, size, number, number, number]),
             ("der_mac_part_ber", [size, octets, size, octets, size, number]),
+            ("der_name_text", [octets, size, octets, size, number]),
+            ("der_oid_text", [octets, size, octets, size, number]),
         ):
             call = getattr(self._library, name)
             call.argtypes, call.restype = arguments, ctypes.c_uint32
@@ -264,6 +266,26 @@ class Library:
                 self.check(part.kind, data)
             if status != NO_ROOM:
                 _raise_for(status, part.kind, 0)
+            room = written.value
+
+    def name_text(self, encoding: Bytes) -> str:
+        """A Name as text (RFC 4514), as "CN=A,O=B". Raises Refused where the encoding is none."""
+        return self._text(self._library.der_name_text, encoding)
+
+    def oid_text(self, contents: Bytes) -> str:
+        """An object identifier, as "1.3.14.3.2.26", by its contents octets. Raises Refused where they are none."""
+        return self._text(self._library.der_oid_text, contents)
+
+    def _text(self, call: Any, data: Bytes) -> str:
+        data = _octets(data)
+        room, written = 4 * len(data) + 16, ctypes.c_size_t()
+        while True:
+            out = ctypes.create_string_buffer(room)
+            status = call(data, len(data), out, room, ctypes.byref(written))
+            if status == NORMAL:
+                return out.raw[: written.value].decode()
+            if status != NO_ROOM:
+                _raise_for(status, "", 0)
             room = written.value
 
     def kinds(self) -> List[str]:

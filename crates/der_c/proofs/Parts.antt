@@ -8,7 +8,7 @@ use Rattle.x509_containers.specs.Copies.{IsLong}
 use Rattle.x509_containers.specs.Inputs.{GivesNoPart, GivesPart, HasPart, Projection}
 use Rattle.der_c.specs.Calls.{status_of, CopiesOf, PutsNothing, PutsOctets, PutsPart}
 
-bounds : (e : Error) → (3 ≤ status_of e) × (status_of e ≤ 8)
+pub bounds : (e : Error) → (3 ≤ status_of e) × (status_of e ≤ 8)
 bounds Malformed = (omega arith, omega arith)
 bounds Missing = (omega arith, omega arith)
 bounds Invalid = (omega arith, omega arith)
@@ -16,7 +16,7 @@ bounds TooDeep = (omega arith, omega arith)
 bounds TooLong = (omega arith, omega arith)
 bounds Memory = (omega arith, omega arith)
 
-long_is : (e : Error) → status_of e ≡ 7 → e ≡ TooLong
+pub long_is : (e : Error) → status_of e ≡ 7 → e ≡ TooLong
 long_is Malformed h = absurd (omega (arith, h))
 long_is Missing h = absurd (omega (arith, h))
 long_is Invalid h = absurd (omega (arith, h))

@@ -1,5 +1,5 @@
-//! Checks and rewritings of inputs of all kinds, conversions of BER to DER, and the octets that a MAC covers, for callers
-//! in C. `der.h` has the declarations, and what a caller has to keep to.
+//! Checks and rewritings of inputs of all kinds, conversions of BER to DER, the octets that a MAC covers, and texts, for
+//! callers in C. `der.h` has the declarations, and what a caller has to keep to.
 #![tactic(auto)]
 
 ghost use Rattle.std.specs.Prelude.{◌≡◌, ◌≤◌, length, MatchOption};
@@ -9,8 +9,10 @@ ghost use Rattle.der_c.specs.Calls.{status_of, ChecksWord, CopiesPart, IsKindAt,
 ghost use Rattle.der_c.specs.Conversions.{ConvertsBer};
 
 mod macs;
+mod names;
 
 use ber_der::to_der_located;
+pub use names::{der_name_text, der_oid_text};
 use std::alloc::Global;
 use x509_containers::{
     ContainerPart, Error, Kind, KindOfInput, MAX_NESTING, check_located, container_part,

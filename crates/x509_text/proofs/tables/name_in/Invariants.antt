@@ -1,0 +1,10 @@
+use Rattle.std.proofs.Common.{ℕ, List, map, drop}
+use Rattle.x509_text.specs.Tables.{row_value, IsNamed}
+use Rattle.x509_text.proofs.tables.name_in.Given as goal
+
+abbrev pub invariant-loop-row : goal.invariant-loop-row
+invariant-loop-row l =
+    record {
+      from : (name : List ℕ) → IsNamed (map row_value (drop l.row-index l.rows)) l.octets name → IsNamed (map row_value l.rows) l.octets name;
+      to : (name : List ℕ) → IsNamed (map row_value l.rows) l.octets name → IsNamed (map row_value (drop l.row-index l.rows)) l.octets name;
+    }

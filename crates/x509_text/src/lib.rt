@@ -1,0 +1,17 @@
+//! Text for people: names and object identifiers.
+#![tactic(auto)]
+
+pub mod attribute_types;
+mod characters;
+mod encodings;
+mod escapes;
+pub mod laws;
+mod names;
+pub mod tables;
+mod values;
+
+pub use attribute_types::short_name;
+pub use encodings::{encoded_name_text, oid_text};
+pub use escapes::write_escaped;
+pub use names::name_text;
+pub use values::{string_of, write_value};
