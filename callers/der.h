@@ -164,11 +164,12 @@ uint32_t der_mac_ber(const uint8_t *input, size_t input_len, size_t *start, size
 uint32_t der_mac_part_ber(size_t number, const uint8_t *input, size_t input_len, uint8_t *out, size_t out_len,
                           size_t *written);
 
-/* Writes the Name (RFC 5280, 4.1.2.4) that the input encodes, as a subject or an issuer, to the front of out, as text by
- * RFC 4514 in UTF-8 without a zero byte after it: the last RelativeDistinguishedName first, and within one the last
- * attribute first, as openssl -nameopt RFC2253 orders them. Types have the short names CN, L, ST, O, OU, C, STREET, DC and
- * UID; another type is dotted, and its value # and hexadecimal. So is the value of one of these where it is no
- * UTF8String, BMPString, or PrintableString, TeletexString or IA5String in ASCII. A control character but NUL is itself.
+/* Writes the Name (RFC 5280, 4.1.2.4) that the input encodes, as a subject or an issuer, to the front of out, as text
+ * by RFC 4514 in UTF-8 without a zero byte after it: the last RelativeDistinguishedName first, and within one the last
+ * attribute first, as openssl -nameopt RFC2253 orders them. Types have the short names CN, L, ST, O, OU, C, STREET, DC
+ * and UID; another type is dotted, and its value # and hexadecimal. So is the value of one of these where it is no
+ * UTF8String, BMPString, or PrintableString, TeletexString or IA5String in ASCII. A control character, but for NUL, is
+ * written as it is.
  *  - DER_NORMAL: *written bytes were written, and the rest of out is as it was.
  *  - DER_NO_ROOM: *written bytes are needed, and out_len is less.
  *  - DER_MALFORMED to DER_TOO_DEEP: the input is no encoding of a Name, or, at DER_INVALID, a dotted type in it has a
@@ -177,9 +178,9 @@ uint32_t der_mac_part_ber(size_t number, const uint8_t *input, size_t input_len,
  * Unless at DER_NORMAL out is as it was, and unless at DER_NORMAL and DER_NO_ROOM *written is 0. */
 uint32_t der_name_text(const uint8_t *input, size_t input_len, uint8_t *out, size_t out_len, size_t *written);
 
-/* Writes an object identifier, by its contents octets, as "1.2.840.113549.1.1.11" to the front of out. What it answers is
- * as of der_name_text: DER_INVALID, and no other refusal, where the octets are no object identifier's, or have a number
- * that 64 bits don't hold. */
+/* Writes an object identifier, by its contents octets, as "1.2.840.113549.1.1.11" to the front of out. What it answers
+ * is as of der_name_text: DER_INVALID, and no other refusal, where the octets are no object identifier's, or have a
+ * number that 64 bits don't hold. */
 uint32_t der_oid_text(const uint8_t *octets, size_t octets_len, uint8_t *out, size_t out_len, size_t *written);
 
 /* A limit as the calls take it: one that a byte is too small for counts as DER_MAX_NESTING too. */
