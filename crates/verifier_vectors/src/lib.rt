@@ -3,3 +3,5 @@
 
 #[cfg(test)]
 mod raw_signers;
+#[cfg(test)]
+mod signers_in_place;

@@ -13,7 +13,7 @@ use x509_containers::{
 
 /// "hello, world", with a signer that is named by a key, and one of version 1. The first certificate has 06 07 08 as
 /// its key's identifier, and the serial number 2; the second one 01 02 03 04 05, and 1.
-fn signed_file() -> &'static [u8] {
+pub(crate) fn signed_file() -> &'static [u8] {
     b"\
     \x30\x82\x04\x44\x06\x09\x2A\x86\x48\x86\xF7\x0D\x01\x07\x02\xA0\x82\x04\x35\x30\x82\x04\x31\x02\x01\
     \x03\x31\x0D\x30\x0B\x06\x09\x60\x86\x48\x01\x65\x03\x04\x02\x01\x30\x1B\x06\x09\x2A\x86\x48\x86\xF7\
