@@ -1,6 +1,6 @@
 -- Converting, step by step.
 use Rattle.std.proofs.Common.{◌≡◌, ℕ, Bool, true, zero, suc, ◌-◌, ◌/◌, ◌%◌, ◌<◌, ◌≤◌, List, [], ◌∷◌, ◌++◌, length, take, drop, get_or, refl, sym, ap, subst, ◌∙◌, inl, inr, ◌⊎◌, ⊎_elim, Option, Some, None, IfSome, arith, append_assoc, append-nil, length-append}
-use Rattle.std.proofs.Math.Seq.{take-append_seam}
+use Rattle.std.proofs.Math.Seq.{take-append_seam, drop-append_seam}
 use Rattle.std.proofs.lemmas.List.{take-append-drop, take_rest, length-take-le, flat_map_more}
 use Rattle.ber_der.specs.Contexts.{role_in, context_after, context_inside, der_tag, may_be_constructed}
 use Rattle.ber_der.specs.Ber.{IsLength, IsTag, Allows, IsDefinite, IsIndefinite, IsPrimitive, IsConstructed, IsBerWith, Holds, joined, der_of, Converted, ConvertedContents, ConvertedToEnd, ConvertedBody, BeginsNone, HoldsNone, EndsNone, BodyNone}
@@ -69,6 +69,21 @@ module _ (R : Role → List ℕ → List ℕ → Type 0) (start : Context) (afte
 
   pub none_in_contents : HoldsNone R start contents → BodyNone R start o after
   none_in_contents none = subst (λ p. BodyNone R start p after) (sym some) (subst (HoldsNone R start) front none)
+
+-- what contents add to the octets before them
+pub contents_added : (R : Role → List ℕ → List ℕ → Type 0) (start : Context) (contents old new : List ℕ) → ConvertedContents R start contents old new → (take (length old) new ≡ old) × ConvertedContents R start contents [] (drop (length old) new)
+contents_added R start contents old new c = (
+  ap (take (length old)) c.out ∙ take-append_seam old (joined c.ders),
+  record { ders = c.ders; holds = c.holds; out = ap (drop (length old)) c.out ∙ drop-append_seam old (joined c.ders) },
+)
+
+pub body_added : (R : Role → List ℕ → List ℕ → Type 0) (start : Context) (after rest : List ℕ) (o : Option ℕ) (old new : List ℕ) → ConvertedBody R start o after rest old new → (take (length old) new ≡ old) × ConvertedBody R start o after rest [] (drop (length old) new)
+body_added R start after rest None old new c =
+    let p = contents_added R start c.contents old new c.all in
+    (p.0, record { contents = c.contents; all = p.1; split = c.split })
+body_added R start after rest (Some n) old new c =
+    let p = contents_added R start (take n after) old new c.1 in
+    (p.0, (c.0, p.1))
 
 pub to_end_is_body : (R : Role → List ℕ → List ℕ → Type 0) (start : Context) (after rest old new : List ℕ) (o : Option ℕ) → o ≡ None → ConvertedToEnd R start after rest old new → ConvertedBody R start o after rest old new
 to_end_is_body R start after rest old new o none c = subst (λ p. ConvertedBody R start p after rest old new) (sym none) c

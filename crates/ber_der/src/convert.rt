@@ -1,15 +1,17 @@
 //! The conversion.
 
-ghost use Rattle.std.specs.Prelude.{◌≡◌, ◌≢◌, ◌↔◌, ◌++◌, ◌≤◌, true, false, length, IsTrue, IfSome, MatchResult};
+ghost use Rattle.std.specs.Prelude.{◌≡◌, ◌≢◌, ◌↔◌, ◌++◌, ◌≤◌, true, false, length, take, drop, IsTrue, IfSome, MatchResult};
 ghost use Rattle.ber_der.specs.Ber.{IsBer, IsUnambiguousBer, IsBerWith, Converted, ConvertedContents, ConvertedToEnd, ConvertedBody, BeginsNone, HoldsNone, EndsNone, BodyNone, HasNoDer, der_of, Allows};
 ghost use Rattle.ber_der.specs.declared.contexts.Role.TheVariants.{Whole};
+ghost use Rattle.asn1_core_element.specs.Element.{head};
 ghost use Rattle.asn1_core_element.specs.declared.error.Error.TheVariants.{Memory};
 
 use crate::contexts::{Context, Role, der_tag, may_be_constructed};
 use crate::lengths::length;
 use asn1_core_element::Error;
-use asn1_core_writers::{Forward, Writer, put_element};
+use asn1_core_writers::{Forward, put_head};
 use std::alloc::Global;
+use std::mem;
 
 /// How many levels of constructed encodings an input has at most.
 pub const MAX_NESTING: u8 = 64;
@@ -33,23 +35,60 @@ fn allows(rule: Rule, role: Role, tag: u8, own: u8) -> bool
     }
 }
 
-/// Appends what is kept of contents, of which `left` bytes of the input follow.
-fn keep(
+/// Appends a header.
+fn push_head(alloc: Global, tag: u8, len: usize, out: &mut Vec<u8>) -> Result<(), Error>
+    ensures { MatchResult result (λ _. out.new.items ≡ out.old.items ++ head tag len) (λ e. e ≡ Memory) }
+{
+    let mut buffer = Forward::new(mem::replace(out, Vec::new(alloc)));
+    match put_head(tag, len, &mut buffer) {
+        Ok(()) => {
+            *out = buffer.into_inner();
+            Ok(())
+        }
+        Err(_) => Err(Error::Memory),
+    }
+}
+
+/// Appends what is kept of contents.
+fn push_kept(
+    alloc: Global,
     role: Role,
     tag: u8,
     contents: &[u8],
-    left: usize,
-    out: &mut Forward,
-) -> Result<(), (Error, usize)>
-    ensures { MatchResult result (λ _. out.new.out.items ≡ out.old.out.items ++ der_of role tag contents.now) (λ e. e.0 ≡ Memory) }
+    out: &mut Vec<u8>,
+) -> Result<(), Error>
+    ensures { MatchResult result (λ _. out.new.items ≡ out.old.items ++ der_of role tag contents.now) (λ e. e ≡ Memory) }
 {
-    let kept = match role {
-        Role::Segment => out.bytes(contents),
-        _ => put_element(tag, contents, out),
-    };
-    match kept {
+    match role {
+        Role::Segment => {}
+        _ => push_head(alloc, tag, contents.len(), out)?,
+    }
+    match out.extend_from_slice(contents) {
         Ok(()) => Ok(()),
-        Err(_) => Err((Error::Memory, left)),
+        Err(_) => Err(Error::Memory),
+    }
+}
+
+/// Makes the last octets, from `start` on, which are contents, what is kept of them.
+fn keep_last(
+    alloc: Global,
+    role: Role,
+    tag: u8,
+    start: usize,
+    out: &mut Vec<u8>,
+) -> Result<(), Error>
+    requires { start ≤ length out.old.items }
+    ensures { MatchResult result (λ _. out.new.items ≡ take start out.old.items ++ der_of role tag (drop start out.old.items)) (λ e. e ≡ Memory) }
+{
+    let end = out.len();
+    match role {
+        Role::Segment => Ok(()),
+        _ => {
+            push_head(alloc, tag, end - start, out)?;
+            let size = out.len() - end;
+            out[start..].rotate_right(size);
+            Ok(())
+        }
     }
 }
 
@@ -60,9 +99,9 @@ fn convert_contents(
     contents: &[u8],
     start: Context,
     nest: u8,
-    out: &mut Forward,
+    out: &mut Vec<u8>,
 ) -> Result<(), (Error, usize)>
-    ensures { MatchResult result (λ _. ConvertedContents (IsBerWith rule.joins nest) start contents.now out.old.out.items out.new.out.items)
+    ensures { MatchResult result (λ _. ConvertedContents (IsBerWith rule.joins nest) start contents.now out.old.items out.new.items)
         (λ e. e.0 ≢ Memory → HoldsNone (IsBerWith rule.joins nest) start contents.now) }
 {
     let mut rest = contents;
@@ -82,9 +121,9 @@ fn convert_to_end<'a>(
     bytes: &'a [u8],
     start: Context,
     nest: u8,
-    out: &mut Forward,
+    out: &mut Vec<u8>,
 ) -> Result<&'a [u8], (Error, usize)>
-    ensures { MatchResult result (λ rest. ConvertedToEnd (IsBerWith rule.joins nest) start bytes.now rest.now out.old.out.items out.new.out.items)
+    ensures { MatchResult result (λ rest. ConvertedToEnd (IsBerWith rule.joins nest) start bytes.now rest.now out.old.items out.new.items)
         (λ e. e.0 ≢ Memory → EndsNone (IsBerWith rule.joins nest) start bytes.now) }
 {
     let mut rest = bytes;
@@ -113,10 +152,10 @@ fn convert_body<'a>(
     after: &'a [u8],
     start: Context,
     nest: u8,
-    out: &mut Forward,
+    out: &mut Vec<u8>,
 ) -> Result<&'a [u8], (Error, usize)>
     requires { IfSome len (λ n. n ≤ length after.now) }
-    ensures { MatchResult result (λ rest. ConvertedBody (IsBerWith rule.joins nest) start len after.now rest.now out.old.out.items out.new.out.items)
+    ensures { MatchResult result (λ rest. ConvertedBody (IsBerWith rule.joins nest) start len after.now rest.now out.old.items out.new.items)
         (λ e. e.0 ≢ Memory → BodyNone (IsBerWith rule.joins nest) start len after.now) }
 {
     let Some(len) = len else {
@@ -137,9 +176,9 @@ fn convert<'a>(
     bytes: &'a [u8],
     role: Role,
     nest: u8,
-    out: &mut Forward,
+    out: &mut Vec<u8>,
 ) -> Result<&'a [u8], (Error, usize)>
-    ensures { MatchResult result (λ rest. Converted (IsBerWith rule.joins nest role) bytes.now rest.now out.old.out.items out.new.out.items)
+    ensures { MatchResult result (λ rest. Converted (IsBerWith rule.joins nest role) bytes.now rest.now out.old.items out.new.items)
         (λ e. e.0 ≢ Memory → BeginsNone (IsBerWith rule.joins nest role) bytes.now) }
 {
     let [tag, after @ ..] = bytes else {
@@ -160,8 +199,10 @@ fn convert<'a>(
             return Err((Error::Invalid, bytes.len()));
         }
         let (contents, rest) = after.split_at(len);
-        keep(role, tag, contents, rest.len(), out)?;
-        return Ok(rest);
+        match push_kept(rule.alloc, role, tag, contents, out) {
+            Ok(()) => return Ok(rest),
+            Err(error) => return Err((error, rest.len())),
+        }
     }
     if nest == 0 {
         return Err((Error::TooDeep, bytes.len()));
@@ -169,12 +210,13 @@ fn convert<'a>(
     if !may_be_constructed(tag) || !allows(rule, role, tag, 0x24) {
         return Err((Error::Invalid, bytes.len()));
     }
-    let mut body = Forward::new(Vec::new(rule.alloc));
+    let before = out.len();
     let start = Context::inside(role, tag);
-    let rest = convert_body(rule, len, after, start, nest - 1, &mut body)?;
-    let body = body.into_inner();
-    keep(role, der_tag(role, tag), body.as_slice(), rest.len(), out)?;
-    Ok(rest)
+    let rest = convert_body(rule, len, after, start, nest - 1, out)?;
+    match keep_last(rule.alloc, role, der_tag(role, tag), before, out) {
+        Ok(()) => Ok(rest),
+        Err(error) => Err((error, rest.len())),
+    }
 }
 
 /// The DER of the input, or why it has none, and where.
@@ -182,13 +224,13 @@ fn to_der_with(rule: Rule, limit: u8, bytes: &[u8]) -> Result<Vec<u8>, (Error, u
     ensures { MatchResult result (λ der. IsBerWith rule.joins limit Whole bytes.now der.items)
         (λ e. HasNoDer rule.joins limit bytes.now e.0 × (e.1 ≤ length bytes.now)) }
 {
-    let mut out = Forward::new(Vec::new(rule.alloc));
+    let mut out = Vec::new(rule.alloc);
     match convert(rule, bytes, Role::Whole, limit, &mut out) {
         Ok(rest) => {
             if !rest.is_empty() {
                 return Err((Error::Malformed, bytes.len().saturating_sub(rest.len())));
             }
-            Ok(out.into_inner())
+            Ok(out)
         }
         Err((error, left)) => Err((error, bytes.len().saturating_sub(left))),
     }

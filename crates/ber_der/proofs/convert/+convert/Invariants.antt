@@ -16,13 +16,13 @@ abbrev pub decreases-convert : goal.decreases-convert
 decreases-convert l = 3 * l.nest
 
 abbrev pub invariant-convert_contents-parts : goal.invariant-convert_contents-parts
-invariant-convert_contents-parts l = SoFar (IsBerWith l.fn.rule.joins l.nest) l.fn.start l.context l.contents l.rest l.fn.out.out.items l.out.out.items
+invariant-convert_contents-parts l = SoFar (IsBerWith l.fn.rule.joins l.nest) l.fn.start l.context l.contents l.rest l.fn.out.items l.out.items
 
 abbrev pub decreases-convert_contents-parts : goal.decreases-convert_contents-parts
 decreases-convert_contents-parts l = length l.rest
 
 abbrev pub invariant-convert_to_end-parts : goal.invariant-convert_to_end-parts
-invariant-convert_to_end-parts l = SoFar (IsBerWith l.fn.rule.joins l.nest) l.fn.start l.context l.bytes l.rest l.fn.out.out.items l.out.out.items
+invariant-convert_to_end-parts l = SoFar (IsBerWith l.fn.rule.joins l.nest) l.fn.start l.context l.bytes l.rest l.fn.out.items l.out.items
 
 abbrev pub decreases-convert_to_end-parts : goal.decreases-convert_to_end-parts
 decreases-convert_to_end-parts l = length l.rest
