@@ -12,9 +12,9 @@
 enum { MARK = 0xEE, MARGIN = 64, SPARE = 16 };
 
 /* The calls, by the word that begins their lines. */
-typedef enum { CHECK, LOCATE, LOOSE_END, REWRITE, MAC, MAC_NUMBERS, FROM_BER, MAC_BER, MAC_PART_BER, PART, KIND } call;
-static const char *const calls[] = {"check",    "locate",  "loose_end",    "rewrite", "mac", "mac_numbers",
-                                    "from_ber", "mac_ber", "mac_part_ber", "part",    "kind"};
+typedef enum { CHECK, LOCATE, LOOSE_END, REWRITE, MAC, MAC_NUMBERS, FROM_BER, MAC_BER, MAC_PART_BER, NAME, OID, PART, KIND } call;
+static const char *const calls[] = {"check",   "locate",       "loose_end", "rewrite",  "mac",  "mac_numbers", "from_ber",
+                                    "mac_ber", "mac_part_ber", "name_text", "oid_text", "part", "kind"};
 
 /* What a call is given: the index of a kind or the number of a part where it takes one, and a limit if there is one. */
 typedef struct {
@@ -113,6 +113,12 @@ static answer made(call it, const given *its, uint8_t *room, size_t out_len) {
   case MAC_PART_BER:
     said.status = (der_status)der_mac_part_ber(its->index, its->input, its->len, out, out_len, &first.it);
     break;
+  case NAME:
+    said.status = (der_status)der_name_text(its->input, its->len, out, out_len, &first.it);
+    break;
+  case OID:
+    said.status = (der_status)der_oid_text(its->input, its->len, out, out_len, &first.it);
+    break;
   case PART:
     said.status = der_part((der_part_number)its->index, 0, its->input, its->len, out, out_len, &first.it);
     break;
@@ -127,7 +133,7 @@ static answer made(call it, const given *its, uint8_t *room, size_t out_len) {
     fault(it, "memory is kept");
   if (!is_marked(&first) || !is_marked(&second) || !is_marked(&third))
     fault(it, "it writes beside a number");
-  if ((it == REWRITE || it == FROM_BER || it == MAC_PART_BER || it == PART || it == KIND) &&
+  if ((it == REWRITE || it == FROM_BER || it == MAC_PART_BER || it == NAME || it == OID || it == PART || it == KIND) &&
       said.status == DER_NORMAL && (written = said.first) > out_len)
     fault(it, "it says that it wrote more than there is room for");
   for (at = 0; at < MARGIN + out_len + MARGIN; at++)
@@ -183,6 +189,13 @@ static void parts(call it, given *its, uint8_t *room) {
   }
 }
 
+/* Makes a call that writes text, with room enough and a byte less. */
+static void text(call it, const given *its, uint8_t *room) {
+  answer said = tried(it, its, room, 8 * its->len);
+  if (said.status == DER_NORMAL && said.first)
+    tried(it, its, room, said.first - 1);
+}
+
 int main(int count, char **words) {
   static uint8_t input[1 << 20], room[MARGIN + 2 * sizeof input + MARGIN];
   given its = {count > 1 ? words[1] : NULL, input, 0, 0, count == 3, 0};
@@ -214,5 +227,9 @@ int main(int count, char **words) {
   tried(MAC_BER, &its, room, 0);
   parts(PART, &its, room);
   parts(MAC_PART_BER, &its, room);
+  if (8 * its.len > 2 * sizeof input)
+    return 2;
+  text(NAME, &its, room);
+  text(OID, &its, room);
   return 0;
 }
