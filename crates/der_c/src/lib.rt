@@ -8,6 +8,8 @@ ghost use Rattle.x509_containers.specs.Parts.{parts};
 ghost use Rattle.der_c.specs.Calls.{status_of, ChecksWord, CopiesPart, FindsMac, FindsRange, IsKindAt, IsPartAt, NamesKind, RewritesWord};
 ghost use Rattle.der_c.specs.Conversions.{ConvertsBer};
 
+pub mod signers;
+
 use ber_der::to_der_located;
 use std::alloc::Global;
 use x509_containers::{
@@ -16,7 +18,7 @@ use x509_containers::{
 };
 
 /// The number that C sees of a refusal.
-fn status_of(error: Error) -> u32
+pub(crate) fn status_of(error: Error) -> u32
     ensures { result ≡ status_of error }
 {
     match error {
