@@ -3,8 +3,8 @@
  * der_mac_part_ber where the MAC of a PKCS #12 file is to be verified.
  *
  * What is proved of its calls der_check_word_limited, der_rewrite_word_limited, der_kind_word, der_part_octets,
- * der_mac_range, der_mac, der_from_ber, der_mac_ber, der_mac_part_ber, der_name_text and der_oid_text, for all inputs,
- * and what isn't:
+ * der_signer_rows, der_mac_range, der_mac, der_from_ber, der_mac_ber, der_mac_part_ber, der_name_text and der_oid_text,
+ * for all inputs, and what isn't:
  *  - A call answers no status but those that are listed at it. What it writes into numbers and into out is as said
  *    below.
  *  - DER_NORMAL, DER_LOOSE, DER_UNKNOWN_KIND, DER_TOO_LONG, DER_NO_ROOM, DER_NO_RANGE and DER_NO_PART are true where
@@ -70,7 +70,8 @@ typedef enum der_status {
   DER_NO_MEMORY = 8,    /* a request for memory was refused: nothing is said of the input */
   DER_NO_ROOM = 9,      /* out is too short: the number of bytes that are needed is written */
   DER_NO_RANGE = 10,    /* authSafe isn't data, so that no octets of the file are covered by a MAC */
-  DER_NO_PART = 11      /* the container has no such part, or not so many; of the calls on a MAC: the file has none */
+  DER_NO_PART = 11,     /* the container has no such part, or not so many; of the calls on a MAC: the file has none */
+  DER_BAD_ATTRIBUTES = 12 /* of a signer: its signed attributes break RFC 5652 */
 } der_status;
 
 /* The parts of containers. Each is of the type that the input is read as, which is said before it. */
@@ -105,6 +106,47 @@ uint32_t der_rewrite_word_limited(const uint8_t *word, size_t word_len, uint8_t 
 uint32_t der_kind_word(size_t index, uint8_t *out, size_t out_len, size_t *written);
 uint32_t der_part_octets(size_t number, size_t index, const uint8_t *input, size_t input_len, uint8_t *out,
                          size_t out_len, size_t *written);
+
+/* Octets of the input: len of them, from input + start on. All of them are inside of it. */
+typedef struct der_range {
+  size_t start, len;
+} der_range;
+
+/* What a verification of one signer needs (RFC 5652, 5.3 to 5.6). A verifier
+ *  1. takes the signer only where status is DER_NORMAL;
+ *  2. where over_attributes is 1, hashes the content's octets by digest_algorithm, and compares with digest;
+ *  3. verifies signature over what der_covered copies, by signature_algorithm and the certificate's key.
+ * Where has_content is 0 the signature is detached, and the content's octets are the caller's. So are the octets that
+ * the signature covers, where over_attributes is 0 too: covered then has none. That the certificate is to be trusted,
+ * and may sign, isn't looked at. */
+typedef struct der_signer_parts {
+  size_t status;                 /* DER_NORMAL, or DER_BAD_ATTRIBUTES: all that follows is 0 then */
+  size_t over_attributes;        /* 1: the signature covers signed attributes, 0: the content */
+  size_t has_content;            /* 1: the content is in the input */
+  size_t has_certificate;        /* 1: a certificate of the input is the one that the signer names */
+  der_range covered;             /* signed attributes, whose first octet is to be 0x31, not 0xA0; or the content */
+  der_range digest;              /* messageDigest, which the digest of the content has to be; none without attributes */
+  der_range content;             /* the contents octets of the content, which are hashed */
+  der_range digest_algorithm;    /* an AlgorithmIdentifier, with its parameters */
+  der_range signature_algorithm; /* the same */
+  der_range signature;           /* the octets of the signature */
+  der_range certificate;         /* the first that has the signer's issuer and serial number, or its key identifier */
+} der_signer_parts;
+
+/* What a verifier needs of the signers of signed data, of versions 1 and 3 and over content of any type (RawSignedData),
+ * in one reading. out has room for out_len signers, and takes those with the index first and after.
+ *  - DER_NORMAL: *count is how many signers there are in all. Those asked for are at the front of out, at most out_len,
+ *    and the rest of out is as it was. The status of each is DER_BAD_ATTRIBUTES where signed attributes lack
+ *    messageDigest or contentType, have one of them several times, with no value or with several, or where contentType is
+ *    another than the content's (RFC 5652, 5.3, 11.1, 11.2).
+ *  - DER_MALFORMED to DER_TOO_DEEP: the input is no signed data, and *place says where, as of der_locate.
+ *  - DER_NO_MEMORY: *place is an offset without use.
+ *  - DER_NO_RANGE: a part isn't in the input as its value is written. No input is known where it is answered, and that
+ *    there is none isn't proved.
+ * Unless at DER_NORMAL out is as it was and *count is 0; at DER_NORMAL and DER_NO_RANGE *place is 0. Proved is that the
+ * octets in each range are those of the part; that they are the part itself, and no equal octets, is tested. */
+uint32_t der_signer_rows(const uint8_t *input, size_t input_len, size_t first, der_signer_parts *out, size_t out_len,
+                         size_t *count, size_t *place);
 
 /* Which octets of a PKCS #12 file a MAC covers: the contents octets of the OCTET STRING that is the content of
  * authSafe, without its tag and length.
@@ -273,6 +315,29 @@ static inline der_status der_part(der_part_number part, size_t index, const uint
   return (der_status)der_part_octets((size_t)part, index, input, input_len, out, out_len, written);
 }
 
+/* The same as der_signer_rows. */
+static inline der_status der_signers(const uint8_t *input, size_t input_len, size_t first, der_signer_parts *out,
+                                     size_t out_len, size_t *count, size_t *place) {
+  return (der_status)der_signer_rows(input, input_len, first, out, out_len, count, place);
+}
+
+/* The same of the signer with that index alone. Its status is answered, and where there are fewer signers DER_NO_PART.
+ * Unless at DER_NORMAL all of *out is 0. */
+static inline der_status der_signer(size_t index, const uint8_t *input, size_t input_len, der_signer_parts *out,
+                                    size_t *place) {
+  size_t count;
+  memset(out, 0, sizeof *out);
+  uint32_t status = der_signer_rows(input, input_len, index, out, 1, &count, place);
+  if (status != DER_NORMAL) return (der_status)status;
+  return index < count ? (der_status)out->status : DER_NO_PART;
+}
+
+/* Copies what the signature of a signer covers to out, which has room for covered.len bytes. */
+static inline void der_covered(const der_signer_parts *signer, const uint8_t *input, uint8_t *out) {
+  memcpy(out, input + signer->covered.start, signer->covered.len);
+  if (signer->over_attributes) out[0] = 0x31;
+}
+
 /* Writes the word of the kind with that index, from 0 on, to the front of out.
  *  - DER_NORMAL: *written bytes were written, without a zero byte after them, and the rest of out is as it was.
  *  - DER_NO_ROOM: *written bytes are needed, and out_len is less.
@@ -285,8 +350,9 @@ static inline der_status der_kind(size_t index, char *out, size_t out_len, size_
 /* A word for each status. */
 static inline const char *der_status_word(der_status status) {
   static const char *const words[] = {"normal",   "loose",    "unknown kind", "malformed", "missing", "invalid",
-                                      "too deep", "too long", "no memory",    "no room",   "no range", "no part"};
-  return (unsigned)status <= DER_NO_PART ? words[status] : "unknown status";
+                                      "too deep", "too long", "no memory",    "no room",   "no range", "no part",
+                                      "bad attributes"};
+  return (unsigned)status <= DER_BAD_ATTRIBUTES ? words[status] : "unknown status";
 }
 
 #ifdef __cplusplus

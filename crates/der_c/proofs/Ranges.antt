@@ -23,7 +23,7 @@ found F b start end is =
     }
 
 -- the statuses of refusals of an input that isn't too long
-in_range : (e : Error) → e ≢ TooLong → (3 ≤ status_of e) × ((status_of e ≤ 8) × (status_of e ≢ 7))
+pub in_range : (e : Error) → e ≢ TooLong → (3 ≤ status_of e) × ((status_of e ≤ 8) × (status_of e ≢ 7))
 in_range Malformed _ = (omega arith, (omega arith, λ h. omega (arith, h)))
 in_range Missing _ = (omega arith, (omega arith, λ h. omega (arith, h)))
 in_range Invalid _ = (omega arith, (omega arith, λ h. omega (arith, h)))

@@ -1,5 +1,5 @@
-//! Checks and rewritings of inputs of all kinds, conversions of BER to DER, the octets that a MAC covers, and texts, for
-//! callers in C. `der.h` has the declarations, and what a caller has to keep to.
+//! Checks and rewritings of inputs of all kinds, conversions of BER to DER, what verifiers of signers and of MACs need, and
+//! texts, for callers in C. `der.h` has the declarations, and what a caller has to keep to.
 #![tactic(auto)]
 
 ghost use Rattle.std.specs.Prelude.{◌≡◌, ◌≤◌, length, MatchOption};
@@ -10,6 +10,7 @@ ghost use Rattle.der_c.specs.Conversions.{ConvertsBer};
 
 mod macs;
 mod names;
+pub mod signers;
 
 use ber_der::to_der_located;
 pub use names::{der_name_text, der_oid_text};
@@ -20,7 +21,7 @@ use x509_containers::{
 };
 
 /// The number that C sees of a refusal.
-fn status_of(error: Error) -> u32
+pub(crate) fn status_of(error: Error) -> u32
     ensures { result ≡ status_of error }
 {
     match error {
