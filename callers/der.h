@@ -69,7 +69,7 @@ typedef enum der_status {
   DER_TOO_LONG = 7,     /* its normal encoding, or that of the part, has 2^64 bytes or more */
   DER_NO_MEMORY = 8,    /* a request for memory was refused: nothing is said of the input */
   DER_NO_ROOM = 9,      /* out is too short: the number of bytes that are needed is written */
-  DER_NO_RANGE = 10,    /* authSafe isn't data, so that no octets of the file are covered by a MAC */
+  DER_NO_RANGE = 10,    /* authSafe isn't data, so that no octets are covered by a MAC; of signers: a part isn't found */
   DER_NO_PART = 11,     /* the container has no such part, or not so many; of the calls on a MAC: the file has none */
   DER_BAD_ATTRIBUTES = 12 /* of a signer: its signed attributes break RFC 5652 */
 } der_status;
