@@ -7,11 +7,13 @@ DER, from Python.
     library.mac_range(data)          range(30, 943), or None
     library.mac(data)                Mac(covered=range(30, 943), digest_algorithm='2.16.840.1.101.3.4.2.1', ..), or None
     library.part(Part.SIGNATURE, signed, 0)   the octets of a part, or None
+    library.signers(signed)         [Signer(is_over_attributes=True, covered=b'1..', ..), BadAttributes()]
     library.from_ber(data)           the DER of an input in BER, as bytes
     library.mac_ber(der)             as mac, of a file that from_ber returned
     library.kinds()                  ["macdata", ..]
 
-A kind is the name of a type in lower case. What is no encoding of its kind raises Refused, with the reason and the place.
+A kind is the name of a type in lower case. What is no encoding of its kind raises Refused, with the reason and the
+place.
 Only from_ber takes BER. Pass every other call what it returned, and mac_ber where the MAC of a PKCS #12 file is to be
 verified.
 The calls are those of der.h, which says what is proved of them. Calls share nothing, so threads may make them side by
@@ -32,6 +34,8 @@ MAX_NESTING = 64
 
 NORMAL, LOOSE, UNKNOWN_KIND, TOO_LONG, NO_MEMORY, NO_ROOM, NO_RANGE, NO_PART = 0, 1, 2, 7, 8, 9, 10, 11
 REASONS = {3: "malformed", 4: "missing", 5: "invalid", 6: "too deep"}
+# How many signers are asked for at first: where there are more, the input is read a second time.
+FEW_SIGNERS = 64
 
 Bytes = Union[bytes, bytearray, memoryview]
 # A call of the library, which returns a status.
@@ -42,8 +46,8 @@ class Refused(ValueError):
     """An input that is no encoding of its kind, or of from_ber one that has no DER.
 
     reason is "malformed", "missing", "invalid" or "too deep", and place the offset at which the input is refused: where
-    the element begins that is invalid, nested too deep or none, or the end of the contents in which one is missing; of a
-    set of one value that has two, where the first of them begins.
+    the element begins that is invalid, nested too deep or none, or the end of the contents in which one is missing; of
+    a set of one value that has two, where the first of them begins.
     """
 
     def __init__(self, reason: str, place: int) -> None:
@@ -57,6 +61,18 @@ class Refused(ValueError):
 
 class UnknownKind(LookupError):
     """A word that no kind has."""
+
+
+class BadAttributes(ValueError):
+    """A signer whose signed attributes break RFC 5652 (5.3, 11.1, 11.2), so that its signature counts for nothing.
+
+    They lack messageDigest or contentType, have one of them several times, with no value or with several, or
+    contentType is another than the content's. It has no part of a signer, so it can't be verified by mistake; and
+    unlike None it is true, so a list without false items still has it.
+    """
+
+    def __str__(self) -> str:
+        return "signed attributes that RFC 5652 forbids"
 
 
 class Verdict(NamedTuple):
@@ -121,6 +137,93 @@ class Mac(NamedTuple):
     iterations: int
 
 
+class Signer(NamedTuple):
+    """What a verification of one signer needs (RFC 5652, 5.3 to 5.6), as octets of the input. A verifier
+
+    1. where is_over_attributes is true, hashes the content by digest_algorithm, and compares with digest;
+    2. verifies signature over covered, by signature_algorithm and the certificate's key.
+
+    Where content is None the signature is detached, and the content is the caller's. So is what the signature covers
+    where covered is None. That the certificate is to be trusted, and may sign, isn't looked at. A part may be empty,
+    and is false then: compare with None.
+    """
+
+    # whether the signature covers signed attributes, and not the content itself
+    is_over_attributes: bool
+    # what it covers: signed attributes as a SET OF, so as bytes of their own; or the content, None where it is detached
+    covered: Union[bytes, memoryview, None]
+    # messageDigest, which the digest of the content has to be; None without signed attributes
+    digest: Optional[memoryview]
+    # the contents octets of the content, which are hashed; None where the signature is detached
+    content: Optional[memoryview]
+    # AlgorithmIdentifiers, with their parameters
+    digest_algorithm: memoryview
+    signature_algorithm: memoryview
+    signature: memoryview
+    # the first that has the signer's issuer and serial number, or its key identifier; None where the input has none
+    certificate: Optional[memoryview]
+
+    @property
+    def digest_oid(self) -> str:
+        """The object identifier of digest_algorithm, as "2.16.840.1.101.3.4.2.1"."""
+        return dotted(_first(self.digest_algorithm))
+
+    @property
+    def signature_oid(self) -> str:
+        """The object identifier of signature_algorithm."""
+        return dotted(_first(self.signature_algorithm))
+
+
+class _Octets(ctypes.Structure):
+    """A der_range."""
+
+    _fields_ = [("start", ctypes.c_size_t), ("len", ctypes.c_size_t)]
+    start: int
+    len: int
+
+    def of(self, data: memoryview) -> memoryview:
+        """The octets of the input in it."""
+        return data[self.start : self.start + self.len]
+
+
+class _SignerParts(ctypes.Structure):
+    """A der_signer_parts."""
+
+    _fields_ = [
+        *((name, ctypes.c_size_t) for name in ("status", "over_attributes", "has_content", "has_certificate")),
+        *((name, _Octets) for name in ("covered", "digest", "content", "digest_algorithm", "signature_algorithm")),
+        *((name, _Octets) for name in ("signature", "certificate")),
+    ]
+    status: int
+    over_attributes: int
+    has_content: int
+    has_certificate: int
+    covered: _Octets
+    digest: _Octets
+    content: _Octets
+    digest_algorithm: _Octets
+    signature_algorithm: _Octets
+    signature: _Octets
+    certificate: _Octets
+
+    def of(self, data: memoryview) -> Union[Signer, BadAttributes]:
+        """The signer of the input that has these parts."""
+        if self.status != NORMAL:
+            return BadAttributes()
+        content = self.content.of(data) if self.has_content else None
+        covered = b"\x31" + self.covered.of(data)[1:] if self.over_attributes else content
+        return Signer(
+            bool(self.over_attributes),
+            covered,
+            self.digest.of(data) if self.over_attributes else None,
+            content,
+            self.digest_algorithm.of(data),
+            self.signature_algorithm.of(data),
+            self.signature.of(data),
+            self.certificate.of(data) if self.has_certificate else None,
+        )
+
+
 class Library:
     """The calls of a shared library that der_c was made into."""
 
@@ -132,6 +235,7 @@ class Library:
             ("der_check_word_limited", [*word, number, number]),
             ("der_rewrite_word_limited", [*word, octets, size, number]),
             ("der_mac_range", [octets, size, number, number]),
+            ("der_signer_rows", [octets, size, size, ctypes.POINTER(_SignerParts), size, number, number]),
             ("der_kind_word", [size, octets, size, number]),
             ("der_mac", [octets, size, number, number, number]),
             ("der_part_octets", [size, size, octets, size, octets, size, number]),
@@ -242,6 +346,45 @@ class Library:
             return None
         return self._part(self._library.der_part_octets, (part.value[0], index), part, data)
 
+    def signers(self, data: Bytes) -> List[Union[Signer, BadAttributes]]:
+        """All signers of signed data, of versions 1 and 3 and over content of any type, in one reading or two.
+
+        A BadAttributes is in the place of a signer that breaks RFC 5652: ask isinstance(it, Signer) of each. Where
+        there are no signers the list is empty, and nothing is signed. The parts are memoryviews of data, and of a copy
+        where data aren't bytes. Raises Refused where they are no signed data; its reason is "no range" where a part
+        isn't in them as its value is written, of which no case is known.
+        """
+        octets = _octets(data)
+        rows, count = self._signer_rows(octets, 0, FEW_SIGNERS)
+        if count > FEW_SIGNERS:
+            rows += self._signer_rows(octets, FEW_SIGNERS, count - FEW_SIGNERS)[0]
+        return rows
+
+    def signer(self, data: Bytes, index: int) -> Optional[Signer]:
+        """The signer with an index, from 0 on. None where there are fewer.
+
+        Raises BadAttributes where it breaks RFC 5652, and Refused as signers does.
+        """
+        if index < 0:
+            raise ValueError(f"an index of {index}")
+        rows, _ = self._signer_rows(_octets(data), min(index, (1 << 64) - 1), 1)
+        found = rows[0] if rows else None
+        if isinstance(found, BadAttributes):
+            raise found
+        return found
+
+    def _signer_rows(self, data: bytes, first: int, room: int) -> Tuple[List[Union[Signer, BadAttributes]], int]:
+        """The signers from one on, at most so many, and how many there are in all."""
+        rows, count, place = (_SignerParts * room)(), ctypes.c_size_t(), ctypes.c_size_t()
+        status = self._library.der_signer_rows(
+            data, len(data), first, rows, room, ctypes.byref(count), ctypes.byref(place)
+        )
+        if status == NO_RANGE:
+            raise Refused("no range", 0)
+        _raise_for(status, "", place.value)
+        octets = memoryview(data)
+        return [row.of(octets) for row in rows[: min(room, max(count.value - first, 0))]], count.value
+
     def mac_part_ber(self, part: Part, data: Bytes) -> Optional[bytes]:
         """A part of the MAC of a PKCS #12 file that from_ber returned. None where it has no MAC.
 
@@ -307,6 +450,17 @@ def dotted(contents: bytes) -> str:
             arcs += [arc] if arcs else [min(arc // 40, 2), arc - 40 * min(arc // 40, 2)]
             arc = 0
     return ".".join(map(str, arcs))
+
+
+def _first(sequence: memoryview) -> bytes:
+    """The contents octets of the first element in a SEQUENCE; both have lengths as DER writes them."""
+    for _ in range(2):
+        size, start = sequence[1], 2
+        if size > 0x7F:
+            start += size - 0x80
+            size = int.from_bytes(sequence[2:start], "big")
+        sequence = sequence[start : start + size]
+    return bytes(sequence)
 
 
 def _octets(data: Bytes) -> bytes:

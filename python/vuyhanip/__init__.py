@@ -19,7 +19,7 @@ from typing import TYPE_CHECKING
 
 if TYPE_CHECKING:
     from . import der as der
-    from .der import MAX_NESTING, Library, Mac, Part, Refused, UnknownKind, Verdict, dotted
+    from .der import MAX_NESTING, BadAttributes, Library, Mac, Part, Refused, Signer, UnknownKind, Verdict, dotted
 else:
     try:
         from . import der
@@ -31,8 +31,10 @@ else:
         _spec.loader.exec_module(der)
     MAX_NESTING, Library, Mac, Part = der.MAX_NESTING, der.Library, der.Mac, der.Part
     Refused, UnknownKind, Verdict, dotted = der.Refused, der.UnknownKind, der.Verdict, der.dotted
+    BadAttributes, Signer = der.BadAttributes, der.Signer
 
-__all__ = ["MAX_NESTING", "Library", "Mac", "Part", "Refused", "UnknownKind", "Verdict", "dotted", "library"]
+__all__ = ["MAX_NESTING", "BadAttributes", "Library", "Mac", "Part", "Refused", "Signer", "UnknownKind", "Verdict"]
+__all__ += ["dotted", "library"]
 
 _HERE = os.path.dirname(os.path.realpath(__file__))
 
