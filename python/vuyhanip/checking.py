@@ -7,6 +7,8 @@ from .files import Given, NoPem, converted, converted_store, given, read
 
 # The kinds that are tried where none is named, in this order.
 KINDS = ("pfx", "rawpfx", "pkcs7certificate", "certificatelist", "contentinfo")
+# Those of which signed data are.
+SIGNED_KINDS = ("pkcs7certificate", "contentinfo")
 # The exit statuses of derbox, of the command itself, and from the best to the worst.
 NORMAL, LOOSE, REFUSED, WORDS = 0, 3, 1, 2
 ORDER = (NORMAL, LOOSE, REFUSED, WORDS)

@@ -90,6 +90,8 @@ def _guarded(work: Callable[[str], Said], name: str) -> Said:
         return Said([f"{printable(name)}: refused: {fault}"], {"file": name, "error": str(fault)}, REFUSED)
     except MemoryError:
         return failed(name, "no memory")
+    except (ValueError, IndexError, RecursionError) as fault:
+        return failed(name, f"not read: {fault}")
 
 
 def show_one(kind: Optional[str], strict: bool, name: str) -> Said:

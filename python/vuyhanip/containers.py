@@ -1,12 +1,24 @@
-"""The parts of containers that are shown, extracted and verified: certificates, signed data, signers, attributes.
+"""The parts of containers that are shown, extracted and verified: certificates, bags, signed data, signers, attributes.
 
-What the library for C has as a part is asked of it; the rest is found in what it accepted, element by element.
+What a verification of signers needs, the library for C says of all of them in one reading. The rest is found in what it
+accepted, element by element.
 """
-from typing import Iterator, List, NamedTuple, Optional
+from typing import Iterator, List, NamedTuple, Optional, Union
 
 from . import der, library
-from .elements import GENERALIZED_TIME, INTEGER, OCTET_STRING, SEQUENCE, UTC_TIME, Element, NotThere, whole
-from .values import dotted, name, oid, serial, time
+from .elements import (
+    GENERALIZED_TIME,
+    INTEGER,
+    OCTET_STRING,
+    SEQUENCE,
+    UTC_TIME,
+    Element,
+    NotThere,
+    child,
+    path_to,
+    whole,
+)
+from .values import name, oid, serial, time
 
 DATA, SIGNED_DATA, TST_INFO = "1.2.840.113549.1.7.1", "1.2.840.113549.1.7.2", "1.2.840.113549.1.9.16.1.4"
 CONTENT_TYPE, MESSAGE_DIGEST = "1.2.840.113549.1.9.3", "1.2.840.113549.1.9.4"
@@ -14,6 +26,9 @@ SIGNING_TIME, COUNTER_SIGNATURE = "1.2.840.113549.1.9.5", "1.2.840.113549.1.9.6"
 TIME_STAMPS = ("1.2.840.113549.1.9.16.2.14", "1.3.6.1.4.1.311.3.3.1")
 NESTED_SIGNATURE = "1.3.6.1.4.1.311.2.4.1"
 SUBJECT_KEY_IDENTIFIER = "2.5.29.14"
+KEY_BAG, SHROUDED_KEY_BAG, CERT_BAG = (f"1.2.840.113549.1.12.10.1.{it}" for it in (1, 2, 3))
+CRL_BAG, SAFE_CONTENTS_BAG = (f"1.2.840.113549.1.12.10.1.{it}" for it in (4, 6))
+X509_CERTIFICATE = "1.2.840.113549.1.9.22.1"
 
 
 class Attribute(NamedTuple):
@@ -70,54 +85,75 @@ def _key_identifier(extensions: Element) -> Optional[bytes]:
     """The octets of the subject key identifier among extensions under their tag."""
     for extension in extensions.inside().children():
         parts = extension.children()
-        if oid(parts[0]) == SUBJECT_KEY_IDENTIFIER and parts[-1].tag == OCTET_STRING:
+        if len(parts) > 1 and oid(parts[0]) == SUBJECT_KEY_IDENTIFIER and parts[-1].tag == OCTET_STRING:
             return whole(parts[-1].contents).contents
     return None
 
 
-def parts_of(part: der.Part, octets: bytes) -> Iterator[bytes]:
-    """The parts of a container with the indices from 0 on."""
-    index = 0
-    while True:
-        found = library().part(part, octets, index)
-        if found is None:
-            return
-        yield found
-        index += 1
+def bags(store: bytes) -> Iterator[Element]:
+    """The bags of a PKCS #12 file that was accepted as pfx (RFC 7292, 4), each before the bags in it."""
+    kind, *content = whole(store).children()[1].children()
+    if oid(kind) != DATA or not content:
+        return
+    for safe in whole(content[0].inside().contents).children():
+        parts = safe.children()
+        if oid(parts[0]) == DATA and len(parts) > 1:
+            yield from _bags_in(whole(parts[1].inside().contents))
+
+
+def _bags_in(contents: Element) -> Iterator[Element]:
+    """The bags of SafeContents, each before the bags in it."""
+    for bag in contents.children():
+        yield bag
+        if oid(bag.inside()) == SAFE_CONTENTS_BAG:
+            yield from _bags_in(child(bag, 1).inside())
+
+
+def bag_values(store: bytes, which: str) -> Iterator[Element]:
+    """The values of the bags of one kind."""
+    return (child(bag, 1).inside() for bag in bags(store) if oid(bag.inside()) == which)
+
+
+def store_certificates(store: bytes) -> Iterator[bytes]:
+    """The X.509 certificates of a PKCS #12 file."""
+    for value in bag_values(store, CERT_BAG):
+        if oid(value.inside()) == X509_CERTIFICATE:
+            yield child(value, 1).inside().contents
 
 
 class Signer(NamedTuple):
     """A signer of signed data (RFC 5652, 5.3)."""
 
-    issuer: Optional[bytes]
-    serial: Optional[bytes]
-    key_identifier: Optional[bytes]
-    digest_algorithm: str
+    # what a verifier needs, as the library says it; what follows is shown, and is found by the reader of elements
+    parts: Union[der.Signer, der.BadAttributes]
+    identifier: Element
+    digest_algorithm: Element
     signature_algorithm: Element
     signature: bytes
-    # what the signature covers where there are signed attributes, and these
-    covered: Optional[bytes]
+    # the element of the signed attributes, where there are any, and these
+    covered: Optional[Element]
     signed: List[Attribute]
     unsigned: List[Attribute]
 
-    def names(self, it: Certificate) -> bool:
-        """Whether a certificate is the one that it names."""
-        if self.key_identifier is not None:
-            return it.key_identifier == self.key_identifier
-        return it.issuer.encoding == self.issuer and it.serial == self.serial
+    @property
+    def certificate(self) -> Optional[Certificate]:
+        """The first certificate of the file that it names. Raises NotThere where that can't be shown."""
+        if isinstance(self.parts, der.BadAttributes) or self.parts.certificate is None:
+            return None
+        return certificate(bytes(self.parts.certificate))
 
     @property
     def named(self) -> str:
         """How it names its certificate."""
-        if self.key_identifier is not None:
-            return f"key identifier {self.key_identifier.hex(':').upper()}"
-        return f"issuer {name(whole(self.issuer or b''))}, serial number {serial(self.serial or b'')}"
+        if self.identifier.tag != SEQUENCE:
+            return f"key identifier {self.identifier.contents.hex(':').upper()}"
+        issuer, number = self.identifier.children()
+        return f"issuer {name(issuer)}, serial number {serial(number.contents)}"
 
 
 class Signed(NamedTuple):
-    """Signed data with its content type, read as pkcs7certificate."""
+    """Signed data with its content type."""
 
-    octets: bytes
     content_type: str
     # the octets that are hashed, none where they are elsewhere
     content: Optional[bytes]
@@ -125,53 +161,56 @@ class Signed(NamedTuple):
     crls: List[bytes]
     signers: List[Signer]
 
-    def certificate_of(self, signer: Signer) -> Optional[Certificate]:
-        """The first certificate that a signer names."""
-        for encoding in self.certificates:
-            try:
-                found = certificate(encoding)
-            except NotThere:
-                continue
-            if signer.names(found):
-                return found
-        return None
 
-
-def _signer(octets: bytes, index: int, element: Element) -> Signer:
-    """The signer with an index, which is that element."""
-
-    def part(which: der.Part) -> Optional[bytes]:
-        return library().part(which, octets, index)
-
-    covered = part(der.Part.SIGNED_ATTRIBUTES)
-    unsigned = [it for it in element.children() if it.tag == 0xA1]
+def _signer(parts: Union[der.Signer, der.BadAttributes], element: Element) -> Signer:
+    """The signer that an element is, with what the library says of it."""
+    _, identifier, digest_algorithm, *more = element.children()
+    covered = more.pop(0) if more[0].tag == 0xA0 else None
+    algorithm, signature, *unsigned = more
     return Signer(
-        part(der.Part.ISSUER),
-        part(der.Part.SERIAL_NUMBER),
-        part(der.Part.KEY_IDENTIFIER),
-        dotted(part(der.Part.DIGEST_ALGORITHM) or b""),
-        whole(part(der.Part.SIGNATURE_ALGORITHM) or b""),
-        part(der.Part.SIGNATURE) or b"",
+        parts,
+        identifier,
+        digest_algorithm,
+        algorithm,
+        signature.contents,
         covered,
-        attributes(whole(covered)) if covered else [],
+        attributes(covered) if covered is not None else [],
         attributes(unsigned[0]) if unsigned else [],
     )
 
 
+def _content(info: Element, signers: List[Union[der.Signer, der.BadAttributes]]) -> Optional[bytes]:
+    """The octets of content that are hashed: those that the library says, where it says so of a signer."""
+    said = next((it for it in signers if isinstance(it, der.Signer)), None)
+    if said is not None:
+        return None if said.content is None else bytes(said.content)
+    parts = info.children()
+    return parts[1].inside().contents if len(parts) > 1 else None
+
+
 def signed(octets: bytes) -> Signed:
-    """Reads signed data. Raises der.Refused where they are no pkcs7certificate."""
-    content = library().part(der.Part.HASHED_CONTENT, octets)
-    fields = whole(octets).children()[1].inside().children()
-    crls = [it for part in fields if part.tag == 0xA1 for it in part.children()]
-    signers = fields[-1].children()
+    """Reads signed data. Raises der.Refused where they are none."""
+    found = library().signers(octets)
+    fields = child(whole(octets), 1).inside().children()
+    certificates, crls = ([it for part in fields if part.tag == tag for it in part.children()] for tag in (0xA0, 0xA1))
     return Signed(
-        octets,
         oid(fields[2].inside()),
-        content,
-        list(parts_of(der.Part.CERTIFICATE, octets)),
+        _content(fields[2], found),
+        [it.encoding for it in certificates],
         [it.encoding for it in crls],
-        [_signer(octets, index, element) for index, element in enumerate(signers)],
+        list(map(_signer, found, fields[-1].children())),
     )
+
+
+def is_signed(octets: bytes) -> bool:
+    """Whether content (RFC 5652, 3) is of the type signed data."""
+    return oid(whole(octets).inside()) == SIGNED_DATA
+
+
+def refused_as_signed(octets: bytes, refused: der.Refused) -> str:
+    """Why octets are refused as signed data, and where."""
+    path = path_to(octets, refused.place, refused.reason)
+    return f"refused: {refused}{f' ({path})' if path else ''}, as signed data"
 
 
 def time_stamp_token(octets: bytes) -> Optional[bytes]:

@@ -1,11 +1,19 @@
 """The verb extract: the parts of a container as files of their own."""
 import os
-from typing import Iterator, List, NamedTuple, Union
+from typing import Iterable, Iterator, List, NamedTuple, Union
 
 from . import der
-from .checking import Accepted, NoKind, judge
-from .containers import parts_of, signed, time_stamp_token
-from .showing import signed_of_refused
+from .checking import SIGNED_KINDS, Accepted, NoKind, judge
+from .containers import (
+    KEY_BAG,
+    SHROUDED_KEY_BAG,
+    bag_values,
+    is_signed,
+    refused_as_signed,
+    signed,
+    store_certificates,
+    time_stamp_token,
+)
 
 # Who may read a file: certificates as the umask says, keys only their owner.
 OPEN, SECRET = 0o666, 0o600
@@ -23,7 +31,7 @@ class Nothing(ValueError):
     """A file that nothing can be taken out of, and why."""
 
 
-def _numbered(word: str, those: Iterator[bytes], mode: int = OPEN) -> Iterator[Piece]:
+def _numbered(word: str, those: Iterable[bytes], mode: int = OPEN) -> Iterator[Piece]:
     """Pieces of one word, with numbers from 1 on."""
     for number, octets in enumerate(those, 1):
         yield Piece(f"{word}-{number}.der", octets, mode)
@@ -36,17 +44,26 @@ def pieces(said: Union[Accepted, NoKind]) -> List[Piece]:
         token = time_stamp_token(data)
         if token is None:
             raise Nothing(f"{said.furthest.kind} {said}")
-        return pieces(judge(token, "pkcs7certificate", True))
+        return pieces(judge(token, None, True))
     if said.kind == "pfx":
+        keys, encrypted = ([it.encoding for it in bag_values(data, which)] for which in (KEY_BAG, SHROUDED_KEY_BAG))
         return [
-            *_numbered("certificate", parts_of(der.Part.STORE_CERTIFICATE, data)),
-            *_numbered("key", parts_of(der.Part.STORE_KEY, data), SECRET),
-            *_numbered("encrypted-key", parts_of(der.Part.STORE_ENCRYPTED_KEY, data), SECRET),
+            *_numbered("certificate", store_certificates(data)),
+            *_numbered("key", keys, SECRET),
+            *_numbered("encrypted-key", encrypted, SECRET),
         ]
-    if said.kind != "pkcs7certificate":
-        raise Nothing(signed_of_refused(said) or f"{said.kind}: nothing is taken out of it")
-    it = signed(data)
-    found = [*_numbered("certificate", iter(it.certificates)), *_numbered("revocation-list", iter(it.crls))]
+    if said.kind not in SIGNED_KINDS or not is_signed(data):
+        raise Nothing(f"{said.kind}: nothing is taken out of it")
+    return _signed_pieces(data)
+
+
+def _signed_pieces(data: bytes) -> List[Piece]:
+    """What is in signed data. Raises Nothing."""
+    try:
+        it = signed(data)
+    except der.Refused as refused:
+        raise Nothing(refused_as_signed(data, refused)) from None
+    found = [*_numbered("certificate", it.certificates), *_numbered("revocation-list", it.crls)]
     return found if it.content is None else [*found, Piece("content", it.content)]
 
 

@@ -4,7 +4,7 @@ import os
 import shutil
 import subprocess
 import tempfile
-from typing import List, NamedTuple, Optional
+from typing import Any, List, NamedTuple, Optional
 
 from .algorithms import PSS, RSA, algorithm_oid, parameters, pss
 from .elements import Element
@@ -108,9 +108,9 @@ def _by_cryptography(key: bytes, scheme: Scheme, signature: bytes, covered: byte
     except ImportError:
         return None
     try:
-        public = load_der_public_key(key)
+        public: Any = load_der_public_key(key)
         digests = [getattr(hashes, it.upper())() for it in (scheme.digest, scheme.mask_digest) if it]
-        public.verify(signature, *_arguments(scheme, digests, covered))  # type: ignore[union-attr,arg-type]
+        public.verify(signature, *_arguments(scheme, digests, covered))
     except InvalidSignature:
         return False
     except (AttributeError, UnsupportedAlgorithm, ValueError, TypeError):

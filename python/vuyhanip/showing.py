@@ -1,24 +1,30 @@
 """The verb show: what a container holds, as rows that a person reads."""
 from typing import Callable, Dict, Iterator, List, NamedTuple, Optional, Tuple
 
-from . import der
-from .algorithms import algorithm, public_key
-from .checking import Accepted, judge
+from . import der, library
+from .algorithms import algorithm, algorithm_oid, public_key
+from .checking import SIGNED_KINDS, Accepted, judge
 from .containers import (
+    CERT_BAG,
     COUNTER_SIGNATURE,
+    CRL_BAG,
     DATA,
+    KEY_BAG,
     NESTED_SIGNATURE,
-    SIGNED_DATA,
+    SAFE_CONTENTS_BAG,
+    SHROUDED_KEY_BAG,
     SIGNING_TIME,
     TIME_STAMPS,
     TST_INFO,
+    X509_CERTIFICATE,
     Attribute,
     Certificate,
-    Signed,
     Signer,
     attributes,
+    bags,
     certificate,
-    parts_of,
+    is_signed,
+    refused_as_signed,
     signed,
     stamp,
     time_stamp_token,
@@ -30,9 +36,6 @@ from .values import hexadecimal, name, oid, printable, serial, string, time, val
 
 # How many revoked certificates, and how many levels of nested signatures and bags are shown.
 MOST_REVOKED, MOST_LEVELS = 20, 8
-CERT_BAG, CRL_BAG, SAFE_CONTENTS_BAG = (f"1.2.840.113549.1.12.10.1.{it}" for it in (3, 4, 6))
-KEY_BAG, SHROUDED_KEY_BAG = (f"1.2.840.113549.1.12.10.1.{it}" for it in (1, 2))
-X509_CERTIFICATE = "1.2.840.113549.1.9.22.1"
 ENVELOPED_DATA, ENCRYPTED_DATA = "1.2.840.113549.1.7.3", "1.2.840.113549.1.7.6"
 CRL_NUMBER, REASON = "2.5.29.20", "2.5.29.21"
 REASONS = "unspecified keyCompromise cACompromise affiliationChanged superseded cessationOfOperation certificateHold"
@@ -121,8 +124,8 @@ def store_rows(it: Given, kind: str) -> Rows:
     if kind != "pfx":
         yield Row(0, "bags", "not read, since the file is read as rawpfx: `check --kind pfx` says why")
         return
-    for encoding in parts_of(der.Part.STORE_BAG, data):
-        yield from bag_rows(whole(encoding))
+    for bag in bags(data):
+        yield from bag_rows(bag)
     yield from encrypted_rows(data)
 
 
@@ -196,20 +199,24 @@ def signed_rows(data: bytes, level: int = 0) -> Rows:
         yield from deeper(crl_rows(encoding))
     for number, signer in enumerate(it.signers, 1):
         yield Row(0, f"signer {number}", "")
-        yield from deeper(signer_rows(it, signer, level))
+        yield from deeper(signer_rows(signer, level))
 
 
-def signer_rows(it: Signed, signer: Signer, level: int) -> Rows:
+def signer_rows(signer: Signer, level: int) -> Rows:
     """A signer: what it covers, by which algorithms, and with which certificate."""
-    found = it.certificate_of(signer)
     yield Row(0, "names", signer.named)
-    yield Row(0, "certificate", name(found.subject) if found else "not in the file")
-    yield Row(0, "digest", name_of(signer.digest_algorithm))
+    if isinstance(signer.parts, der.BadAttributes):
+        yield Row(0, "not valid", str(signer.parts))
+    else:
+        found = signer.certificate
+        yield Row(0, "certificate", name(found.subject) if found else "not in the file")
+    yield Row(0, "digest", name_of(algorithm_oid(signer.digest_algorithm)))
     yield Row(0, "signature", f"{algorithm(signer.signature_algorithm)}, {octets(len(signer.signature))}")
     if signer.covered is None:
         yield Row(0, "covers", "the content itself")
     else:
-        yield Row(0, "covers", f"{len(signer.signed)} signed attributes, {octets(len(signer.covered))}")
+        length = octets(signer.covered.end - signer.covered.offset)
+        yield Row(0, "covers", f"{len(signer.signed)} signed attributes, {length}")
         yield from deeper(attribute_rows(signer.signed))
     for attribute in signer.unsigned:
         yield from unsigned_rows(attribute, level)
@@ -237,7 +244,7 @@ def _within(encoding: bytes, level: int) -> Rows:
     try:
         rows = list(signed_rows(encoding, level))
     except der.Refused as fault:
-        rows = [Row(0, "refused", f"{fault}, as pkcs7certificate")]
+        rows = [Row(0, "refused", f"{fault}, as signed data")]
     yield from rows
 
 
@@ -336,7 +343,6 @@ TITLES: Dict[str, str] = {
     "contentinfo": "CMS content",
 }
 READERS: Dict[str, Callable[[bytes], Rows]] = {
-    "pkcs7certificate": signed_rows,
     "certificatelist": crl_rows,
     "contentinfo": content_rows,
 }
@@ -348,14 +354,6 @@ class Shown(NamedTuple):
     title: str
     rows: List[Row]
     refused: Optional[str] = None
-
-
-def signed_of_refused(it: Accepted) -> Optional[str]:
-    """Why signed data that only contentinfo accepts is refused as signed data."""
-    if it.kind == "contentinfo" and oid(whole(it.given.octets).inside()) == SIGNED_DATA:
-        refusal = next(no for no in it.refusals if no.kind == "pkcs7certificate")
-        return f"{refusal}, as pkcs7certificate"
-    return None
 
 
 def collected(rows: Rows) -> List[Row]:
@@ -377,15 +375,28 @@ def show(data: bytes, kind: Optional[str] = None, strict: bool = False) -> Shown
         if token is None:
             return Shown("", [], f"{said.furthest.kind} {said}")
         return show(token, None, True)._replace(title="time stamp response, of which the token is signed data")
-    refused = signed_of_refused(said)
-    if refused is not None:
-        return Shown("", [], refused)
-    octets_of = said.given.octets
-    title = f"{TITLES.get(said.kind, said.kind)} ({said.kind} {said})"
+    if said.kind in SIGNED_KINDS and is_signed(said.given.octets):
+        return _signed(said)
+    title = _title(said, said.kind)
     if said.kind in ("pfx", "rawpfx"):
         return Shown(title, collected(store_rows(said.given, said.kind)))
     reader = READERS.get(said.kind)
-    return Shown(title, collected(reader(octets_of)) if reader else [])
+    return Shown(title, collected(reader(said.given.octets)) if reader else [])
+
+
+def _title(said: Accepted, kind: str) -> str:
+    """A title by a kind, with what a check says."""
+    return f"{TITLES.get(kind, kind)} ({said.kind} {said})"
+
+
+def _signed(said: Accepted) -> Shown:
+    """What signed data hold."""
+    data = said.given.octets
+    try:
+        library().signers(data)
+    except der.Refused as refused:
+        return Shown("", [], refused_as_signed(data, refused))
+    return Shown(_title(said, "pkcs7certificate"), collected(signed_rows(data)))
 
 
 def table(rows: List[Row]) -> Iterator[str]:

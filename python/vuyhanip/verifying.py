@@ -1,11 +1,11 @@
 """The verb verify: signatures of signers, and the MAC of a store. No certificate is judged."""
 import hashlib
 import hmac
-from typing import List, NamedTuple, Optional, Tuple
+from typing import Dict, List, NamedTuple, Optional, Tuple
 
 from . import der
 from .algorithms import algorithm_oid
-from .checking import Accepted, judge
+from .checking import SIGNED_KINDS, Accepted, judge
 from .containers import (
     CONTENT_TYPE,
     COUNTER_SIGNATURE,
@@ -16,18 +16,19 @@ from .containers import (
     TST_INFO,
     Attribute,
     Certificate,
-    Signed,
     Signer,
+    is_signed,
+    refused_as_signed,
     signed,
     stamp,
     time_stamp_token,
 )
-from .elements import OBJECT_IDENTIFIER, OCTET_STRING, Element, NotThere
+from .elements import OBJECT_IDENTIFIER, OCTET_STRING, Element, NotThere, whole
 from .files import Given
 from .keys import NotChecked, scheme_of, verifies
 from .macs import digest_name, is_right
 from .names import name_of
-from .showing import MOST_LEVELS, signed_of_refused
+from .showing import MOST_LEVELS
 from .values import name, oid
 
 RIGHT, WRONG = "signature right", "signature wrong"
@@ -68,36 +69,65 @@ def only_value(those: List[Attribute], which: str, tag: int) -> Element:
     return found[0].values[0]
 
 
-def covered_by(it: Signed, signer: Signer, content: Optional[bytes]) -> bytes:
-    """The octets that a signature covers, once what they say of the content is so (RFC 5652, 5.4). Raises Wrong."""
-    if signer.covered is None:
-        if it.content_type != DATA:
-            raise Wrong("no signed attributes, which content of its type needs")
-        if content is None:
-            raise Wrong("no content, which --content gives")
-        return content
-    digest = only_value(signer.signed, MESSAGE_DIGEST, OCTET_STRING).contents
-    if oid(only_value(signer.signed, CONTENT_TYPE, OBJECT_IDENTIFIER)) != it.content_type:
-        raise Wrong("content type differs")
-    if content is None:
-        raise Wrong("no content, which --content gives")
-    hashed = digest_name(signer.digest_algorithm)
-    if hashed is None:
-        raise Wrong(f"not checked: the digest {name_of(signer.digest_algorithm)} is not known")
-    if not hmac.compare_digest(hashlib.new(hashed, content).digest(), digest):
-        raise Wrong("digest differs")
-    return signer.covered
-
-
-def signature_said(it: Signed, signer: Signer, content: Optional[bytes]) -> Tuple[str, Optional[Certificate]]:
-    """What is said of a signer's signature, and the certificate that it was checked with."""
-    found = it.certificate_of(signer)
+def fault_of(signer: Signer, content_type: str) -> str:
+    """Why the signed attributes of a signer break RFC 5652 (11.1 and 11.2), in words."""
     try:
-        covered = covered_by(it, signer, content)
+        only_value(signer.signed, MESSAGE_DIGEST, OCTET_STRING)
+        if oid(only_value(signer.signed, CONTENT_TYPE, OBJECT_IDENTIFIER)) != content_type:
+            return "content type differs"
+    except Wrong as fault:
+        return str(fault)
+    return str(signer.parts)
+
+
+class Content:
+    """Content that is signed. It is hashed once by each algorithm, and not once for each signer."""
+
+    def __init__(self, content_type: str, octets: Optional[bytes]) -> None:
+        self.type = content_type
+        self._octets = octets
+        self._digests: Dict[str, bytes] = {}
+
+    @property
+    def octets(self) -> bytes:
+        """Its octets. Raises Wrong where there are none."""
+        if self._octets is None:
+            raise Wrong("no content, which --content gives")
+        return self._octets
+
+    def digest(self, algorithm: str) -> bytes:
+        """Its digest, by the object identifier of an algorithm. Raises Wrong."""
+        octets, hashed = self.octets, digest_name(algorithm)
+        if hashed is None:
+            raise Wrong(f"not checked: the digest {name_of(algorithm)} is not known")
+        if hashed not in self._digests:
+            self._digests[hashed] = hashlib.new(hashed, octets).digest()
+        return self._digests[hashed]
+
+
+def covered_by(parts: der.Signer, content: Content) -> bytes:
+    """The octets that a signature covers, once what they say of the content is so (RFC 5652, 5.4). Raises Wrong."""
+    if parts.digest is None or parts.covered is None:
+        if content.type != DATA:
+            raise Wrong("no signed attributes, which content of its type needs")
+        return content.octets
+    if not hmac.compare_digest(content.digest(parts.digest_oid), parts.digest):
+        raise Wrong("digest differs")
+    return bytes(parts.covered)
+
+
+def signature_said(signer: Signer, content: Content) -> Tuple[str, Optional[Certificate]]:
+    """What is said of a signer's signature, and the certificate that it was checked with."""
+    parts, found = signer.parts, None
+    if isinstance(parts, der.BadAttributes):
+        return fault_of(signer, content.type), None
+    try:
+        covered = covered_by(parts, content)
+        found = signer.certificate
         if found is None:
             return "no certificate", None
-        scheme = scheme_of(signer.signature_algorithm, signer.digest_algorithm)
-        is_so = verifies(found.key, scheme, signer.signature, covered)
+        scheme = scheme_of(whole(bytes(parts.signature_algorithm)), parts.digest_oid)
+        is_so = verifies(found.key, scheme, bytes(parts.signature), covered)
     except Wrong as fault:
         return str(fault), found
     except (NotChecked, NotThere) as fault:
@@ -108,10 +138,10 @@ def signature_said(it: Signed, signer: Signer, content: Optional[bytes]) -> Tupl
 def signer_findings(data: bytes, content: Optional[bytes], before: str = "", level: int = 0) -> List[Finding]:
     """What is said of each signer, and of the time stamps and nested signatures in it. Raises der.Refused."""
     it, findings = signed(data), []
-    content = it.content if it.content is not None else content
+    hashed = Content(it.content_type, content if it.content is None else it.content)
     for number, signer in enumerate(it.signers, 1):
         what = f"{before}signer {number}"
-        said, found = signature_said(it, signer, content)
+        said, found = signature_said(signer, hashed)
         by = name(found.subject) if found and said in (RIGHT, WRONG) else ""
         findings.append(Finding(what, said, said == RIGHT, by))
         for attribute in signer.unsigned:
@@ -180,6 +210,10 @@ def verify(data: bytes, content: Optional[bytes], password: Optional[str], stric
         return verify(token, content, password, True)
     if said.kind in ("pfx", "rawpfx"):
         return [mac_finding(said.given, password)]
-    if said.kind == "pkcs7certificate":
-        return signer_findings(said.given.octets, content)
-    return [Finding("file", signed_of_refused(said) or f"{said.kind}: nothing in it is verified", False)]
+    octets = said.given.octets
+    if said.kind not in SIGNED_KINDS or not is_signed(octets):
+        return [Finding("file", f"{said.kind}: nothing in it is verified", False)]
+    try:
+        return signer_findings(octets, content)
+    except der.Refused as refused:
+        return [Finding("file", refused_as_signed(octets, refused), False)]
