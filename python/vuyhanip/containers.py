@@ -192,13 +192,16 @@ def signed(octets: bytes) -> Signed:
     """Reads signed data. Raises der.Refused where they are none."""
     found = library().signers(octets)
     fields = child(whole(octets), 1).inside().children()
+    signers = fields[-1].children()
+    if len(signers) != len(found):
+        raise NotThere(f"{len(signers)} elements of {len(found)} signers")
     certificates, crls = ([it for part in fields if part.tag == tag for it in part.children()] for tag in (0xA0, 0xA1))
     return Signed(
         oid(fields[2].inside()),
         _content(fields[2], found),
         [it.encoding for it in certificates],
         [it.encoding for it in crls],
-        list(map(_signer, found, fields[-1].children())),
+        list(map(_signer, found, signers)),
     )
 
 
