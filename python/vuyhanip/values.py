@@ -1,4 +1,5 @@
 """Values of elements as text: object identifiers, names (RFC 4514), times, strings, numbers."""
+import functools
 from typing import List, Optional
 
 from .elements import (
@@ -38,6 +39,12 @@ def is_oid(contents: bytes) -> bool:
 
 def dotted(contents: bytes) -> str:
     """An object identifier, as "1.3.14.3.2.26", by its contents octets; they in hexadecimal where they are none."""
+    return _dotted(contents) if len(contents) <= FIRST_OF_TEXT else hexadecimal(contents)
+
+
+@functools.lru_cache(maxsize=256)
+def _dotted(contents: bytes) -> str:
+    """The same of short contents, of which a file has the same ones often."""
     if not is_oid(contents):
         return hexadecimal(contents)
     arcs: List[int] = []
