@@ -29,9 +29,9 @@ unsafe extern "C" {
 const MAX_NESTING: u8 = 64;
 
 /// Why an input has no encoding, by the status of the library.
-const WORDS: [&str; 11] = [
+const WORDS: [&str; 13] = [
     "normal", "loose", "unknown kind", "malformed", "missing", "invalid", "too deep", "too long", "no memory", "no room",
-    "no range",
+    "no range", "no part", "bad attributes",
 ];
 
 /// Whether the input is normal, and its normal encoding.

@@ -323,7 +323,7 @@ static inline der_status der_signers(const uint8_t *input, size_t input_len, siz
 }
 
 /* The same of the signer with that index alone. Its status is answered, and where there are fewer signers DER_NO_PART.
- * Unless at DER_NORMAL all of *out is 0. */
+ * Unless at DER_NORMAL all of *out is 0, but for its status at DER_BAD_ATTRIBUTES. */
 static inline der_status der_signer(size_t index, const uint8_t *input, size_t input_len, der_signer_parts *out,
                                     size_t *place) {
   size_t count;

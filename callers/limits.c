@@ -9,14 +9,19 @@
 #include <stdio.h>
 #include <stdlib.h>
 
-enum { MARK = 0xEE, MARGIN = 64, SPARE = 16 };
+enum { MARK = 0xEE, MARGIN = 64, SPARE = 16, LONGEST = 1 << 20 };
 
 /* The calls, by the word that begins their lines. */
-typedef enum { CHECK, LOCATE, LOOSE_END, REWRITE, MAC, MAC_NUMBERS, FROM_BER, MAC_BER, MAC_PART_BER, NAME, OID, PART, KIND } call;
-static const char *const calls[] = {"check",   "locate",       "loose_end", "rewrite",  "mac",  "mac_numbers", "from_ber",
-                                    "mac_ber", "mac_part_ber", "name_text", "oid_text", "part", "kind"};
+typedef enum {
+  CHECK, LOCATE, LOOSE_END, REWRITE, MAC, MAC_NUMBERS, FROM_BER, MAC_BER, MAC_PART_BER, NAME, OID, PART, KIND, SIGNERS,
+  SIGNER
+} call;
+static const char *const calls[] = {
+    "check",        "locate",    "loose_end", "rewrite", "mac",  "mac_numbers", "from_ber", "mac_ber",
+    "mac_part_ber", "name_text", "oid_text",  "part",    "kind", "signers",     "signer"};
 
-/* What a call is given: the index of a kind or the number of a part where it takes one, and a limit if there is one. */
+/* What a call is given: the index of a kind or of a signer, or the number of a part, where it takes one, and a limit if
+ * there is one. */
 typedef struct {
   const char *kind;
   const uint8_t *input;
@@ -71,7 +76,28 @@ static int is_marked(const number *it) { return it->before == MARKS && it->behin
 
 /* How many numbers a call writes. */
 static int numbers_of(call it) {
-  return it == MAC_NUMBERS || it == MAC_BER ? 3 : it == MAC || it == FROM_BER ? 2 : 1;
+  return it == MAC_NUMBERS || it == MAC_BER ? 3 : it == MAC || it == FROM_BER || it == SIGNERS ? 2 : 1;
+}
+
+/* Whether a call writes so many bytes as its first number says. */
+static int says_written(call it) {
+  return it == REWRITE || it == FROM_BER || it == MAC_PART_BER || it == NAME || it == OID || it == PART || it == KIND;
+}
+
+/* How many bytes a call writes of signers, of which there are so many from that index on. */
+static size_t bytes_of_signers(size_t count, size_t first, size_t out_len) {
+  size_t room = out_len / sizeof(der_signer_parts), rest = first < count ? count - first : 0;
+  return (rest < room ? rest : room) * sizeof(der_signer_parts);
+}
+
+/* Makes the call for one signer. Unless at DER_NORMAL all that it writes is 0, but for the status of the signer. */
+static der_status one_signer(const given *its, uint8_t *out, size_t *place) {
+  der_signer_parts *signer = (der_signer_parts *)(void *)out, nothing = {0};
+  der_status status = der_signer(its->index, its->input, its->len, signer, place);
+  nothing.status = status == DER_BAD_ATTRIBUTES ? DER_BAD_ATTRIBUTES : DER_NORMAL;
+  if (!memcmp(signer, &nothing, sizeof nothing) != (status != DER_NORMAL))
+    fault(SIGNER, "it writes what isn't the signer's, or nothing of it");
+  return status;
 }
 
 /* Makes a call, with so many bytes of out between marks. */
@@ -125,6 +151,16 @@ static answer made(call it, const given *its, uint8_t *room, size_t out_len) {
   case KIND:
     said.status = der_kind(its->index, (char *)out, out_len, &first.it);
     break;
+  case SIGNERS:
+    said.status = der_signers(its->input, its->len, its->index, (der_signer_parts *)(void *)out,
+                              out_len / sizeof(der_signer_parts), &first.it, &second.it);
+    if (said.status == DER_NORMAL)
+      written = bytes_of_signers(first.it, its->index, out_len);
+    break;
+  case SIGNER:
+    said.status = one_signer(its, out, &first.it);
+    written = sizeof(der_signer_parts);
+    break;
   }
   said.first = first.it;
   said.second = second.it;
@@ -133,13 +169,17 @@ static answer made(call it, const given *its, uint8_t *room, size_t out_len) {
     fault(it, "memory is kept");
   if (!is_marked(&first) || !is_marked(&second) || !is_marked(&third))
     fault(it, "it writes beside a number");
-  if ((it == REWRITE || it == FROM_BER || it == MAC_PART_BER || it == NAME || it == OID || it == PART || it == KIND) &&
-      said.status == DER_NORMAL && (written = said.first) > out_len)
+  if (says_written(it) && said.status == DER_NORMAL && (written = said.first) > out_len)
     fault(it, "it says that it wrote more than there is room for");
   for (at = 0; at < MARGIN + out_len + MARGIN; at++)
     if ((at < MARGIN || at >= MARGIN + written) && room[at] != MARK)
       fault(it, "it writes beside its encoding");
   return said;
+}
+
+/* Whether the numbers are 0, but for a place, which has no use where memory is refused. */
+static int is_without_use(call it, const answer *said) {
+  return (!said->first || it == SIGNER) && (!said->second || it == FROM_BER || it == SIGNERS) && !said->third;
 }
 
 /* Makes a call, says what it answers, and then refuses its requests for memory in turn. */
@@ -154,8 +194,7 @@ static answer tried(call it, const given *its, uint8_t *room, size_t out_len) {
     refused = 0;
     if (requests < nth)
       break;
-    /* the place of der_from_ber has no use then */
-    if (said.status == DER_NO_MEMORY && !said.first && (!said.second || it == FROM_BER) && !said.third)
+    if (said.status == DER_NO_MEMORY && is_without_use(it, &said))
       short_of++;
     else if (said.status != ample.status || said.first != ample.first || said.second != ample.second ||
              said.third != ample.third)
@@ -196,8 +235,35 @@ static void text(call it, const given *its, uint8_t *room) {
     tried(it, its, room, said.first - 1);
 }
 
+/* Asks for signers: for all, with room for one more, for just them, for one less and for none, for those from the
+ * middle on, and past the last. And for one signer: the first, and one past the last. */
+static void signers(given *its, uint8_t *room) {
+  const size_t one = sizeof(der_signer_parts);
+  answer said;
+  its->index = 0;
+  said = tried(SIGNERS, its, room, one);
+  if (said.status == DER_NORMAL) {
+    const size_t all = said.first, firsts[] = {all / 2, all, all + 1, (size_t)-1};
+    if ((all + 1) * one > 2 * LONGEST)
+      fault(SIGNERS, "there are more than this program has room for");
+    tried(SIGNERS, its, room, (all + 1) * one);
+    tried(SIGNERS, its, room, all * one);
+    tried(SIGNERS, its, room, all ? (all - 1) * one : 0);
+    tried(SIGNERS, its, room, 0);
+    for (size_t nth = 0; nth < sizeof firsts / sizeof *firsts; nth++) {
+      its->index = firsts[nth];
+      tried(SIGNERS, its, room, (all + 1) * one);
+    }
+  }
+  its->index = 0;
+  tried(SIGNER, its, room, one);
+  its->index = said.first;
+  tried(SIGNER, its, room, one);
+}
+
 int main(int count, char **words) {
-  static uint8_t input[1 << 20], room[MARGIN + 2 * sizeof input + MARGIN];
+  static uint8_t input[LONGEST];
+  static _Alignas(der_signer_parts) uint8_t room[MARGIN + 2 * LONGEST + MARGIN];
   given its = {count > 1 ? words[1] : NULL, input, 0, 0, count == 3, 0};
   answer said;
   if (count == 1)
@@ -231,5 +297,6 @@ int main(int count, char **words) {
     return 2;
   text(NAME, &its, room);
   text(OID, &its, room);
+  signers(&its, room);
   return 0;
 }

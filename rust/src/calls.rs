@@ -1,6 +1,31 @@
 //! The calls, as `der.h` declares them.
 use std::os::raw::c_char;
 
+/// `der_range`
+#[repr(C)]
+#[derive(Clone, Copy, Default)]
+pub struct Range {
+    pub start: usize,
+    pub len: usize,
+}
+
+/// `der_signer_parts`
+#[repr(C)]
+#[derive(Clone, Copy, Default)]
+pub struct SignerParts {
+    pub status: usize,
+    pub over_attributes: usize,
+    pub has_content: usize,
+    pub has_certificate: usize,
+    pub covered: Range,
+    pub digest: Range,
+    pub content: Range,
+    pub digest_algorithm: Range,
+    pub signature_algorithm: Range,
+    pub signature: Range,
+    pub certificate: Range,
+}
+
 extern "C" {
     pub fn der_check_word_limited(
         word: *const u8,
@@ -58,6 +83,29 @@ extern "C" {
         number: usize,
         input: *const u8,
         input_len: usize,
+        out: *mut u8,
+        out_len: usize,
+        written: *mut usize,
+    ) -> u32;
+    pub fn der_signer_rows(
+        input: *const u8,
+        input_len: usize,
+        first: usize,
+        out: *mut SignerParts,
+        out_len: usize,
+        count: *mut usize,
+        place: *mut usize,
+    ) -> u32;
+    pub fn der_name_text(
+        input: *const u8,
+        input_len: usize,
+        out: *mut u8,
+        out_len: usize,
+        written: *mut usize,
+    ) -> u32;
+    pub fn der_oid_text(
+        octets: *const u8,
+        octets_len: usize,
         out: *mut u8,
         out_len: usize,
         written: *mut usize,

@@ -1,5 +1,5 @@
 //! Safe calls of the library for C: checks and rewritings of DER, the parts of containers that a verifier needs, as
-//! octets, and conversions of BER to DER.
+//! octets, the signers of signed data, and conversions of BER to DER.
 //!
 //! ```
 //! // the shortest PKCS #12 file
@@ -16,6 +16,9 @@
 #![warn(missing_docs)]
 
 mod calls;
+mod signers;
+
+pub use signers::{signers, BadAttributes, Signer};
 
 use std::ffi::CStr;
 use std::fmt;
@@ -60,6 +63,8 @@ pub enum Error {
     TooLong,
     /// The library's request for memory was refused, which says nothing of the input.
     NoMemory,
+    /// Of [`signers`]: a part isn't found in the input. No input is known where that is returned.
+    NoRange,
     /// A status that a library of another version may return.
     Unknown(u32),
 }
@@ -79,6 +84,7 @@ impl fmt::Display for Error {
             }
             Error::TooLong => f.write_str("too long"),
             Error::NoMemory => f.write_str("no memory"),
+            Error::NoRange => f.write_str("no range"),
             Error::Unknown(status) => write!(f, "unknown status {status}"),
         }
     }
@@ -95,6 +101,7 @@ fn error(status: u32, place: usize) -> Error {
         6 => Reason::TooDeep,
         7 => return Error::TooLong,
         8 => return Error::NoMemory,
+        NO_RANGE => return Error::NoRange,
         _ => return Error::Unknown(status),
     };
     Error::Refused { reason, place }
@@ -303,6 +310,32 @@ fn mac_said(
         })),
         NO_RANGE | NO_PART => Ok(None),
         status => Err(located(status, "rawpfx", input)),
+    }
+}
+
+/// A Name (RFC 5280, 4.1.2.4), by its encoding, as a subject or an issuer, as text by RFC 4514. `der.h` says which
+/// types have short names. Where it is refused, the place is 0, whatever the reason is.
+pub fn name_text(encoding: &[u8]) -> Result<String, Error> {
+    text_written(encoding, calls::der_name_text)
+}
+
+/// An object identifier, by its contents octets, as `1.2.840.113549.1.1.11`. Where it is refused, the place is 0.
+pub fn oid_text(octets: &[u8]) -> Result<String, Error> {
+    text_written(octets, calls::der_oid_text)
+}
+
+/// What a call writes as text in UTF-8.
+fn text_written(
+    input: &[u8],
+    call: unsafe extern "C" fn(*const u8, usize, *mut u8, usize, *mut usize) -> u32,
+) -> Result<String, Error> {
+    let (status, out) = written(4 * input.len() + 16, |out, out_len, written| {
+        // SAFETY: as above
+        unsafe { call(input.as_ptr(), input.len(), out, out_len, written) }
+    });
+    match status {
+        NORMAL => Ok(String::from_utf8_lossy(&out).into_owned()),
+        _ => Err(error(status, 0)),
     }
 }
 

@@ -1,11 +1,19 @@
 //! Each call, over files that openssl made, whose offsets and octets are those that `openssl asn1parse` shows, and over
 //! examples of X.690.
-use vuyhanip::{Error, Part, Reason, Verdict};
+use vuyhanip::{BadAttributes, Error, Part, Reason, Verdict};
 
 /// A key store.
 const STORE: &[u8] = include_bytes!("store.p12");
 /// Signed data of one signer, with two certificates.
 const SIGNED: &[u8] = include_bytes!("signed.p7m");
+/// Signed data of one signer, of version 3, with its certificate: `openssl cms -sign -binary -nodetach -keyid`.
+const BY_KEY: &[u8] = include_bytes!("by_key.p7m");
+/// Signed data with a signer of version 3, by hand: neither content nor attributes nor certificates.
+const DETACHED: &[u8] = &[
+    0x30, 0x34, 6, 9, 0x2A, 0x86, 0x48, 0x86, 0xF7, 0x0D, 1, 7, 2, 0xA0, 0x27, 0x30, 0x25, 2, 1, 3, 0x31, 0, 0x30, 5,
+    6, 3, 0x2A, 3, 4, 0x31, 0x17, 0x30, 0x15, 2, 1, 3, 0x80, 0, 0x30, 5, 6, 3, 0x2A, 3, 4, 0x30, 5, 6, 3, 0x2A, 3, 5,
+    4, 0,
+];
 const SHA256: &[u8] = &[0x60, 0x86, 0x48, 1, 0x65, 3, 4, 2, 1];
 /// A digest info without the NULL that its algorithm has in DER, up to the digest.
 const LOOSE: &[u8] = &[0x30, 0x1F, 0x30, 7, 6, 5, 0x2B, 0x0E, 3, 2, 0x1A, 4, 0x14];
@@ -72,6 +80,80 @@ fn parts_of_signed_data() {
     assert_eq!(part(Part::SignatureAlgorithm, 0).as_deref(), Some(&SIGNED[791..803]));
     assert_eq!(part(Part::Signature, 0).as_deref(), Some(&SIGNED[805..876]));
     assert_eq!(part(Part::Signature, 1), None);
+}
+
+#[test]
+fn signers_of_versions_1_and_3() {
+    for (file, certificate, digest_algorithm, attributes, digest, signature) in [
+        (SIGNED, 74..357, 671..684, 684..791, 759..791, 805..876),
+        (BY_KEY, 74..447, 478..491, 491..598, 566..598, 612..683),
+    ] {
+        let signer = vuyhanip::signers(file).unwrap()[0].unwrap();
+        assert_eq!(signer.content, Some(&b"hello, world"[..]));
+        assert_eq!(signer.certificate, Some(&file[certificate]));
+        assert_eq!(signer.digest_algorithm, &file[digest_algorithm]);
+        assert_eq!(signer.message_digest, Some(&file[digest]));
+        assert_eq!(signer.signature_algorithm, &file[attributes.end..attributes.end + 12]);
+        assert_eq!(signer.signature, &file[signature]);
+        let covered = [&[0x31], &file[attributes][1..]].concat();
+        assert_eq!(signer.covered(b"any content").as_ref(), covered);
+    }
+}
+
+#[test]
+fn a_detached_signature_covers_what_is_passed() {
+    let signer = vuyhanip::signers(DETACHED).unwrap()[0].unwrap();
+    assert_eq!((signer.content, signer.message_digest, signer.certificate), (None, None, None));
+    assert_eq!(signer.covered(b"content").as_ref(), b"content");
+    assert_eq!(signer.signature_algorithm, &DETACHED[45..52]);
+    assert!(signer.signature.is_empty());
+}
+
+/// RFC 5652, 5.3: contentType is the content's, and is one, as messageDigest is.
+#[test]
+fn bad_attributes_leave_nothing_to_verify() {
+    // contentType's value, its own type, and that of messageDigest
+    for at in [518, 505, 561] {
+        let mut file = BY_KEY.to_vec();
+        file[at] ^= 1;
+        assert_eq!(vuyhanip::signers(&file).unwrap(), [Err(BadAttributes)]);
+    }
+}
+
+#[test]
+fn many_signers_are_all_there() {
+    let (data, sid) = (&DETACHED[15..31], &DETACHED[31..]);
+    for count in [0, 1, 15, 16, 17, 400] {
+        let signers = sid.repeat(count);
+        let element = |tag: u8, inside: Vec<u8>| {
+            let size = (inside.len() as u32).to_be_bytes();
+            let zeros = size.iter().take_while(|octet| **octet == 0).count();
+            let long = [&[tag, 0x80 + 4 - zeros as u8], &size[zeros..], &inside].concat();
+            if inside.len() < 0x80 { [&[tag, inside.len() as u8], &inside[..]].concat() } else { long }
+        };
+        let sets = [&data[2..14], &element(0x31, signers)].concat();
+        let file = element(0x30, [&DETACHED[2..13], &element(0xA0, element(0x30, sets))].concat());
+        assert_eq!(vuyhanip::signers(&file).unwrap().len(), count);
+    }
+}
+
+#[test]
+fn what_is_no_signed_data_has_no_signers() {
+    let refused = |reason, place| Err(Error::Refused { reason, place });
+    assert_eq!(vuyhanip::signers(&[]), refused(Reason::Missing, 0));
+    assert_eq!(vuyhanip::signers(&[SIGNED, &[0]].concat()), refused(Reason::Malformed, 876));
+    assert_eq!(vuyhanip::signers(STORE), refused(Reason::Invalid, 4));
+}
+
+/// RFC 4514, and X.690, 8.19.
+#[test]
+fn names_and_object_identifiers_as_text() {
+    assert_eq!(vuyhanip::name_text(&SIGNED[654..668]).as_deref(), Ok("CN=A"));
+    assert_eq!(vuyhanip::name_text(&BY_KEY[121..137]).as_deref(), Ok("CN=key"));
+    assert_eq!(vuyhanip::oid_text(SHA256).as_deref(), Ok("2.16.840.1.101.3.4.2.1"));
+    let refused = |reason| Err(Error::Refused { reason, place: 0 });
+    assert_eq!(vuyhanip::oid_text(&[]), refused(Reason::Invalid));
+    assert_eq!(vuyhanip::name_text(&SIGNED[654..667]), refused(Reason::Malformed));
 }
 
 #[test]
