@@ -8,9 +8,11 @@
  *  - A call answers no status but those that are listed at it. What it writes into numbers and into out is as said
  *    below.
  *  - DER_NORMAL, DER_LOOSE, DER_UNKNOWN_KIND, DER_TOO_LONG, DER_NO_ROOM, DER_NO_RANGE and DER_NO_PART are true where
- *    they are answered.
- *  - At DER_MALFORMED, DER_MISSING, DER_INVALID and DER_TOO_DEEP the input is no encoding of the kind, and of
- *    der_from_ber it has no DER. Which of the four it is isn't proved: tests tell them apart.
+ *    they are answered, but for DER_NO_RANGE of der_signer_rows, of which nothing is proved. DER_BAD_ATTRIBUTES is true
+ *    where a row of der_signer_rows has it.
+ *  - At DER_MALFORMED, DER_MISSING, DER_INVALID and DER_TOO_DEEP the input is no encoding of the kind, of der_from_ber
+ *    it has no DER, of der_signer_rows it is no signed data, and of the calls that write text it has none, as said
+ *    there. Which of the four it is isn't proved: tests tell them apart.
  *  - That memory was refused where a call answers DER_NO_MEMORY isn't proved. Tests show that calls with memory enough
  *    don't answer it, on inputs of up to 190 KB and of hundreds of parts, and that calls keep no memory.
  *  - The functions in this file, in C, are tested and not proved, nor are der_version and der_processor.
@@ -18,7 +20,8 @@
  * What a caller has to keep to:
  *  - word, input, out and the pointers to numbers aren't null, also where a length is 0. word and input point to so
  *    many bytes that can be read, out to so many that can be read and written.
- *  - A pointer to a number is aligned as a size_t is, and what it points to can be written.
+ *  - A pointer to a number is aligned as a size_t is, and what it points to can be written. out of der_signer_rows
+ *    points to out_len structs and not bytes, and is aligned so too.
  *  - The string kind ends in a zero byte.
  *  - out and each number overlap nothing else that is passed, and not one another.
  *  - While a call runs nothing else reads or writes out or the numbers, and nothing writes word or input: no other
@@ -69,7 +72,7 @@ typedef enum der_status {
   DER_TOO_LONG = 7,     /* its normal encoding, or that of the part, has 2^64 bytes or more */
   DER_NO_MEMORY = 8,    /* a request for memory was refused: nothing is said of the input */
   DER_NO_ROOM = 9,      /* out is too short: the number of bytes that are needed is written */
-  DER_NO_RANGE = 10,    /* authSafe isn't data, so that no octets are covered by a MAC; of signers: a part isn't found */
+  DER_NO_RANGE = 10,    /* authSafe isn't data, so no octets are covered by a MAC; of signers: a part isn't found */
   DER_NO_PART = 11,     /* the container has no such part, or not so many; of the calls on a MAC: the file has none */
   DER_BAD_ATTRIBUTES = 12 /* of a signer: its signed attributes break RFC 5652 */
 } der_status;
@@ -133,12 +136,12 @@ typedef struct der_signer_parts {
   der_range certificate;         /* the first that has the signer's issuer and serial number, or its key identifier */
 } der_signer_parts;
 
-/* What a verifier needs of the signers of signed data, of versions 1 and 3 and over content of any type (RawSignedData),
+/* What a verifier needs of the signers of signed data, of any CMSVersion and over content of any type (RawSignedData),
  * in one reading. out has room for out_len signers, and takes those with the index first and after.
  *  - DER_NORMAL: *count is how many signers there are in all. Those asked for are at the front of out, at most out_len,
  *    and the rest of out is as it was. The status of each is DER_BAD_ATTRIBUTES where signed attributes lack
- *    messageDigest or contentType, have one of them several times, with no value or with several, or where contentType is
- *    another than the content's (RFC 5652, 5.3, 11.1, 11.2). An empty set of signed attributes, A0 00, which RFC 5652
+ *    messageDigest or contentType, have one of them several times, with no value or with several, or where contentType
+ *    is another than the content's (RFC 5652, 5.3, 11.1, 11.2). An empty set of signed attributes, A0 00, which RFC 5652
  *    forbids, is read as none: the signature then has to cover the content.
  *  - DER_MALFORMED to DER_TOO_DEEP: the input is no signed data, and *place says where, as of der_locate.
  *  - DER_NO_MEMORY: *place is an offset without use.
@@ -197,8 +200,8 @@ uint32_t der_from_ber(const uint8_t *input, size_t input_len, uint8_t *out, size
                       size_t *place);
 
 /* As der_mac, of a PKCS #12 file that der_from_ber wrote: its authSafe may hold BER, which der_from_ber keeps as it is,
- * since the MAC covers it, and which der_mac and "rawpfx" refuse as DER_MALFORMED. So of what is in the OCTET STRING
- * nothing is asked. The *len octets from input + *start on are in what der_from_ber wrote, and in the same order in
+ * since the MAC covers it, and which der_mac and "rawpfx" refuse unless it is one element. Of what the OCTET STRING
+ * holds nothing is asked. The *len octets from input + *start on are in what der_from_ber wrote, and in the same order in
  * the file that it was given, though there they may be in pieces. The statuses are those of der_mac. */
 uint32_t der_mac_ber(const uint8_t *input, size_t input_len, size_t *start, size_t *len, size_t *iterations);
 

@@ -347,7 +347,7 @@ class Library:
         return self._part(self._library.der_part_octets, (part.value[0], index), part, data)
 
     def signers(self, data: Bytes) -> List[Union[Signer, BadAttributes]]:
-        """All signers of signed data, of versions 1 and 3 and over content of any type, in one reading or two.
+        """All signers of signed data, of any CMSVersion and over content of any type, in one reading or two.
 
         A BadAttributes is in the place of a signer that breaks RFC 5652: ask isinstance(it, Signer) of each. Where
         there are no signers the list is empty, and nothing is signed. The parts are memoryviews of data, and of a copy

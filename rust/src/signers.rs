@@ -55,7 +55,7 @@ impl fmt::Display for BadAttributes {
 
 impl std::error::Error for BadAttributes {}
 
-/// The signers of signed data, of versions 1 and 3 and over content of any type. Up to 16 are found in one reading,
+/// The signers of signed data, of any CMSVersion and over content of any type. Up to 16 are found in one reading,
 /// more in two.
 ///
 /// ```
