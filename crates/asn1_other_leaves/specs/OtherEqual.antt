@@ -7,7 +7,7 @@ use Rattle.asn1_leaves.specs.contracts.bits.BitStringAsn1PartialEq.TheImpl as Bi
 use Rattle.asn1_leaves.specs.contracts.strings.BmpStringAsn1PartialEq.TheImpl as Bmps
 use Rattle.asn1_leaves.specs.contracts.strings.IA5StringAsn1PartialEq.TheImpl as Ia5s
 use Rattle.asn1_leaves.specs.contracts.strings.Utf8StringAsn1PartialEq.TheImpl as Utf8s
-use Rattle.asn1_other_leaves.specs.contracts.constants.BooleanAsn1PartialEq.TheImpl as Booleans
+use Rattle.asn1_core.specs.contracts.booleans.DefaultFalsePartialEq.TheImpl as Booleans
 use Rattle.asn1_other_leaves.specs.contracts.enumerated.EnumeratedAsn1PartialEq.TheImpl as Enumerateds
 use Rattle.asn1_other_leaves.specs.contracts.constants.NullAsn1PartialEq.TheImpl as Nulls
 

@@ -1,10 +1,12 @@
 //! ENUMERATED (X.690, 8.4).
 
-ghost use Rattle.std.specs.Prelude.{◌^◌, ℕ};
+ghost use Rattle.std.specs.Prelude.{◌≡◌, ◌^◌, ℕ, List, true, MatchOption};
 ghost use Rattle.std.proofs.Common.{arith, rules};
 ghost use Rattle.asn1_core_format.specs.Numbers.{numbers_below};
 ghost use Rattle.asn1_core_format.specs.TaggedLaws.{leaf_tagged};
+ghost use Rattle.asn1_core_format.specs.Leaf.{GivesSpelled};
 ghost use Rattle.asn1_other_leaves.specs.OtherLeaves.{enumerated, lawful_enumerated};
+ghost use Rattle.asn1_other_leaves.specs.Enumerations.{IsNoneOf, IsOneOf, all_low, numbers_in};
 
 use asn1_core_element::{Error, Reader};
 use asn1_core_format::{
@@ -13,6 +15,37 @@ use asn1_core_format::{
 };
 use asn1_core_writers::{WriteError, Writer, put_unsigned};
 use std::alloc::Global;
+
+/// A type for an ENUMERATED without an extension marker, whose numbers are below 256.
+pub trait Enumerated: Drop {
+    ghost numbers: { List ℕ };
+
+    ghost number_of: { Self → ℕ };
+
+    /// The value with that number, if there is one.
+    fn from_number(number: u8) -> Option<Self>
+        ensures { MatchOption result (IsNoneOf numbers number) (λ x. number_of x ≡ number) };
+
+    fn number(&self) -> u8
+        ensures { result ≡ number_of self.now };
+
+    ghost low: { all_low numbers ≡ true };
+
+    ghost listed: { (x : Self) → IsOneOf numbers (number_of x) };
+}
+
+/// The value whose number the contents octets of an ENUMERATED spell: each other number is refused.
+pub fn enumerated_from_contents<T: Enumerated>(alloc: Global, contents: &[u8]) -> Result<T, Error>
+    ensures { GivesSpelled T.number_of (numbers_in T.numbers) contents.now result }
+{
+    match u8::from_contents(alloc, contents) {
+        Ok(number) => match T::from_number(number) {
+            Some(value) => Ok(value),
+            None => Err(Error::Invalid),
+        },
+        Err(error) => Err(error),
+    }
+}
 
 /// `ENUMERATED`, by its number, which is below 256.
 #[derive(Clone, Copy, Debug, PartialEq, Eq)]

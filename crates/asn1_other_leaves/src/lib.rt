@@ -2,12 +2,14 @@
 //! and strings whose characters aren't tested. Crates that `scripts/asn1` makes of ASN.1 modules hold them.
 #![tactic(auto)]
 
+pub mod bits;
 pub mod constants;
 pub mod enumerated;
 pub mod kept;
 
+pub use bits::has_bit;
 pub use constants::{BooleanAsn1, NullAsn1};
-pub use enumerated::EnumeratedAsn1;
+pub use enumerated::{Enumerated, EnumeratedAsn1, enumerated_from_contents};
 pub use kept::{
     KeptAsn1, NumericStringAsn1, PrintableStringAsn1, TeletexStringAsn1, UniversalStringAsn1,
     VisibleStringAsn1,

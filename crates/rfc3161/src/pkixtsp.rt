@@ -7,9 +7,13 @@ ghost use Rattle.rfc3161.specs.Pkixtsp.{content_info, content_info_value, conten
 ghost use Rattle.rfc3161.specs.Pkixtsp.{time_stamp_resp, time_stamp_resp_value, time_stamp_resp_equal};
 ghost use Rattle.rfc3161.specs.Pkixtsp.{accuracy, accuracy_value, accuracy_equal};
 ghost use Rattle.rfc3161.specs.Pkixtsp.{tst_info, tst_info_value, tst_info_equal};
+ghost use Rattle.std.specs.Prelude.{◌↔◌, IsTrue};
+ghost use Rattle.asn1_leaves_strings.specs.Octets.{contents_of};
+ghost use Rattle.asn1_other_leaves.specs.NamedBits.{HasBit};
 
 use asn1_core::prelude::*;
 use asn1_leaves::{BitStringAsn1, GeneralizedTimeAsn1, IntegerAsn1, Utf8StringAsn1};
+use asn1_other_leaves::has_bit;
 use rfc5280::pkix1_implicit88::GeneralName;
 use std::alloc::Global;
 use x509_base::{AlgorithmIdentifier, Extensions};
@@ -147,6 +151,62 @@ pub const PKI_FAILURE_INFO_ADD_INFO_NOT_AVAILABLE: usize = 17;
 
 /// The bit `systemFailure` of `PKIFailureInfo`.
 pub const PKI_FAILURE_INFO_SYSTEM_FAILURE: usize = 25;
+
+/// Whether the bit `badAlg` of `PKIFailureInfo` is 1.
+pub fn pki_failure_info_bad_alg(bits: &PkiFailureInfo) -> bool
+    ensures { IsTrue result ↔ HasBit (contents_of bits.now.0) 0 }
+{
+    has_bit(bits, 0)
+}
+
+/// Whether the bit `badRequest` of `PKIFailureInfo` is 1.
+pub fn pki_failure_info_bad_request(bits: &PkiFailureInfo) -> bool
+    ensures { IsTrue result ↔ HasBit (contents_of bits.now.0) 2 }
+{
+    has_bit(bits, 2)
+}
+
+/// Whether the bit `badDataFormat` of `PKIFailureInfo` is 1.
+pub fn pki_failure_info_bad_data_format(bits: &PkiFailureInfo) -> bool
+    ensures { IsTrue result ↔ HasBit (contents_of bits.now.0) 5 }
+{
+    has_bit(bits, 5)
+}
+
+/// Whether the bit `timeNotAvailable` of `PKIFailureInfo` is 1.
+pub fn pki_failure_info_time_not_available(bits: &PkiFailureInfo) -> bool
+    ensures { IsTrue result ↔ HasBit (contents_of bits.now.0) 14 }
+{
+    has_bit(bits, 14)
+}
+
+/// Whether the bit `unacceptedPolicy` of `PKIFailureInfo` is 1.
+pub fn pki_failure_info_unaccepted_policy(bits: &PkiFailureInfo) -> bool
+    ensures { IsTrue result ↔ HasBit (contents_of bits.now.0) 15 }
+{
+    has_bit(bits, 15)
+}
+
+/// Whether the bit `unacceptedExtension` of `PKIFailureInfo` is 1.
+pub fn pki_failure_info_unaccepted_extension(bits: &PkiFailureInfo) -> bool
+    ensures { IsTrue result ↔ HasBit (contents_of bits.now.0) 16 }
+{
+    has_bit(bits, 16)
+}
+
+/// Whether the bit `addInfoNotAvailable` of `PKIFailureInfo` is 1.
+pub fn pki_failure_info_add_info_not_available(bits: &PkiFailureInfo) -> bool
+    ensures { IsTrue result ↔ HasBit (contents_of bits.now.0) 17 }
+{
+    has_bit(bits, 17)
+}
+
+/// Whether the bit `systemFailure` of `PKIFailureInfo` is 1.
+pub fn pki_failure_info_system_failure(bits: &PkiFailureInfo) -> bool
+    ensures { IsTrue result ↔ HasBit (contents_of bits.now.0) 25 }
+{
+    has_bit(bits, 25)
+}
 
 /// `PKIStatusInfo ::= SEQUENCE { status PKIStatus, statusString PKIFreeText OPTIONAL, failInfo PKIFailureInfo
 /// OPTIONAL }` (RFC 4210, 5.2.3)

@@ -2,7 +2,9 @@
 use Rattle.asn1_core.specs.Asn1.{ANY, Asn1, BOOLEAN_or_FALSE, CHOICE, Contents, EXPLICIT, IMPLICIT, IMPLICIT_default, INTEGER_or, OBJECT_IDENTIFIER, OCTET_STRING, SEQUENCE, SEQUENCE_OF, contents, end, ◌then◌, ◌OPTIONAL◌, ◌DEFAULT◌}
 use Rattle.asn1_leaves.specs.Asn1.{BIT_STRING, BMP_STRING, GENERALIZED_TIME, IA5_STRING, INTEGER, UTF8_STRING}
 use Rattle.std.proofs.lemmas.Bool.Decides.{Decides-eqb}
-use Rattle.asn1_other_leaves.specs.Asn1.{ENUMERATED, VISIBLE_STRING}
+use Rattle.asn1_other_leaves.specs.Asn1.{ENUMERATED_of, VISIBLE_STRING}
+use Rattle.asn1_other_leaves.specs.Enumerations.{IsOneOf}
+use Rattle.std.specs.Prelude.{List, map, ℕ, [], ◌∷◌}
 use Rattle.asn1_core.specs.Der.{SeesEqual, list_equal, octets_of, option_equal, option_value, raw_equal, same_first, same_second, two_equal, with_end}
 use Rattle.x509_base.specs.Names.{attribute, name, name_equal, name_parts, name_value_equal, name_value_value}
 use Rattle.asn1_other_leaves.specs.OtherEqual.{bits_equal, bmp_equal, ia5_equal, integer_equal, utf8_equal}
@@ -12,8 +14,7 @@ use Rattle.rfc5280.specs.Pkix1Explicit88.{certificate_serial_number, directory_s
 use Rattle.asn1_leaves_strings.specs.Octets.{contents_of, octets_of_bmp, octets_of_ia5, octets_of_utf8}
 use Rattle.asn1_other_leaves.specs.Differ.{differ}
 use Rattle.asn1_leaves_times.specs.TimesLaws.{equal_generalized}
-use Rattle.std.proofs.Common.{inl, inr, refl}
-use Rattle.std.specs.Prelude.{map, ℕ}
+use Rattle.std.proofs.Common.{inl, inr, refl, rules}
 use Rattle.asn1_leaves_times.specs.Times.{moment_of_generalized}
 use Rattle.asn1_core.specs.Equal.{oid_equal}
 use Rattle.rfc5280.specs.declared.pkix1_implicit88.AnotherName.{AnotherName}
@@ -57,6 +58,9 @@ use Rattle.rfc5280.specs.declared.pkix1_implicit88.AccessDescription.{AccessDesc
 use Rattle.rfc5280.specs.contracts.pkix1_implicit88.AccessDescriptionPartialEq.TheImpl as AccessDescriptionEq
 use Rattle.rfc5280.specs.declared.pkix1_implicit88.IssuingDistributionPoint.{IssuingDistributionPoint}
 use Rattle.rfc5280.specs.contracts.pkix1_implicit88.IssuingDistributionPointPartialEq.TheImpl as IssuingDistributionPointEq
+use Rattle.rfc5280.specs.declared.pkix1_implicit88.CrlReason.{CrlReason}
+use Rattle.rfc5280.specs.declared.pkix1_implicit88.CrlReason.TheVariants as CrlReasonIs
+use Rattle.rfc5280.specs.contracts.pkix1_implicit88.CrlReasonPartialEq.TheImpl as CrlReasonEq
 
 -- KeyIdentifier ::= OCTET STRING (RFC 5280, 4.2.1.1)
 abbrev pub key_identifier : Asn1
@@ -540,8 +544,38 @@ issuing_distribution_point_equal x y = two_equal (option_equal _ (λ y. distribu
 -- CRLReason ::= ENUMERATED { unspecified(0), keyCompromise(1), cACompromise(2), affiliationChanged(3),
 --   superseded(4), cessationOfOperation(5), certificateHold(6), removeFromCRL(8), privilegeWithdrawn(9),
 --   aACompromise(10) } (RFC 5280, 5.3.1)
+abbrev pub crl_reason_numbers : List ℕ
+crl_reason_numbers = 0 ∷ 1 ∷ 2 ∷ 3 ∷ 4 ∷ 5 ∷ 6 ∷ 8 ∷ 9 ∷ 10 ∷ []
+
 abbrev pub crl_reason : Asn1
-crl_reason = ENUMERATED
+crl_reason = ENUMERATED_of crl_reason_numbers refl
+
+abbrev pub crl_reason_value : CrlReason → ℕ
+crl_reason_value CrlReasonIs.Unspecified = 0
+crl_reason_value CrlReasonIs.KeyCompromise = 1
+crl_reason_value CrlReasonIs.CaCompromise = 2
+crl_reason_value CrlReasonIs.AffiliationChanged = 3
+crl_reason_value CrlReasonIs.Superseded = 4
+crl_reason_value CrlReasonIs.CessationOfOperation = 5
+crl_reason_value CrlReasonIs.CertificateHold = 6
+crl_reason_value CrlReasonIs.RemoveFromCrl = 8
+crl_reason_value CrlReasonIs.PrivilegeWithdrawn = 9
+crl_reason_value CrlReasonIs.AaCompromise = 10
+
+pub crl_reason_listed : (x : CrlReason) → IsOneOf crl_reason_numbers (crl_reason_value x)
+crl_reason_listed CrlReasonIs.Unspecified = inl refl
+crl_reason_listed CrlReasonIs.KeyCompromise = inr (inl refl)
+crl_reason_listed CrlReasonIs.CaCompromise = inr (inr (inl refl))
+crl_reason_listed CrlReasonIs.AffiliationChanged = inr (inr (inr (inl refl)))
+crl_reason_listed CrlReasonIs.Superseded = inr (inr (inr (inr (inl refl))))
+crl_reason_listed CrlReasonIs.CessationOfOperation = inr (inr (inr (inr (inr (inl refl)))))
+crl_reason_listed CrlReasonIs.CertificateHold = inr (inr (inr (inr (inr (inr (inl refl))))))
+crl_reason_listed CrlReasonIs.RemoveFromCrl = inr (inr (inr (inr (inr (inr (inr (inl refl)))))))
+crl_reason_listed CrlReasonIs.PrivilegeWithdrawn = inr (inr (inr (inr (inr (inr (inr (inr (inl refl))))))))
+crl_reason_listed CrlReasonIs.AaCompromise = inr (inr (inr (inr (inr (inr (inr (inr (inr (inl refl)))))))))
+
+pub crl_reason_equal : SeesEqual CrlReasonEq.ghosts.eq crl_reason_value
+crl_reason_equal x y = search rules
 
 -- CertificateIssuer ::= GeneralNames (RFC 5280, 5.3.3)
 abbrev pub certificate_issuer : Asn1

@@ -19,6 +19,12 @@ ghost use Rattle.rfc5280.specs.Pkix1Implicit88.{distribution_point_name, distrib
 ghost use Rattle.rfc5280.specs.Pkix1Implicit88.{distribution_point, distribution_point_value, distribution_point_equal};
 ghost use Rattle.rfc5280.specs.Pkix1Implicit88.{access_description, access_description_value, access_description_equal};
 ghost use Rattle.rfc5280.specs.Pkix1Implicit88.{issuing_distribution_point, issuing_distribution_point_value, issuing_distribution_point_equal};
+ghost use Rattle.rfc5280.specs.Pkix1Implicit88.{crl_reason, crl_reason_value, crl_reason_equal, crl_reason_numbers, crl_reason_listed};
+ghost use Rattle.std.proofs.Common.{ℕ, refl};
+ghost use Rattle.asn1_other_leaves.specs.Enumerations.{numbers_in};
+ghost use Rattle.std.specs.Prelude.{◌↔◌, IsTrue};
+ghost use Rattle.asn1_leaves_strings.specs.Octets.{contents_of};
+ghost use Rattle.asn1_other_leaves.specs.NamedBits.{HasBit};
 
 use crate::pkix1_explicit88::{
     CertificateSerialNumber, DirectoryString, RelativeDistinguishedName,
@@ -27,7 +33,7 @@ use asn1_core::prelude::*;
 use asn1_leaves::{
     BMPStringAsn1, BitStringAsn1, GeneralizedTimeAsn1, IA5StringAsn1, IntegerAsn1, Utf8StringAsn1,
 };
-use asn1_other_leaves::{EnumeratedAsn1, VisibleStringAsn1};
+use asn1_other_leaves::{Enumerated, VisibleStringAsn1, enumerated_from_contents, has_bit};
 use std::alloc::Global;
 use x509_base::{Attribute, Name};
 
@@ -351,6 +357,69 @@ pub const KEY_USAGE_ENCIPHER_ONLY: usize = 7;
 
 /// The bit `decipherOnly` of `KeyUsage`.
 pub const KEY_USAGE_DECIPHER_ONLY: usize = 8;
+
+/// Whether the bit `digitalSignature` of `KeyUsage` is 1.
+pub fn key_usage_digital_signature(bits: &KeyUsage) -> bool
+    ensures { IsTrue result ↔ HasBit (contents_of bits.now.0) 0 }
+{
+    has_bit(bits, 0)
+}
+
+/// Whether the bit `nonRepudiation` of `KeyUsage` is 1.
+pub fn key_usage_non_repudiation(bits: &KeyUsage) -> bool
+    ensures { IsTrue result ↔ HasBit (contents_of bits.now.0) 1 }
+{
+    has_bit(bits, 1)
+}
+
+/// Whether the bit `keyEncipherment` of `KeyUsage` is 1.
+pub fn key_usage_key_encipherment(bits: &KeyUsage) -> bool
+    ensures { IsTrue result ↔ HasBit (contents_of bits.now.0) 2 }
+{
+    has_bit(bits, 2)
+}
+
+/// Whether the bit `dataEncipherment` of `KeyUsage` is 1.
+pub fn key_usage_data_encipherment(bits: &KeyUsage) -> bool
+    ensures { IsTrue result ↔ HasBit (contents_of bits.now.0) 3 }
+{
+    has_bit(bits, 3)
+}
+
+/// Whether the bit `keyAgreement` of `KeyUsage` is 1.
+pub fn key_usage_key_agreement(bits: &KeyUsage) -> bool
+    ensures { IsTrue result ↔ HasBit (contents_of bits.now.0) 4 }
+{
+    has_bit(bits, 4)
+}
+
+/// Whether the bit `keyCertSign` of `KeyUsage` is 1.
+pub fn key_usage_key_cert_sign(bits: &KeyUsage) -> bool
+    ensures { IsTrue result ↔ HasBit (contents_of bits.now.0) 5 }
+{
+    has_bit(bits, 5)
+}
+
+/// Whether the bit `cRLSign` of `KeyUsage` is 1.
+pub fn key_usage_crl_sign(bits: &KeyUsage) -> bool
+    ensures { IsTrue result ↔ HasBit (contents_of bits.now.0) 6 }
+{
+    has_bit(bits, 6)
+}
+
+/// Whether the bit `encipherOnly` of `KeyUsage` is 1.
+pub fn key_usage_encipher_only(bits: &KeyUsage) -> bool
+    ensures { IsTrue result ↔ HasBit (contents_of bits.now.0) 7 }
+{
+    has_bit(bits, 7)
+}
+
+/// Whether the bit `decipherOnly` of `KeyUsage` is 1.
+pub fn key_usage_decipher_only(bits: &KeyUsage) -> bool
+    ensures { IsTrue result ↔ HasBit (contents_of bits.now.0) 8 }
+{
+    has_bit(bits, 8)
+}
 
 /// `PrivateKeyUsagePeriod ::= SEQUENCE { notBefore [0] GeneralizedTime OPTIONAL, notAfter [1] GeneralizedTime
 /// OPTIONAL }` (RFC 5280, A.2)
@@ -923,6 +992,69 @@ pub const REASON_FLAGS_PRIVILEGE_WITHDRAWN: usize = 7;
 /// The bit `aACompromise` of `ReasonFlags`.
 pub const REASON_FLAGS_AA_COMPROMISE: usize = 8;
 
+/// Whether the bit `unused` of `ReasonFlags` is 1.
+pub fn reason_flags_unused(bits: &ReasonFlags) -> bool
+    ensures { IsTrue result ↔ HasBit (contents_of bits.now.0) 0 }
+{
+    has_bit(bits, 0)
+}
+
+/// Whether the bit `keyCompromise` of `ReasonFlags` is 1.
+pub fn reason_flags_key_compromise(bits: &ReasonFlags) -> bool
+    ensures { IsTrue result ↔ HasBit (contents_of bits.now.0) 1 }
+{
+    has_bit(bits, 1)
+}
+
+/// Whether the bit `cACompromise` of `ReasonFlags` is 1.
+pub fn reason_flags_ca_compromise(bits: &ReasonFlags) -> bool
+    ensures { IsTrue result ↔ HasBit (contents_of bits.now.0) 2 }
+{
+    has_bit(bits, 2)
+}
+
+/// Whether the bit `affiliationChanged` of `ReasonFlags` is 1.
+pub fn reason_flags_affiliation_changed(bits: &ReasonFlags) -> bool
+    ensures { IsTrue result ↔ HasBit (contents_of bits.now.0) 3 }
+{
+    has_bit(bits, 3)
+}
+
+/// Whether the bit `superseded` of `ReasonFlags` is 1.
+pub fn reason_flags_superseded(bits: &ReasonFlags) -> bool
+    ensures { IsTrue result ↔ HasBit (contents_of bits.now.0) 4 }
+{
+    has_bit(bits, 4)
+}
+
+/// Whether the bit `cessationOfOperation` of `ReasonFlags` is 1.
+pub fn reason_flags_cessation_of_operation(bits: &ReasonFlags) -> bool
+    ensures { IsTrue result ↔ HasBit (contents_of bits.now.0) 5 }
+{
+    has_bit(bits, 5)
+}
+
+/// Whether the bit `certificateHold` of `ReasonFlags` is 1.
+pub fn reason_flags_certificate_hold(bits: &ReasonFlags) -> bool
+    ensures { IsTrue result ↔ HasBit (contents_of bits.now.0) 6 }
+{
+    has_bit(bits, 6)
+}
+
+/// Whether the bit `privilegeWithdrawn` of `ReasonFlags` is 1.
+pub fn reason_flags_privilege_withdrawn(bits: &ReasonFlags) -> bool
+    ensures { IsTrue result ↔ HasBit (contents_of bits.now.0) 7 }
+{
+    has_bit(bits, 7)
+}
+
+/// Whether the bit `aACompromise` of `ReasonFlags` is 1.
+pub fn reason_flags_aa_compromise(bits: &ReasonFlags) -> bool
+    ensures { IsTrue result ↔ HasBit (contents_of bits.now.0) 8 }
+{
+    has_bit(bits, 8)
+}
+
 /// `DistributionPoint ::= SEQUENCE { distributionPoint [0] DistributionPointName OPTIONAL, reasons [1] ReasonFlags
 /// OPTIONAL, cRLIssuer [2] GeneralNames OPTIONAL }` (RFC 5280, 4.2.1.13)
 #[derive(Debug, Drop, PartialEq, Eq)]
@@ -1071,39 +1203,123 @@ impl Sequence for IssuingDistributionPoint {
 /// `CRLReason ::= ENUMERATED { unspecified(0), keyCompromise(1), cACompromise(2), affiliationChanged(3),
 /// superseded(4), cessationOfOperation(5), certificateHold(6), removeFromCRL(8), privilegeWithdrawn(9),
 /// aACompromise(10) }` (RFC 5280, 5.3.1)
-///
-/// ENUMERATED is read with any number below 256.
-pub type CrlReason = EnumeratedAsn1;
+#[derive(Clone, Copy, Debug, PartialEq, Eq)]
+pub enum CrlReason {
+    Unspecified,
+    KeyCompromise,
+    CaCompromise,
+    AffiliationChanged,
+    Superseded,
+    CessationOfOperation,
+    CertificateHold,
+    RemoveFromCrl,
+    PrivilegeWithdrawn,
+    AaCompromise,
+}
 
-/// `unspecified`
-pub const CRL_REASON_UNSPECIFIED: CrlReason = EnumeratedAsn1(0);
+impl Enumerated for CrlReason {
+    ghost numbers = { crl_reason_numbers };
 
-/// `keyCompromise`
-pub const CRL_REASON_KEY_COMPROMISE: CrlReason = EnumeratedAsn1(1);
+    ghost number_of = { crl_reason_value };
 
-/// `cACompromise`
-pub const CRL_REASON_CA_COMPROMISE: CrlReason = EnumeratedAsn1(2);
+    fn from_number(number: u8) -> Option<Self> {
+        match number {
+            0 => Some(CrlReason::Unspecified),
+            1 => Some(CrlReason::KeyCompromise),
+            2 => Some(CrlReason::CaCompromise),
+            3 => Some(CrlReason::AffiliationChanged),
+            4 => Some(CrlReason::Superseded),
+            5 => Some(CrlReason::CessationOfOperation),
+            6 => Some(CrlReason::CertificateHold),
+            8 => Some(CrlReason::RemoveFromCrl),
+            9 => Some(CrlReason::PrivilegeWithdrawn),
+            10 => Some(CrlReason::AaCompromise),
+            _ => None,
+        }
+    }
 
-/// `affiliationChanged`
-pub const CRL_REASON_AFFILIATION_CHANGED: CrlReason = EnumeratedAsn1(3);
+    fn number(&self) -> u8 {
+        match self {
+            CrlReason::Unspecified => 0,
+            CrlReason::KeyCompromise => 1,
+            CrlReason::CaCompromise => 2,
+            CrlReason::AffiliationChanged => 3,
+            CrlReason::Superseded => 4,
+            CrlReason::CessationOfOperation => 5,
+            CrlReason::CertificateHold => 6,
+            CrlReason::RemoveFromCrl => 8,
+            CrlReason::PrivilegeWithdrawn => 9,
+            CrlReason::AaCompromise => 10,
+        }
+    }
 
-/// `superseded`
-pub const CRL_REASON_SUPERSEDED: CrlReason = EnumeratedAsn1(4);
+    ghost low = { refl };
 
-/// `cessationOfOperation`
-pub const CRL_REASON_CESSATION_OF_OPERATION: CrlReason = EnumeratedAsn1(5);
+    ghost listed = { crl_reason_listed };
+}
 
-/// `certificateHold`
-pub const CRL_REASON_CERTIFICATE_HOLD: CrlReason = EnumeratedAsn1(6);
+impl Leaf for CrlReason {
+    ghost Value = { ℕ };
 
-/// `removeFromCRL`
-pub const CRL_REASON_REMOVE_FROM_CRL: CrlReason = EnumeratedAsn1(8);
+    ghost value = { crl_reason_value };
 
-/// `privilegeWithdrawn`
-pub const CRL_REASON_PRIVILEGE_WITHDRAWN: CrlReason = EnumeratedAsn1(9);
+    ghost spelling = { numbers_in crl_reason_numbers };
 
-/// `aACompromise`
-pub const CRL_REASON_AA_COMPROMISE: CrlReason = EnumeratedAsn1(10);
+    fn from_contents(alloc: Global, contents: &[u8]) -> Result<Self, Error> {
+        enumerated_from_contents(alloc, contents)
+    }
+}
+
+impl DerSerialize for CrlReason {
+    ghost Value = { crl_reason.Value };
+
+    ghost value = { crl_reason_value };
+
+    ghost format = { crl_reason.format };
+
+    fn put<W: Writer>(&self, w: &mut W) -> Result<(), WriteError> {
+        put_unsigned(0x0A, u32::from(self.number()), w)
+    }
+
+    #[tactic(auto, using(crate::specs::Pkix1Implicit88::crl_reason_listed))]
+    fn well_formed_at(&self, _limit: u8) -> bool {
+        true
+    }
+}
+
+impl DerDeserialize for CrlReason {
+    fn read(alloc: Global, r: &mut Reader<'_>, nest: u8) -> Result<Self, Error> {
+        read_leaf(alloc, r, nest, 0x0A)
+    }
+
+    ghost lawful = { crl_reason.law };
+}
+
+impl DerTagged for CrlReason {
+    ghost TAG = { 0x0A };
+
+    const TAG: u8 = 0x0A;
+
+    fn put_as<W: Writer>(&self, tag: u8, w: &mut W) -> Result<(), WriteError> {
+        put_unsigned(tag, u32::from(self.number()), w)
+    }
+
+    fn read_contents(alloc: Global, r: &mut Reader<'_>, nest: u8) -> Result<Self, Error> {
+        read_leaf_contents(alloc, r, nest, 0x0A)
+    }
+
+    ghost tagged = { crl_reason.tagged };
+}
+
+impl EqualByText for CrlReason {
+    ghost equal_by_text = { crl_reason_equal };
+}
+
+impl TryClone for CrlReason {
+    fn try_clone(&self, _alloc: Global) -> Result<Self, Error> {
+        Ok(*self)
+    }
+}
 
 /// `CertificateIssuer ::= GeneralNames` (RFC 5280, 5.3.3)
 pub type CertificateIssuer = GeneralNames;
