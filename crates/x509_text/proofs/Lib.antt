@@ -5,3 +5,4 @@ pub mod NamedRows
 pub mod Attributes
 pub mod Encoded
 pub mod Unescaping
+pub mod Decimals

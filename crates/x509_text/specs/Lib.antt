@@ -5,3 +5,4 @@ pub mod Tables
 pub mod AttributeTypes
 pub mod Names
 pub mod Encodings
+pub mod Integers
