@@ -112,14 +112,6 @@ fn lines_of<'a>(alloc: Global, bytes: &'a [u8]) -> Result<Vec<Line<'a>>, AllocEr
     Ok(lines)
 }
 
-/// The lines that are left after so many.
-fn left<'l, 'b>(lines: &'l [Line<'b>], found: usize) -> &'l [Line<'b>] {
-    match lines.get(found..) {
-        Some(left) => left,
-        None => &[],
-    }
-}
-
 /// A comparison of an input with the encoding of its value.
 #[derive(Drop)]
 struct Comparison {
@@ -185,7 +177,7 @@ impl Comparison {
         if self.skips(line) {
             return Ok(());
         }
-        for written in left(encoding, self.found) {
+        for written in encoding.iter().skip(self.found) {
             match change_of(line, written) {
                 Change::Added(cause) => self.note_absent(written, cause)?,
                 Change::LeftOut(cause) => return self.note(line.offset, cause),
@@ -205,7 +197,7 @@ impl Comparison {
 
     /// Compares what the encoding has beyond the last line of the input.
     fn end(&mut self, encoding: &[Line<'_>]) -> Result<(), AllocError> {
-        for written in left(encoding, self.found) {
+        for written in encoding.iter().skip(self.found) {
             if self.is_lost {
                 return Ok(());
             }

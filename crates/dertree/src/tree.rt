@@ -100,7 +100,7 @@ impl<'a> Notes<'a> {
     /// Where the octet strings have to be open that hold what follows: at the next of the places from an index on that
     /// begins later, or else at the mark.
     fn next_place(&self, index: usize, at: usize) -> Option<usize> {
-        for place in self.places.get(index..).unwrap_or(&[]) {
+        for place in self.places.iter().skip(index) {
             if place.offset > at {
                 return Some(place.offset);
             }
@@ -177,7 +177,7 @@ pub fn write_tree<'a, W: Write>(
 ) -> io::Result<()> {
     let mut walk = Walk::new(alloc, input, opening);
     let mut written = 0;
-    walk.lead_to(notes.next_place(written, 0));
+    walk.lead_to(notes.next_place(written, walk.at()));
     while let Some(line) = walk.next()? {
         written = notes.write_places(w, written, &line, walk.path())?;
         notes.write_mark_at(w, &line, walk.path())?;
