@@ -160,6 +160,13 @@ pub struct Opening {
 impl Opening {
     ghost use Rattle.dertree.specs.Lines.{Opens, OpensTagged, OpensOctets, LeadsInto};
 
+    /// DER, with each octet string open that is one whole element.
+    pub const EACH_WHOLE: Opening = Opening {
+        reads_ber: false,
+        opens_all: true,
+        place: None,
+    };
+
     /// Whether contents that begin at `start` have lines of their own.
     pub fn opens(self, front: Front, contents: &[u8], start: usize) -> bool
         ensures tagged { IsTrue result → IsSome (tag_of front) }

@@ -1,6 +1,8 @@
 //! A tree, written line by line.
 
 use crate::lines::{Front, Line, Opening};
+use crate::loose::Place;
+use crate::names::Names;
 use crate::tags::Tag;
 use crate::values::{octets_text, value_text};
 use crate::verdict::Verdict;
@@ -45,7 +47,7 @@ fn write_line<W: Write>(alloc: Global, w: &mut W, line: &Line<'_>) -> io::Result
     }
     let Some(tag) = line.front.tag() else {
         if line.front.is_end() {
-            return writeln!(w, "end of contents");
+            return w.write_all(b"end of contents");
         }
         let octets = octets_text(alloc, line.contents)?;
         let bytes = if len == 1 {
@@ -53,7 +55,7 @@ fn write_line<W: Write>(alloc: Global, w: &mut W, line: &Line<'_>) -> io::Result
         } else {
             "bytes that are"
         };
-        return writeln!(w, "{len} {bytes} no element: {octets}");
+        return write!(w, "{len} {bytes} no element: {octets}");
     };
     write_tag(w, tag, line)?;
     if !line.is_open {
@@ -62,7 +64,17 @@ fn write_line<W: Write>(alloc: Global, w: &mut W, line: &Line<'_>) -> io::Result
             write!(w, ": {value}")?;
         }
     }
-    writeln!(w)
+    Ok(())
+}
+
+/// Writes indices, from the top.
+fn write_path<W: Write>(w: &mut W, relation: &str, path: &[Step]) -> io::Result<()> {
+    let mut before = relation;
+    for step in path {
+        write!(w, "{before}{}", step.index)?;
+        before = ".";
+    }
+    Ok(())
 }
 
 /// Writes the verdict, the place, and the indices, from the top, of the element there, or of the one that it is in or
@@ -71,41 +83,110 @@ fn write_mark<W: Write>(w: &mut W, mark: &Mark, relation: &str, path: &[Step]) -
     let (verdict, place) = (mark.verdict, mark.place);
     let preposition = verdict.preposition();
     write!(w, ">>> {verdict} {preposition} {place}")?;
-    let mut before = relation;
-    for step in path {
-        write!(w, "{before}{}", step.index)?;
-        before = ".";
-    }
+    write_path(w, relation, path)?;
     writeln!(w)
 }
 
-/// Writes a line for each element, and one for the mark before or after the line of its element.
-pub fn write_tree<W: Write>(
+/// What is said of elements beside their lines.
+#[derive(Drop)]
+pub struct Notes<'a> {
+    pub mark: Option<Mark>,
+    /// The elements that aren't canonical, in their order.
+    pub places: Vec<Place>,
+    pub names: Option<Names<'a>>,
+}
+
+impl<'a> Notes<'a> {
+    /// Where the octet strings have to be open that hold what follows: at the next of the places from an index on that
+    /// begins later, or else at the mark.
+    fn next_place(&self, index: usize, at: usize) -> Option<usize> {
+        for place in self.places.iter().skip(index) {
+            if place.offset > at {
+                return Some(place.offset);
+            }
+        }
+        match &self.mark {
+            Some(mark) => Some(mark.place),
+            None => None,
+        }
+    }
+
+    /// Writes why the element of a line isn't canonical, before the line, and answers how many places were written so
+    /// far.
+    fn write_places<W: Write>(
+        &self,
+        w: &mut W,
+        written: usize,
+        line: &Line<'_>,
+        path: &[Step],
+    ) -> io::Result<usize> {
+        let mut written = written;
+        while let Some(place) = self.places.get(written)
+            && place.offset <= line.offset
+        {
+            let (offset, cause) = (place.offset, place.cause);
+            write!(w, ">>> not canonical at {offset}")?;
+            write_path(w, ", ", path)?;
+            writeln!(w, ": {cause}")?;
+            written = written.saturating_add(1);
+        }
+        Ok(written)
+    }
+
+    /// Writes the mark, if it is at the element of a line.
+    fn write_mark_at<W: Write>(&self, w: &mut W, line: &Line<'_>, path: &[Step]) -> io::Result<()> {
+        match &self.mark {
+            Some(mark) if mark.place == line.offset => write_mark(w, mark, ", ", path),
+            _ => Ok(()),
+        }
+    }
+
+    /// Writes the name of the element of a line, and ends the line; and then the mark, if it is in what the line shows,
+    /// which ends at `end`.
+    fn write_end<W: Write>(
+        &mut self,
+        w: &mut W,
+        line: &Line<'a>,
+        end: usize,
+        path: &[Step],
+    ) -> io::Result<()> {
+        if let Some(names) = &mut self.names
+            && line.front.tag().is_some()
+        {
+            names.pass(line)?;
+            names.write(w, line.depth)?;
+        }
+        writeln!(w)?;
+        match &self.mark {
+            Some(mark) if line.offset < mark.place && mark.place < end => {
+                write_mark(w, mark, ", in ", path)
+            }
+            _ => Ok(()),
+        }
+    }
+}
+
+/// Writes a line for each element, with its name, and before it what isn't canonical in it, and the mark before or
+/// after the line of its element.
+pub fn write_tree<'a, W: Write>(
     alloc: Global,
     w: &mut W,
-    input: &[u8],
+    input: &'a [u8],
     opening: Opening,
-    mark: Option<&Mark>,
+    notes: &mut Notes<'a>,
 ) -> io::Result<()> {
     let mut walk = Walk::new(alloc, input, opening);
+    let mut written = 0;
+    walk.lead_to(notes.next_place(written, walk.at()));
     while let Some(line) = walk.next()? {
-        if let Some(mark) = mark
-            && mark.place == line.offset
-        {
-            write_mark(w, mark, ", ", walk.path())?;
-        }
+        written = notes.write_places(w, written, &line, walk.path())?;
+        notes.write_mark_at(w, &line, walk.path())?;
         write_line(alloc, w, &line)?;
-        if let Some(mark) = mark
-            && line.offset < mark.place
-            && mark.place < walk.at()
-        {
-            write_mark(w, mark, ", in ", walk.path())?;
-        }
+        notes.write_end(w, &line, walk.at(), walk.path())?;
+        walk.lead_to(notes.next_place(written, walk.at()));
     }
-    if let Some(mark) = mark
-        && mark.place == input.len()
-    {
-        write_mark(w, mark, ", after ", walk.path())?;
+    match &notes.mark {
+        Some(mark) if mark.place == input.len() => write_mark(w, mark, ", after ", walk.path()),
+        _ => Ok(()),
     }
-    Ok(())
 }

@@ -83,6 +83,16 @@ impl<'a> Walk<'a> {
         self.at
     }
 
+    /// From here on, opens the octet strings on the way to a place.
+    pub fn lead_to(&mut self, place: Option<usize>)
+        ensures input { self.new.input.now ≡ self.old.input.now }
+        ensures at { self.new.at ≡ self.old.at }
+        ensures opened { self.new.opened.items ≡ self.old.opened.items }
+        ensures opening { self.new.opening ≡ record { reads_ber = self.old.opening.reads_ber; opens_all = self.old.opening.opens_all; place = place } }
+    {
+        self.opening.place = place;
+    }
+
     /// What the last line shows, after all that it is in, from the top.
     pub fn path(&self) -> &[Step] {
         self.path.as_slice()
