@@ -7,7 +7,6 @@ mod encodings;
 mod escapes;
 pub mod laws;
 mod names;
-pub mod tables;
 mod values;
 
 pub use attribute_types::short_name;
