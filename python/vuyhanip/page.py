@@ -33,12 +33,12 @@ def judged(said: Union[Accepted, NoKind]) -> Judged:
 
 
 def named(text: str) -> str:
-    """The text of a line, with the name of its object identifier."""
+    """The text of a line, with the document that defines its object identifier."""
     found = OBJECT_IDENTIFIER.match(text)
     if found is None or found[1] not in NAMES:
         return text
     known = NAMES[found[1]]
-    return f"{text} ({known.name}, {known.source})"
+    return f"{found[0]} ({known.name}, {known.source})"
 
 
 def script_data(it: object) -> str:
