@@ -3,8 +3,8 @@
  * der_mac_part_ber where the MAC of a PKCS #12 file is to be verified.
  *
  * What is proved of its calls der_check_word_limited, der_rewrite_word_limited, der_kind_word, der_part_octets,
- * der_signer_rows, der_mac_range, der_mac, der_from_ber, der_mac_ber, der_mac_part_ber, der_name_text and der_oid_text,
- * for all inputs, and what isn't:
+ * der_signer_rows, der_mac_range, der_mac, der_from_ber, der_mac_ber, der_mac_part_ber, der_name_text, der_oid_text
+ * and der_oid_name, for all inputs, and what isn't:
  *  - A call answers no status but those that are listed at it. What it writes into numbers and into out is as said
  *    below.
  *  - DER_NORMAL, DER_LOOSE, DER_UNKNOWN_KIND, DER_TOO_LONG, DER_NO_ROOM, DER_NO_RANGE and DER_NO_PART are true where
@@ -73,7 +73,7 @@ typedef enum der_status {
   DER_NO_MEMORY = 8,    /* a request for memory was refused: nothing is said of the input */
   DER_NO_ROOM = 9,      /* out is too short: the number of bytes that are needed is written */
   DER_NO_RANGE = 10,    /* authSafe isn't data, so no octets are covered by a MAC; of signers: a part isn't found */
-  DER_NO_PART = 11,     /* the container has no such part, or not so many; of the calls on a MAC: the file has none */
+  DER_NO_PART = 11,     /* the container has no such part, or not so many; the file has no MAC; no name is known */
   DER_BAD_ATTRIBUTES = 12 /* of a signer: its signed attributes break RFC 5652 */
 } der_status;
 
@@ -228,6 +228,15 @@ uint32_t der_name_text(const uint8_t *input, size_t input_len, uint8_t *out, siz
  * is as of der_name_text: DER_INVALID, and no other refusal, where the octets are no object identifier's, or have a
  * number that 64 bits don't hold. */
 uint32_t der_oid_text(const uint8_t *octets, size_t octets_len, uint8_t *out, size_t out_len, size_t *written);
+
+/* Writes the name of an object identifier, by its contents octets, as "sha256WithRSAEncryption" to the front of out, in
+ * ASCII without a zero byte after it: the long name that openssl prints, of some 400 that people meet in containers and
+ * certificates. It takes no memory.
+ *  - DER_NORMAL: *written bytes were written, and the rest of out is as it was.
+ *  - DER_NO_ROOM: *written bytes are needed, and out_len is less.
+ *  - DER_NO_PART: the library knows no name for these octets, and *written is 0.
+ * Unless at DER_NORMAL out is as it was. */
+uint32_t der_oid_name(const uint8_t *octets, size_t octets_len, uint8_t *out, size_t out_len, size_t *written);
 
 /* A limit as the calls take it: one that a byte is too small for counts as DER_MAX_NESTING too. */
 static inline uint8_t der_levels(unsigned limit) {

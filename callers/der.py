@@ -244,6 +244,7 @@ class Library:
             ("der_mac_part_ber", [size, octets, size, octets, size, number]),
             ("der_name_text", [octets, size, octets, size, number]),
             ("der_oid_text", [octets, size, octets, size, number]),
+            ("der_oid_name", [octets, size, octets, size, number]),
         ):
             call = getattr(self._library, name)
             call.argtypes, call.restype = arguments, ctypes.c_uint32
@@ -418,6 +419,20 @@ class Library:
     def oid_text(self, contents: Bytes) -> str:
         """An object identifier, as "1.3.14.3.2.26", by its contents octets. Raises Refused where they are none."""
         return self._text(self._library.der_oid_text, contents)
+
+    def oid_name(self, contents: Bytes) -> Optional[str]:
+        """The name that openssl prints for an object identifier, as "sha256", by its contents octets.
+
+        None where the library knows none.
+        """
+        data = _octets(contents)
+        room, written = 64, ctypes.c_size_t()
+        while True:
+            out = ctypes.create_string_buffer(room)
+            status = self._library.der_oid_name(data, len(data), out, room, ctypes.byref(written))
+            if status != NO_ROOM:
+                return out.raw[: written.value].decode() if status == NORMAL else None
+            room = written.value
 
     def _text(self, call: Any, data: Bytes) -> str:
         data = _octets(data)

@@ -13,12 +13,12 @@ enum { MARK = 0xEE, MARGIN = 64, SPARE = 16, LONGEST = 1 << 20 };
 
 /* The calls, by the word that begins their lines. */
 typedef enum {
-  CHECK, LOCATE, LOOSE_END, REWRITE, MAC, MAC_NUMBERS, FROM_BER, MAC_BER, MAC_PART_BER, NAME, OID, PART, KIND, SIGNERS,
-  SIGNER
+  CHECK, LOCATE, LOOSE_END, REWRITE, MAC, MAC_NUMBERS, FROM_BER, MAC_BER, MAC_PART_BER, NAME, OID, OID_NAME, PART, KIND,
+  SIGNERS, SIGNER
 } call;
 static const char *const calls[] = {
-    "check",        "locate",    "loose_end", "rewrite", "mac",  "mac_numbers", "from_ber", "mac_ber",
-    "mac_part_ber", "name_text", "oid_text",  "part",    "kind", "signers",     "signer"};
+    "check",        "locate",    "loose_end", "rewrite",  "mac",  "mac_numbers", "from_ber", "mac_ber",
+    "mac_part_ber", "name_text", "oid_text",  "oid_name", "part", "kind",        "signers",  "signer"};
 
 /* What a call is given: the index of a kind or of a signer, or the number of a part, where it takes one, and a limit if
  * there is one. */
@@ -81,7 +81,8 @@ static int numbers_of(call it) {
 
 /* Whether a call writes so many bytes as its first number says. */
 static int says_written(call it) {
-  return it == REWRITE || it == FROM_BER || it == MAC_PART_BER || it == NAME || it == OID || it == PART || it == KIND;
+  return it == REWRITE || it == FROM_BER || it == MAC_PART_BER || it == NAME || it == OID || it == OID_NAME ||
+         it == PART || it == KIND;
 }
 
 /* How many bytes a call writes of signers, of which there are so many from that index on. */
@@ -144,6 +145,9 @@ static answer made(call it, const given *its, uint8_t *room, size_t out_len) {
     break;
   case OID:
     said.status = (der_status)der_oid_text(its->input, its->len, out, out_len, &first.it);
+    break;
+  case OID_NAME:
+    said.status = (der_status)der_oid_name(its->input, its->len, out, out_len, &first.it);
     break;
   case PART:
     said.status = der_part((der_part_number)its->index, 0, its->input, its->len, out, out_len, &first.it);
@@ -230,7 +234,7 @@ static void parts(call it, given *its, uint8_t *room) {
 
 /* Makes a call that writes text, with room enough and a byte less. */
 static void text(call it, const given *its, uint8_t *room) {
-  answer said = tried(it, its, room, 8 * its->len);
+  answer said = tried(it, its, room, 8 * its->len + SPARE);
   if (said.status == DER_NORMAL && said.first)
     tried(it, its, room, said.first - 1);
 }
@@ -293,10 +297,11 @@ int main(int count, char **words) {
   tried(MAC_BER, &its, room, 0);
   parts(PART, &its, room);
   parts(MAC_PART_BER, &its, room);
-  if (8 * its.len > 2 * sizeof input)
+  if (8 * its.len + SPARE > 2 * sizeof input)
     return 2;
   text(NAME, &its, room);
   text(OID, &its, room);
+  text(OID_NAME, &its, room);
   signers(&its, room);
   return 0;
 }

@@ -40,7 +40,7 @@ def algorithm_of(encoding: bytes) -> str:
 def _details(which: str, given: Optional[Element]) -> str:
     """What parameters say of an algorithm, or nothing."""
     if given is None:
-        return "with SHA-1" if which == PSS else ""
+        return f"with {name_of(SHA1)}" if which == PSS else ""
     if which == PBES2:
         return f"with {algorithm(given.children()[0])} and {algorithm(given.children()[1])}"
     if which == PBKDF2:

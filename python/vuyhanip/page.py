@@ -38,7 +38,8 @@ def named(text: str) -> str:
     if found is None or found[1] not in NAMES:
         return text
     known = NAMES[found[1]]
-    return f"{found[0]} ({known.name}, {known.source}){text[found.end() :]}"
+    rest = text[found.end() :].removeprefix(f" ({known.name})")
+    return f"{found[0]} ({known.name}, {known.source}){rest}"
 
 
 def script_data(it: object) -> str:

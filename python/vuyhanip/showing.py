@@ -104,7 +104,7 @@ def _attribute_text(it: Attribute) -> str:
 def attribute_rows(those: List[Attribute]) -> Rows:
     """A row for each attribute."""
     for it in those:
-        label = {"friendlyName": "friendly name", "localKeyId": "local key id"}.get(name_of(it.oid), name_of(it.oid))
+        label = {"friendlyName": "friendly name", "localKeyID": "local key id"}.get(name_of(it.oid), name_of(it.oid))
         yield Row(0, label, _attribute_text(it))
 
 

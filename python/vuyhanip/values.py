@@ -1,7 +1,9 @@
 """Values of elements as text: object identifiers, names (RFC 4514), times, strings, numbers."""
 import functools
+import re
 from typing import List, Optional
 
+from . import der, library
 from .elements import (
     BIT_STRING,
     BMP_STRING,
@@ -12,14 +14,17 @@ from .elements import (
     UTC_TIME,
     Element,
     NotThere,
+    whole,
 )
-from .names import SHORT_NAMES
+from .names import NAMES, SHORT_NAMES
 
 # How many octets of a longer value are shown, and how many of a longer string.
 FIRST_OCTETS, FIRST_OF_TEXT = 16, 64
 # The codecs of strings, by their tags: those of ASCII are numeric, printable, IA5 and visible ones.
 CODECS = {0x0C: "utf-8", 0x12: "ascii", 0x13: "ascii", 0x14: "latin-1", 0x16: "ascii", 0x1A: "ascii"}
 CODECS.update({0x1C: "utf-32-be", 0x1E: "utf-16-be"})
+# An attribute by its dotted type and its value's encoding. In a value a comma and a plus have a \\ before them.
+DOTTED = re.compile(r"(?:^|(?<=(?<!\\)[,+]))([0-9.]+)=#([0-9A-F]+)")
 # The tags of strings that a tree shows as text, as dertree does.
 TEXTS = (0x0C, 0x12, 0x13, 0x14, 0x16, 0x1A, BMP_STRING)
 
@@ -126,22 +131,19 @@ def _escaped(text: str) -> str:
     return "".join(made)
 
 
-def _attribute(element: Element) -> str:
-    """A type and a value in a name (RFC 4514, 2.3 and 2.4)."""
-    kind, value = element.children()[:2]
-    word, text = SHORT_NAMES.get(oid(kind)), string(value)
-    if word is None or text is None:
-        return f"{word or oid(kind)}=#{value.encoding.hex().upper()}"
-    return f"{word}={_escaped(text)}"
+def _attribute(dotted: "re.Match[str]") -> str:
+    """An attribute that the library leaves dotted, by the name and the characters that people know, if it has such."""
+    word, text = SHORT_NAMES.get(dotted[1]), string(whole(bytes.fromhex(dotted[2])))
+    return dotted[0] if word is None or text is None else f"{word}={_escaped(text)}"
 
 
 def name(element: Element) -> str:
     """A Name as RFC 4514 has it: its last part first."""
     try:
-        parts = ["+".join(_attribute(it) for it in part.children()) for part in element.children()]
-    except (NotThere, ValueError):
+        text = library().name_text(element.encoding)
+    except der.Refused:
         return f"#{element.encoding.hex().upper()}"
-    return ",".join(reversed(parts)) or "(empty)"
+    return printable(DOTTED.sub(_attribute, text)) or "(empty)"
 
 
 def quoted(text: str, is_cut: bool) -> str:
@@ -170,7 +172,8 @@ def _primitive(element: Element) -> Optional[str]:
     if tag in (INTEGER, 0x0A) and 0 < len(contents) <= 8:
         return str(int.from_bytes(contents, "big", signed=True))
     if tag == OBJECT_IDENTIFIER and is_oid(contents):
-        return dotted(contents)
+        known = NAMES.get(dotted(contents))
+        return f"{dotted(contents)} ({known.name})" if known else dotted(contents)
     if tag in (UTC_TIME, GENERALIZED_TIME):
         return time(element) if contents[-1:] == b"Z" else _first_of_text(element)
     if tag == BIT_STRING and contents and contents[0] < 8:

@@ -110,6 +110,13 @@ extern "C" {
         out_len: usize,
         written: *mut usize,
     ) -> u32;
+    pub fn der_oid_name(
+        octets: *const u8,
+        octets_len: usize,
+        out: *mut u8,
+        out_len: usize,
+        written: *mut usize,
+    ) -> u32;
     pub fn der_version() -> *const c_char;
     pub fn der_processor() -> *const c_char;
 }

@@ -324,6 +324,16 @@ pub fn oid_text(octets: &[u8]) -> Result<String, Error> {
     text_written(octets, calls::der_oid_text)
 }
 
+/// The name that openssl prints for an object identifier, as `sha256`, by its contents octets. `None` where the library
+/// knows none.
+pub fn oid_name(octets: &[u8]) -> Option<String> {
+    let (status, name) = written(64, |out, out_len, written| {
+        // SAFETY: as above
+        unsafe { calls::der_oid_name(octets.as_ptr(), octets.len(), out, out_len, written) }
+    });
+    (status == NORMAL).then(|| String::from_utf8_lossy(&name).into_owned())
+}
+
 /// What a call writes as text in UTF-8.
 fn text_written(
     input: &[u8],

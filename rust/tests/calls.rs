@@ -151,6 +151,10 @@ fn names_and_object_identifiers_as_text() {
     assert_eq!(vuyhanip::name_text(&SIGNED[654..668]).as_deref(), Ok("CN=A"));
     assert_eq!(vuyhanip::name_text(&BY_KEY[121..137]).as_deref(), Ok("CN=key"));
     assert_eq!(vuyhanip::oid_text(SHA256).as_deref(), Ok("2.16.840.1.101.3.4.2.1"));
+    // as openssl prints them
+    assert_eq!(vuyhanip::oid_name(SHA256).as_deref(), Some("sha256"));
+    assert_eq!(vuyhanip::oid_name(&[0x55, 0x1D, 0x0E]).as_deref(), Some("X509v3 Subject Key Identifier"));
+    assert_eq!(vuyhanip::oid_name(&[0x2A, 0x03, 0x04]), None);
     let refused = |reason| Err(Error::Refused { reason, place: 0 });
     assert_eq!(vuyhanip::oid_text(&[]), refused(Reason::Invalid));
     assert_eq!(vuyhanip::name_text(&SIGNED[654..667]), refused(Reason::Malformed));

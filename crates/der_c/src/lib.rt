@@ -10,10 +10,12 @@ ghost use Rattle.der_c.specs.Conversions.{ConvertsBer};
 
 mod macs;
 mod names;
+mod object_names;
 pub mod signers;
 
 use ber_der::to_der_located;
 pub use names::{der_name_text, der_oid_text};
+pub use object_names::der_oid_name;
 use std::alloc::Global;
 use x509_containers::{
     ContainerPart, Error, Kind, KindOfInput, MAX_NESTING, check_located, container_part,

@@ -10,7 +10,7 @@ use std::alloc::Global;
 use x509_text::{encoded_name_text, oid_text};
 
 /// Copies a text to the front of `out`, if there is room: 0, or 9.
-fn copied(text: &str, out: &mut [u8], written: &mut usize) -> u32
+pub(crate) fn copied(text: &str, out: &mut [u8], written: &mut usize) -> u32
     ensures { Copies text.now out.old out.new written.new result }
 {
     let text = text.as_bytes();

@@ -3,6 +3,7 @@
 ghost use Rattle.std.specs.Prelude.{IfOk, IfSome, string_bytes};
 ghost use Rattle.asn1_core_oid.specs.OidText.{IsTextOf};
 
+use oid_names::object_name;
 use std::alloc::Global;
 use std::fmt::Write;
 use std::io::{self, ErrorKind};
@@ -71,6 +72,17 @@ fn oid_text(alloc: Global, contents: &[u8]) -> io::Result<Option<String>>
     }
 }
 
+/// The same, and in brackets the name that the table has for it.
+fn named_oid_text(alloc: Global, contents: &[u8]) -> io::Result<Option<String>> {
+    let Some(mut text) = oid_text(alloc, contents)? else {
+        return Ok(None);
+    };
+    if let Some(name) = object_name(contents) {
+        write!(text, " ({name})")?;
+    }
+    Ok(Some(text))
+}
+
 /// Characters in quotes, with escapes as in Rust.
 fn quoted(alloc: Global, text: &str, is_cut: bool) -> io::Result<Option<String>> {
     let more = if is_cut { " .." } else { "" };
@@ -121,7 +133,7 @@ pub fn value_text(alloc: Global, tag: u8, contents: &[u8]) -> io::Result<String>
         (0x01, [0xFF]) => return Ok(String::from_str(alloc, "TRUE")?),
         (0x02 | 0x0A, _) => integer_text(alloc, contents)?,
         (0x03, _) => bits_text(alloc, contents)?,
-        (0x06, _) => oid_text(alloc, contents)?,
+        (0x06, _) => named_oid_text(alloc, contents)?,
         // UTF8String, and those of which mostly ASCII is in use: numeric, printable, Teletex, IA5, visible
         (0x0C | 0x12 | 0x13 | 0x14 | 0x16 | 0x1A, _) => string_text(alloc, contents)?,
         (UTC_TIME | 0x18, _) => time_text(alloc, tag, contents)?,

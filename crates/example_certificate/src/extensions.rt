@@ -4,6 +4,7 @@ use crate::{ListError, names, print_hex};
 use asn1_core::{DerDeserialize, Error, ObjectIdentifier, TryClone, from_bytes, to_vec};
 use asn1_core_oid::known::is_oid_of;
 use asn1_leaves::BitStringAsn1;
+use oid_names::object_name;
 use rfc5280::pkix1_implicit88::*;
 use std::alloc::Global;
 use x509_base::{Extension, Extensions};
@@ -142,9 +143,18 @@ fn is_revocation_normal(
     Ok(Some(normal))
 }
 
+/// An object identifier with dots, and its name, where it has one.
+fn named(alloc: Global, id: &ObjectIdentifier) -> Result<String, Error> {
+    let dotted = id.to_text(alloc)?;
+    match object_name(id.octets()) {
+        Some(name) => Ok(format!(in alloc; "{dotted} ({name})")?),
+        None => Ok(dotted),
+    }
+}
+
 fn list_head(rt: &HostRuntime, extension: &Extension) -> Result<(), ListError> {
     let (id, octets) = (&extension.extn_id.0, extension.extn_value.0.as_slice());
-    let text = id.to_text(rt.alloc())?;
+    let text = named(rt.alloc(), id)?;
     let critical = if extension.critical { ", critical" } else { "" };
     match is_normal(rt.alloc(), id, octets)? {
         Some(same) => println!(rt; "extension: {text}{critical}, written as it was: {same}")?,

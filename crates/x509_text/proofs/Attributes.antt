@@ -15,7 +15,7 @@ use Rattle.x509_base.specs.declared.names.NameValue.{NameValue}
 use Rattle.x509_text.specs.AttributeTypes.{short_names}
 use Rattle.x509_text.specs.Characters.{characters, Appends}
 use Rattle.x509_text.specs.Names.{before, IsBackwards, IsAttributeText, IsNameText, HasNoShortName, HasLongType, HasOne}
-use Rattle.x509_text.specs.Tables.{IsNamed}
+use Rattle.oid_names.specs.Tables.{IsNamed}
 use Rattle.x509_text.specs.Values.{IsValueText, hexadecimal}
 
 three : (old a b new x y z : List ℕ) → a ≡ old ++ x → b ≡ a ++ y → new ≡ b ++ z → new ≡ old ++ (x ++ (y ++ z))

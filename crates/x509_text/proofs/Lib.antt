@@ -1,7 +1,6 @@
 pub mod Texts
 pub mod Escaping
 pub mod Strings
-pub mod NamedRows
 pub mod Attributes
 pub mod Encoded
 pub mod Unescaping

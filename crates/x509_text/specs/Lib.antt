@@ -1,7 +1,6 @@
 pub mod Characters
 pub mod Escapes
 pub mod Values
-pub mod Tables
 pub mod AttributeTypes
 pub mod Names
 pub mod Encodings

@@ -4,7 +4,7 @@ use Rattle.std.specs.Str.{chars}
 use Rattle.asn1_core_oid.specs.OidText.{IsTextOf, HasLongGroup}
 use Rattle.x509_base.specs.Names.{name, name_value}
 use Rattle.x509_text.specs.AttributeTypes.{short_names}
-use Rattle.x509_text.specs.Tables.{IsNamed}
+use Rattle.oid_names.specs.Tables.{IsNamed}
 use Rattle.x509_text.specs.Values.{IsValueText, hexadecimal}
 
 -- the separator, unless nothing is after it

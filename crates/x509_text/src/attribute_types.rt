@@ -1,10 +1,10 @@
 //! The short names of attribute types.
 
 ghost use Rattle.std.specs.Prelude.{ℕ, List, MatchOption};
-ghost use Rattle.x509_text.specs.Tables.{IsNamed};
+ghost use Rattle.oid_names.specs.Tables.{IsNamed};
 ghost use Rattle.x509_text.specs.AttributeTypes.{short_names};
 
-use crate::tables::{Row, name_in};
+use oid_names::tables::{Row, name_in};
 
 const SHORT_NAMES: [Row; 9] = [
     Row {

@@ -8,7 +8,6 @@ mod escapes;
 pub mod integers;
 pub mod laws;
 mod names;
-pub mod tables;
 mod values;
 
 pub use attribute_types::short_name;

@@ -1,8 +1,8 @@
 -- A row of a table.
 use Rattle.std.proofs.Common.{◌≡◌, ◌↔◌, ℕ, ◌+◌, ◌<◌, List, ◌∷◌, length, get_or, map, drop, ⊎_elim, inl, inr, refl, sym, ap, subst}
 use Rattle.std.proofs.lemmas.List.{drop_more}
-use Rattle.x509_text.specs.declared.tables.Row.{Row}
-use Rattle.x509_text.specs.Tables.{row_value, IsNamed}
+use Rattle.oid_names.specs.declared.tables.Row.{Row}
+use Rattle.oid_names.specs.Tables.{row_value, IsNamed}
 
 module _ (rows : List Row) (i : ℕ) (d : Row) (octets : List ℕ) (fits : i < length rows) where
   rest_is : map row_value (drop i rows) ≡ row_value (get_or rows i d) ∷ map row_value (drop (i + 1) rows)

@@ -1,7 +1,7 @@
 //! Tables of the names of object identifiers.
 
 ghost use Rattle.std.specs.Prelude.{◌≡◌, ◌↔◌, ℕ, List, map, IsTrue, MatchOption};
-ghost use Rattle.x509_text.specs.Tables.{row_value, IsNamed};
+ghost use Rattle.oid_names.specs.Tables.{row_value, IsNamed};
 
 /// An object identifier, as its contents octets, and its name.
 #[derive(Clone, Copy)]

@@ -1,6 +1,6 @@
 use Rattle.std.proofs.lemmas.Bool.{both_ways}
-use Rattle.x509_text.proofs.NamedRows.{row_found, row_passed}
-use Rattle.x509_text.proofs.tables.name_in.Goals as goal
+use Rattle.oid_names.proofs.NamedRows.{row_found, row_passed}
+use Rattle.oid_names.proofs.tables.name_in.Goals as goal
 
 pub returns-then-is_same : goal.returns-then-is_same
 returns-then-is_same c = row_found _ _ _ _ c.loop-row-test.true c.loop-row.invariant.from (c.is_same.ensures.0 c.if-is_same.true)

@@ -1,6 +1,6 @@
 use Rattle.std.proofs.Common.{ℕ, List, map, drop}
-use Rattle.x509_text.specs.Tables.{row_value, IsNamed}
-use Rattle.x509_text.proofs.tables.name_in.Given as goal
+use Rattle.oid_names.specs.Tables.{row_value, IsNamed}
+use Rattle.oid_names.proofs.tables.name_in.Given as goal
 
 abbrev pub invariant-loop-row : goal.invariant-loop-row
 invariant-loop-row l =

@@ -1,6 +1,6 @@
 -- Tables of the names of object identifiers.
 use Rattle.std.specs.Prelude.{◌≡◌, ◌⊎◌, ℕ, List, [], ◌∷◌}
-use Rattle.x509_text.specs.declared.tables.Row.{Row}
+use Rattle.oid_names.specs.declared.tables.Row.{Row}
 
 -- the contents octets and the name of a row
 abbrev pub row_value : Row → List ℕ × List ℕ
