@@ -123,7 +123,7 @@ typedef struct der_range {
  * the signature covers, where over_attributes is 0 too: covered then has none. That the certificate is to be trusted,
  * and may sign, isn't looked at. */
 typedef struct der_signer_parts {
-  size_t status;                 /* DER_NORMAL, or DER_BAD_ATTRIBUTES: all that follows is 0 then */
+  size_t status;                 /* DER_NORMAL, or DER_BAD_ATTRIBUTES, or what der_signer answers: all else is 0 then */
   size_t over_attributes;        /* 1: the signature covers signed attributes, 0: the content */
   size_t has_content;            /* 1: the content is in the input */
   size_t has_certificate;        /* 1: a certificate of the input is the one that the signer names */
@@ -335,14 +335,15 @@ static inline der_status der_signers(const uint8_t *input, size_t input_len, siz
 }
 
 /* The same of the signer with that index alone. Its status is answered, and where there are fewer signers DER_NO_PART.
- * Unless at DER_NORMAL all of *out is 0, but for its status at DER_BAD_ATTRIBUTES. */
+ * out->status is what is answered, and unless that is DER_NORMAL all else of *out is 0. */
 static inline der_status der_signer(size_t index, const uint8_t *input, size_t input_len, der_signer_parts *out,
                                     size_t *place) {
   size_t count;
   memset(out, 0, sizeof *out);
   uint32_t status = der_signer_rows(input, input_len, index, out, 1, &count, place);
-  if (status != DER_NORMAL) return (der_status)status;
-  return index < count ? (der_status)out->status : DER_NO_PART;
+  if (status != DER_NORMAL) out->status = status;
+  else if (index >= count) out->status = DER_NO_PART;
+  return (der_status)out->status;
 }
 
 /* Copies what the signature of a signer covers to out, which has room for covered.len bytes. */

@@ -91,11 +91,12 @@ static size_t bytes_of_signers(size_t count, size_t first, size_t out_len) {
   return (rest < room ? rest : room) * sizeof(der_signer_parts);
 }
 
-/* Makes the call for one signer. Unless at DER_NORMAL all that it writes is 0, but for the status of the signer. */
+/* Makes the call for one signer. Unless at DER_NORMAL all that it writes is 0, but for the status, which is what it
+ * answers. */
 static der_status one_signer(const given *its, uint8_t *out, size_t *place) {
   der_signer_parts *signer = (der_signer_parts *)(void *)out, nothing = {0};
   der_status status = der_signer(its->index, its->input, its->len, signer, place);
-  nothing.status = status == DER_BAD_ATTRIBUTES ? DER_BAD_ATTRIBUTES : DER_NORMAL;
+  nothing.status = status;
   if (!memcmp(signer, &nothing, sizeof nothing) != (status != DER_NORMAL))
     fault(SIGNER, "it writes what isn't the signer's, or nothing of it");
   return status;

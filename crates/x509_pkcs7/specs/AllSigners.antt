@@ -1,13 +1,22 @@
 -- Which certificate is each signer's, where each certificate is read once (RFC 5652, 5.3).
-use Rattle.std.specs.Prelude.{◌≡◌, ◌↔◌, List, [], ◌∷◌, ◌++◌, Option, None, Some}
-use Rattle.std.proofs.Common.{inl, inr}
+use Rattle.std.specs.Prelude.{◌≡◌, ◌↔◌, ℕ, Bool, true, false, List, [], ◌∷◌, ◌++◌, Option, None, Some}
+use Rattle.std.proofs.Common.{inl, inr, Vec, Global}
+use Rattle.std.specs.BTreeMap.{BTreeMap, get_by}
+use Rattle.std.specs.Cmp.Lexicographic.{slice_cmp}
+use Rattle.std.specs.Ordering.{nat_cmp}
+use Rattle.std.specs.Str.{bytes_eq}
+use denote.Ref.{Bor}
+use Rattle.asn1_core.specs.Asn1.{SEQUENCE}
 use Rattle.asn1_core.specs.Der.{ElementOctets, Octets, option_value}
 use Rattle.pkcs7_signed.specs.SignerParts.{signer_identifier}
+use Rattle.x509_base.specs.Names.{name}
 use Rattle.x509_base.specs.declared.digests.SubjectKeyIdentifier.{SubjectKeyIdentifier}
 use Rattle.x509_pkcs7.specs.Heads.{certificate_head, certificate_head_value}
 use Rattle.x509_pkcs7.specs.KeyIdentifiers.{rest_of, IsKeyIdOf}
 use Rattle.x509_pkcs7.specs.Matches.{IsNamedBy, IsSigners, IsFirst}
 use Rattle.x509_pkcs7.specs.declared.verifier.all_signers.KnownCertificate.{KnownCertificate}
+use Rattle.x509_pkcs7.specs.declared.verifier.all_signers.NamedBy.{NamedBy}
+use Rattle.x509_pkcs7.specs.declared.verifier.all_signers.NamedBy.TheVariants.{Issuer, Key}
 
 -- for each signer, in their order, the first certificate that it names, or none: what `signer_certificate` returns for it
 abbrev pub AreSigners : List ElementOctets → List signer_identifier.Value → List (Option ElementOctets) → Type 0
@@ -56,3 +65,34 @@ listed (Some k) = k ∷ []
 -- one more is known, or none where the element isn't read
 abbrev pub IsAppended : ElementOctets → List KnownValue → List KnownValue → Type 0
 IsAppended b old new = (more : Option KnownValue) × IsKnownOrNone b more × (new ≡ old ++ listed more)
+
+-- the encoding of an issuer, with the octets of a serial number after it
+abbrev pub name_octets : name.Value → Octets → Octets
+name_octets issuer serial = (SEQUENCE name).format.text issuer ++ serial
+
+-- the octets by which a certificate is named so, if it may be: a signer that names it has the same
+abbrev pub octets_by : NamedBy → KnownValue → Option Octets
+octets_by Issuer k = Some (name_octets k.1.0.0.1.1.1.0 k.1.0.0.1.0)
+octets_by Key k = k.1.1
+
+abbrev pub are_octets : Octets → Option Octets → Bool
+are_octets q None = false
+are_octets q (Some own) = bytes_eq own q
+
+-- whether these are its octets
+abbrev pub is_named : NamedBy → Octets → KnownValue → Bool
+is_named by q k = are_octets q (octets_by by k)
+
+-- what a map has under octets
+abbrev pub known_at : BTreeMap (Vec ℕ Global) (Bor KnownCertificate) → Octets → Option KnownValue
+known_at m q = option_value (λ k. known_value k.now) (get_by (λ k. slice_cmp nat_cmp q k.items) m)
+
+-- what is there, or this where nothing is, if it is to go there
+abbrev pub kept : {V : Type 0} → Bool → Option V → V → Option V
+kept false there v = there
+kept true None v = Some v
+kept true (Some x) v = Some x
+
+abbrev pub or_else : {V : Type 0} → Option V → Option V → Option V
+or_else None other = other
+or_else (Some x) other = Some x

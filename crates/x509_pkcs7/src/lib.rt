@@ -45,8 +45,8 @@ pub use recipients::{
     OtherKeyAttribute, RecipientInfo,
 };
 pub use verifier::{
-    Accuracy, CertificateHead, GenTime, PageHashes, TbsCertificateHead, TimeStampAuthority,
-    TimeStampExtensions, TstInfo, attribute_values, certificate_element, certificates,
-    first_extension, hashed_octets, nested_signatures, page_hash_octets, signer_certificate,
-    signer_certificates, signers,
+    Accuracy, CertificateHead, GenTime, PageHashes, SignerCertificate, TbsCertificateHead,
+    TimeStampAuthority, TimeStampExtensions, TstInfo, attribute_values, certificate_element,
+    certificates, first_extension, hashed_octets, nested_signatures, page_hash_octets,
+    signer_certificate, signer_certificates, signer_certificates_at, signers,
 };

@@ -14,7 +14,7 @@ pub mod raw_attributes;
 pub mod raw_hashed;
 pub mod time_stamps;
 
-pub use all_signers::signer_certificates;
+pub use all_signers::{SignerCertificate, signer_certificates, signer_certificates_at};
 pub use hashed::hashed_octets;
 pub use heads::{CertificateHead, TbsCertificateHead};
 pub use key_identifiers::first_extension;

@@ -7,10 +7,10 @@ use Rattle.x509_pkcs7.proofs.verifier.all_signers.first_elements.Goals as goal
 
 pub loop-signer-preserved : goal.loop-signer-preserved
 loop-signer-preserved c =
-    λ certificates known. signers_step (λ s. signer_identifier_value s.now) c.args.signers.now c.loop-signer.signer-index certificates c.signer-item.result c.loop-signer-test.true c.signer-item.is (option_value (λ e. e.now.0.items) c.first_element.result) (c.first_element.ensures certificates known)
-    (map (λ f. option_value (λ e. e.now.0.items) f) c.loop-signer.found.items) (map (λ f. option_value (λ e. e.now.0.items) f) c.push.new.self.items)
-    (ap (map (λ f. option_value (λ e. e.now.0.items) f)) c.in_ok-push.ensures.items ∙ map_push (λ f. option_value (λ e. e.now.0.items) f) c.loop-signer.found.items c.first_element.result)
+    λ certificates known. signers_step (λ s. signer_identifier_value s.now) c.args.signers.now c.loop-signer.signer-index certificates c.signer-item.result c.loop-signer-test.true c.signer-item.is (option_value (λ e. e.element.now.0.items) c.in_ok-certificate.certificate) (c.in_ok-certificate.ensures certificates known)
+    (map (λ f. option_value (λ e. e.element.now.0.items) f) c.loop-signer.found.items) (map (λ f. option_value (λ e. e.element.now.0.items) f) c.push.new.self.items)
+    (ap (map (λ f. option_value (λ e. e.element.now.0.items) f)) c.in_ok-push.ensures.items ∙ map_push (λ f. option_value (λ e. e.element.now.0.items) f) c.loop-signer.found.items c.in_ok-certificate.certificate)
     (c.loop-signer.invariant certificates known)
 
 pub returns : goal.returns
-returns c = λ certificates known. signers_all (λ s. signer_identifier_value s.now) c.args.signers.now c.loop-signer.signer-index certificates (map (λ f. option_value (λ e. e.now.0.items) f) c.loop-signer.found.items) c.loop-signer-test.false (c.loop-signer.invariant certificates known)
+returns c = λ certificates known. signers_all (λ s. signer_identifier_value s.now) c.args.signers.now c.loop-signer.signer-index certificates (map (λ f. option_value (λ e. e.element.now.0.items) f) c.loop-signer.found.items) c.loop-signer-test.false (c.loop-signer.invariant certificates known)

@@ -4,5 +4,5 @@ use Rattle.x509_pkcs7.specs.AllSigners.{KnownValue, known_value, AreKnownOf}
 use Rattle.x509_pkcs7.specs.Matches.{choice_octets}
 use Rattle.x509_pkcs7.proofs.verifier.all_signers.known_certificates.Given as goal
 
-abbrev pub invariant-loop-certificate : goal.invariant-loop-certificate
-invariant-loop-certificate l = (more : List KnownValue) → AreKnownOf (map (λ c. choice_octets (certificate_choices_value c)) (drop l.certificate-index l.certificates)) more → AreKnownOf (map (λ c. choice_octets (certificate_choices_value c)) l.certificates) (map known_value l.found.items ++ more)
+abbrev pub invariant-loop-index : goal.invariant-loop-index
+invariant-loop-index l = (more : List KnownValue) → AreKnownOf (map (λ c. choice_octets (certificate_choices_value c)) (drop l.index l.certificates)) more → AreKnownOf (map (λ c. choice_octets (certificate_choices_value c)) l.certificates) (map known_value l.found.items ++ more)
