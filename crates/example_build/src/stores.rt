@@ -1,0 +1,93 @@
+//! Key stores of PKCS #12 (RFC 7292).
+
+use crate::BuildError;
+use std::alloc::Global;
+use x509_containers::{
+    Asn1RawDer, AuthenticatedSafeContentInfo, BmpString, CertificateBag, Error, MacData,
+    OctetStringAsn1, ParsedAuthenticatedSafeDataRepr, Pfx, Pkcs12Attribute, Pkcs12DigestAlgorithm,
+    Pkcs12DigestInfo, RawPfx, SafeBag, SafeBagKind, SafeContents, SafeContentsContentInfo, StdSink,
+    TryClone, from_bytes, send, to_vec,
+};
+
+/// How often the key derivation of the MAC hashes.
+const ITERATIONS: u32 = 2048;
+
+/// A friendly name and a local key identifier, sorted as DER has a SET OF: by their encodings.
+pub fn attributes(
+    alloc: Global,
+    name: &BmpString,
+    key_id: &[u8],
+) -> Result<Vec<Pkcs12Attribute>, Error> {
+    let name = Pkcs12Attribute::FriendlyName(name.try_clone(alloc)?);
+    let key_id = Pkcs12Attribute::LocalKeyId(OctetStringAsn1(Vec::from_slice(alloc, key_id)?));
+    let is_name_first = to_vec(alloc, &name)? < to_vec(alloc, &key_id)?;
+    let sorted = if is_name_first {
+        [name, key_id]
+    } else {
+        [key_id, name]
+    };
+    Ok(Vec::from_array(alloc, sorted)?)
+}
+
+fn cloned(alloc: Global, attributes: &[Pkcs12Attribute]) -> Result<Vec<Pkcs12Attribute>, Error> {
+    let mut all = Vec::new(alloc);
+    for attribute in attributes {
+        all.push(attribute.try_clone(alloc)?)?;
+    }
+    Ok(all)
+}
+
+fn content_of(
+    alloc: Global,
+    kind: SafeBagKind,
+    attributes: Vec<Pkcs12Attribute>,
+) -> Result<SafeContentsContentInfo, Error> {
+    let bag = SafeBag {
+        kind,
+        attributes: Some(attributes),
+    };
+    Ok(SafeContentsContentInfo::Data(SafeContents(Vec::from_array(alloc, [bag])?)))
+}
+
+/// A store of a key, a `PrivateKeyInfo`, and its certificate, both with the attributes, and without a MAC.
+pub fn store(
+    alloc: Global,
+    key: Vec<u8>,
+    certificate: Vec<u8>,
+    attributes: Vec<Pkcs12Attribute>,
+) -> Result<Pfx<ParsedAuthenticatedSafeDataRepr>, Error> {
+    let certificate = SafeBagKind::Certificate(CertificateBag::X509(OctetStringAsn1(certificate)));
+    let certificate = content_of(alloc, certificate, cloned(alloc, &attributes)?)?;
+    let key = content_of(alloc, SafeBagKind::Key(Asn1RawDer(key)), attributes)?;
+    Ok(Pfx {
+        version: 3,
+        auth_safe: AuthenticatedSafeContentInfo::Data(Vec::from_array(alloc, [certificate, key])?),
+        mac_data: None,
+    })
+}
+
+/// Writes the octets that the MAC of a store covers.
+pub fn send_covered(rt: &HostRuntime, store: &[u8]) -> Result<(), BuildError> {
+    let pfx: RawPfx = from_bytes(rt.alloc(), store)?;
+    let octets = pfx.mac_octets().ok_or(BuildError::NothingCovered)?;
+    send(&mut StdSink::new(rt.stdout()), octets).map_err(|_| BuildError::Output)
+}
+
+/// The store with a MAC by HMAC with SHA-256, which the caller has made. The octets that it covers stay as they are.
+pub fn with_mac(
+    alloc: Global,
+    store: &[u8],
+    digest: Vec<u8>,
+    salt: Vec<u8>,
+) -> Result<RawPfx, Error> {
+    let mut pfx: RawPfx = from_bytes(alloc, store)?;
+    pfx.mac_data = Some(MacData {
+        mac: Pkcs12DigestInfo {
+            digest_algorithm: Pkcs12DigestAlgorithm::Sha256,
+            digest: OctetStringAsn1(digest),
+        },
+        salt: OctetStringAsn1(salt),
+        iterations: Some(ITERATIONS),
+    });
+    Ok(pfx)
+}
