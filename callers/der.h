@@ -139,10 +139,9 @@ typedef struct der_signer_parts {
 /* What a verifier needs of the signers of signed data, of any CMSVersion and over content of any type (RawSignedData),
  * in one reading. out has room for out_len signers, and takes those with the index first and after.
  *  - DER_NORMAL: *count is how many signers there are in all. Those asked for are at the front of out, at most out_len,
- *    and the rest of out is as it was. The status of each is DER_BAD_ATTRIBUTES where signed attributes lack
- *    messageDigest or contentType, have one of them several times, with no value or with several, or where contentType
- *    is another than the content's (RFC 5652, 5.3, 11.1, 11.2). An empty set of signed attributes, A0 00, which RFC 5652
- *    forbids, is read as none: the signature then has to cover the content.
+ *    and the rest of out is as it was. The status of each is DER_BAD_ATTRIBUTES where signed attributes are an empty
+ *    set, A0 00, lack messageDigest or contentType, have one of them several times, with no value or with several, or
+ *    where contentType is another than the content's (RFC 5652, 5.3, 11.1, 11.2).
  *  - DER_MALFORMED to DER_TOO_DEEP: the input is no signed data, and *place says where, as of der_locate.
  *  - DER_NO_MEMORY: *place is an offset without use.
  *  - DER_NO_RANGE: a part isn't in the input as its value is written. No input is known where it is answered, and that

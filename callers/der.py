@@ -66,9 +66,9 @@ class UnknownKind(LookupError):
 class BadAttributes(ValueError):
     """A signer whose signed attributes break RFC 5652 (5.3, 11.1, 11.2), so that its signature counts for nothing.
 
-    They lack messageDigest or contentType, have one of them several times, with no value or with several, or
-    contentType is another than the content's. It has no part of a signer, so it can't be verified by mistake; and
-    unlike None it is true, so a list without false items still has it.
+    They are an empty set, lack messageDigest or contentType, have one of them several times, with no value or with
+    several, or contentType is another than the content's. It has no part of a signer, so it can't be verified by
+    mistake; and unlike None it is true, so a list without false items still has it.
     """
 
     def __str__(self) -> str:

@@ -166,9 +166,6 @@ def _signer(parts: Union[der.Signer, der.BadAttributes], element: Element) -> Si
     """The signer that an element is, with what the library says of it."""
     _, identifier, digest_algorithm, *more = element.children()
     covered = more.pop(0) if more[0].tag == 0xA0 else None
-    if isinstance(parts, der.Signer) and parts.is_over_attributes != (covered is not None):
-        # an empty set, which the library takes as no attributes, has no messageDigest (5.3)
-        parts = der.BadAttributes()
     algorithm, signature, *unsigned = more
     return Signer(
         parts,

@@ -1,12 +1,13 @@
 -- What signed attributes say of the content.
 use Rattle.std.specs.Prelude.{◌≡◌, ◌≢◌, ◌↔◌, IsTrue, ℕ, Bool, true, false, List, [], ◌∷◌, Option, None, Some}
-use Rattle.std.proofs.Common.{sym, ap, subst, ◌∙◌, true≢false}
+use Rattle.std.proofs.Common.{refl, sym, ap, subst, ◌∙◌, inl, inr, true≢false}
+use Rattle.std.specs.declared.ops.Range.{Range}
 use Rattle.asn1_core.specs.Der.{Format, object_identifier, lawful_object_identifier, octet_string, option_value, ElementOctets, Octets, OidOctets}
 use Rattle.asn1_core_element.specs.declared.error.Error.{Error}
 use Rattle.asn1_core_element.specs.declared.error.Error.TheVariants.{Memory}
 use Rattle.asn1_core_format.specs.Whole.{value_of}
 use Rattle.pkcs7_attributes.specs.NamedAttributes.{content_type_oid, message_digest_oid}
-use Rattle.signer_ranges.specs.Signers.{AreSignedOrBroken, OnlyOrNone, SignsOrNone}
+use Rattle.signer_ranges.specs.Signers.{AreSignedOrBroken, HasEmptySet, IsAt, OnlyOrNone, SignsOrNone}
 use Rattle.x509_base.specs.AttributesByOid.{with_oid, IsOnlyOf, HasNoOnly}
 use Rattle.x509_base.specs.Names.{attribute}
 
@@ -47,4 +48,11 @@ module _ (attrs : List attribute.Value) (type : OidOctets) {T : Type 0} (f : T �
   signs_no_digest n digest r = subst (λ o. OnlyOrNone octet_string (with_oid message_digest_oid attrs) (option_value f o)) none n digest r.message
 
   pub is_broken : (b : List ℕ) (empty : Bool) → (IsTrue empty ↔ (attrs ≡ [])) → false ≡ empty → SignsOrNone attrs type (option_value f d) → AreSignedOrBroken b attrs type None
-  is_broken b empty s e n = (λ h. true≢false (sym (s.1 h) ∙ sym e), subst (λ o. SignsOrNone attrs type (option_value f o)) none n)
+  is_broken b empty s e n = inl (λ h. true≢false (sym (s.1 h) ∙ sym e), subst (λ o. SignsOrNone attrs type (option_value f o)) none n)
+
+-- an empty set where a range is
+pub empty_set : (b : List ℕ) (r : Range ℕ) → IsAt b (0xA0 ∷ 0x00 ∷ []) r.start r.end → HasEmptySet b
+empty_set b r h = record { start = r.start; end = r.end; is = h }
+
+pub is_emptied : (attrs : List attribute.Value) (type : OidOctets) (b : List ℕ) → (IsTrue true ↔ (attrs ≡ [])) → (IsTrue true → HasEmptySet b) → AreSignedOrBroken b attrs type None
+is_emptied attrs type b s h = inr (s.0 refl, h refl)

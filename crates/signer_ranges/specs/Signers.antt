@@ -1,5 +1,5 @@
 -- What a verification of a signer needs, as ranges of the file (RFC 5652, 5.3 to 5.6, 11.1 and 11.2).
-use Rattle.std.specs.Prelude.{◌≡◌, ◌≢◌, ◌≤◌, ℕ, List, [], ◌∷◌, length, take, drop, map, Option, None, Some, slice_range}
+use Rattle.std.specs.Prelude.{◌≡◌, ◌≢◌, ◌≤◌, ◌⊎◌, ℕ, List, [], ◌∷◌, length, take, drop, map, Option, None, Some, slice_range}
 use Rattle.std.specs.declared.ops.Range.{Range}
 use Rattle.asn1_core.specs.Asn1.{SEQUENCE}
 use Rattle.asn1_core.specs.Der.{Format, object_identifier, octet_string, ElementOctets, Octets, OidOctets}
@@ -94,9 +94,25 @@ abbrev pub AreSignedOrNone : List ℕ → List attribute.Value → OidOctets →
 AreSignedOrNone b attrs content_type None = attrs ≡ []
 AreSignedOrNone b attrs content_type (Some r) = AreSignedAt b attrs content_type r
 
+-- signed attributes that are an empty set, under the tag [0], are in the input. RFC 5652 (5.3) asks for one or more
+pub record HasEmptySet (b : List ℕ) : Type 0 where
+  pub start : ℕ
+  pub end : ℕ
+  pub is : IsAt b (0xA0 ∷ 0x00 ∷ []) start end
+
+-- the signed attributes lack one of the two, have it several times, or with no value or several, or the contentType is
+-- another than the content's; or they are an empty set, which has the same value as none
+abbrev pub AreBroken : List ℕ → List attribute.Value → OidOctets → Type 0
+AreBroken b attrs content_type = ((attrs ≢ []) × ((digest : Octets) → Signs attrs content_type digest → ⊥)) ⊎ ((attrs ≡ []) × HasEmptySet b)
+
+-- the signature's algorithm begins where the digest's ends, or where the signed attributes end, which begin there
+abbrev pub AreAdjacent : Option SignedRanges → Range ℕ → Range ℕ → Type 0
+AreAdjacent None digest signature = signature.start ≡ digest.end
+AreAdjacent (Some r) digest signature = (r.attributes.start ≡ digest.end) × (signature.start ≡ r.attributes.end)
+
 -- nothing where there are attributes that aren't as they have to be
 abbrev pub AreSignedOrBroken : List ℕ → List attribute.Value → OidOctets → Option (Option SignedRanges) → Type 0
-AreSignedOrBroken b attrs content_type None = (attrs ≢ []) × ((digest : Octets) → Signs attrs content_type digest → ⊥)
+AreSignedOrBroken b attrs content_type None = AreBroken b attrs content_type
 AreSignedOrBroken b attrs content_type (Some r) = AreSignedOrNone b attrs content_type r
 
 -- the octets of the content that are hashed, or none where the signature is detached
@@ -113,16 +129,16 @@ pub record AreRangesOf (b : List ℕ) (v : FileValue) (s : SignerValue) (r : Sig
   pub content : IsContentAt b v r.content
   pub digest_algorithm : IsAt b ((SEQUENCE algorithm_identifier).format.text (digest_algorithm_of s)) r.digest_algorithm.start r.digest_algorithm.end
   pub signature_algorithm : IsAt b ((SEQUENCE algorithm_identifier).format.text (signature_algorithm_of s)) r.signature_algorithm.start r.signature_algorithm.end
+  pub adjacent : AreAdjacent r.signed r.digest_algorithm r.signature_algorithm
   pub signature : IsAt b (signature_of s) r.signature.start r.signature.end
   pub certificate : IsCertificateAt b v (sid_of s) r.certificate
 
--- the signed attributes lack one of the two, have it several times, or with no value or several, or the contentType is
--- another than the content's
-abbrev pub BreaksRules : FileValue → SignerValue → Type 0
-BreaksRules v s = (signed_of s ≢ []) × ((digest : Octets) → Signs (signed_of s) (content_info_of v).0 digest → ⊥)
+-- the signer's signed attributes aren't as they have to be
+abbrev pub BreaksRules : List ℕ → FileValue → SignerValue → Type 0
+BreaksRules b v s = AreBroken b (signed_of s) (content_info_of v).0
 
 abbrev pub AreRangesOrNone : List ℕ → FileValue → SignerValue → Option SignerRanges → Type 0
-AreRangesOrNone b v s None = BreaksRules v s
+AreRangesOrNone b v s None = BreaksRules b v s
 AreRangesOrNone b v s (Some r) = AreRangesOf b v s r
 
 -- the same for each of some signers, in their order
@@ -142,7 +158,12 @@ pub record AreFound (b : List ℕ) (first most count : ℕ) (found : List (Optio
   pub is_value : IsValueOf signed_file 64 b value
   pub part : IsPartOf b value first most count found
 
--- why there are none: the input is no signed data, or memory was refused. That a part has no range isn't described.
+-- the input is signed data. Which part has no range isn't described.
+pub record HasNoRange (b : List ℕ) : Type 0 where
+  pub value : FileValue
+  pub is_value : IsValueOf signed_file 64 b value
+
+-- why there are none: the input is no signed data, or memory was refused, or it is signed data, and a part has no range
 abbrev pub IsRefusal : List ℕ → Refusal → Type 0
 IsRefusal b (Refused e place) = HasNoValue signed_file 64 b e × (place ≤ length b)
-IsRefusal b NoRange = Unit {0}
+IsRefusal b NoRange = HasNoRange b

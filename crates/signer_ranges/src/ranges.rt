@@ -1,7 +1,7 @@
 //! What is found of signers, and whether octets are where they are looked for.
 
-ghost use Rattle.std.specs.Prelude.{MatchResult, IfOk};
-ghost use Rattle.signer_ranges.specs.Signers.{IsAt};
+ghost use Rattle.std.specs.Prelude.{◌↔◌, IsTrue, MatchResult, IfOk};
+ghost use Rattle.signer_ranges.specs.Signers.{AreAdjacent, IsAt};
 
 use crate::places::Place;
 use asn1_core::{DerSerialize, Error, to_vec};
@@ -39,9 +39,9 @@ pub struct SignerRanges {
 pub struct Signers {
     /// How many signers the file has.
     pub count: usize,
-    /// Those that were asked for, in their order. `None` where signed attributes lack `messageDigest` or `contentType`,
-    /// have one of them several times, with no value or with several, or name another type than the content's: RFC 5652
-    /// (5.3, 11.1, 11.2) forbids all of that, and no such signature counts.
+    /// Those that were asked for, in their order. `None` where signed attributes are an empty set, lack `messageDigest` or
+    /// `contentType`, have one of them several times, with no value or with several, or name another type than the
+    /// content's: RFC 5652 (5.3, 11.1, 11.2) forbids all of that, and no such signature counts.
     pub found: Vec<Option<SignerRanges>>,
 }
 
@@ -50,7 +50,7 @@ pub struct Signers {
 pub enum Refusal {
     /// The input isn't signed data: why, and where, as `from_bytes_located` says. Or memory was refused.
     Refused(Error, usize),
-    /// A part isn't in the input as its value is written.
+    /// The input is signed data, and a part isn't in it as its value is written.
     NoRange,
 }
 
@@ -70,6 +70,23 @@ pub(crate) fn range_of(
         return Err(Error::Missing);
     }
     Ok(start..end)
+}
+
+/// Whether the algorithms of a signer follow one another, with the signed attributes between them where there are any.
+pub(crate) fn are_adjacent(
+    signed: &Option<SignedRanges>,
+    digest_algorithm: &Range<usize>,
+    signature_algorithm: &Range<usize>,
+) -> bool
+    ensures { IsTrue result ↔ AreAdjacent signed.now digest_algorithm.now signature_algorithm.now }
+{
+    match signed {
+        Some(signed) => {
+            let attributes = &signed.attributes;
+            attributes.start == digest_algorithm.end && signature_algorithm.start == attributes.end
+        }
+        None => signature_algorithm.start == digest_algorithm.end,
+    }
 }
 
 /// The range of an element.
@@ -111,20 +128,4 @@ pub(crate) fn encoding_range<T: DerSerialize>(
 {
     let octets = to_vec(alloc, value)?;
     range_of(input, place.start, place.end, octets.as_slice())
-}
-
-/// The range of the first element with these octets among some.
-pub(crate) fn range_among(
-    input: &[u8],
-    places: &[Place],
-    octets: &[u8],
-) -> Result<Range<usize>, Error>
-    ensures { IfOk result (λ r. IsAt input.now octets.now r.start r.end) }
-{
-    for place in places {
-        if let Ok(range) = range_of(input, place.start, place.end, octets) {
-            return Ok(range);
-        }
-    }
-    Err(Error::Missing)
 }

@@ -7,7 +7,7 @@ ghost use Rattle.pkcs7_attributes.specs.Attributes.{attributes_value};
 ghost use Rattle.pkcs7_attributes.specs.NamedAttributes.{content_type_oid, message_digest_oid};
 ghost use Rattle.pkcs7_signed.specs.SignerParts.{signer_identifier_value};
 ghost use Rattle.signer_ranges.specs.Files.{file_value};
-ghost use Rattle.signer_ranges.specs.Signers.{AreFound, AreRangesOfAll, AreRangesOrNone, AreSignedAt, AreSignedOrBroken, certificates_of, IsAtOrNone, IsContentAt, IsPartOf, IsRefusal, OnlyOrNone, Signs, SignsOrNone};
+ghost use Rattle.signer_ranges.specs.Signers.{AreFound, AreRangesOfAll, AreRangesOrNone, AreSignedAt, AreSignedOrBroken, certificates_of, HasEmptySet, IsAtOrNone, IsContentAt, IsPartOf, IsRefusal, OnlyOrNone, Signs, SignsOrNone};
 ghost use Rattle.x509_base.specs.AttributesByOid.{with_oid, IsOnlyOf};
 ghost use Rattle.x509_pkcs7.specs.AllSigners.{AreSigners};
 ghost use Rattle.x509_pkcs7.specs.Matches.{IsFirst, IsSigners};
@@ -17,20 +17,25 @@ use crate::places::{
     Place, SignerPlaces, attribute_value_at, file_places, places_from, signer_places,
 };
 use crate::ranges::{
-    Refusal, SignedRanges, SignerRanges, Signers, contents_range, element_range, encoding_range,
-    range_among,
+    Refusal, SignedRanges, SignerRanges, Signers, are_adjacent, contents_range, element_range,
+    encoding_range, range_of,
 };
-use asn1_core::{Asn1RawDer, Error, ObjectIdentifierAsn1, OctetStringAsn1, from_bytes_located};
+use asn1_core::{Error, ObjectIdentifierAsn1, OctetStringAsn1, from_bytes_located};
 use asn1_core_oid::is_oid_of;
 use pkcs7_attributes::Attributes;
 use pkcs7_signed::parts::SignerIdentifier;
 use std::alloc::Global;
 use std::ops::Range;
 use x509_base::Attribute;
-use x509_pkcs7::{RawPkcs7Certificate, RawSignerInfo, signer_certificates};
+use x509_pkcs7::{
+    RawPkcs7Certificate, RawSignerInfo, SignerCertificate, signer_certificates_at,
+};
 
 /// `id-messageDigest`
 const MESSAGE_DIGEST: [u8; 9] = [0x2A, 0x86, 0x48, 0x86, 0xF7, 0x0D, 0x01, 0x09, 0x04];
+
+/// Signed attributes that are an empty set. RFC 5652 (5.3) asks for one or more.
+const EMPTY_SET: [u8; 2] = [0xA0, 0x00];
 
 /// Whether two object identifiers are equal.
 fn is_same(a: &ObjectIdentifierAsn1, b: &ObjectIdentifierAsn1) -> bool
@@ -141,8 +146,19 @@ fn signed_ranges(
     })
 }
 
+/// Whether the element is an empty set of signed attributes, which is read as none.
+#[tactic(auto, using(crate::proofs::Attributes::empty_set))]
+fn is_empty_set(input: &[u8], place: Place) -> bool
+    ensures { IsTrue result → HasEmptySet input.now }
+{
+    match range_of(input, place.start, place.end, &EMPTY_SET) {
+        Ok(_) => true,
+        Err(_) => false,
+    }
+}
+
 /// The same where there are attributes. The outer `None` is said of those that aren't as they have to be.
-#[tactic(auto, using(crate::proofs::Attributes::is_broken))]
+#[tactic(auto, using(crate::proofs::Attributes::is_broken, crate::proofs::Attributes::is_emptied))]
 fn signed_or_none(
     alloc: Global,
     input: &[u8],
@@ -153,6 +169,9 @@ fn signed_or_none(
     ensures { IfOk result (λ r. AreSignedOrBroken input.now (attributes_value attributes.now) (octets_of content_type.now.0) r) }
 {
     if is_none(attributes) {
+        if is_empty_set(input, place) {
+            return Ok(None);
+        }
         return Ok(Some(None));
     }
     match signed_digest(alloc, attributes, content_type)? {
@@ -195,16 +214,27 @@ fn copied(range: &Option<Range<usize>>) -> Option<Range<usize>>
     }
 }
 
+/// The place with an index.
+fn place_with(places: &[Place], index: usize) -> Option<Place> {
+    match places.get(index) {
+        Some(place) => Some(*place),
+        None => None,
+    }
+}
+
 /// Where a signer's certificate is.
 fn certificate_range(
     input: &[u8],
     places: &[Place],
-    certificate: Option<&Asn1RawDer>,
+    certificate: Option<SignerCertificate<'_>>,
 ) -> Result<Option<Range<usize>>, Error>
-    ensures { IfOk result (λ r. IsAtOrNone input.now (option_value (λ e. e.now.0.items) certificate.entry) r) }
+    ensures { IfOk result (λ r. IsAtOrNone input.now (option_value (λ f. f.element.now.0.items) certificate.entry) r) }
 {
     match certificate {
-        Some(element) => Ok(Some(range_among(input, places, element.0.as_slice())?)),
+        Some(found) => {
+            let place = place_with(places, found.index);
+            Ok(Some(element_range(input, place, found.element.0.as_slice())?))
+        }
         None => Ok(None),
     }
 }
@@ -224,10 +254,10 @@ fn ranges_of(
     known: &Known<'_>,
     signer: &RawSignerInfo,
     places: SignerPlaces,
-    certificate: Option<&Asn1RawDer>,
+    certificate: Option<SignerCertificate<'_>>,
 ) -> Result<Option<SignerRanges>, Error>
     requires content { IsContentAt known.now.input.now (file_value known.now.file.now) known.now.content }
-    requires certificate { IsFirst (IsSigners (signer_identifier_value signer.now.sid)) (certificates_of (file_value known.now.file.now)) (option_value (λ e. e.now.0.items) certificate) }
+    requires certificate { IsFirst (IsSigners (signer_identifier_value signer.now.sid)) (certificates_of (file_value known.now.file.now)) (option_value (λ f. f.element.now.0.items) certificate) }
     ensures { IfOk result (λ r. AreRangesOrNone known.now.input.now (file_value known.now.file.now) (raw_signer_info_value signer.now) r) }
 {
     let input = known.input;
@@ -248,6 +278,9 @@ fn ranges_of(
     let octets = signer.signature.0.0.as_slice();
     let signature = contents_range(input, Some(places.signature), octets)?;
     let certificate = certificate_range(input, &known.certificates, certificate)?;
+    if !are_adjacent(&signed, &digest, &signature_algorithm) {
+        return Err(Error::Missing);
+    }
     Ok(Some(SignerRanges {
         signed,
         content: copied(&known.content),
@@ -264,10 +297,10 @@ fn ranges_of_all(
     known: &Known<'_>,
     signers: &[RawSignerInfo],
     first: Option<Place>,
-    certificates: &[Option<&Asn1RawDer>],
+    certificates: &[Option<SignerCertificate<'_>>],
 ) -> Result<Vec<Option<SignerRanges>>, Error>
     requires content { IsContentAt known.now.input.now (file_value known.now.file.now) known.now.content }
-    requires certificates { AreSigners (certificates_of (file_value known.now.file.now)) (map (λ s. signer_identifier_value s.sid) signers.now) (map (λ f. option_value (λ e. e.now.0.items) f) certificates.now) }
+    requires certificates { AreSigners (certificates_of (file_value known.now.file.now)) (map (λ s. signer_identifier_value s.sid) signers.now) (map (λ f. option_value (λ e. e.element.now.0.items) f) certificates.now) }
     ensures { IfOk result (λ found. AreRangesOfAll known.now.input.now (file_value known.now.file.now) (map raw_signer_info_value signers.now) found.items) }
 {
     let mut found = Vec::new(alloc);
@@ -322,11 +355,11 @@ fn certificates_of_all<'a>(
     alloc: Global,
     file: &'a RawPkcs7Certificate,
     signers: &[RawSignerInfo],
-) -> Result<Vec<Option<&'a Asn1RawDer>>, Error>
-    ensures { IfOk result (λ found. AreSigners (certificates_of (file_value file.now)) (map (λ s. signer_identifier_value s.sid) signers.now) (map (λ f. option_value (λ e. e.now.0.items) f) found.items)) }
+) -> Result<Vec<Option<SignerCertificate<'a>>>, Error>
+    ensures { IfOk result (λ found. AreSigners (certificates_of (file_value file.now)) (map (λ s. signer_identifier_value s.sid) signers.now) (map (λ f. option_value (λ e. e.element.now.0.items) f) found.items)) }
 {
     let names = names_of(alloc, signers)?;
-    let found = signer_certificates(alloc, &file.signed_data.0.certificates.0.0, &names)?;
+    let found = signer_certificates_at(alloc, &file.signed_data.0.certificates.0.0, &names)?;
     Ok(found)
 }
 

@@ -189,6 +189,8 @@ fn is_broken(alloc: Global, attributes: &[&[u8]]) -> Result<(), Fail> {
 #[test]
 fn broken(rt: HostRuntime) -> Result<(), Fail> {
     let alloc = rt.alloc();
+    // an empty set
+    is_broken(alloc, &[])?;
     // one of the two is missing
     is_broken(alloc, &[TYPE])?;
     is_broken(alloc, &[DIGEST])?;
