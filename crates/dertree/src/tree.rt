@@ -120,17 +120,18 @@ impl<'a> Notes<'a> {
         line: &Line<'_>,
         path: &[Step],
     ) -> io::Result<usize> {
-        let mut written = written;
-        while let Some(place) = self.places.get(written)
-            && place.offset <= line.offset
-        {
+        let mut count = written;
+        for place in self.places.iter().skip(written) {
+            if place.offset > line.offset {
+                return Ok(count);
+            }
             let (offset, cause) = (place.offset, place.cause);
             write!(w, ">>> not canonical at {offset}")?;
             write_path(w, ", ", path)?;
             writeln!(w, ": {cause}")?;
-            written = written.saturating_add(1);
+            count = count.saturating_add(1);
         }
-        Ok(written)
+        Ok(count)
     }
 
     /// Writes the mark, if it is at the element of a line.
