@@ -7,6 +7,6 @@ use Rattle.part_ranges.proofs.certificates.ranges_from.Goals as goal
 
 pub loop-certificate-preserved : goal.loop-certificate-preserved
 loop-certificate-preserved c =
-    one_more c.args.input.now (λ x. choice_octets (certificate_choices_value x)) c.args.certificates.now c.loop-certificate.certificate-index c.certificate-certificates-index.result c.loop-certificate-test.true c.certificate-certificates-index.is c.in_ok-range.range
+    one_more c.args.input.now (λ x. choice_octets (certificate_choices_value x)) c.args.certificates.now c.loop-certificate.certificate-index c.certificate-item.result c.loop-certificate-test.true c.certificate-item.is c.in_ok-range.range
     (subst (λ o. IsAt c.args.input.now o c.in_ok-range.range.start c.in_ok-range.range.end) (c.as_slice.ensures.value ∙ c.certificate_element.ensures) c.in_ok-range.ensures)
     c.loop-certificate.found.items c.push.new.self.items c.in_ok-push.ensures.items c.loop-certificate.invariant
