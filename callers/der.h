@@ -3,16 +3,16 @@
  * der_mac_part_ber where the MAC of a PKCS #12 file is to be verified.
  *
  * What is proved of its calls der_check_word_limited, der_rewrite_word_limited, der_kind_word, der_part_octets,
- * der_signer_rows, der_mac_range, der_mac, der_from_ber, der_mac_ber, der_mac_part_ber, der_name_text, der_oid_text
- * and der_oid_name, for all inputs, and what isn't:
+ * der_signer_rows, der_part_ranges, der_mac_range, der_mac, der_from_ber, der_mac_ber, der_mac_part_ber, der_name_text,
+ * der_oid_text, der_oid_name and der_integer_text, for all inputs, and what isn't:
  *  - A call answers no status but those that are listed at it. What it writes into numbers and into out is as said
  *    below.
  *  - DER_NORMAL, DER_LOOSE, DER_UNKNOWN_KIND, DER_TOO_LONG, DER_NO_ROOM, DER_NO_RANGE and DER_NO_PART are true where
- *    they are answered, but for DER_NO_RANGE of der_signer_rows, of which nothing is proved. DER_BAD_ATTRIBUTES is true
- *    where a row of der_signer_rows has it.
+ *    they are answered, but for DER_NO_RANGE of der_signer_rows and der_part_ranges, of which nothing is proved.
+ *    DER_BAD_ATTRIBUTES is true where a row of der_signer_rows has it.
  *  - At DER_MALFORMED, DER_MISSING, DER_INVALID and DER_TOO_DEEP the input is no encoding of the kind, of der_from_ber
- *    it has no DER, of der_signer_rows it is no signed data, and of the calls that write text it has none, as said
- *    there. Which of the four it is isn't proved: tests tell them apart.
+ *    it has no DER, of der_signer_rows and der_part_ranges it is no signed data, and of the calls that write text it has
+ *    none, as said there. Which of the four it is isn't proved: tests tell them apart.
  *  - That memory was refused where a call answers DER_NO_MEMORY isn't proved. Tests show that calls with memory enough
  *    don't answer it, on inputs of up to 190 KB and of hundreds of parts, and that calls keep no memory.
  *  - The functions in this file, in C, are tested and not proved, nor are der_version and der_processor.
@@ -20,8 +20,8 @@
  * What a caller has to keep to:
  *  - word, input, out and the pointers to numbers aren't null, also where a length is 0. word and input point to so
  *    many bytes that can be read, out to so many that can be read and written.
- *  - A pointer to a number is aligned as a size_t is, and what it points to can be written. out of der_signer_rows
- *    points to out_len structs and not bytes, and is aligned so too.
+ *  - A pointer to a number is aligned as a size_t is, and what it points to can be written. out of der_signer_rows and
+ *    of der_part_ranges points to out_len structs and not bytes, and is aligned so too.
  *  - The string kind ends in a zero byte.
  *  - out and each number overlap nothing else that is passed, and not one another.
  *  - While a call runs nothing else reads or writes out or the numbers, and nothing writes word or input: no other
@@ -71,8 +71,8 @@ typedef enum der_status {
   DER_TOO_DEEP = 6,     /* more levels of nesting than the limit */
   DER_TOO_LONG = 7,     /* its normal encoding, or that of the part, has 2^64 bytes or more */
   DER_NO_MEMORY = 8,    /* a request for memory was refused: nothing is said of the input */
-  DER_NO_ROOM = 9,      /* out is too short: the number of bytes that are needed is written */
-  DER_NO_RANGE = 10,    /* authSafe isn't data, so no octets are covered by a MAC; of signers: a part isn't found */
+  DER_NO_ROOM = 9,      /* out is too short: the number of bytes, or of ranges, that are needed is written */
+  DER_NO_RANGE = 10,    /* authSafe isn't data, so no octets are covered by a MAC; of ranges: a part isn't found */
   DER_NO_PART = 11,     /* the container has no such part, or not so many; the file has no MAC; no name is known */
   DER_BAD_ATTRIBUTES = 12 /* of a signer: its signed attributes break RFC 5652 */
 } der_status;
@@ -114,6 +114,22 @@ uint32_t der_part_octets(size_t number, size_t index, const uint8_t *input, size
 typedef struct der_range {
   size_t start, len;
 } der_range;
+
+/* Where the input has each item of a part, in one reading, where der_part_octets reads it anew for each. number is
+ * DER_PART_CERTIFICATE: certificates of signed data, or other choices, of any CMSVersion, with signers of any version
+ * and over content of any type (RawPkcs7Certificate), which der_part_octets takes of fewer.
+ *  - DER_NORMAL: *count ranges are at the front of out, in the order of the items, and the rest of out is as it was.
+ *  - DER_NO_ROOM: there are *count items, and out_len is less.
+ *  - DER_UNKNOWN_KIND: the items of the part with that number aren't listed, or no part has it.
+ *  - DER_MALFORMED to DER_TOO_DEEP: the input is no signed data, and *place says where, as of der_locate.
+ *  - DER_NO_MEMORY: *place is an offset without use.
+ *  - DER_NO_RANGE: an item isn't in the input where it is looked for. No input is known where it is answered, and that
+ *    there is none isn't proved.
+ * Unless at DER_NORMAL out is as it was, unless at DER_NORMAL and DER_NO_ROOM *count is 0, and but for the refusals and
+ * DER_NO_MEMORY *place is 0. Proved is that the octets in each range are those of the item, and that each item has one;
+ * that they are the item itself, and no equal octets, is tested. */
+uint32_t der_part_ranges(size_t number, const uint8_t *input, size_t input_len, der_range *out, size_t out_len,
+                         size_t *count, size_t *place);
 
 /* What a verification of one signer needs (RFC 5652, 5.3 to 5.6). A verifier
  *  1. takes the signer only where status is DER_NORMAL;
@@ -237,6 +253,12 @@ uint32_t der_oid_text(const uint8_t *octets, size_t octets_len, uint8_t *out, si
  * Unless at DER_NORMAL out is as it was. */
 uint32_t der_oid_name(const uint8_t *octets, size_t octets_len, uint8_t *out, size_t out_len, size_t *written);
 
+/* Writes the number that the contents octets of an INTEGER hold (X.690, 8.3), as a serial number, in decimal, after a
+ * minus where it is negative, to the front of out. Octets that DER would leave out are taken too. What it answers is as
+ * of der_name_text: DER_INVALID, and no other refusal, where there are no octets or more than 1,024, since the time
+ * that a text takes grows by the square of their count. */
+uint32_t der_integer_text(const uint8_t *octets, size_t octets_len, uint8_t *out, size_t out_len, size_t *written);
+
 /* A limit as the calls take it: one that a byte is too small for counts as DER_MAX_NESTING too. */
 static inline uint8_t der_levels(unsigned limit) {
   return (uint8_t)(limit < DER_MAX_NESTING ? limit : DER_MAX_NESTING);
@@ -325,6 +347,12 @@ static inline der_status der_rewrite(const char *kind, const uint8_t *input, siz
 static inline der_status der_part(der_part_number part, size_t index, const uint8_t *input, size_t input_len,
                                   uint8_t *out, size_t out_len, size_t *written) {
   return (der_status)der_part_octets((size_t)part, index, input, input_len, out, out_len, written);
+}
+
+/* The same as der_part_ranges. */
+static inline der_status der_ranges(der_part_number part, const uint8_t *input, size_t input_len, der_range *out,
+                                    size_t out_len, size_t *count, size_t *place) {
+  return (der_status)der_part_ranges((size_t)part, input, input_len, out, out_len, count, place);
 }
 
 /* The same as der_signer_rows. */

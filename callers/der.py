@@ -7,6 +7,8 @@ DER, from Python.
     library.mac_range(data)          range(30, 943), or None
     library.mac(data)                Mac(covered=range(30, 943), digest_algorithm='2.16.840.1.101.3.4.2.1', ..), or None
     library.part(Part.SIGNATURE, signed, 0)   the octets of a part, or None
+    library.ranges(Part.CERTIFICATE, signed)  [range(58, 912), ..], of all certificates
+    library.certificates(signed)     each of them, as memoryviews of signed
     library.signers(signed)         [Signer(is_over_attributes=True, covered=b'1..', ..), BadAttributes()]
     library.from_ber(data)           the DER of an input in BER, as bytes
     library.mac_ber(der)             as mac, of a file that from_ber returned
@@ -27,7 +29,7 @@ The shared library is made of the static ones, at the top of a clone, after `rt 
 import ctypes
 import enum
 import os
-from typing import Any, Callable, List, NamedTuple, Optional, Tuple, Union
+from typing import Any, Callable, Iterator, List, NamedTuple, Optional, Tuple, Union
 
 # The most levels of nesting that an input may have.
 MAX_NESTING = 64
@@ -36,6 +38,8 @@ NORMAL, LOOSE, UNKNOWN_KIND, TOO_LONG, NO_MEMORY, NO_ROOM, NO_RANGE, NO_PART = 0
 REASONS = {3: "malformed", 4: "missing", 5: "invalid", 6: "too deep"}
 # How many signers are asked for at first: where there are more, the input is read a second time.
 FEW_SIGNERS = 64
+# How many ranges there is room for at first, alike.
+FEW_RANGES = 1024
 
 Bytes = Union[bytes, bytearray, memoryview]
 # A call of the library, which returns a status.
@@ -236,6 +240,7 @@ class Library:
             ("der_rewrite_word_limited", [*word, octets, size, number]),
             ("der_mac_range", [octets, size, number, number]),
             ("der_signer_rows", [octets, size, size, ctypes.POINTER(_SignerParts), size, number, number]),
+            ("der_part_ranges", [size, octets, size, number, size, number, number]),
             ("der_kind_word", [size, octets, size, number]),
             ("der_mac", [octets, size, number, number, number]),
             ("der_part_octets", [size, size, octets, size, octets, size, number]),
@@ -245,6 +250,7 @@ class Library:
             ("der_name_text", [octets, size, octets, size, number]),
             ("der_oid_text", [octets, size, octets, size, number]),
             ("der_oid_name", [octets, size, octets, size, number]),
+            ("der_integer_text", [octets, size, octets, size, number]),
         ):
             call = getattr(self._library, name)
             call.argtypes, call.restype = arguments, ctypes.c_uint32
@@ -347,6 +353,41 @@ class Library:
             return None
         return self._part(self._library.der_part_octets, (part.value[0], index), part, data)
 
+    def ranges(self, part: Part, data: Bytes) -> List[range]:
+        """Where the input has each item of a part, in order: of Part.CERTIFICATE, all certificates of signed data.
+
+        Reads data once, or twice where there are more than FEW_RANGES. Signed data are taken of any CMSVersion and over
+        content of any type. Raises Refused where data are none, and ValueError where the items of the part aren't
+        listed.
+        """
+        return [range(start, start + size) for start, size in self._places(part, _octets(data))]
+
+    def certificates(self, data: Bytes) -> Iterator[memoryview]:
+        """All certificates of signed data, or other choices, in order, as memoryviews of data, and of a copy where data
+        aren't bytes. Raises Refused, before the first of them, where data are no signed data.
+        """
+        octets = _octets(data)
+        whole = memoryview(octets)
+        return (whole[start : start + size] for start, size in self._places(Part.CERTIFICATE, octets))
+
+    def _places(self, part: Part, data: bytes) -> Iterator[Tuple[int, int]]:
+        """The start and the length of each item of a part."""
+        room, count, place = FEW_RANGES, ctypes.c_size_t(), ctypes.c_size_t()
+        while True:
+            out = (ctypes.c_size_t * (2 * room))()
+            status = self._library.der_part_ranges(
+                part.value[0], data, len(data), out, room, ctypes.byref(count), ctypes.byref(place)
+            )
+            if status == NORMAL:
+                return zip(out[0 : 2 * count.value : 2], out[1 : 2 * count.value : 2])
+            if status == NO_RANGE:
+                raise Refused("no range", 0)
+            if status == UNKNOWN_KIND:
+                raise ValueError(f"the items of {part.name} aren't listed")
+            if status != NO_ROOM:
+                _raise_for(status, "", place.value)
+            room = count.value
+
     def signers(self, data: Bytes) -> List[Union[Signer, BadAttributes]]:
         """All signers of signed data, of any CMSVersion and over content of any type, in one reading or two.
 
@@ -433,6 +474,12 @@ class Library:
             if status != NO_ROOM:
                 return out.raw[: written.value].decode() if status == NORMAL else None
             room = written.value
+
+    def integer_text(self, contents: Bytes) -> str:
+        """The number that the contents octets of an INTEGER hold, in decimal. Raises Refused where there are none, or
+        more than 1,024.
+        """
+        return self._text(self._library.der_integer_text, contents)
 
     def _text(self, call: Any, data: Bytes) -> str:
         data = _octets(data)

@@ -10,15 +10,17 @@
 #include <stdlib.h>
 
 enum { MARK = 0xEE, MARGIN = 64, SPARE = 16, LONGEST = 1 << 20 };
+/* How many octets at the front of an input are taken as those of an INTEGER: each digit of it takes memory. */
+enum { LONGEST_INTEGER = 24 };
 
 /* The calls, by the word that begins their lines. */
 typedef enum {
   CHECK, LOCATE, LOOSE_END, REWRITE, MAC, MAC_NUMBERS, FROM_BER, MAC_BER, MAC_PART_BER, NAME, OID, OID_NAME, PART, KIND,
-  SIGNERS, SIGNER
+  SIGNERS, SIGNER, RANGES, INTEGER
 } call;
 static const char *const calls[] = {
-    "check",        "locate",    "loose_end", "rewrite",  "mac",  "mac_numbers", "from_ber", "mac_ber",
-    "mac_part_ber", "name_text", "oid_text",  "oid_name", "part", "kind",        "signers",  "signer"};
+    "check",     "locate",   "loose_end", "rewrite", "mac",  "mac_numbers", "from_ber", "mac_ber", "mac_part_ber",
+    "name_text", "oid_text", "oid_name",  "part",    "kind", "signers",     "signer",   "ranges",  "integer_text"};
 
 /* What a call is given: the index of a kind or of a signer, or the number of a part, where it takes one, and a limit if
  * there is one. */
@@ -76,12 +78,13 @@ static int is_marked(const number *it) { return it->before == MARKS && it->behin
 
 /* How many numbers a call writes. */
 static int numbers_of(call it) {
-  return it == MAC_NUMBERS || it == MAC_BER ? 3 : it == MAC || it == FROM_BER || it == SIGNERS ? 2 : 1;
+  return it == MAC_NUMBERS || it == MAC_BER ? 3 : it == MAC || it == FROM_BER || it == SIGNERS || it == RANGES ? 2 : 1;
 }
 
 /* Whether a call writes so many bytes as its first number says. */
 static int says_written(call it) {
   return it == REWRITE || it == FROM_BER || it == MAC_PART_BER || it == NAME || it == OID || it == OID_NAME ||
+         it == INTEGER ||
          it == PART || it == KIND;
 }
 
@@ -150,6 +153,9 @@ static answer made(call it, const given *its, uint8_t *room, size_t out_len) {
   case OID_NAME:
     said.status = (der_status)der_oid_name(its->input, its->len, out, out_len, &first.it);
     break;
+  case INTEGER:
+    said.status = (der_status)der_integer_text(its->input, its->len, out, out_len, &first.it);
+    break;
   case PART:
     said.status = der_part((der_part_number)its->index, 0, its->input, its->len, out, out_len, &first.it);
     break;
@@ -165,6 +171,12 @@ static answer made(call it, const given *its, uint8_t *room, size_t out_len) {
   case SIGNER:
     said.status = one_signer(its, out, &first.it);
     written = sizeof(der_signer_parts);
+    break;
+  case RANGES:
+    said.status = der_ranges((der_part_number)its->index, its->input, its->len, (der_range *)(void *)out,
+                             out_len / sizeof(der_range), &first.it, &second.it);
+    if (said.status == DER_NORMAL)
+      written = first.it * sizeof(der_range);
     break;
   }
   said.first = first.it;
@@ -184,7 +196,8 @@ static answer made(call it, const given *its, uint8_t *room, size_t out_len) {
 
 /* Whether the numbers are 0, but for a place, which has no use where memory is refused. */
 static int is_without_use(call it, const answer *said) {
-  return (!said->first || it == SIGNER) && (!said->second || it == FROM_BER || it == SIGNERS) && !said->third;
+  return (!said->first || it == SIGNER) && (!said->second || it == FROM_BER || it == SIGNERS || it == RANGES) &&
+         !said->third;
 }
 
 /* Makes a call, says what it answers, and then refuses its requests for memory in turn. */
@@ -266,6 +279,23 @@ static void signers(given *its, uint8_t *room) {
   tried(SIGNER, its, room, one);
 }
 
+/* Asks for the ranges of each part's items: with room for one, and where they are listed for one more, for just them,
+ * and for one less. And for those of a number that no part has. */
+static void ranges(given *its, uint8_t *room) {
+  const size_t one = sizeof(der_range);
+  for (its->index = 0; its->index <= DER_PART_MAC_SALT + 1; its->index++) {
+    const answer said = tried(RANGES, its, room, one);
+    if (said.status != DER_NORMAL && said.status != DER_NO_ROOM)
+      continue;
+    if ((said.first + 1) * one > 2 * LONGEST)
+      fault(RANGES, "there are more than this program has room for");
+    tried(RANGES, its, room, (said.first + 1) * one);
+    tried(RANGES, its, room, said.first * one);
+    if (said.first)
+      tried(RANGES, its, room, (said.first - 1) * one);
+  }
+}
+
 int main(int count, char **words) {
   static uint8_t input[LONGEST];
   static _Alignas(der_signer_parts) uint8_t room[MARGIN + 2 * LONGEST + MARGIN];
@@ -304,5 +334,8 @@ int main(int count, char **words) {
   text(OID, &its, room);
   text(OID_NAME, &its, room);
   signers(&its, room);
+  ranges(&its, room);
+  its.len = its.len < LONGEST_INTEGER ? its.len : LONGEST_INTEGER;
+  text(INTEGER, &its, room);
   return 0;
 }

@@ -96,6 +96,15 @@ extern "C" {
         count: *mut usize,
         place: *mut usize,
     ) -> u32;
+    pub fn der_part_ranges(
+        number: usize,
+        input: *const u8,
+        input_len: usize,
+        out: *mut Range,
+        out_len: usize,
+        count: *mut usize,
+        place: *mut usize,
+    ) -> u32;
     pub fn der_name_text(
         input: *const u8,
         input_len: usize,
@@ -111,6 +120,13 @@ extern "C" {
         written: *mut usize,
     ) -> u32;
     pub fn der_oid_name(
+        octets: *const u8,
+        octets_len: usize,
+        out: *mut u8,
+        out_len: usize,
+        written: *mut usize,
+    ) -> u32;
+    pub fn der_integer_text(
         octets: *const u8,
         octets_len: usize,
         out: *mut u8,

@@ -1,5 +1,5 @@
 //! Safe calls of the library for C: checks and rewritings of DER, the parts of containers that a verifier needs, as
-//! octets, the signers of signed data, and conversions of BER to DER.
+//! octets, the certificates and signers of signed data, and conversions of BER to DER.
 //!
 //! ```
 //! // the shortest PKCS #12 file
@@ -16,8 +16,10 @@
 #![warn(missing_docs)]
 
 mod calls;
+mod ranges;
 mod signers;
 
+pub use ranges::certificates;
 pub use signers::{signers, BadAttributes, Signer};
 
 use std::ffi::CStr;
@@ -63,7 +65,7 @@ pub enum Error {
     TooLong,
     /// The library's request for memory was refused, which says nothing of the input.
     NoMemory,
-    /// Of [`signers`]: a part isn't found in the input. No input is known where that is returned.
+    /// Of [`signers`] and [`certificates`]: a part isn't found in the input. No input is known where that is returned.
     NoRange,
     /// A status that a library of another version may return.
     Unknown(u32),
@@ -332,6 +334,12 @@ pub fn oid_name(octets: &[u8]) -> Option<String> {
         unsafe { calls::der_oid_name(octets.as_ptr(), octets.len(), out, out_len, written) }
     });
     (status == NORMAL).then(|| String::from_utf8_lossy(&name).into_owned())
+}
+
+/// The number that the contents octets of an INTEGER hold, in decimal, as `-1`. Where there are none, or more than
+/// 1,024, they are refused, and the place is 0.
+pub fn integer_text(contents: &[u8]) -> Result<String, Error> {
+    text_written(contents, calls::der_integer_text)
 }
 
 /// What a call writes as text in UTF-8.

@@ -212,3 +212,34 @@ fn kinds_have_words() {
     let kinds = vuyhanip::kinds();
     assert!(kinds.len() >= 77 && kinds.iter().any(|word| word == "pfx"));
 }
+
+#[test]
+fn certificates_are_parts_of_the_file() {
+    let found = vuyhanip::certificates(SIGNED).unwrap();
+    for (index, certificate) in found.iter().enumerate() {
+        assert_eq!(vuyhanip::part(Part::Certificate, index, SIGNED), Ok(Some(certificate.to_vec())));
+        assert!(SIGNED.as_ptr_range().contains(&certificate.as_ptr()));
+    }
+    assert_eq!((found.len(), vuyhanip::part(Part::Certificate, found.len(), SIGNED)), (2, Ok(None)));
+    // signers of version 3, which `part` refuses
+    assert_eq!(vuyhanip::certificates(BY_KEY).map(|it| it.len()), Ok(1));
+    assert_eq!(vuyhanip::certificates(DETACHED), Ok(vec![]));
+    let refused = Error::Refused { reason: Reason::Invalid, place: 4 };
+    assert_eq!(vuyhanip::certificates(STORE), Err(refused));
+}
+
+#[test]
+fn integers_are_in_decimal() {
+    let texts: [(&[u8], &str); 6] = [
+        (&[0], "0"),
+        (&[0x7F], "127"),
+        (&[0x80], "-128"),
+        (&[0, 0x80], "128"),
+        (&[0xFF], "-1"),
+        (&[1, 0, 0, 0, 0, 0, 0, 0, 0], "18446744073709551616"),
+    ];
+    for (contents, text) in texts {
+        assert_eq!(vuyhanip::integer_text(contents).as_deref(), Ok(text));
+    }
+    assert!(vuyhanip::integer_text(&[]).is_err() && vuyhanip::integer_text(&[1; 1025]).is_err());
+}

@@ -8,12 +8,15 @@ ghost use Rattle.x509_containers.specs.Parts.{parts};
 ghost use Rattle.der_c.specs.Calls.{status_of, ChecksWord, CopiesPart, IsKindAt, IsPartAt, NamesKind, PutsPart, RewritesWord};
 ghost use Rattle.der_c.specs.Conversions.{ConvertsBer};
 
+mod integers;
+pub mod lists;
 mod macs;
 mod names;
 mod object_names;
 pub mod signers;
 
 use ber_der::to_der_located;
+pub use integers::der_integer_text;
 pub use names::{der_name_text, der_oid_text};
 pub use object_names::der_oid_name;
 use std::alloc::Global;

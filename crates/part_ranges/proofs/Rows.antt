@@ -1,0 +1,36 @@
+-- Ranges of items, along lists.
+use Rattle.std.specs.Prelude.{◌≡◌, ℕ, ◌+◌, ◌<◌, ◌≤◌, List, [], ◌∷◌, ◌++◌, length, take, get_or, map, All}
+use Rattle.std.specs.declared.ops.Range.{Range}
+use Rattle.std.proofs.Common.{refl, sym, ap, subst, ◌∙◌}
+use Rattle.std.proofs.lemmas.List.{map-append, take_more}
+use Rattle.std.proofs.lemmas.List.Elements.{All-push}
+use Rattle.asn1_core.specs.Der.{ElementOctets}
+use Rattle.pkcs7_signed.specs.Certificates.{certificate_choices_value}
+use Rattle.pkcs7_signed.specs.declared.parts.certificates.CertificateChoices.{CertificateChoices}
+use Rattle.signer_ranges.specs.Signers.{IsAt}
+use Rattle.x509_pkcs7.specs.Matches.{choice_octets}
+use Rattle.part_ranges.specs.Ranges.{AreAt, IsInside, octets_in}
+
+module _ (b : List ℕ) {X : Type 0} (f : X → List ℕ) (xs : List X) (i : ℕ) (x : X) where
+  -- the items up to one, and that one
+  up_to : i < length xs → x ≡ get_or xs i x → map f (take (i + 1) xs) ≡ map f (take i xs) ++ f x ∷ []
+  up_to h e = ap (map f) (take_more xs i x h ∙ ap (λ y. take i xs ++ y ∷ []) (sym e)) ∙ map-append f (take i xs) (x ∷ [])
+
+  pub one_more : i < length xs → x ≡ get_or xs i x → (r : Range ℕ) → IsAt b (f x) r.start r.end → (old new : List (Range ℕ)) → new ≡ old ++ r ∷ [] → AreAt b (map f (take i xs)) old → AreAt b (map f (take (i + 1) xs)) new
+  one_more h e r at old new w a =
+      let same : map (octets_in b) (old ++ r ∷ []) ≡ map f (take (i + 1) xs) =
+      map-append (octets_in b) old (r ∷ []) ∙ ap (λ ys. ys ++ octets_in b r ∷ []) a.are ∙ ap (λ y. map f (take i xs) ++ y ∷ []) at.is ∙ sym (up_to h e) in
+      record {
+        are = ap (map (octets_in b)) w ∙ same;
+        inside = subst (All (IsInside b)) (sym w) (All-push (IsInside b) old r a.inside (at.ordered, at.inside));
+      }
+
+-- a list of two functions' values
+map_twice : {A B C : Type 0} (f : A → B) (g : B → C) (xs : List A) → map (λ x. g (f x)) xs ≡ map g (map f xs)
+map_twice f g [] = refl
+map_twice f g (x ∷ xs) = ap (λ ys. g (f x) ∷ ys) (map_twice f g xs)
+
+-- the certificates of a file
+pub of_file : (b : List ℕ) (cs ds : List CertificateChoices) (found : List (Range ℕ)) → ds ≡ cs → AreAt b (map (λ c. choice_octets (certificate_choices_value c)) ds) found → AreAt b (map choice_octets (map certificate_choices_value cs)) found
+of_file b cs ds found e a =
+    subst (λ items. AreAt b items found) (ap (map (λ c. choice_octets (certificate_choices_value c))) e ∙ map_twice certificate_choices_value choice_octets cs) a
