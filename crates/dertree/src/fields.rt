@@ -273,7 +273,7 @@ Certificate 30 /rfc5280.Certificate
 TBSCertificate
 TBSCertificate 30 /rfc5280.TBSCertificate
 
-Version
+rfc5280.Version
 Version 02
 
 CertificateSerialNumber
@@ -495,6 +495,81 @@ TSTInfo 30 /rfc3161.TSTInfo
 
 Accuracy
 Accuracy 30 /rfc3161.Accuracy
+
+OCSPRequest
+OCSPRequest 30 /rfc6960.OCSPRequest
+
+TBSRequest
+TBSRequest 30 /rfc6960.TBSRequest
+
+Signature
+Signature 30 /rfc6960.Signature
+
+rfc6960.Version
+Version 02
+
+Request
+Request 30 /rfc6960.Request
+
+CertID
+CertID 30 /rfc6960.CertID
+
+OCSPResponse
+OCSPResponse 30 /rfc6960.OCSPResponse
+
+OCSPResponseStatus
+OCSPResponseStatus 0A
+
+ResponseBytes
+ResponseBytes 30 /rfc6960.ResponseBytes
+
+BasicResponseBytes
+BasicResponseBytes 30 /rfc6960.BasicResponseBytes
+
+BasicOCSPResponse
+BasicOCSPResponse 30 /rfc6960.BasicOCSPResponse
+
+ResponseData
+ResponseData 30 /rfc6960.ResponseData
+
+ResponderID
+?ResponderID.byName A1 /rfc6960.ResponderID.byName~
+?ResponderID.byKey A2 /rfc6960.ResponderID.byKey~
+
+KeyHash
+KeyHash 04
+
+SingleResponse
+SingleResponse 30 /rfc6960.SingleResponse
+
+CertStatus
+?CertStatus.good 80
+?CertStatus.revoked A1 /rfc6960.RevokedInfo
+?CertStatus.unknown 82
+
+RevokedInfo
+RevokedInfo 30 /rfc6960.RevokedInfo
+
+UnknownInfo
+UnknownInfo 05
+
+ServiceLocator
+ServiceLocator 30 /rfc6960.ServiceLocator
+
+CrlID
+CrlID 30 /rfc6960.CrlID
+
+AcceptableResponses
+AcceptableResponses 30 /rfc6960.AcceptableResponses
+
+ArchiveCutoff
+ArchiveCutoff 18
+
+PreferredSignatureAlgorithms
+PreferredSignatureAlgorithms 30 /rfc6960.PreferredSignatureAlgorithms
+
+PreferredSignatureAlgorithm
+PreferredSignatureAlgorithm 30 /rfc6960.PreferredSignatureAlgorithm
 
 /MacData
 .mac 30 /Pkcs12DigestInfo
@@ -1322,4 +1397,164 @@ Accuracy 30 /rfc3161.Accuracy
 ?~.uniformResourceIdentifier 86
 ?~.iPAddress 87
 ?~.registeredID 88
+
+/rfc6960.OCSPRequest
+.tbsRequest 30 /rfc6960.TBSRequest
+?.optionalSignature A0 /rfc6960.OCSPRequest.optionalSignature~
+
+/rfc6960.TBSRequest
+?.version A0 /rfc6960.TBSRequest.version~
+?.requestorName A1 /rfc6960.TBSRequest.requestorName~
+.requestList 30 /rfc6960.TBSRequest.requestList
+?.requestExtensions A2 /rfc6960.TBSRequest.requestExtensions~
+
+/rfc6960.TBSRequest.version~
+~ 02
+
+/rfc6960.TBSRequest.requestorName~
+?~.otherName A0 /rfc5280.AnotherName
+?~.rfc822Name 81
+?~.dNSName 82
+?~.x400Address A3 /rfc5280.ORAddress
+?~.directoryName A4 /rfc5280.GeneralName.directoryName~
+?~.ediPartyName A5 /rfc5280.EDIPartyName
+?~.uniformResourceIdentifier 86
+?~.iPAddress 87
+?~.registeredID 88
+
+/rfc6960.TBSRequest.requestList
+?[] 30 /rfc6960.Request
+
+/rfc6960.Request
+.reqCert 30 /rfc6960.CertID
+?.singleRequestExtensions A0 /rfc6960.Request.singleRequestExtensions~
+
+/rfc6960.CertID
+.hashAlgorithm 30 /rfc5280.AlgorithmIdentifier
+.issuerNameHash 04
+.issuerKeyHash 04
+.serialNumber 02
+
+/rfc6960.Request.singleRequestExtensions~
+~ 30 /rfc5280.Extensions
+
+/rfc6960.TBSRequest.requestExtensions~
+~ 30 /rfc5280.Extensions
+
+/rfc6960.OCSPRequest.optionalSignature~
+~ 30 /rfc6960.Signature
+
+/rfc6960.Signature
+.signatureAlgorithm 30 /rfc5280.AlgorithmIdentifier
+.signature 03
+?.certs A0 /rfc6960.Signature.certs~
+
+/rfc6960.Signature.certs~
+~ 30 /rfc6960.Signature.certs
+
+/rfc6960.Signature.certs
+?[] 30 /rfc5280.Certificate
+
+/rfc6960.OCSPResponse
+.responseStatus 0A
+?.responseBytes A0 /rfc6960.OCSPResponse.responseBytes~
+
+/rfc6960.OCSPResponse.responseBytes~
+~ 30 /rfc6960.ResponseBytes
+
+/rfc6960.ResponseBytes
+.responseType 06
+.response 04
+
+/rfc6960.BasicResponseBytes
+.responseType 06
+.response 04 /rfc6960.BasicResponseBytes.response~
+
+/rfc6960.BasicResponseBytes.response~
+~ 30 /rfc6960.BasicOCSPResponse
+
+/rfc6960.BasicOCSPResponse
+.tbsResponseData 30 /rfc6960.ResponseData
+.signatureAlgorithm 30 /rfc5280.AlgorithmIdentifier
+.signature 03
+?.certs A0 /rfc6960.BasicOCSPResponse.certs~
+
+/rfc6960.ResponseData
+?.version A0 /rfc6960.ResponseData.version~
+?.responderID.byName A1 /rfc6960.ResponderID.byName~
+?.responderID.byKey A2 /rfc6960.ResponderID.byKey~
+.producedAt 18
+.responses 30 /rfc6960.ResponseData.responses
+?.responseExtensions A1 /rfc6960.ResponseData.responseExtensions~
+
+/rfc6960.ResponseData.version~
+~ 02
+
+/rfc6960.ResponderID.byName~
+~.rdnSequence 30 /rfc5280.RDNSequence
+
+/rfc6960.ResponderID.byKey~
+~ 04
+
+/rfc6960.ResponseData.responses
+?[] 30 /rfc6960.SingleResponse
+
+/rfc6960.SingleResponse
+.certID 30 /rfc6960.CertID
+?.certStatus.good 80
+?.certStatus.revoked A1 /rfc6960.RevokedInfo
+?.certStatus.unknown 82
+.thisUpdate 18
+?.nextUpdate A0 /rfc6960.SingleResponse.nextUpdate~
+?.singleExtensions A1 /rfc6960.SingleResponse.singleExtensions~
+
+/rfc6960.RevokedInfo
+.revocationTime 18
+?.revocationReason A0 /rfc6960.RevokedInfo.revocationReason~
+
+/rfc6960.RevokedInfo.revocationReason~
+~ 0A
+
+/rfc6960.SingleResponse.nextUpdate~
+~ 18
+
+/rfc6960.SingleResponse.singleExtensions~
+~ 30 /rfc5280.Extensions
+
+/rfc6960.ResponseData.responseExtensions~
+~ 30 /rfc5280.Extensions
+
+/rfc6960.BasicOCSPResponse.certs~
+~ 30 /rfc6960.BasicOCSPResponse.certs
+
+/rfc6960.BasicOCSPResponse.certs
+?[] 30 /rfc5280.Certificate
+
+/rfc6960.ServiceLocator
+.issuer.rdnSequence 30 /rfc5280.RDNSequence
+.locator 30 /rfc5280.AuthorityInfoAccessSyntax
+
+/rfc6960.CrlID
+?.crlUrl A0 /rfc6960.CrlID.crlUrl~
+?.crlNum A1 /rfc6960.CrlID.crlNum~
+?.crlTime A2 /rfc6960.CrlID.crlTime~
+
+/rfc6960.CrlID.crlUrl~
+~ 16
+
+/rfc6960.CrlID.crlNum~
+~ 02
+
+/rfc6960.CrlID.crlTime~
+~ 18
+
+/rfc6960.AcceptableResponses
+?[] 06
+
+/rfc6960.PreferredSignatureAlgorithms
+?[] 30 /rfc6960.PreferredSignatureAlgorithm
+
+/rfc6960.PreferredSignatureAlgorithm
+.sigIdentifier 30 /rfc5280.AlgorithmIdentifier
+?.certIdentifier 30 /rfc5280.AlgorithmIdentifier
 ";
