@@ -27,9 +27,7 @@ use pkcs7_signed::parts::SignerIdentifier;
 use std::alloc::Global;
 use std::ops::Range;
 use x509_base::Attribute;
-use x509_pkcs7::{
-    RawPkcs7Certificate, RawSignerInfo, SignerCertificate, signer_certificates_at,
-};
+use x509_pkcs7::{RawPkcs7Certificate, RawSignerInfo, SignerCertificate, signer_certificates_at};
 
 /// `id-messageDigest`
 const MESSAGE_DIGEST: [u8; 9] = [0x2A, 0x86, 0x48, 0x86, 0xF7, 0x0D, 0x01, 0x09, 0x04];
