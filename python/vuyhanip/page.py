@@ -38,7 +38,9 @@ def named(text: str) -> str:
     if found is None or found[1] not in NAMES:
         return text
     known = NAMES[found[1]]
-    rest = text[found.end() :].removeprefix(f" ({known.name})")
+    rest, own = text[found.end() :], f" ({known.name})"
+    if rest.startswith(own):
+        rest = rest[len(own) :]
     return f"{found[0]} ({known.name}, {known.source}){rest}"
 
 

@@ -1,5 +1,6 @@
 pub mod Chosen
 pub mod Tables
+pub mod ByOid
 pub mod DefinedBy
 pub mod DefinedByLaws
 pub mod ByTag

@@ -20,7 +20,7 @@ pub enum KnownOrRaw<T> {
 }
 
 /// Whether the element has a tag of `T`.
-fn has_tag_of<T: FirstTags>(element: &Asn1RawDer) -> bool
+fn has_tag_of<T: DerDeserialize>(element: &Asn1RawDer) -> bool
     ensures { IsTrue result ↔ NextIs T.format.IsTag element.now.0.items }
 {
     match element.0.as_slice() {
@@ -29,7 +29,7 @@ fn has_tag_of<T: FirstTags>(element: &Asn1RawDer) -> bool
     }
 }
 
-impl<T: FirstTags> DerSerialize for KnownOrRaw<T> {
+impl<T: DerDeserialize> DerSerialize for KnownOrRaw<T> {
     ghost Value = { T.Value ⊎ ElementOctets };
 
     ghost value = { λ x. elim x [ Known v ↦ inl (T.value v) | Raw e ↦ inr e.0.items ] };
@@ -51,7 +51,7 @@ impl<T: FirstTags> DerSerialize for KnownOrRaw<T> {
     }
 }
 
-impl<T: FirstTags> DerDeserialize for KnownOrRaw<T> {
+impl<T: DerDeserialize> DerDeserialize for KnownOrRaw<T> {
     fn read(alloc: Global, r: &mut Reader<'_>, nest: u8) -> Result<Self, Error> {
         if next_is::<T>(r) {
             let value = T::read(alloc, r, nest)?;
@@ -61,14 +61,19 @@ impl<T: FirstTags> DerDeserialize for KnownOrRaw<T> {
         Ok(KnownOrRaw::Raw(element))
     }
 
+    /// By any tag, as it is one of `T` or isn't.
+    fn begins(tag: u8) -> bool {
+        T::begins(tag) || !T::begins(tag)
+    }
+
     ghost lawful = { lawful_known_or_raw T.DerSerialize.format T.lawful };
 }
 
-impl<T: EqualByText + FirstTags> EqualByText for KnownOrRaw<T> {
+impl<T: EqualByText + DerDeserialize> EqualByText for KnownOrRaw<T> {
     ghost equal_by_text = { λ x y. let same = T.equal_by_text in Prim.search (der_equal, rules) depth 20 };
 }
 
-impl<T: TryClone + EqualByText + FirstTags> TryClone for KnownOrRaw<T> {
+impl<T: TryClone + EqualByText + DerDeserialize> TryClone for KnownOrRaw<T> {
     fn try_clone(&self, alloc: Global) -> Result<Self, Error> {
         match self {
             KnownOrRaw::Known(value) => Ok(KnownOrRaw::Known(value.try_clone(alloc)?)),

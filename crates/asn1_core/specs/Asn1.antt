@@ -2,7 +2,6 @@
 use Rattle.std.specs.Prelude.{◌≡◌, ◌^◌, ℕ, ltb, true}
 use Rattle.std.proofs.Common.{arith}
 use Rattle.std.proofs.lemmas.Bool.{ltb-true}
-use Rattle.asn1_core_format.specs.Numbers.{lawful_number, numbers_below}
 use Rattle.asn1_core_format.specs.TaggedLaws.{leaf_tagged}
 use Rattle.asn1_core.specs.Booleans.{lawful_boolean, booleans, explicit_false, false_left_out}
 use Rattle.asn1_core.specs.Defaults.{number_octets, number_left_out}
@@ -11,7 +10,7 @@ use Rattle.asn1_core.specs.Objects.{lawful_object_identifier, oid_octets}
 use Rattle.asn1_core.specs.Octets.{lawful_octet_string, any_octets}
 use Rattle.asn1_core.specs.Raw.{lawful_raw}
 use Rattle.asn1_core.specs.Versions.{only, lawful_version}
-pub use Rattle.asn1_core_format.specs.Asn1.{Asn1, asn1, asn1_tagged, Asn1Default, ComponentTypes, Distinct, all_distinct, Contents, end, ◌then◌, ◌OPTIONAL◌, ◌DEFAULT◌, contents, SEQUENCE, list_of, SEQUENCE_OF, SET_OF, EXPLICIT, IMPLICIT, CHOICE, EXPLICIT_default, IMPLICIT_default}
+pub use Rattle.asn1_core_format.specs.Asn1.{Asn1, asn1, asn1_tagged, INTEGER_BELOW, Asn1Default, ComponentTypes, Distinct, all_distinct, Contents, end, ◌then◌, ◌OPTIONAL◌, ◌DEFAULT◌, contents, SEQUENCE, list_of, SEQUENCE_OF, SET_OF, EXPLICIT, IMPLICIT, CHOICE, EXPLICIT_default, IMPLICIT_default}
 
 abbrev pub OBJECT_IDENTIFIER : Asn1
 OBJECT_IDENTIFIER = asn1_tagged lawful_object_identifier 0x06 (leaf_tagged 0x06 (omega arith) oid_octets)
@@ -25,10 +24,6 @@ NULL = asn1_tagged lawful_null_element 0x05 (leaf_tagged 0x05 (omega arith) no_c
 -- any one element, kept as it is
 abbrev pub ANY : Asn1
 ANY = asn1 lawful_raw
-
--- from 0 to below the bound
-abbrev pub INTEGER_BELOW : ℕ → Asn1
-INTEGER_BELOW bound = asn1_tagged (lawful_number bound) 0x02 (leaf_tagged 0x02 (omega arith) (numbers_below bound))
 
 -- INTEGER (0..255), with that number as its DEFAULT
 abbrev pub INTEGER_or : (d : ℕ) → ltb d (2 ^ 8) ≡ true → Asn1Default

@@ -1,15 +1,12 @@
 //! BOOLEAN, where FALSE is the default.
 
 ghost use Rattle.std.specs.Prelude.{Bool};
-ghost use Rattle.std.proofs.Common.{arith, rules};
-ghost use Rattle.asn1_core.specs.Booleans.{booleans, boolean, lawful_boolean, explicit_false, is_false, false_left_out, false_reads};
-ghost use Rattle.asn1_core_format.specs.TaggedLaws.{leaf_tagged};
+ghost use Rattle.std.proofs.Common.{rules};
+ghost use Rattle.asn1_core.specs.Asn1.{BOOLEAN};
+ghost use Rattle.asn1_core.specs.Booleans.{booleans, explicit_false, is_false, false_left_out, false_reads};
 
 use asn1_core_element::{Error, Reader};
-use asn1_core_format::{
-    DerDeserialize, DerSerialize, DerTagged, EqualByText, HasDefault, Leaf, TryClone, read_leaf,
-    read_leaf_contents,
-};
+use asn1_core_format::{DefaultType, Leaf, TaggedType, read_leaf_contents};
 use asn1_core_writers::{WriteError, Writer, put_element};
 use std::alloc::Global;
 
@@ -33,40 +30,16 @@ impl Leaf for DefaultFalse {
     }
 }
 
-impl DerSerialize for DefaultFalse {
-    ghost Value = { Bool };
+impl TaggedType for DefaultFalse {
+    ghost asn1 = { BOOLEAN };
 
     ghost value = { λ x. x.0 };
 
-    ghost format = { boolean };
-
-    fn put<W: Writer>(&self, w: &mut W) -> Result<(), WriteError> {
-        if self.0 {
-            put_element(0x01, &[0xFF], w)
-        } else {
-            put_element(0x01, &[0x00], w)
-        }
-    }
-
-    fn well_formed_at(&self, _limit: u8) -> bool {
-        true
-    }
-}
-
-impl DerDeserialize for DefaultFalse {
-    fn read(alloc: Global, r: &mut Reader<'_>, nest: u8) -> Result<Self, Error> {
-        read_leaf(alloc, r, nest, 0x01)
-    }
-
-    ghost lawful = { lawful_boolean };
-}
-
-impl DerTagged for DefaultFalse {
     ghost TAG = { 0x01 };
 
     const TAG: u8 = 0x01;
 
-    fn put_as<W: Writer>(&self, tag: u8, w: &mut W) -> Result<(), WriteError> {
+    fn put_tagged<W: Writer>(&self, tag: u8, w: &mut W) -> Result<(), WriteError> {
         if self.0 {
             put_element(tag, &[0xFF], w)
         } else {
@@ -74,35 +47,35 @@ impl DerTagged for DefaultFalse {
         }
     }
 
-    fn read_contents(alloc: Global, r: &mut Reader<'_>, nest: u8) -> Result<Self, Error> {
+    fn is_well_formed_at(&self, _limit: u8) -> bool {
+        true
+    }
+
+    fn read_open_contents(alloc: Global, r: &mut Reader<'_>, nest: u8) -> Result<Self, Error> {
         read_leaf_contents(alloc, r, nest, 0x01)
     }
 
-    ghost tagged = { leaf_tagged 0x01 (Prim.omega arith) booleans };
+    fn clone_value(&self, _alloc: Global) -> Result<Self, Error> {
+        Ok(*self)
+    }
+
+    ghost tagged = { BOOLEAN.tagged };
+
+    ghost equal = { Prim.search rules };
 }
 
-impl HasDefault for DefaultFalse {
-    ghost DEFAULT = { explicit_false };
+impl DefaultType for DefaultFalse {
+    ghost ABSENT = { explicit_false };
 
     #[tactic(auto, using(crate::specs::Booleans::is_false))]
-    fn is_default(&self) -> bool {
+    fn is_absent(&self) -> bool {
         !self.0
     }
 
     #[tactic(auto, using(crate::specs::Booleans::false_reads))]
-    fn absent(_alloc: Global) -> Result<Self, Error> {
+    fn when_absent(_alloc: Global) -> Result<Self, Error> {
         Ok(DefaultFalse(false))
     }
 
-    ghost left_out = { false_left_out };
-}
-
-impl EqualByText for DefaultFalse {
-    ghost equal_by_text = { Prim.search rules };
-}
-
-impl TryClone for DefaultFalse {
-    fn try_clone(&self, _alloc: Global) -> Result<Self, Error> {
-        Ok(*self)
-    }
+    ghost absent_law = { false_left_out };
 }

@@ -6,7 +6,7 @@ ghost use Rattle.asn1_core_format.specs.ComponentLaws.{lawful_within};
 
 use asn1_core_element::{Error, Reader};
 use asn1_core_format::{
-    Alone, DerDeserialize, DerSerialize, FirstTags, Ref, TryClone, Viewed, put_within, read_within,
+    Alone, DerDeserialize, DerSerialize, Ref, TryClone, Viewed, put_within, read_within,
 };
 use asn1_core_writers::{WriteError, Writer};
 use std::alloc::Global;
@@ -37,13 +37,11 @@ impl<T: DerDeserialize> DerDeserialize for OctetStringAsn1Container<T> {
         Ok(OctetStringAsn1Container(value))
     }
 
-    ghost lawful = { lawful_within T.DerSerialize.format T.lawful.components 0x04 (Prim.omega arith) };
-}
-
-impl<T: DerDeserialize> FirstTags for OctetStringAsn1Container<T> {
     fn begins(tag: u8) -> bool {
         tag == 0x04
     }
+
+    ghost lawful = { lawful_within T.DerSerialize.format T.lawful.components 0x04 (Prim.omega arith) };
 }
 
 impl<T: Viewed> Viewed for OctetStringAsn1Container<T> {

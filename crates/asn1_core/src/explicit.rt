@@ -10,8 +10,7 @@ ghost use Rattle.asn1_core_format.specs.TaggedDefaults.{explicit_left_out};
 
 use asn1_core_element::{Error, Reader};
 use asn1_core_format::{
-    Alone, DerDeserialize, DerSerialize, FirstTags, HasDefault, Ref, TryClone, Viewed, put_within,
-    read_within,
+    Alone, DerDeserialize, DerSerialize, HasDefault, Ref, TryClone, Viewed, put_within, read_within,
 };
 use asn1_core_writers::{WriteError, Writer};
 use std::alloc::Global;
@@ -42,13 +41,11 @@ impl<T: DerDeserialize> DerDeserialize for ExplicitContextTag0<T> {
         Ok(ExplicitContextTag0(value))
     }
 
-    ghost lawful = { lawful_within T.DerSerialize.format T.lawful.components 0xA0 (Prim.omega arith) };
-}
-
-impl<T: DerDeserialize> FirstTags for ExplicitContextTag0<T> {
     fn begins(tag: u8) -> bool {
         tag == 0xA0
     }
+
+    ghost lawful = { lawful_within T.DerSerialize.format T.lawful.components 0xA0 (Prim.omega arith) };
 }
 
 impl<T: Viewed> Viewed for ExplicitContextTag0<T> {
@@ -91,13 +88,11 @@ impl<T: DerDeserialize> DerDeserialize for ExplicitContextTag1<T> {
         Ok(ExplicitContextTag1(value))
     }
 
-    ghost lawful = { lawful_within T.DerSerialize.format T.lawful.components 0xA1 (Prim.omega arith) };
-}
-
-impl<T: DerDeserialize> FirstTags for ExplicitContextTag1<T> {
     fn begins(tag: u8) -> bool {
         tag == 0xA1
     }
+
+    ghost lawful = { lawful_within T.DerSerialize.format T.lawful.components 0xA1 (Prim.omega arith) };
 }
 
 impl<T: Viewed> Viewed for ExplicitContextTag1<T> {
@@ -140,13 +135,11 @@ impl<T: DerDeserialize> DerDeserialize for ExplicitContextTag2<T> {
         Ok(ExplicitContextTag2(value))
     }
 
-    ghost lawful = { lawful_within T.DerSerialize.format T.lawful.components 0xA2 (Prim.omega arith) };
-}
-
-impl<T: DerDeserialize> FirstTags for ExplicitContextTag2<T> {
     fn begins(tag: u8) -> bool {
         tag == 0xA2
     }
+
+    ghost lawful = { lawful_within T.DerSerialize.format T.lawful.components 0xA2 (Prim.omega arith) };
 }
 
 impl<T: Viewed> Viewed for ExplicitContextTag2<T> {
@@ -195,13 +188,11 @@ impl<const N: u8, T: DerDeserialize> DerDeserialize for Explicit<N, T> {
         Ok(Explicit(value))
     }
 
-    ghost lawful = { lawful_explicit_context N T.lawful };
-}
-
-impl<const N: u8, T: DerDeserialize> FirstTags for Explicit<N, T> {
     fn begins(tag: u8) -> bool {
         tag == 0xA0 + N % 31
     }
+
+    ghost lawful = { lawful_explicit_context N T.lawful };
 }
 
 impl<const N: u8, T: Viewed> Viewed for Explicit<N, T> {

@@ -11,7 +11,7 @@ ghost use Rattle.asn1_core_format.specs.TaggedDefaults.{implicit_left_out};
 use asn1_core_element::{Error, Reader};
 use asn1_core_format::tagged::context_tag_of;
 use asn1_core_format::{
-    DerDeserialize, DerSerialize, DerTagged, FirstTags, HasDefault, TryClone, Viewed, read_retagged,
+    DerDeserialize, DerSerialize, DerTagged, HasDefault, TryClone, Viewed, read_retagged,
 };
 use asn1_core_writers::{WriteError, Writer};
 use std::alloc::Global;
@@ -41,13 +41,11 @@ impl<T: DerTagged> DerDeserialize for ImplicitContextTag0<T> {
         Ok(ImplicitContextTag0(read_retagged(alloc, r, nest, context_tag_of::<T>(0))?))
     }
 
-    ghost lawful = { lawful_implicit (context_tag 0 T.TAG) T.TAG T.DerSerialize.format T.lawful T.tagged (context_tag_is 0 T.TAG (Prim.omega arith)) };
-}
-
-impl<T: DerTagged> FirstTags for ImplicitContextTag0<T> {
     fn begins(tag: u8) -> bool {
         tag == context_tag_of::<T>(0)
     }
+
+    ghost lawful = { lawful_implicit (context_tag 0 T.TAG) T.TAG T.DerSerialize.format T.lawful T.tagged (context_tag_is 0 T.TAG (Prim.omega arith)) };
 }
 
 impl<T: Viewed> Viewed for ImplicitContextTag0<T> {
@@ -89,13 +87,11 @@ impl<T: DerTagged> DerDeserialize for ImplicitContextTag1<T> {
         Ok(ImplicitContextTag1(read_retagged(alloc, r, nest, context_tag_of::<T>(1))?))
     }
 
-    ghost lawful = { lawful_implicit (context_tag 1 T.TAG) T.TAG T.DerSerialize.format T.lawful T.tagged (context_tag_is 1 T.TAG (Prim.omega arith)) };
-}
-
-impl<T: DerTagged> FirstTags for ImplicitContextTag1<T> {
     fn begins(tag: u8) -> bool {
         tag == context_tag_of::<T>(1)
     }
+
+    ghost lawful = { lawful_implicit (context_tag 1 T.TAG) T.TAG T.DerSerialize.format T.lawful T.tagged (context_tag_is 1 T.TAG (Prim.omega arith)) };
 }
 
 impl<T: Viewed> Viewed for ImplicitContextTag1<T> {
@@ -144,13 +140,11 @@ impl<const N: u8, T: DerTagged> DerDeserialize for Implicit<N, T> {
         Ok(Implicit(value))
     }
 
-    ghost lawful = { lawful_implicit_context N T.TAG T.lawful T.tagged };
-}
-
-impl<const N: u8, T: DerTagged> FirstTags for Implicit<N, T> {
     fn begins(tag: u8) -> bool {
         tag == context_tag_of::<T>(N % 31)
     }
+
+    ghost lawful = { lawful_implicit_context N T.TAG T.lawful T.tagged };
 }
 
 impl<const N: u8, T: Viewed> Viewed for Implicit<N, T> {

@@ -44,6 +44,10 @@ impl<T: DerDeserialize> DerDeserialize for Asn1SequenceOf<T> {
         Ok(Asn1SequenceOf(items))
     }
 
+    fn begins(tag: u8) -> bool {
+        tag == 0x30
+    }
+
     ghost lawful = { lawful_within (each T.DerSerialize.format) (lawful_each T.DerSerialize.format T.lawful) 0x30 (Prim.omega arith) };
 }
 
@@ -102,6 +106,10 @@ impl<T: DerDeserialize> DerDeserialize for Asn1SetOf<T> {
     fn read(alloc: Global, r: &mut Reader<'_>, nest: u8) -> Result<Self, Error> {
         let items = read_within::<Vec<T>>(alloc, r, nest, 0x31)?;
         Ok(Asn1SetOf(items))
+    }
+
+    fn begins(tag: u8) -> bool {
+        tag == 0x31
     }
 
     ghost lawful = { lawful_set T.DerSerialize.format T.lawful };

@@ -1,18 +1,16 @@
 //! NULL (X.690, 8.8).
 
-ghost use Rattle.std.proofs.Common.{arith};
-ghost use Rattle.asn1_core.specs.Nulls.{no_contents, null_element, lawful_null_element};
-ghost use Rattle.asn1_core_format.specs.TaggedLaws.{leaf_tagged};
+ghost use Rattle.std.proofs.Common.{rules};
+ghost use Rattle.asn1_core.specs.Asn1.{NULL};
+ghost use Rattle.asn1_core.specs.Nulls.{no_contents};
 
 use asn1_core_element::{Error, Reader};
-use asn1_core_format::{
-    DerDeserialize, DerSerialize, DerTagged, Leaf, read_leaf, read_leaf_contents,
-};
+use asn1_core_format::{Leaf, TaggedType, read_leaf_contents};
 use asn1_core_writers::{WriteError, Writer, put_element};
 use std::alloc::Global;
 
 /// NULL.
-#[derive(Drop)]
+#[derive(Drop, PartialEq)]
 pub struct Null;
 
 impl Leaf for Null {
@@ -33,42 +31,32 @@ impl Leaf for Null {
     }
 }
 
-impl DerSerialize for Null {
-    ghost Value = { Unit {0} };
+impl TaggedType for Null {
+    ghost asn1 = { NULL };
 
     ghost value = { λ _. tt };
 
-    ghost format = { null_element };
-
-    fn put<W: Writer>(&self, w: &mut W) -> Result<(), WriteError> {
-        put_element(0x05, &[], w)
-    }
-
-    fn well_formed_at(&self, _limit: u8) -> bool {
-        true
-    }
-}
-
-impl DerDeserialize for Null {
-    fn read(alloc: Global, r: &mut Reader<'_>, nest: u8) -> Result<Self, Error> {
-        read_leaf(alloc, r, nest, 0x05)
-    }
-
-    ghost lawful = { lawful_null_element };
-}
-
-impl DerTagged for Null {
     ghost TAG = { 0x05 };
 
     const TAG: u8 = 0x05;
 
-    fn put_as<W: Writer>(&self, tag: u8, w: &mut W) -> Result<(), WriteError> {
+    fn put_tagged<W: Writer>(&self, tag: u8, w: &mut W) -> Result<(), WriteError> {
         put_element(tag, &[], w)
     }
 
-    fn read_contents(alloc: Global, r: &mut Reader<'_>, nest: u8) -> Result<Self, Error> {
+    fn is_well_formed_at(&self, _limit: u8) -> bool {
+        true
+    }
+
+    fn read_open_contents(alloc: Global, r: &mut Reader<'_>, nest: u8) -> Result<Self, Error> {
         read_leaf_contents(alloc, r, nest, 0x05)
     }
 
-    ghost tagged = { leaf_tagged 0x05 (Prim.omega arith) no_contents };
+    fn clone_value(&self, _alloc: Global) -> Result<Self, Error> {
+        Ok(Null)
+    }
+
+    ghost tagged = { NULL.tagged };
+
+    ghost equal = { Prim.search rules };
 }

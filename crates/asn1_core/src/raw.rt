@@ -6,7 +6,7 @@ ghost use Rattle.asn1_core.specs.Raw.{raw, lawful_raw};
 
 use asn1_core_element::front::front;
 use asn1_core_element::{Error, Reader};
-use asn1_core_format::{DerDeserialize, DerSerialize, EqualByText, FirstTags, TryClone};
+use asn1_core_format::{DerDeserialize, DerSerialize, EqualByText, TryClone};
 use asn1_core_writers::{WriteError, Writer};
 use std::alloc::Global;
 
@@ -39,13 +39,11 @@ impl DerDeserialize for Asn1RawDer {
         Ok(Asn1RawDer(Vec::from_slice(alloc, element)?))
     }
 
-    ghost lawful = { lawful_raw };
-}
-
-impl FirstTags for Asn1RawDer {
     fn begins(tag: u8) -> bool {
         tag % 32 < 31
     }
+
+    ghost lawful = { lawful_raw };
 }
 
 impl EqualByText for Asn1RawDer {

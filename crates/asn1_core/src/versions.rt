@@ -4,7 +4,7 @@ ghost use Rattle.std.specs.Prelude.{ℕ};
 ghost use Rattle.asn1_core.specs.Versions.{only, version, lawful_version_0, lawful_version_1, lawful_version_3};
 
 use asn1_core_element::{Error, Reader};
-use asn1_core_format::{DerDeserialize, DerSerialize, FirstTags, Leaf, read_leaf};
+use asn1_core_format::{DerDeserialize, DerSerialize, Leaf, read_leaf};
 use asn1_core_writers::{WriteError, Writer, put_unsigned};
 use std::alloc::Global;
 
@@ -52,6 +52,10 @@ impl DerDeserialize for FixedVersion<0> {
         read_leaf(alloc, r, nest, 0x02)
     }
 
+    fn begins(tag: u8) -> bool {
+        tag == 0x02
+    }
+
     ghost lawful = { lawful_version_0 };
 }
 
@@ -60,18 +64,20 @@ impl DerDeserialize for FixedVersion<1> {
         read_leaf(alloc, r, nest, 0x02)
     }
 
-    ghost lawful = { lawful_version_1 };
-}
-
-impl FirstTags for FixedVersion<1> {
     fn begins(tag: u8) -> bool {
         tag == 0x02
     }
+
+    ghost lawful = { lawful_version_1 };
 }
 
 impl DerDeserialize for FixedVersion<3> {
     fn read(alloc: Global, r: &mut Reader<'_>, nest: u8) -> Result<Self, Error> {
         read_leaf(alloc, r, nest, 0x02)
+    }
+
+    fn begins(tag: u8) -> bool {
+        tag == 0x02
     }
 
     ghost lawful = { lawful_version_3 };

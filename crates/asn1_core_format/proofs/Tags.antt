@@ -1,12 +1,13 @@
 -- Another tag in place of a type's own, read.
-use Rattle.std.proofs.Common.{ℕ, Result, Ok, Err, sym, subst, refl, arith}
-use Rattle.asn1_core_element.specs.ElementLaws.{element_same}
+use Rattle.std.proofs.Common.{◌≡◌, ℕ, List, ◌++◌, Result, Ok, Err, sym, ap, ◌∙◌, subst, refl, arith}
+use Rattle.asn1_core_element.specs.Element.{element, retag}
+use Rattle.asn1_core_element.specs.ElementLaws.{element_same, retag_element}
 use Rattle.asn1_core_element.specs.Position.{Position}
-use Rattle.asn1_core_element.specs.Reading.{OpenedElement, Closed}
+use Rattle.asn1_core_element.specs.Reading.{RefusedElement, OpenedElement, Closed}
 use Rattle.asn1_core_element.specs.declared.error.Error.{Error}
-use Rattle.asn1_core_format.specs.Format.{Format, HasRead, HasRefused}
+use Rattle.asn1_core_format.specs.Format.{Format, IsLawful, HasRead, HasRefused}
 use Rattle.asn1_core_format.specs.Components.{HasReadComponents, HasRefusedComponents, GivesComponents, within}
-use Rattle.asn1_core_format.specs.Tagged.{inside, implicit}
+use Rattle.asn1_core_format.specs.Tagged.{IsTagged, inside, implicit}
 use Rattle.asn1_core_format.proofs.ComponentReads.{within_refused, within_has_read}
 
 module _ {V : Type 0} (F : Format V) (k tag inner : ℕ) where
@@ -29,3 +30,46 @@ module _ {T V : Type 0} (value : T → V) (R : Format V) (k tag : ℕ) where
     counts = g.counts;
     at_most = g.at_most;
   }
+
+module _ {V : Type 0} (F : Format V) (f : IsLawful F) (tag t : ℕ) (same : t ≡ tag) (g : IsTagged tag F) (k : ℕ) where
+  -- what a type of one tag reads is an element with that tag
+  own : (b : List ℕ) (v : V) → F.Reads k b v → (c : List ℕ) × (b ≡ element tag c)
+  own b v r = let e = f.element k b v r in (e.contents, e.is ∙ ap (λ t. element t e.contents) ((g.tags e.tag).0 e.allowed))
+
+  pub own_unopened : {old new : Position} {e : Error} → RefusedElement t old new e → HasRefused F k old new e
+  own_unopened {old} {new} {e} o = record {
+    kind = o.long;
+    none = λ m taken rest v s p.
+        let c = own taken v p in
+        o.none c.0 rest (s ∙ ap (λ b. b ++ rest) (c.1 ∙ ap (λ u. element u c.0) (sym same)));
+    counts = omega (arith, o.headers);
+    at_most = omega (arith, o.headers);
+  }
+
+  pub own_refused : {old mid new : Position} {outer : ℕ} {e : Error} → OpenedElement t old mid outer → HasRefusedComponents (inside tag F) k mid new e → HasRefused F k old new e
+  own_refused {old} {mid} {new} {outer} {e} o h =
+      let r = implicit_refused F k tag tag (subst (λ u. OpenedElement u old mid outer) same o) h in
+      record {
+        kind = r.kind;
+        none = λ m taken rest v s p. let c = own taken v p in r.none m taken rest v s (c.0, c.1, subst (λ b. F.Reads k b v) c.1 p);
+        counts = r.counts;
+        at_most = r.at_most;
+      }
+
+  pub own_has_read : {old mid late new : Position} {outer : ℕ} {v : V} → OpenedElement t old mid outer → HasReadComponents (inside tag F) k mid late v → Closed late new outer → HasRead F k old new v
+  own_has_read {old} {mid} {late} {new} {outer} {v} o a c =
+      let h = implicit_has_read F k tag tag (subst (λ u. OpenedElement u old mid outer) same o) a c in
+      record {
+        taken = h.taken;
+        split = h.split;
+        reads = subst (λ b. F.Reads k b v) (sym h.reads.1) h.reads.2;
+        beyond = h.beyond;
+        end = h.end;
+        refused = h.refused;
+        at_least = omega (arith, h.at_least);
+        at_most = h.at_most;
+      }
+
+-- under its own tag an encoding is what it was
+pub own_text : {V : Type 0} (F : Format V) (tag : ℕ) → IsTagged tag F → (v : V) → retag tag (F.text v) ≡ F.text v
+own_text F tag g v = let w = g.written v in ap (retag tag) w.1 ∙ retag_element tag tag w.0 ∙ sym w.1

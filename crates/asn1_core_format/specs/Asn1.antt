@@ -11,8 +11,9 @@ use Rattle.asn1_core_format.specs.Omitted.{omitted, lawful_omitted, is_default_w
 use Rattle.asn1_core_format.specs.Components.{nothing, part, optional}
 use Rattle.asn1_core_format.specs.ComponentLaws.{lawful_nothing, lawful_part, lawful_optional}
 use Rattle.asn1_core_format.specs.Sequences.{lawful_sequence, lawful_set}
+use Rattle.asn1_core_format.specs.Numbers.{lawful_number, numbers_below}
 use Rattle.asn1_core_format.specs.Tagged.{IsTagged, context_tag}
-use Rattle.asn1_core_format.specs.TaggedLaws.{within_tagged}
+use Rattle.asn1_core_format.specs.TaggedLaws.{leaf_tagged, within_tagged}
 use Rattle.asn1_core_format.specs.TaggedDefaults.{explicit_left_out, implicit_left_out}
 use Rattle.asn1_core_format.specs.TagNumbers.{explicit_tag, explicit_context, lawful_explicit_context, explicit_context_tagged, implicit_context, lawful_implicit_context, implicit_context_tagged}
 
@@ -35,6 +36,10 @@ asn1 {V} {F} law = record { Value = V; format = F; law = law; tag = None; tagged
 
 abbrev pub asn1_tagged : {V : Type 0} {F : Format V} → IsLawful F → (tag : ℕ) → IsTagged tag F → Asn1
 asn1_tagged {V} {F} law tag tagged = record { Value = V; format = F; law = law; tag = Some tag; tagged = tagged }
+
+-- from 0 to below the bound
+abbrev pub INTEGER_BELOW : ℕ → Asn1
+INTEGER_BELOW bound = asn1_tagged (lawful_number bound) 0x02 (leaf_tagged 0x02 (omega arith) (numbers_below bound))
 
 -- a type and a value of it, by its encoding, that may be left out
 pub record Asn1Default : Type 1 where

@@ -1,6 +1,6 @@
 -- Context tags of any number that a tag of one byte can have (X.690, 8.1.2.4): 0 to 30. A greater number takes a tag of
 -- several bytes, which nothing here reads or writes: a type with such a tag has no encodings and no well-formed values.
-use Rattle.std.specs.Prelude.{◌≢◌, ◌↔◌, ℕ, ◌+◌, ◌<◌, ◌≤◌, ◌%◌, ◌&&◌, ltb, Bool, true, false, IsTrue}
+use Rattle.std.specs.Prelude.{◌↔◌, ℕ, ◌+◌, ◌<◌, ◌≤◌, ◌%◌, ◌&&◌, ltb, Bool, true, false, IsTrue}
 use Rattle.std.proofs.Common.{arith, sym}
 use Rattle.std.proofs.lemmas.Bool.{lt-ltb, le-ltb, true≢false}
 use Rattle.asn1_core_element.specs.Element.{IsTagByte}

@@ -7,7 +7,6 @@ ghost use Rattle.asn1_core_format.specs.Omitted.{omitted, omitted_if_distinct, i
 ghost use Rattle.asn1_core_format.specs.Components.{nothing, part, optional, option_value, GivesComponents};
 ghost use Rattle.asn1_core_format.specs.ComponentLaws.{lawful_nothing, lawful_part, optional_if_distinct};
 
-use crate::tagged::DerTagged;
 use crate::traits::{DerDeserialize, DerSerialize, Ref};
 use asn1_core_element::{Error, Reader};
 use asn1_core_writers::{WriteError, Writer};
@@ -42,18 +41,6 @@ pub trait ReadComponents: WriteComponents + Drop {
         ensures { GivesComponents Self.value Self.format nest r.old r.new result };
 
     ghost lawful: { distinct ≡ true → IsLawfulComponents Self.WriteComponents.format };
-}
-
-/// A type that may be an optional part, since its first tags are known.
-pub trait FirstTags: DerDeserialize {
-    fn begins(tag: u8) -> bool
-        ensures { IsTrue result ↔ Self.format.IsTag tag };
-}
-
-impl<T: DerTagged> FirstTags for T {
-    fn begins(tag: u8) -> bool {
-        tag == T::TAG
-    }
 }
 
 /// Nothing more.
@@ -175,7 +162,7 @@ impl<A: DerSerialize, R: WriteComponents> WriteComponents for MaybeRef<'_, A, R>
     }
 }
 
-impl<A: FirstTags, R: ReadComponents> ReadComponents for Maybe<A, R> {
+impl<A: DerDeserialize, R: ReadComponents> ReadComponents for Maybe<A, R> {
     ghost distinct = { R.distinct && are_distinct A.format R.format };
 
     fn read_components(alloc: Global, r: &mut Reader<'_>, nest: u8) -> Result<Self, Error> {
@@ -233,7 +220,7 @@ impl<A: HasDefault, R: WriteComponents> WriteComponents for Omitted<A, R> {
     }
 }
 
-impl<A: HasDefault + FirstTags, R: ReadComponents> ReadComponents for Omitted<A, R> {
+impl<A: HasDefault, R: ReadComponents> ReadComponents for Omitted<A, R> {
     ghost distinct = { R.distinct && are_distinct A.format R.format };
 
     fn read_components(alloc: Global, r: &mut Reader<'_>, nest: u8) -> Result<Self, Error> {
@@ -341,7 +328,7 @@ pub fn put_both<A: WriteComponents, B: WriteComponents, W: Writer>(
 }
 
 /// Whether the next tag is one of `A`.
-pub fn next_is<A: FirstTags>(r: &Reader<'_>) -> bool
+pub fn next_is<A: DerDeserialize>(r: &Reader<'_>) -> bool
     requires { r.now.refused ≡ false }
     ensures { IsTrue result ↔ NextIs A.format.IsTag r.now.left }
 {

@@ -6,7 +6,7 @@ ghost use Rattle.asn1_core_format.specs.Eithers.{either, either_if_distinct};
 ghost use Rattle.asn1_core_format.specs.Format.{Gives, IsLawful, are_distinct};
 ghost use Rattle.asn1_core_format.specs.declared.eithers.Either.TheVariants.{First, Second};
 
-use crate::components::{FirstTags, next_is};
+use crate::components::next_is;
 use crate::traits::{DerDeserialize, DerSerialize};
 use asn1_core_element::{Error, Reader};
 use asn1_core_writers::{WriteError, Writer};
@@ -63,7 +63,7 @@ impl<T: DerDeserialize> Alternatives for T {
     ghost laws = { λ _. T.lawful };
 }
 
-impl<A: FirstTags, B: Alternatives> Alternatives for Either<A, B> {
+impl<A: DerDeserialize, B: Alternatives> Alternatives for Either<A, B> {
     ghost distinct = { B.distinct && are_distinct A.format B.format };
 
     fn read_one(alloc: Global, r: &mut Reader<'_>, nest: u8) -> Result<Self, Error> {

@@ -40,5 +40,9 @@ impl<T: DerDeserialize> DerDeserialize for Less<T> {
         Ok(Less(value))
     }
 
+    fn begins(tag: u8) -> bool {
+        T::begins(tag)
+    }
+
     ghost lawful = { lawful_less T.DerSerialize.format T.lawful };
 }

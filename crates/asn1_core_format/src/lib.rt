@@ -22,7 +22,7 @@ pub mod whole;
 pub mod within;
 
 pub use components::{
-    Alone, End, FirstTags, HasDefault, Maybe, MaybeRef, Omitted, OmittedRef, Part, ReadComponents,
+    Alone, End, HasDefault, Maybe, MaybeRef, Omitted, OmittedRef, Part, ReadComponents,
     WriteComponents, put_both,
 };
 pub use eithers::{Alternatives, Either};
@@ -35,7 +35,7 @@ pub use tagged::{DerTagged, read_retagged};
 pub use tails::{ReadComponentsWith, Tail, read_within_with};
 pub use tasks::Task;
 pub use traits::{DerDeserialize, DerSerialize, MAX_NESTING, Ref};
-pub use types::Asn1Type;
+pub use types::{Asn1Type, DefaultType, TaggedType};
 pub use views::{EqualByText, TryClone, Viewed};
 pub use whole::{
     from_bytes, from_bytes_counted, from_bytes_limited, from_bytes_located,

@@ -58,6 +58,10 @@ impl DerDeserialize for u8 {
         read_leaf(alloc, r, nest, 0x02)
     }
 
+    fn begins(tag: u8) -> bool {
+        tag == 0x02
+    }
+
     ghost lawful = { lawful_number (2 ^ 8) };
 }
 
@@ -119,6 +123,10 @@ impl DerDeserialize for u32 {
         ensures memory { IfErr result (λ e. e ≢ Memory) }
     {
         read_leaf(alloc, r, nest, 0x02)
+    }
+
+    fn begins(tag: u8) -> bool {
+        tag == 0x02
     }
 
     ghost lawful = { lawful_number (2 ^ 32) };

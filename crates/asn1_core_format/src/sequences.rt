@@ -3,15 +3,12 @@
 ghost use Rattle.std.specs.Prelude.{◌≡◌, false};
 ghost use Rattle.std.proofs.Common.{arith};
 ghost use Rattle.asn1_core_format.specs.Asn1.{Contents as Body, SEQUENCE};
-ghost use Rattle.asn1_core_format.specs.Components.{within, GivesComponents};
+ghost use Rattle.asn1_core_format.specs.Components.{GivesComponents};
 ghost use Rattle.asn1_core_format.specs.TaggedLaws.{within_tagged};
 ghost use Rattle.asn1_core_format.specs.Views.{SeesEqual, Clones};
 
-use crate::components::{ReadComponents, WriteComponents};
-use crate::tagged::DerTagged;
-use crate::tasks::{Put, PutWithin, Task, Test};
-use crate::types::Asn1Type;
-use crate::within::{read_inside, read_within};
+use crate::tasks::{PutWithin, Task, Test};
+use crate::types::TaggedType;
 use asn1_core_element::{Error, Reader};
 use asn1_core_writers::{WriteError, Writer};
 use std::alloc::Global;
@@ -41,90 +38,32 @@ pub trait Sequence: PartialEq + Drop {
     ghost equal: { SeesEqual Self.PartialEq.eq value };
 }
 
-/// The contents of a SEQUENCE.
-#[derive(Drop)]
-struct Contents<T>(T);
-
-impl<T: Sequence> WriteComponents for Contents<T> {
-    ghost Value = { T.asn1.Value };
-
-    ghost value = { λ x. T.value x.0 };
-
-    ghost format = { T.asn1.format };
-
-    fn put_components<W: Writer>(&self, w: &mut W) -> Result<(), WriteError> {
-        self.0.with_components(&mut Put { w })
-    }
-
-    fn components_well_formed_at(&self, limit: u8) -> bool {
-        self.0.with_components(&mut Test { limit })
-    }
-}
-
-impl<T: Sequence> ReadComponents for Contents<T> {
-    fn read_components(alloc: Global, r: &mut Reader<'_>, nest: u8) -> Result<Self, Error> {
-        Ok(Contents(T::read_fields(alloc, r, nest)?))
-    }
-
-    ghost lawful = { λ _. T.asn1.law };
-}
-
-/// A whole SEQUENCE, by reference.
-#[derive(Drop)]
-struct Whole<R>(R);
-
-impl<T: Sequence> WriteComponents for Whole<&T> {
-    ghost Value = { T.asn1.Value };
-
-    ghost value = { λ x. T.value x.0.now };
-
-    ghost format = { within 0x30 T.asn1.format };
-
-    fn put_components<W: Writer>(&self, w: &mut W) -> Result<(), WriteError> {
-        self.0.with_components(&mut PutWithin { tag: 0x30, w })
-    }
-
-    fn components_well_formed_at(&self, limit: u8) -> bool {
-        self.0.with_components(&mut Test { limit })
-    }
-}
-
-impl<T: Sequence> Asn1Type for T {
+impl<T: Sequence> TaggedType for T {
     ghost asn1 = { SEQUENCE T.Sequence.asn1 };
 
     ghost value = { T.Sequence.value };
 
-    fn with_encoded<U: Task>(&self, task: &mut U) -> U::Out {
-        task.run(&Whole(self))
+    ghost TAG = { 0x30 };
+
+    const TAG: u8 = 0x30;
+
+    fn put_tagged<W: Writer>(&self, tag: u8, w: &mut W) -> Result<(), WriteError> {
+        self.with_components(&mut PutWithin { tag, w })
     }
 
-    fn read_encoded(alloc: Global, r: &mut Reader<'_>, nest: u8) -> Result<Self, Error> {
-        let components: Contents<T> = read_within(alloc, r, nest, 0x30)?;
-        let Contents(value) = components;
-        Ok(value)
+    fn is_well_formed_at(&self, limit: u8) -> bool {
+        self.with_components(&mut Test { limit })
+    }
+
+    fn read_open_contents(alloc: Global, r: &mut Reader<'_>, nest: u8) -> Result<Self, Error> {
+        T::read_fields(alloc, r, nest)
     }
 
     fn clone_value(&self, alloc: Global) -> Result<Self, Error> {
         self.clone_fields(alloc)
     }
 
-    ghost equal = { T.Sequence.equal };
-}
-
-impl<T: Sequence> DerTagged for T {
-    ghost TAG = { 0x30 };
-
-    const TAG: u8 = 0x30;
-
-    fn put_as<W: Writer>(&self, tag: u8, w: &mut W) -> Result<(), WriteError> {
-        self.with_components(&mut PutWithin { tag, w })
-    }
-
-    fn read_contents(alloc: Global, r: &mut Reader<'_>, nest: u8) -> Result<Self, Error> {
-        let components: Contents<T> = read_inside(alloc, r, nest, 0x30)?;
-        let Contents(value) = components;
-        Ok(value)
-    }
-
     ghost tagged = { within_tagged 0x30 (Prim.omega arith) T.Sequence.asn1.format };
+
+    ghost equal = { T.Sequence.equal };
 }

@@ -7,7 +7,7 @@ ghost use Rattle.asn1_core_format.specs.Omitted.{is_default_with, omitted_if_dis
 ghost use Rattle.asn1_core_format.specs.Components.{GivesComponents, within};
 ghost use Rattle.asn1_core_format.specs.ComponentLaws.{lawful_part, optional_if_distinct};
 
-use crate::components::{FirstTags, HasDefault, Maybe, Omitted, Part, WriteComponents, next_is};
+use crate::components::{HasDefault, Maybe, Omitted, Part, WriteComponents, next_is};
 use crate::recursive::read_components_by;
 use crate::traits::DerDeserialize;
 use asn1_core_element::element::open_element;
@@ -89,7 +89,7 @@ impl<A: DerDeserialize, S: WriteComponents, R: ReadComponentsWith<S>> ReadCompon
     ghost keeps_laws = { λ c s. lawful_part A.DerSerialize.format R.WriteComponents.format A.lawful (R.keeps_laws c s) };
 }
 
-impl<A: FirstTags, S: WriteComponents, R: ReadComponentsWith<S>> ReadComponentsWith<S>
+impl<A: DerDeserialize, S: WriteComponents, R: ReadComponentsWith<S>> ReadComponentsWith<S>
     for Maybe<A, R> {
     ghost distinct = { R.distinct && are_distinct A.format R.format };
 
@@ -111,7 +111,7 @@ impl<A: FirstTags, S: WriteComponents, R: ReadComponentsWith<S>> ReadComponentsW
     ghost keeps_laws = { λ c s. optional_if_distinct A.DerSerialize.format R.WriteComponents.format R.distinct A.lawful (λ d. R.keeps_laws d s) c };
 }
 
-impl<A: HasDefault + FirstTags, S: WriteComponents, R: ReadComponentsWith<S>> ReadComponentsWith<S>
+impl<A: HasDefault, S: WriteComponents, R: ReadComponentsWith<S>> ReadComponentsWith<S>
     for Omitted<A, R> {
     ghost distinct = { R.distinct && are_distinct A.format R.format };
 

@@ -158,6 +158,10 @@ pub trait DerDeserialize: DerSerialize + Drop {
         requires { r.old.refused ≡ false }
         ensures { Gives Self.value Self.format nest r.old r.new result };
 
+    /// Whether encodings may begin with that tag.
+    fn begins(tag: u8) -> bool
+        ensures { IsTrue result ↔ Self.format.IsTag tag };
+
     ghost lawful: { IsLawful Self.DerSerialize.format };
 }
 

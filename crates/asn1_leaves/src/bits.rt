@@ -1,19 +1,16 @@
 //! BIT STRING (X.690, 8.6).
 
 ghost use Rattle.std.specs.Prelude.{◌≡◌, ℕ, List, ◌++◌};
-ghost use Rattle.std.proofs.Common.{rules, arith};
+ghost use Rattle.std.proofs.Common.{rules};
 ghost use Rattle.asn1_core_element.specs.Element.{element, retag};
 ghost use Rattle.asn1_core_format.specs.Leaf.{kept};
-ghost use Rattle.asn1_core_format.specs.TaggedLaws.{leaf_tagged};
-ghost use Rattle.asn1_leaves.specs.Strings.{bit_string, lawful_bit_string};
+ghost use Rattle.asn1_leaves.specs.Asn1.{BIT_STRING};
+ghost use Rattle.asn1_leaves.specs.Strings.{bit_string};
 ghost use Rattle.asn1_leaves_strings.specs.Bits.{IsBits};
 ghost use Rattle.asn1_leaves_strings.specs.Octets.{contents_of};
 
 use asn1_core_element::{Error, Reader};
-use asn1_core_format::{
-    DerDeserialize, DerSerialize, DerTagged, EqualByText, Leaf, TryClone, read_leaf,
-    read_leaf_contents,
-};
+use asn1_core_format::{Leaf, TaggedType, TryClone, read_leaf_contents};
 use asn1_core_writers::{WriteError, Writer, put_head};
 use asn1_leaves_strings::BitString;
 use std::alloc::Global;
@@ -74,52 +71,32 @@ fn put_bits<W: Writer>(tag: u8, bits: &BitString, w: &mut W) -> Result<(), Write
     }
 }
 
-impl DerSerialize for BitStringAsn1 {
-    ghost Value = { List ℕ };
+impl TaggedType for BitStringAsn1 {
+    ghost asn1 = { BIT_STRING };
 
     ghost value = { λ b. contents_of b.0 };
 
-    ghost format = { bit_string };
-
-    fn put<W: Writer>(&self, w: &mut W) -> Result<(), WriteError> {
-        put_bits(0x03, &self.0, w)
-    }
-
-    fn well_formed_at(&self, _limit: u8) -> bool {
-        true
-    }
-}
-
-impl DerDeserialize for BitStringAsn1 {
-    fn read(alloc: Global, r: &mut Reader<'_>, nest: u8) -> Result<Self, Error> {
-        read_leaf(alloc, r, nest, 0x03)
-    }
-
-    ghost lawful = { lawful_bit_string };
-}
-
-impl DerTagged for BitStringAsn1 {
     ghost TAG = { 0x03 };
 
     const TAG: u8 = 0x03;
 
-    fn put_as<W: Writer>(&self, tag: u8, w: &mut W) -> Result<(), WriteError> {
+    fn put_tagged<W: Writer>(&self, tag: u8, w: &mut W) -> Result<(), WriteError> {
         put_bits(tag, &self.0, w)
     }
 
-    fn read_contents(alloc: Global, r: &mut Reader<'_>, nest: u8) -> Result<Self, Error> {
+    fn is_well_formed_at(&self, _limit: u8) -> bool {
+        true
+    }
+
+    fn read_open_contents(alloc: Global, r: &mut Reader<'_>, nest: u8) -> Result<Self, Error> {
         read_leaf_contents(alloc, r, nest, 0x03)
     }
 
-    ghost tagged = { leaf_tagged 0x03 (Prim.omega arith) (kept IsBits) };
-}
-
-impl EqualByText for BitStringAsn1 {
-    ghost equal_by_text = { Prim.search rules };
-}
-
-impl TryClone for BitStringAsn1 {
-    fn try_clone(&self, alloc: Global) -> Result<Self, Error> {
+    fn clone_value(&self, alloc: Global) -> Result<Self, Error> {
         Ok(BitStringAsn1(self.0.try_clone(alloc)?))
     }
+
+    ghost tagged = { BIT_STRING.tagged };
+
+    ghost equal = { Prim.search rules };
 }

@@ -2,20 +2,15 @@
 
 ghost use Rattle.std.specs.Prelude.{ℕ, List};
 ghost use Rattle.std.specs.Str.{IsUtf8};
-ghost use Rattle.std.proofs.Common.{rules, arith};
+ghost use Rattle.std.proofs.Common.{rules};
 ghost use Rattle.asn1_core_format.specs.Leaf.{kept};
-ghost use Rattle.asn1_core_format.specs.TaggedLaws.{leaf_tagged};
-ghost use Rattle.asn1_leaves.specs.Strings.{bmp_string, lawful_bmp_string, ia5_string, lawful_ia5_string};
-ghost use Rattle.asn1_leaves.specs.Strings.{utf8_string, lawful_utf8_string};
+ghost use Rattle.asn1_leaves.specs.Asn1.{BMP_STRING, IA5_STRING, UTF8_STRING};
 ghost use Rattle.asn1_leaves_strings.specs.Bmp.{IsBmp};
 ghost use Rattle.asn1_leaves_strings.specs.Ia5.{IsIa5};
 ghost use Rattle.asn1_leaves_strings.specs.Octets.{octets_of_bmp, octets_of_ia5, octets_of_utf8};
 
 use asn1_core_element::{Error, Reader};
-use asn1_core_format::{
-    DerDeserialize, DerSerialize, DerTagged, EqualByText, Leaf, TryClone, read_leaf,
-    read_leaf_contents,
-};
+use asn1_core_format::{Leaf, TaggedType, TryClone, read_leaf_contents};
 use asn1_core_writers::{WriteError, Writer, put_element};
 use asn1_leaves_strings::{BmpString, IA5String, Utf8String};
 use std::alloc::Global;
@@ -43,55 +38,35 @@ impl Leaf for BmpStringAsn1 {
     }
 }
 
-impl DerSerialize for BmpStringAsn1 {
-    ghost Value = { List ℕ };
+impl TaggedType for BmpStringAsn1 {
+    ghost asn1 = { BMP_STRING };
 
     ghost value = { λ s. octets_of_bmp s.0 };
 
-    ghost format = { bmp_string };
-
-    fn put<W: Writer>(&self, w: &mut W) -> Result<(), WriteError> {
-        put_element(0x1E, self.0.as_bytes(), w)
-    }
-
-    #[tactic(auto, using(asn1_leaves_strings::specs::StringLaws::bmp_octets))]
-    fn well_formed_at(&self, _limit: u8) -> bool {
-        true
-    }
-}
-
-impl DerDeserialize for BmpStringAsn1 {
-    fn read(alloc: Global, r: &mut Reader<'_>, nest: u8) -> Result<Self, Error> {
-        read_leaf(alloc, r, nest, 0x1E)
-    }
-
-    ghost lawful = { lawful_bmp_string };
-}
-
-impl DerTagged for BmpStringAsn1 {
     ghost TAG = { 0x1E };
 
     const TAG: u8 = 0x1E;
 
-    fn put_as<W: Writer>(&self, tag: u8, w: &mut W) -> Result<(), WriteError> {
+    fn put_tagged<W: Writer>(&self, tag: u8, w: &mut W) -> Result<(), WriteError> {
         put_element(tag, self.0.as_bytes(), w)
     }
 
-    fn read_contents(alloc: Global, r: &mut Reader<'_>, nest: u8) -> Result<Self, Error> {
+    #[tactic(auto, using(asn1_leaves_strings::specs::StringLaws::bmp_octets))]
+    fn is_well_formed_at(&self, _limit: u8) -> bool {
+        true
+    }
+
+    fn read_open_contents(alloc: Global, r: &mut Reader<'_>, nest: u8) -> Result<Self, Error> {
         read_leaf_contents(alloc, r, nest, 0x1E)
     }
 
-    ghost tagged = { leaf_tagged 0x1E (Prim.omega arith) (kept IsBmp) };
-}
-
-impl EqualByText for BmpStringAsn1 {
-    ghost equal_by_text = { Prim.search rules };
-}
-
-impl TryClone for BmpStringAsn1 {
-    fn try_clone(&self, alloc: Global) -> Result<Self, Error> {
+    fn clone_value(&self, alloc: Global) -> Result<Self, Error> {
         Ok(BmpStringAsn1(self.0.try_clone(alloc)?))
     }
+
+    ghost tagged = { BMP_STRING.tagged };
+
+    ghost equal = { Prim.search rules };
 }
 
 /// An IA5String as one element, with tag 0x16.
@@ -114,54 +89,34 @@ impl Leaf for IA5StringAsn1 {
     }
 }
 
-impl DerSerialize for IA5StringAsn1 {
-    ghost Value = { List ℕ };
+impl TaggedType for IA5StringAsn1 {
+    ghost asn1 = { IA5_STRING };
 
     ghost value = { λ s. octets_of_ia5 s.0 };
 
-    ghost format = { ia5_string };
-
-    fn put<W: Writer>(&self, w: &mut W) -> Result<(), WriteError> {
-        put_element(0x16, self.0.as_bytes(), w)
-    }
-
-    fn well_formed_at(&self, _limit: u8) -> bool {
-        true
-    }
-}
-
-impl DerDeserialize for IA5StringAsn1 {
-    fn read(alloc: Global, r: &mut Reader<'_>, nest: u8) -> Result<Self, Error> {
-        read_leaf(alloc, r, nest, 0x16)
-    }
-
-    ghost lawful = { lawful_ia5_string };
-}
-
-impl DerTagged for IA5StringAsn1 {
     ghost TAG = { 0x16 };
 
     const TAG: u8 = 0x16;
 
-    fn put_as<W: Writer>(&self, tag: u8, w: &mut W) -> Result<(), WriteError> {
+    fn put_tagged<W: Writer>(&self, tag: u8, w: &mut W) -> Result<(), WriteError> {
         put_element(tag, self.0.as_bytes(), w)
     }
 
-    fn read_contents(alloc: Global, r: &mut Reader<'_>, nest: u8) -> Result<Self, Error> {
+    fn is_well_formed_at(&self, _limit: u8) -> bool {
+        true
+    }
+
+    fn read_open_contents(alloc: Global, r: &mut Reader<'_>, nest: u8) -> Result<Self, Error> {
         read_leaf_contents(alloc, r, nest, 0x16)
     }
 
-    ghost tagged = { leaf_tagged 0x16 (Prim.omega arith) (kept IsIa5) };
-}
-
-impl EqualByText for IA5StringAsn1 {
-    ghost equal_by_text = { Prim.search rules };
-}
-
-impl TryClone for IA5StringAsn1 {
-    fn try_clone(&self, alloc: Global) -> Result<Self, Error> {
+    fn clone_value(&self, alloc: Global) -> Result<Self, Error> {
         Ok(IA5StringAsn1(self.0.try_clone(alloc)?))
     }
+
+    ghost tagged = { IA5_STRING.tagged };
+
+    ghost equal = { Prim.search rules };
 }
 
 /// A UTF8String as one element, with tag 0x0C.
@@ -184,53 +139,33 @@ impl Leaf for Utf8StringAsn1 {
     }
 }
 
-impl DerSerialize for Utf8StringAsn1 {
-    ghost Value = { List ℕ };
+impl TaggedType for Utf8StringAsn1 {
+    ghost asn1 = { UTF8_STRING };
 
     ghost value = { λ s. octets_of_utf8 s.0 };
 
-    ghost format = { utf8_string };
-
-    fn put<W: Writer>(&self, w: &mut W) -> Result<(), WriteError> {
-        put_element(0x0C, self.0.as_bytes(), w)
-    }
-
-    #[tactic(auto, using(asn1_leaves_strings::specs::StringLaws::utf8_octets))]
-    fn well_formed_at(&self, _limit: u8) -> bool {
-        true
-    }
-}
-
-impl DerDeserialize for Utf8StringAsn1 {
-    fn read(alloc: Global, r: &mut Reader<'_>, nest: u8) -> Result<Self, Error> {
-        read_leaf(alloc, r, nest, 0x0C)
-    }
-
-    ghost lawful = { lawful_utf8_string };
-}
-
-impl DerTagged for Utf8StringAsn1 {
     ghost TAG = { 0x0C };
 
     const TAG: u8 = 0x0C;
 
-    fn put_as<W: Writer>(&self, tag: u8, w: &mut W) -> Result<(), WriteError> {
+    fn put_tagged<W: Writer>(&self, tag: u8, w: &mut W) -> Result<(), WriteError> {
         put_element(tag, self.0.as_bytes(), w)
     }
 
-    fn read_contents(alloc: Global, r: &mut Reader<'_>, nest: u8) -> Result<Self, Error> {
+    #[tactic(auto, using(asn1_leaves_strings::specs::StringLaws::utf8_octets))]
+    fn is_well_formed_at(&self, _limit: u8) -> bool {
+        true
+    }
+
+    fn read_open_contents(alloc: Global, r: &mut Reader<'_>, nest: u8) -> Result<Self, Error> {
         read_leaf_contents(alloc, r, nest, 0x0C)
     }
 
-    ghost tagged = { leaf_tagged 0x0C (Prim.omega arith) (kept IsUtf8) };
-}
-
-impl EqualByText for Utf8StringAsn1 {
-    ghost equal_by_text = { Prim.search rules };
-}
-
-impl TryClone for Utf8StringAsn1 {
-    fn try_clone(&self, alloc: Global) -> Result<Self, Error> {
+    fn clone_value(&self, alloc: Global) -> Result<Self, Error> {
         Ok(Utf8StringAsn1(self.0.try_clone(alloc)?))
     }
+
+    ghost tagged = { UTF8_STRING.tagged };
+
+    ghost equal = { Prim.search rules };
 }

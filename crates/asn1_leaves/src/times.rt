@@ -65,6 +65,10 @@ impl DerDeserialize for UTCTimeAsn1 {
         read_leaf(alloc, r, nest, 0x17)
     }
 
+    fn begins(tag: u8) -> bool {
+        tag == 0x17
+    }
+
     ghost lawful = { lawful_utc_time };
 }
 
@@ -136,6 +140,10 @@ impl DerDeserialize for GeneralizedTimeAsn1 {
         ensures memory { IfErr result (λ e. e ≢ Memory) }
     {
         read_leaf(alloc, r, nest, 0x18)
+    }
+
+    fn begins(tag: u8) -> bool {
+        tag == 0x18
     }
 
     ghost lawful = { lawful_generalized_time };

@@ -6,7 +6,7 @@ use Rattle.std.specs.Int.Digits.{number_from_digits}
 use Rattle.asn1_core_element.specs.Numbers.{integer_octets, IsNumeral}
 use Rattle.asn1_core_element.specs.NumberLaws.{one_number, is_numeral, has_number, number_integer_octets}
 use Rattle.asn1_core_element.specs.declared.error.Error.{Error}
-use Rattle.asn1_core_element.specs.declared.error.Error.TheVariants.{Invalid, Memory}
+use Rattle.asn1_core_element.specs.declared.error.Error.TheVariants.{Invalid}
 use Rattle.asn1_core_format.specs.Leaf.{IsSpelled, SpellsNone, Spelling}
 use Rattle.asn1_core.specs.Der.{Format, IsLawful, leaf, lawful_leaf, numbers_below}
 

@@ -1,18 +1,14 @@
 //! ENUMERATED (X.690, 8.4).
 
 ghost use Rattle.std.specs.Prelude.{◌≡◌, ◌^◌, ℕ, List, true, MatchOption};
-ghost use Rattle.std.proofs.Common.{arith, rules};
+ghost use Rattle.std.proofs.Common.{rules};
 ghost use Rattle.asn1_core_format.specs.Numbers.{numbers_below};
-ghost use Rattle.asn1_core_format.specs.TaggedLaws.{leaf_tagged};
+ghost use Rattle.asn1_other_leaves.specs.Asn1.{ENUMERATED};
 ghost use Rattle.asn1_core_format.specs.Leaf.{GivesSpelled};
-ghost use Rattle.asn1_other_leaves.specs.OtherLeaves.{enumerated, lawful_enumerated};
 ghost use Rattle.asn1_other_leaves.specs.Enumerations.{IsNoneOf, IsOneOf, all_low, numbers_in};
 
 use asn1_core_element::{Error, Reader};
-use asn1_core_format::{
-    DerDeserialize, DerSerialize, DerTagged, EqualByText, Leaf, TryClone, read_leaf,
-    read_leaf_contents,
-};
+use asn1_core_format::{Leaf, TaggedType, read_leaf_contents};
 use asn1_core_writers::{WriteError, Writer, put_unsigned};
 use std::alloc::Global;
 
@@ -64,53 +60,33 @@ impl Leaf for EnumeratedAsn1 {
     }
 }
 
-impl DerSerialize for EnumeratedAsn1 {
-    ghost Value = { ℕ };
+impl TaggedType for EnumeratedAsn1 {
+    ghost asn1 = { ENUMERATED };
 
     ghost value = { λ x. x.0 };
 
-    ghost format = { enumerated };
-
-    fn put<W: Writer>(&self, w: &mut W) -> Result<(), WriteError> {
-        put_unsigned(0x0A, u32::from(self.0), w)
-    }
-
-    fn well_formed_at(&self, _limit: u8) -> bool {
-        let _value = self.0;
-        true
-    }
-}
-
-impl DerDeserialize for EnumeratedAsn1 {
-    fn read(alloc: Global, r: &mut Reader<'_>, nest: u8) -> Result<Self, Error> {
-        read_leaf(alloc, r, nest, 0x0A)
-    }
-
-    ghost lawful = { lawful_enumerated };
-}
-
-impl DerTagged for EnumeratedAsn1 {
     ghost TAG = { 0x0A };
 
     const TAG: u8 = 0x0A;
 
-    fn put_as<W: Writer>(&self, tag: u8, w: &mut W) -> Result<(), WriteError> {
+    fn put_tagged<W: Writer>(&self, tag: u8, w: &mut W) -> Result<(), WriteError> {
         put_unsigned(tag, u32::from(self.0), w)
     }
 
-    fn read_contents(alloc: Global, r: &mut Reader<'_>, nest: u8) -> Result<Self, Error> {
+    fn is_well_formed_at(&self, _limit: u8) -> bool {
+        let _value = self.0;
+        true
+    }
+
+    fn read_open_contents(alloc: Global, r: &mut Reader<'_>, nest: u8) -> Result<Self, Error> {
         read_leaf_contents(alloc, r, nest, 0x0A)
     }
 
-    ghost tagged = { leaf_tagged 0x0A (Prim.omega arith) (numbers_below (2 ^ 8)) };
-}
-
-impl EqualByText for EnumeratedAsn1 {
-    ghost equal_by_text = { Prim.search rules };
-}
-
-impl TryClone for EnumeratedAsn1 {
-    fn try_clone(&self, _alloc: Global) -> Result<Self, Error> {
+    fn clone_value(&self, _alloc: Global) -> Result<Self, Error> {
         Ok(*self)
     }
+
+    ghost tagged = { ENUMERATED.tagged };
+
+    ghost equal = { Prim.search rules };
 }

@@ -1,17 +1,13 @@
 //! Strings whose characters aren't tested (X.690, 8.23).
 
 ghost use Rattle.std.specs.Prelude.{◌%◌};
-ghost use Rattle.std.proofs.Common.{arith, rules};
+ghost use Rattle.std.proofs.Common.{rules};
 ghost use Rattle.asn1_core.specs.Octets.{any_octets};
 ghost use Rattle.asn1_core.specs.Words.{Octets};
-ghost use Rattle.asn1_core_format.specs.TaggedLaws.{leaf_tagged};
-ghost use Rattle.asn1_other_leaves.specs.OtherLeaves.{kept_octets, lawful_kept_octets};
+ghost use Rattle.asn1_other_leaves.specs.Asn1.{KEPT_STRING};
 
 use asn1_core_element::{Error, Reader};
-use asn1_core_format::{
-    DerDeserialize, DerSerialize, DerTagged, EqualByText, Leaf, TryClone, read_leaf,
-    read_leaf_contents,
-};
+use asn1_core_format::{Leaf, TaggedType, read_leaf_contents};
 use asn1_core_writers::{WriteError, Writer, put_element};
 use std::alloc::Global;
 
@@ -46,52 +42,32 @@ impl<const N: u8> Leaf for KeptAsn1<N> {
     }
 }
 
-impl<const N: u8> DerSerialize for KeptAsn1<N> {
-    ghost Value = { Octets };
+impl<const N: u8> TaggedType for KeptAsn1<N> {
+    ghost asn1 = { KEPT_STRING N };
 
     ghost value = { λ x. x.0.items };
 
-    ghost format = { kept_octets N };
-
-    fn put<W: Writer>(&self, w: &mut W) -> Result<(), WriteError> {
-        put_element(N % 31, self.0.as_slice(), w)
-    }
-
-    fn well_formed_at(&self, _limit: u8) -> bool {
-        true
-    }
-}
-
-impl<const N: u8> DerDeserialize for KeptAsn1<N> {
-    fn read(alloc: Global, r: &mut Reader<'_>, nest: u8) -> Result<Self, Error> {
-        read_leaf(alloc, r, nest, N % 31)
-    }
-
-    ghost lawful = { lawful_kept_octets N };
-}
-
-impl<const N: u8> DerTagged for KeptAsn1<N> {
     ghost TAG = { N % 31 };
 
     const TAG: u8 = N % 31;
 
-    fn put_as<W: Writer>(&self, tag: u8, w: &mut W) -> Result<(), WriteError> {
+    fn put_tagged<W: Writer>(&self, tag: u8, w: &mut W) -> Result<(), WriteError> {
         put_element(tag, self.0.as_slice(), w)
     }
 
-    fn read_contents(alloc: Global, r: &mut Reader<'_>, nest: u8) -> Result<Self, Error> {
+    fn is_well_formed_at(&self, _limit: u8) -> bool {
+        true
+    }
+
+    fn read_open_contents(alloc: Global, r: &mut Reader<'_>, nest: u8) -> Result<Self, Error> {
         read_leaf_contents(alloc, r, nest, N % 31)
     }
 
-    ghost tagged = { leaf_tagged (N % 31) (Prim.omega arith) any_octets };
-}
-
-impl<const N: u8> EqualByText for KeptAsn1<N> {
-    ghost equal_by_text = { Prim.search rules };
-}
-
-impl<const N: u8> TryClone for KeptAsn1<N> {
-    fn try_clone(&self, alloc: Global) -> Result<Self, Error> {
+    fn clone_value(&self, alloc: Global) -> Result<Self, Error> {
         Ok(KeptAsn1(Vec::from_slice(alloc, self.0.as_slice())?))
     }
+
+    ghost tagged = { (KEPT_STRING N).tagged };
+
+    ghost equal = { Prim.search rules };
 }

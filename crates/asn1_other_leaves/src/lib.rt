@@ -6,6 +6,7 @@ pub mod bits;
 pub mod constants;
 pub mod enumerated;
 pub mod kept;
+pub mod under;
 
 pub use bits::has_bit;
 pub use constants::{BooleanAsn1, NullAsn1};
@@ -14,3 +15,4 @@ pub use kept::{
     KeptAsn1, NumericStringAsn1, PrintableStringAsn1, TeletexStringAsn1, UniversalStringAsn1,
     VisibleStringAsn1,
 };
+pub use under::Under;

@@ -36,6 +36,10 @@ impl DerDeserialize for OctetsRepr {
         Ok(OctetsRepr { octets })
     }
 
+    fn begins(tag: u8) -> bool {
+        OctetStringAsn1::begins(tag)
+    }
+
     ghost lawful = { lawful_octet_string };
 }
 

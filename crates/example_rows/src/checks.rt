@@ -1,7 +1,7 @@
 //! What is asked of an input at a type.
 
 use crate::rows::Row;
-use asn1_core::prelude::{FirstTags, read_retagged};
+use asn1_core::prelude::read_retagged;
 use asn1_core::{
     DerDeserialize, DerTagged, Error, MAX_NESTING, Reader, SeenByText, StdSink, StdSource,
     TryClone, from_bytes, from_bytes_counted, from_bytes_limited, from_bytes_located, to_vec,

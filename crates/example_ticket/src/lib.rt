@@ -3,9 +3,9 @@
 #![tactic(auto)]
 
 ghost use Rattle.std.specs.Prelude.{◌≡◌};
-ghost use Rattle.std.proofs.Common.{arith, refl, rules};
-ghost use Rattle.asn1_core.specs.Der.{option_value, oid_from_test};
-ghost use Rattle.example_ticket.specs.Tickets.{token_oid, HolderValue, holder_value, holder, lawful_holder, ticket};
+ghost use Rattle.std.proofs.Common.{refl, rules};
+ghost use Rattle.asn1_core.specs.Der.{oid_from_test};
+ghost use Rattle.example_ticket.specs.Tickets.{token_oid, holder, holder_value, ticket, ticket_value};
 
 use asn1_choices::{Alternative, AnyOid, AnyOidRef, Chosen, Named, WriteChoice};
 use asn1_core::prelude::*;
@@ -59,25 +59,17 @@ impl Holder {
     }
 }
 
-impl DerSerialize for Holder {
-    ghost Value = { HolderValue };
+impl Sequence for Holder {
+    ghost asn1 = { holder };
 
     ghost value = { holder_value };
 
-    ghost format = { holder };
-
-    fn put<W: Writer>(&self, w: &mut W) -> Result<(), WriteError> {
-        put_within(0x30, &Chosen(self.choice()), w)
+    fn with_components<U: Task>(&self, task: &mut U) -> U::Out {
+        task.run(&Chosen(self.choice()))
     }
 
-    fn well_formed_at(&self, limit: u8) -> bool {
-        self.choice().choice_well_formed_at(limit)
-    }
-}
-
-impl DerDeserialize for Holder {
-    fn read(alloc: Global, r: &mut Reader<'_>, nest: u8) -> Result<Self, Error> {
-        let Chosen(choice) = read_within::<Chosen<HolderChoice>>(alloc, r, nest, 0x30)?;
+    fn read_fields(alloc: Global, r: &mut Reader<'_>, nest: u8) -> Result<Self, Error> {
+        let Chosen(choice) = Chosen::<HolderChoice>::read_components(alloc, r, nest)?;
         match choice {
             Either::First(alternative) => Ok(Holder::Token(alternative.into_components().0)),
             Either::Second(other) => {
@@ -87,13 +79,18 @@ impl DerDeserialize for Holder {
         }
     }
 
-    ghost lawful = { lawful_holder };
-}
-
-impl FirstTags for Holder {
-    fn begins(tag: u8) -> bool {
-        tag == 0x30
+    fn clone_fields(&self, alloc: Global) -> Result<Self, Error> {
+        match self {
+            Holder::Token(octets) => Ok(Holder::Token(octets.try_clone(alloc)?)),
+            Holder::Unknown { type_id, value } => {
+                let type_id = type_id.try_clone(alloc)?;
+                let value = value.try_clone(alloc)?;
+                Ok(Holder::Unknown { type_id, value })
+            }
+        }
     }
+
+    ghost equal = { Prim.search rules };
 }
 
 /// `Ticket ::= SEQUENCE { serial INTEGER (0..4294967295), note [0] EXPLICIT OCTET STRING OPTIONAL, holder Holder }`
@@ -107,7 +104,7 @@ pub struct Ticket {
 impl Sequence for Ticket {
     ghost asn1 = { ticket };
 
-    ghost value = { λ x. (x.serial, (option_value (λ n. n.0.0.items) x.note, (holder_value x.holder, tt))) };
+    ghost value = { ticket_value };
 
     fn with_components<U: Task>(&self, task: &mut U) -> U::Out {
         with_components_of!(self, task; Ticket { serial, note OPTIONAL, holder })
@@ -122,21 +119,4 @@ impl Sequence for Ticket {
     }
 
     ghost equal = { Prim.search rules };
-}
-
-impl EqualByText for Holder {
-    ghost equal_by_text = { Prim.search rules };
-}
-
-impl TryClone for Holder {
-    fn try_clone(&self, alloc: Global) -> Result<Self, Error> {
-        match self {
-            Holder::Token(octets) => Ok(Holder::Token(octets.try_clone(alloc)?)),
-            Holder::Unknown { type_id, value } => {
-                let type_id = type_id.try_clone(alloc)?;
-                let value = value.try_clone(alloc)?;
-                Ok(Holder::Unknown { type_id, value })
-            }
-        }
-    }
 }

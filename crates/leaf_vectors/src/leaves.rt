@@ -2,7 +2,7 @@
 
 use asn1_core::{DerDeserialize, Error, Implicit, SeenByText, TryClone, from_bytes};
 use asn1_other_leaves::{
-    BooleanAsn1, EnumeratedAsn1, NullAsn1, NumericStringAsn1, PrintableStringAsn1,
+    BooleanAsn1, EnumeratedAsn1, KeptAsn1, NullAsn1, NumericStringAsn1, PrintableStringAsn1,
     TeletexStringAsn1, UniversalStringAsn1, VisibleStringAsn1,
 };
 use std::alloc::Global;
@@ -54,5 +54,7 @@ fn strings(rt: HostRuntime) -> Result<(), Fail> {
     reads::<TeletexStringAsn1>(rt.alloc(), &[b"\x14\x02\xC8u"], &[b"\x34\x02DE"])?;
     reads::<VisibleStringAsn1>(rt.alloc(), &[b"\x1A\x05Jones"], &[b"\x1A\x06Jones"])?;
     reads::<UniversalStringAsn1>(rt.alloc(), &[b"\x1C\x04\x00\x00\x00A"], &[b"\x1E\x00"])?;
+    // a GeneralizedTime with a fraction of a second (X.690, 11.7)
+    reads::<KeptAsn1<0x18>>(rt.alloc(), &[b"\x18\x1220260102030405.25Z"], &[b"\x17\x00"])?;
     reads::<Implicit<3, VisibleStringAsn1>>(rt.alloc(), &[b"\x83\x05Jones"], &[b"\xA3\x00"])
 }

@@ -4,12 +4,11 @@
 -- PBES2-params (RFC 8018, appendix A.4), one of pkcs-12PbeIds with pkcs-12PbeParams (RFC 7292, appendix C), or another.
 use Rattle.std.proofs.Common.{inl, inr}
 use Rattle.asn1_core.specs.Asn1.{Contents, SEQUENCE}
-use Rattle.asn1_core.specs.Der.{lawful_known}
-use Rattle.asn1_choices.specs.Tables.{among, lawful_among}
+use Rattle.asn1_choices.specs.ByOid.{if_oid, if_in, chosen, alone}
 use Rattle.x509_base.specs.AlgorithmParts.{raw_algorithm_identifier_value}
-use Rattle.x509_base.specs.OtherAlgorithms.{chosen, other_algorithm, lawful_other_algorithm}
+use Rattle.x509_base.specs.OtherAlgorithms.{other_algorithm}
 use Rattle.pkcs12_algs.specs.Oids.{pbes2_oid}
-use Rattle.pkcs12_algs.specs.Pbes1.{pbes1_params, pbes1_params_value, pbe_table, pbe_is_table}
+use Rattle.pkcs12_algs.specs.Pbes1.{pbes1_params, pbes1_params_value, pbe_is_table}
 use Rattle.pkcs12_algs.specs.Pbes2.{pbes2_params, pbes2_params_value}
 use Rattle.pkcs12_algs.specs.declared.encryptions.Pkcs12EncryptionAlgorithm.{Pkcs12EncryptionAlgorithm}
 use Rattle.pkcs12_algs.specs.declared.encryptions.Pkcs12EncryptionAlgorithm.TheVariants.{Pbes1, Pbes2, Unknown}
@@ -17,8 +16,7 @@ use Rattle.pkcs12_algs.specs.declared.encryptions.Pkcs12EncryptionAlgorithm.TheV
 -- PBES2, one of the older kinds, or any other algorithm
 abbrev pub pkcs12_encryption_algorithm : Contents
 pkcs12_encryption_algorithm =
-    chosen (lawful_known pbes2_oid (SEQUENCE pbes2_params).format (among pbe_table (SEQUENCE pbes1_params).format other_algorithm) (SEQUENCE pbes2_params).law.components
-    (lawful_among pbe_table (SEQUENCE pbes1_params).format other_algorithm pbe_is_table (SEQUENCE pbes1_params).law.components lawful_other_algorithm))
+    chosen (if_oid pbes2_oid (alone (SEQUENCE pbes2_params)) (if_in pbe_is_table (alone (SEQUENCE pbes1_params)) other_algorithm))
 
 abbrev pub pkcs12_encryption_algorithm_value : Pkcs12EncryptionAlgorithm → pkcs12_encryption_algorithm.Value
 pkcs12_encryption_algorithm_value (Pbes1 kind params) = inr (inl (kind, pbes1_params_value params))

@@ -7,12 +7,13 @@
 -- PBES2-KDFs ALGORITHM-IDENTIFIER ::= { {PBKDF2-params IDENTIFIED BY id-PBKDF2}, ... }
 -- The parameters of AES in CBC mode are its initialization vector, an OCTET STRING (RFC 8018, appendix B.2.5).
 use Rattle.std.specs.Prelude.{◌≡◌, ℕ, List, [], ◌∷◌, Some}
-use Rattle.asn1_core.specs.Asn1.{Contents, contents, ◌then◌, end, SEQUENCE}
-use Rattle.asn1_core.specs.Der.{octet_string, lawful_octet_string, lawful_known, IsOid}
+use Rattle.asn1_core.specs.Asn1.{Contents, contents, ◌then◌, end, OCTET_STRING, SEQUENCE}
+use Rattle.asn1_core.specs.Der.{IsOid}
 use Rattle.std.proofs.Common.{refl, inl, inr, rules}
 use Rattle.x509_base.specs.AlgorithmParts.{raw_algorithm_identifier_value}
-use Rattle.asn1_choices.specs.Tables.{Table, IsTable, lawful_among}
-use Rattle.x509_base.specs.OtherAlgorithms.{chosen, other_algorithm, lawful_other_algorithm}
+use Rattle.asn1_choices.specs.ByOid.{if_oid, if_in, chosen, alone}
+use Rattle.asn1_choices.specs.Tables.{Table, IsTable}
+use Rattle.x509_base.specs.OtherAlgorithms.{other_algorithm}
 use Rattle.pkcs12_algs.specs.Oids.{aes128_cbc_pad_oid, aes192_cbc_pad_oid, aes256_cbc_pad_oid, pbkdf2_oid}
 use Rattle.pkcs12_algs.specs.Pbkdf2.{pbkdf2_params, pbkdf2_params_value}
 use Rattle.pkcs12_algs.specs.Tables.{table, alternative_with}
@@ -47,7 +48,7 @@ aes_valid a = valid_alternative aes_oid aes_kinds refl (aes_oid a) a (found_aes 
 
 -- PBKDF2 with its parameters, or any other function
 abbrev pub pbes2_key_derivation_func : Contents
-pbes2_key_derivation_func = chosen (lawful_known pbkdf2_oid (SEQUENCE pbkdf2_params).format other_algorithm (SEQUENCE pbkdf2_params).law.components lawful_other_algorithm)
+pbes2_key_derivation_func = chosen (if_oid pbkdf2_oid (alone (SEQUENCE pbkdf2_params)) other_algorithm)
 
 abbrev pub pbes2_key_derivation_func_value : Pbes2KeyDerivationFunc → pbes2_key_derivation_func.Value
 pbes2_key_derivation_func_value (Kdf.Pbkdf2 x) = inl (pbkdf2_params_value x)
@@ -55,7 +56,7 @@ pbes2_key_derivation_func_value (Kdf.Unknown a) = inr (raw_algorithm_identifier_
 
 -- AES in CBC mode with its initialization vector, or any other scheme
 abbrev pub pbes2_encryption_scheme : Contents
-pbes2_encryption_scheme = chosen (lawful_among aes_table octet_string other_algorithm aes_is_table lawful_octet_string.components lawful_other_algorithm)
+pbes2_encryption_scheme = chosen (if_in aes_is_table (alone OCTET_STRING) other_algorithm)
 
 abbrev pub pbes2_encryption_scheme_value : Pbes2EncryptionScheme → pbes2_encryption_scheme.Value
 pbes2_encryption_scheme_value (Scheme.AesCbc kind iv) = inl (kind, iv.0.items)

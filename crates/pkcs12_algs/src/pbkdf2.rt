@@ -38,6 +38,10 @@ impl Asn1Type for Pbkdf2SaltSource {
         }
     }
 
+    fn is_first_tag(tag: u8) -> bool {
+        tag == 0x04 || tag == 0x30
+    }
+
     fn clone_value(&self, alloc: Global) -> Result<Self, Error> {
         match self {
             Self::Specified(salt) => Ok(Self::Specified(salt.try_clone(alloc)?)),

@@ -4,8 +4,8 @@ use denote.Param.{number}
 use lib.Pointwise.{pointwise}
 use Rattle.std.specs.Option.{option_eq}
 use Rattle.asn1_core.specs.Der.{raw_equal, two_equal, option_equal, list_equal, equal_octets}
-use Rattle.pkcs12_bags.specs.Attributes.{AttributesValue, attribute_value, attributes_value}
-use Rattle.pkcs12_bags.specs.AttributesEqual.{attribute_equal}
+use Rattle.pkcs12_bags.specs.Attributes.{AttributesValue, pkcs12_attribute_value, attributes_value}
+use Rattle.pkcs12_bags.specs.AttributesEqual.{pkcs12_attribute_equal}
 use Rattle.pkcs12_bags.specs.BagPartsEqual.{x509_equal, secret_equal, encrypted_key_equal}
 use Rattle.pkcs12_bags.specs.declared.parts.attributes.Pkcs12Attribute.{Pkcs12Attribute}
 use Rattle.pkcs12_bags.specs.declared.parts.oids.TheConstants.{X509_CERTIFICATE, X509_CRL}
@@ -37,7 +37,7 @@ attributes_test a b = pointwise A.ghosts.eq a.items b.items
 
 attributes_equal : (x y : Option (Vec Pkcs12Attribute Global)) → (option_eq attributes_test x y ≡ true) ↔ (attributes_value x ≡ attributes_value y)
 attributes_equal x y =
-    let seen = option_equal attributes_test (λ v. map attribute_value v.items) (λ a b. list_equal A.ghosts.eq attribute_value attribute_equal a.items b.items) x y in
+    let seen = option_equal attributes_test (λ v. map pkcs12_attribute_value v.items) (λ a b. list_equal A.ghosts.eq pkcs12_attribute_value pkcs12_attribute_equal a.items b.items) x y in
     (λ h. ap (λ o. (o, tt)) (seen.0 h), λ e. seen.1 (ap (λ p. p.0) e))
 
 -- two kinds with attributes

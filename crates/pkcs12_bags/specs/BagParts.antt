@@ -6,9 +6,10 @@
 --   (RFC 5958, 3)
 use Rattle.std.specs.Prelude.{◌⊎◌, ℕ}
 use Rattle.asn1_core.specs.Asn1.{Contents, contents, ◌then◌, end, OBJECT_IDENTIFIER, OCTET_STRING, ANY, EXPLICIT, SEQUENCE}
-use Rattle.asn1_core.specs.Der.{Format, sequence, octet_string, raw, octets_of, Octets, OidOctets, ElementOctets, IsLawful, lawful_sequence, explicit, der_laws, Choice, known, otherwise, IsLawfulChoice, lawful_known, lawful_otherwise, IsOid}
+use Rattle.asn1_core.specs.Der.{Format, octets_of, Octets, OidOctets, ElementOctets}
 use Rattle.std.proofs.Common.{inl, inr, refl}
 use Rattle.pkcs12_algs.specs.Encryption.{pkcs12_encryption_algorithm_value, pkcs12_encryption_algorithm}
+use Rattle.asn1_choices.specs.ByOid.{if_oid, any_oid, chosen, alone}
 use Rattle.pkcs12_bags.specs.Oids.{oid}
 use Rattle.pkcs12_bags.specs.declared.parts.oids.TheConstants.{X509_CERTIFICATE, X509_CRL}
 use Rattle.pkcs12_bags.specs.declared.parts.bags.EncryptedKeyBag.{EncryptedKeyBag}
@@ -20,22 +21,19 @@ use Rattle.pkcs12_bags.specs.declared.parts.bags.X509Bag.TheVariants.{X509, Unkn
 abbrev pub OctetsOrAny : Type 0
 OctetsOrAny = Octets ⊎ (OidOctets × ElementOctets)
 
-abbrev pub x509_value : {known : ℕ} → X509Bag known → OctetsOrAny
-x509_value (X509 o) = inl o.0.items
-x509_value (Unknown t v) = inr (octets_of t, v.0.items)
-
-abbrev pub any_value : Choice (OidOctets × ElementOctets)
-any_value = otherwise IsOid (explicit 0 raw)
+abbrev pub x509_bag_value : {known : ℕ} → X509Bag known → OctetsOrAny
+x509_bag_value (X509 o) = inl o.0.items
+x509_bag_value (Unknown t v) = inr (octets_of t, v.0.items)
 
 -- a bag whose X.509 alternative has the object identifier with that number
-abbrev pub x509_bag : ℕ → Format OctetsOrAny
-x509_bag number = sequence (known (oid number) (explicit 0 octet_string) any_value).components
+abbrev pub x509_bag : ℕ → Contents
+x509_bag number = chosen (if_oid (oid number) (alone (EXPLICIT 0 OCTET_STRING)) (any_oid (alone (EXPLICIT 0 ANY))))
 
 abbrev pub certificate_bag : Format OctetsOrAny
-certificate_bag = x509_bag X509_CERTIFICATE
+certificate_bag = (SEQUENCE (x509_bag X509_CERTIFICATE)).format
 
 abbrev pub crl_bag : Format OctetsOrAny
-crl_bag = x509_bag X509_CRL
+crl_bag = (SEQUENCE (x509_bag X509_CRL)).format
 
 abbrev pub secret_bag : Contents
 secret_bag = contents (OBJECT_IDENTIFIER then EXPLICIT 0 ANY then end) refl
@@ -48,16 +46,3 @@ encrypted_key_bag = contents (SEQUENCE pkcs12_encryption_algorithm then OCTET_ST
 
 abbrev pub encrypted_key_bag_value : EncryptedKeyBag → encrypted_key_bag.Value
 encrypted_key_bag_value b = (pkcs12_encryption_algorithm_value b.algorithm, (b.encrypted_data.0.items, tt))
-
-lawful_octets : IsLawful (explicit 0 octet_string)
-lawful_octets = search der_laws depth 20
-
-lawful_any : IsLawful (explicit 0 raw)
-lawful_any = search der_laws depth 20
-
-lawful_any_value : IsLawfulChoice any_value
-lawful_any_value = lawful_otherwise IsOid (explicit 0 raw) lawful_any.components
-
-pub lawful_x509_bag : (number : ℕ) → IsLawful (x509_bag number)
-lawful_x509_bag number =
-    lawful_sequence (lawful_known (oid number) (explicit 0 octet_string) any_value lawful_octets.components lawful_any_value).components

@@ -4,12 +4,12 @@ use denote.Param.{value_of}
 use denote.RattleType.{RattleType}
 use Rattle.std.proofs.Common.{rules}
 use Rattle.pkcs12_algs.specs.AlgorithmsEqual.{pkcs12_encryption_algorithm_equal}
-use Rattle.pkcs12_bags.specs.BagParts.{x509_value, secret_bag_value, encrypted_key_bag_value}
+use Rattle.pkcs12_bags.specs.BagParts.{x509_bag_value, secret_bag_value, encrypted_key_bag_value}
 use Rattle.pkcs12_bags.specs.contracts.parts.bags.EncryptedKeyBagPartialEq.TheImpl as EncryptedKey
 use Rattle.pkcs12_bags.specs.contracts.parts.bags.SecretBagPartialEq.TheImpl as Secret
 use Rattle.pkcs12_bags.specs.contracts.parts.bags.X509BagPartialEq.TheImpl as X509
 
-pub x509_equal : (N : RattleType) → SeesEqual (X509.ghosts N).eq (x509_value {known = value_of N})
+pub x509_equal : (N : RattleType) → SeesEqual (X509.ghosts N).eq (x509_bag_value {known = value_of N})
 x509_equal N = search rules
 
 pub secret_equal : SeesEqual Secret.ghosts.eq secret_bag_value

@@ -3,7 +3,7 @@ use Rattle.std.specs.Prelude.{◌⊎◌, List}
 use Rattle.std.proofs.Common.{inl, inr}
 use Rattle.asn1_core.specs.Der.{octets_of}
 use Rattle.pkcs12_bags.specs.Attributes.{AttributesValue, attributes_value}
-use Rattle.pkcs12_bags.specs.BagParts.{x509_value, secret_bag_value, encrypted_key_bag_value}
+use Rattle.pkcs12_bags.specs.BagParts.{x509_bag_value, secret_bag_value, encrypted_key_bag_value}
 use Rattle.pkcs12_bags.specs.Bags.{Bag, BagComponents, bag_into}
 use Rattle.pkcs12_bags.specs.PlainBags.{PlainKind}
 use Rattle.pkcs12_bags.specs.declared.safe_bags.bags.SafeBag.{SafeBag, fold-SafeBag}
@@ -29,8 +29,8 @@ abbrev kind_step : SafeBagKind-F Kind Bag (List Bag) → Kind
 kind_step (SafeBagKind-F.SafeContents bs) = inl bs
 kind_step (SafeBagKind-F.Key x) = inr (inl x.0.items)
 kind_step (SafeBagKind-F.EncryptedKey x) = inr (inr (inl (encrypted_key_bag_value x)))
-kind_step (SafeBagKind-F.Certificate x) = inr (inr (inr (inl (x509_value x))))
-kind_step (SafeBagKind-F.Crl x) = inr (inr (inr (inr (inl (x509_value x)))))
+kind_step (SafeBagKind-F.Certificate x) = inr (inr (inr (inl (x509_bag_value x))))
+kind_step (SafeBagKind-F.Crl x) = inr (inr (inr (inr (inl (x509_bag_value x)))))
 kind_step (SafeBagKind-F.Secret x) = inr (inr (inr (inr (inr (inl (secret_bag_value x))))))
 kind_step (SafeBagKind-F.Unknown o x) = inr (inr (inr (inr (inr (inr (octets_of o, x.0.items))))))
 
@@ -54,7 +54,7 @@ abbrev pub kind_value : SafeBagKind → Kind
 kind_value (K.SafeContents c) = inl (contents_value c)
 kind_value (K.Key x) = inr (inl x.0.items)
 kind_value (K.EncryptedKey x) = inr (inr (inl (encrypted_key_bag_value x)))
-kind_value (K.Certificate x) = inr (inr (inr (inl (x509_value x))))
-kind_value (K.Crl x) = inr (inr (inr (inr (inl (x509_value x)))))
+kind_value (K.Certificate x) = inr (inr (inr (inl (x509_bag_value x))))
+kind_value (K.Crl x) = inr (inr (inr (inr (inl (x509_bag_value x)))))
 kind_value (K.Secret x) = inr (inr (inr (inr (inr (inl (secret_bag_value x))))))
 kind_value (K.Unknown o x) = inr (inr (inr (inr (inr (inr (octets_of o, x.0.items))))))

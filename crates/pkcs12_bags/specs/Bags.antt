@@ -13,7 +13,7 @@ abbrev pub BagComponents : Type 0 → Type 0
 BagComponents V = (V × AttributesValue) ⊎ PlainComponents
 
 abbrev pub bag_choice : {V : Type 0} → Format V → Choice (BagComponents V)
-bag_choice F = known (oid SAFE_CONTENTS_BAG) (bag_alternative F) plain_bags
+bag_choice F = known (oid SAFE_CONTENTS_BAG) (bag_alternative F) plain_bags.choice
 
 abbrev pub bag_components : {V : Type 0} → Format V → Format (BagComponents V)
 bag_components F = sequence (bag_choice F).components
@@ -77,8 +77,8 @@ abbrev mutual
 
 abbrev mutual
   pub bag_normal : Bag → Bag
-  bag_normal (holder bs n) = holder (bags_normal bs) (attributes.normal n)
-  bag_normal (plain p) = plain (plain_bags.components.normal p)
+  bag_normal (holder bs n) = holder (bags_normal bs) (attributes.format.normal n)
+  bag_normal (plain p) = plain (plain_bags.choice.components.normal p)
 
   pub bags_normal : Bags → Bags
   bags_normal no_bags = no_bags

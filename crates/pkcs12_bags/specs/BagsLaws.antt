@@ -6,11 +6,11 @@ use Rattle.std.proofs.Common.{refl, ap, inl, inr, arith}
 use Rattle.pkcs12_bags.specs.Attributes.{attributes}
 use Rattle.pkcs12_bags.specs.Oids.{oid}
 use Rattle.pkcs12_bags.specs.declared.parts.oids.TheConstants.{SAFE_CONTENTS_BAG}
-use Rattle.pkcs12_bags.specs.PlainBags.{bag_alternative, plain_bags, lawful_bag_alternative, lawful_plain_bags}
+use Rattle.pkcs12_bags.specs.PlainBags.{bag_alternative, plain_bags, lawful_bag_alternative}
 use Rattle.pkcs12_bags.specs.Bags.{BagComponents, bag_choice, bag_components, Bag, holder, plain, Bags, no_bags, more_bags, list_bags, bags_of, bag_out, bag_into, bag_with, step_text, step_least, bag_text, bags_text, bag_normal, bags_normal, bag_least, bags_least, still, step, safe_contents, safe_bag}
 
 pub lawful_bag_choice : {V : Type 0} (F : Format V) → IsLawful F → IsLawfulChoice (bag_choice F)
-lawful_bag_choice F f = lawful_known (oid SAFE_CONTENTS_BAG) (bag_alternative F) plain_bags (lawful_bag_alternative F f) lawful_plain_bags
+lawful_bag_choice F f = lawful_known (oid SAFE_CONTENTS_BAG) (bag_alternative F) plain_bags.choice (lawful_bag_alternative F f) plain_bags.law
 
 -- bags in a bag are a list
 pub list_bags_of : (bs : List Bag) → list_bags (bags_of bs) ≡ bs
@@ -53,7 +53,7 @@ module _ (g : ℕ → Grammar (List Bag)) where
   text_is (plain p) = refl
 
   normal_is : (b : Bag) → (bag_with (by_levels (still tt) g)).normal b ≡ bag_normal b
-  normal_is (holder bs n) = ap (λ cs. holder cs (attributes.normal n)) (bags_normal_is bs)
+  normal_is (holder bs n) = ap (λ cs. holder cs (attributes.format.normal n)) (bags_normal_is bs)
   normal_is (plain p) = refl
 
   least_is : (b : Bag) → (bag_with (by_levels (still tt) g)).least b ≡ bag_least b

@@ -1,5 +1,4 @@
 pub mod Oids
-pub mod Chosen
 pub mod Attributes
 pub mod AttributesEqual
 pub mod BagParts

@@ -2,7 +2,7 @@
 use Rattle.std.specs.Prelude.{◌≡◌, Bool, true, false, Option, Some, None}
 use Rattle.std.proofs.Common.{refl, ap, ◌∙◌}
 use Rattle.pkcs12_bags.specs.Attributes.{AttributesValue, attributes_value}
-use Rattle.pkcs12_bags.specs.BagParts.{OctetsOrAny, x509_value}
+use Rattle.pkcs12_bags.specs.BagParts.{OctetsOrAny, x509_bag_value}
 use Rattle.pkcs12_bags.specs.BagLevels.{value_components}
 use Rattle.pkcs12_bags.specs.BagValues.{with_attributes, bag_value, kind_value}
 use Rattle.pkcs12_bags.specs.Selections.{certificate_in, certificate_of, key_is_in, is_key, attributes_in}
@@ -12,7 +12,7 @@ use Rattle.pkcs12_bags.specs.declared.safe_bags.bags.SafeBagKind as K
 use Rattle.pkcs12_bags.specs.declared.safe_bags.bags.SafeBagKind.{SafeBagKind}
 
 abbrev pub certificate_of_kind : SafeBagKind → Option OctetsOrAny
-certificate_of_kind (K.Certificate x) = Some (x509_value x)
+certificate_of_kind (K.Certificate x) = Some (x509_bag_value x)
 certificate_of_kind k = None
 
 abbrev is_key_kind : SafeBagKind → Bool

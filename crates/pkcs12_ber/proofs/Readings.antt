@@ -11,7 +11,7 @@ use Rattle.x509_pkcs12.specs.Agree.{DataReadsAs, ReadsAs, pfx_agrees}
 use Rattle.x509_pkcs12.specs.AuthSafes.{AuthSafeValue, auth_safe_choice}
 use Rattle.x509_pkcs12.specs.MacOctets.{mac_octets}
 use Rattle.x509_pkcs12.specs.Pfxs.{PfxValue, pfx, lawful_pfx}
-use Rattle.pkcs12_ber.specs.Contents.{content_choice}
+use Rattle.pkcs12_ber.specs.Contents.{content_info}
 use Rattle.pkcs12_ber.specs.Files.{ReadsInDer, IsBerFile, HasNoReading, HasNoContents}
 use Rattle.pkcs12_ber.specs.InDer.{IsSafeInDer}
 use Rattle.pkcs12_ber.specs.Pfxs.{ber_pfx}
@@ -25,11 +25,11 @@ safe_element : (o d : List ℕ) → IsSafeInDer o d → d ≡ o → IsElement Is
 safe_element o d p e = record { tag = 0x30; contents = _; is_tag = omega arith; is = sym e ∙ p.is; allowed = omega arith }
 
 module _ (k : ℕ) where
-  choice_to_raw : (b : List ℕ) (a : AuthSafeValue Octets) → ((o : List ℕ) → a ≡ inl o → IsElement IsTagByte o) → content_choice.components.Reads k b a → (auth_safe_choice raw).components.Reads k b a
+  choice_to_raw : (b : List ℕ) (a : AuthSafeValue Octets) → ((o : List ℕ) → a ≡ inl o → IsElement IsTagByte o) → content_info.format.Reads k b a → (auth_safe_choice raw).components.Reads k b a
   choice_to_raw b (inl o) is s = (s.0, s.1, (s.2.0, s.2.1, (o, s.2.2.0, (refl, is o refl))))
   choice_to_raw b (inr x) is s = s
 
-  choice_from_raw : (b : List ℕ) (a : AuthSafeValue Octets) → (auth_safe_choice raw).components.Reads k b a → content_choice.components.Reads k b a
+  choice_from_raw : (b : List ℕ) (a : AuthSafeValue Octets) → (auth_safe_choice raw).components.Reads k b a → content_info.format.Reads k b a
   choice_from_raw b (inl o) s = (s.0, s.1, (s.2.0, s.2.1, (s.2.2.1 ∙ ap (element 0x04) s.2.2.2.0, tt)))
   choice_from_raw b (inr x) s = s
 

@@ -2,29 +2,23 @@
 use Rattle.std.specs.Prelude.{ℕ, List, [], map}
 use Rattle.std.proofs.Common.{arith}
 use Rattle.asn1_core.specs.Asn1.{Asn1, asn1_tagged, list_of, SEQUENCE}
-use Rattle.asn1_core.specs.Der.{Format, IsLawful, SeesEqual, element, empty_left_out, is_default, IsDefault, lawful_implicit_set, within_tagged}
+use Rattle.asn1_core.specs.Der.{SeesEqual, element, empty_left_out, is_default, IsDefault, lawful_implicit_set, within_tagged}
 use Rattle.x509_base.specs.BaseEqual.{x509_equal}
 use Rattle.x509_base.specs.Names.{attribute, attribute_value}
 use Rattle.pkcs7_attributes.specs.contracts.attributes.AttributesPartialEq.TheImpl as AttributesEq
 use Rattle.pkcs7_attributes.specs.declared.attributes.Attributes.{Attributes}
 
-abbrev pub signed_attributes : Asn1
-signed_attributes = asn1_tagged (lawful_implicit_set (omega arith) (SEQUENCE attribute).law) 0xA0 (within_tagged 0xA0 (omega arith) (list_of (SEQUENCE attribute)).format)
+abbrev pub attributes : Asn1
+attributes = asn1_tagged (lawful_implicit_set (omega arith) (SEQUENCE attribute).law) 0xA0 (within_tagged 0xA0 (omega arith) (list_of (SEQUENCE attribute)).format)
 
-abbrev pub attributes_value : Attributes → signed_attributes.Value
+abbrev pub attributes_value : Attributes → attributes.Value
 attributes_value x = map attribute_value x.0.0.items
-
-abbrev pub attributes : Format signed_attributes.Value
-attributes = signed_attributes.format
-
-pub lawful_attributes : IsLawful attributes
-lawful_attributes = signed_attributes.law
 
 -- the empty set, which is left out
 abbrev pub no_attributes : List ℕ
 no_attributes = element 0xA0 []
 
-pub no_attributes_left_out : IsDefault (is_default attributes no_attributes) no_attributes attributes
+pub no_attributes_left_out : IsDefault (is_default attributes.format no_attributes) no_attributes attributes.format
 no_attributes_left_out = empty_left_out 0xA0 (omega arith) (SEQUENCE attribute).format (SEQUENCE attribute).law
 
 pub attributes_equal : SeesEqual AttributesEq.ghosts.eq attributes_value

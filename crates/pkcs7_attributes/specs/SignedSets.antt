@@ -21,7 +21,7 @@ pub record IsRetagged (encoding set : List ℕ) : Type 0 where
   pub own : encoding ≡ element 0xA0 contents
   pub as_set : set ≡ element 0x31 contents
 
-pub set_is_retagged : (vs : List attribute.Value) → IsRetagged (attributes.text vs) (attributes_as_set.text vs)
+pub set_is_retagged : (vs : List attribute.Value) → IsRetagged (attributes.format.text vs) (attributes_as_set.text vs)
 set_is_retagged vs = record { contents = (each (SEQUENCE attribute).format).text vs; own = refl; as_set = refl }
 
 pub no_attributes_there : {T : Type 0} (f : T → attribute.Value) (xs : List T) → xs ≡ [] → None ≡ some_attributes (map f xs)

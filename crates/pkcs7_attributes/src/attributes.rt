@@ -1,7 +1,7 @@
 //! The attributes that a signer signs (RFC 5652, 5.3).
 
 ghost use Rattle.std.specs.Prelude.{◌≡◌, []};
-ghost use Rattle.pkcs7_attributes.specs.Attributes.{attributes_value, signed_attributes, attributes_equal, no_attributes, no_attributes_left_out};
+ghost use Rattle.pkcs7_attributes.specs.Attributes.{attributes, attributes_value, attributes_equal, no_attributes, no_attributes_left_out};
 
 use asn1_core::prelude::*;
 use std::alloc::Global;
@@ -21,56 +21,40 @@ impl Attributes {
     }
 }
 
-impl DerSerialize for Attributes {
-    ghost Value = { signed_attributes.Value };
+impl Asn1Type for Attributes {
+    ghost asn1 = { attributes };
 
     ghost value = { attributes_value };
 
-    ghost format = { signed_attributes.format };
-
-    fn put<W: Writer>(&self, w: &mut W) -> Result<(), WriteError> {
-        put_within(0xA0, &self.0.0, w)
+    fn with_encoded<U: Task>(&self, task: &mut U) -> U::Out {
+        task.run_within::<0xA0, _>(&self.0.0)
     }
 
-    fn well_formed_at(&self, limit: u8) -> bool {
-        self.0.0.components_well_formed_at(limit)
-    }
-}
-
-impl DerDeserialize for Attributes {
-    fn read(alloc: Global, r: &mut Reader<'_>, nest: u8) -> Result<Self, Error> {
+    fn read_encoded(alloc: Global, r: &mut Reader<'_>, nest: u8) -> Result<Self, Error> {
         Ok(Attributes(Asn1SequenceOf(read_within(alloc, r, nest, 0xA0)?)))
     }
 
-    ghost lawful = { signed_attributes.law };
-}
-
-impl FirstTags for Attributes {
-    fn begins(tag: u8) -> bool {
+    fn is_first_tag(tag: u8) -> bool {
         tag == 0xA0
     }
+
+    fn clone_value(&self, alloc: Global) -> Result<Self, Error> {
+        Ok(Attributes(self.0.try_clone(alloc)?))
+    }
+
+    ghost equal = { attributes_equal };
 }
 
-impl HasDefault for Attributes {
-    ghost DEFAULT = { no_attributes };
+impl DefaultType for Attributes {
+    ghost ABSENT = { no_attributes };
 
-    fn is_default(&self) -> bool {
+    fn is_absent(&self) -> bool {
         is_left_out(0xA0, &self.0.0)
     }
 
-    fn absent(alloc: Global) -> Result<Self, Error> {
+    fn when_absent(alloc: Global) -> Result<Self, Error> {
         Ok(Attributes::empty(alloc))
     }
 
-    ghost left_out = { no_attributes_left_out };
-}
-
-impl EqualByText for Attributes {
-    ghost equal_by_text = { attributes_equal };
-}
-
-impl TryClone for Attributes {
-    fn try_clone(&self, alloc: Global) -> Result<Self, Error> {
-        Ok(Attributes(self.0.try_clone(alloc)?))
-    }
+    ghost absent_law = { no_attributes_left_out };
 }

@@ -55,5 +55,5 @@ impl DerSerialize for AttributesAsSet<'_> {
 
 /// The octets that a signature covers have the contents of the attributes in the file.
 pub fn set_has_the_same_contents()
-    ensures { (vs : List attribute.Value) → IsRetagged (attributes.text vs) (attributes_as_set.text vs) }
+    ensures { (vs : List attribute.Value) → IsRetagged (attributes.format.text vs) (attributes_as_set.text vs) }
 {}

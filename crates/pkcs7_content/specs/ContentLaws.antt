@@ -1,11 +1,11 @@
 -- The laws of encapsulated content.
-use Rattle.asn1_core.specs.Asn1.{SEQUENCE}
+use Rattle.asn1_core.specs.Asn1.{Contents, SEQUENCE}
 use Rattle.std.specs.Prelude.{◌≡◌, ℕ, ◌+◌, List, [], ◌++◌, Some, None}
 use Rattle.std.proofs.Common.{arith, refl, sym, ap, subst, inl, inr}
-use Rattle.asn1_core.specs.Der.{IsLawful, IsLawfulComponents, part, nothing, within, octet_string, followed_by, perhaps, lawful_nothing, lawful_within, lawful_octet_string, element, IsOid, oid_from_test, lawful_sequence}
-use Rattle.asn1_choices.specs.DefinedBy.{Alternative}
+use Rattle.asn1_core.specs.Der.{IsLawfulComponents, part, nothing, within, octet_string, followed_by, perhaps, lawful_nothing, lawful_within, lawful_octet_string, element, IsOid, oid_from_test, OidOctets}
+use Rattle.asn1_choices.specs.DefinedBy.{Alternative, any_defined_by}
 use Rattle.asn1_choices.specs.DefinedByLaws.{IsDefinedBy, IsAlternative, itself, lawful_alternative, lawful_any_defined_by}
-use Rattle.pkcs7_content.specs.Contents.{ContentValues, content_values, ContentComponents, written_content, content_kind, as_data, as_octets, OctetsComponents, octets_components, to_data, to_octets, perhaps_in, data_alternative, octets_alternative, content_components, content_defined_by, encapsulated}
+use Rattle.pkcs7_content.specs.Contents.{ContentValues, content_values, ContentComponents, written_content, content_kind, as_data, as_octets, OctetsComponents, octets_components, to_data, to_octets, perhaps_in, data_alternative, octets_alternative, content_components, content_defined_by}
 use Rattle.pkcs7_content.specs.IndirectData.{spc_indirect_data_content}
 use Rattle.pkcs7_content.specs.Oids.{data_oid}
 use Rattle.pkcs7_content.specs.declared.contents.Kind.{Kind}
@@ -75,5 +75,5 @@ written_alike Foreign c = refl
 pub content_is_defined_by : IsDefinedBy content_defined_by
 content_is_defined_by = record { lawful = λ o. lawful_content_components (content_kind o); alike = λ o c. written_alike (content_kind o) c }
 
-pub lawful_encapsulated : IsLawful encapsulated
-lawful_encapsulated = lawful_sequence (lawful_any_defined_by content_defined_by content_is_defined_by)
+abbrev pub encapsulated_content_info : Contents
+encapsulated_content_info = record { Value = OidOctets × ContentComponents; format = any_defined_by content_defined_by; law = lawful_any_defined_by content_defined_by content_is_defined_by }

@@ -3,10 +3,10 @@
 -- octet string, but an SpcIndirectDataContent or a CertificateTrustList (RFC 2315, 7: ANY DEFINED BY contentType).
 use Rattle.asn1_core.specs.Asn1.{SEQUENCE}
 use Rattle.std.specs.Prelude.{◌⊎◌, ℕ, List, Option, Some, if◌then◌else◌}
-use Rattle.asn1_core.specs.Der.{Format, sequence, part, optional, nothing, octet_string, option_value, Octets, OidOctets, octets_of, explicit, either, SeesEqual, der_equal, octets_equal, same_first, same_second}
+use Rattle.asn1_core.specs.Der.{Format, part, optional, nothing, octet_string, option_value, Octets, OidOctets, octets_of, explicit, either, SeesEqual, der_equal, octets_equal, same_first, same_second}
 use Rattle.std.specs.Str.{bytes_eq}
 use Rattle.std.proofs.Common.{inl, inr}
-use Rattle.asn1_choices.specs.DefinedBy.{DefinedBy, any_defined_by, Alternative, alternative, by_itself, only_written}
+use Rattle.asn1_choices.specs.DefinedBy.{DefinedBy, Alternative, alternative, by_itself, only_written}
 use Rattle.pkcs7_content.specs.IndirectData.{spc_indirect_data_content, spc_indirect_data_content_value, spc_indirect_data_content_equal}
 use Rattle.pkcs7_content.specs.Oids.{data_oid, indirect_data_oid, trust_list_oid}
 use Rattle.pkcs7_content.specs.declared.contents.Kind.{Kind}
@@ -101,14 +101,8 @@ content_components Foreign = alternative written_content octets_alternative octe
 abbrev pub content_defined_by : DefinedBy ContentComponents
 content_defined_by = record { text = written_content.text; components = λ o. content_components (content_kind o) }
 
-abbrev pub EncapsulatedValue : Type 0
-EncapsulatedValue = OidOctets × ContentComponents
-
-abbrev pub encapsulated_value : EncapsulatedContentInfo → EncapsulatedValue
-encapsulated_value x = (octets_of x.content_type.0, content_components_value x.content)
-
-abbrev pub encapsulated : Format EncapsulatedValue
-encapsulated = sequence (any_defined_by content_defined_by)
+abbrev pub encapsulated_content_info_value : EncapsulatedContentInfo → OidOctets × ContentComponents
+encapsulated_content_info_value x = (octets_of x.content_type.0, content_components_value x.content)
 
 pub content_value_equal : SeesEqual ContentEq.ghosts.eq content_value
 content_value_equal (Content.SpcIndirectDataContent x) (Content.SpcIndirectDataContent y) = same_first (spc_indirect_data_content_equal x y)
@@ -117,5 +111,5 @@ content_value_equal (Content.Data x) (Content.Data y) = same_second (same_second
 content_value_equal (Content.CertificateTrustList x) (Content.CertificateTrustList y) = same_second (same_second (same_second (ctl_equal x y)))
 content_value_equal x y = (λ e. cc, λ e. cc)
 
-pub encapsulated_equal : SeesEqual EncapsulatedEq.ghosts.eq encapsulated_value
-encapsulated_equal x y = search (der_equal, content_value_equal) depth 20
+pub encapsulated_content_info_equal : SeesEqual EncapsulatedEq.ghosts.eq encapsulated_content_info_value
+encapsulated_content_info_equal x y = search (der_equal, content_value_equal) depth 20

@@ -1,2 +1,2 @@
 -- `==` is equality of what the values contain.
-pub use Rattle.pkcs7_content.specs.Contents.{encapsulated_equal}
+pub use Rattle.pkcs7_content.specs.Contents.{encapsulated_content_info_equal}

@@ -1,14 +1,14 @@
 -- The laws of what Authenticode says of a PE image.
 use Rattle.std.specs.Prelude.{◌≡◌, ◌↔◌, ℕ, ◌+◌, ◌≤◌, Bool, List, Option, Some, None, true, false}
 use Rattle.std.proofs.Common.{arith, refl, sym, ap, ◌∙◌, subst}
-use Rattle.asn1_core.specs.Asn1.{Asn1, asn1}
+use Rattle.asn1_core.specs.Asn1.{Asn1, asn1_tagged}
 use Rattle.asn1_core.specs.Der.{IsLawful, IsLawfulComponents, lawful_sequence, followed_by, lawful_explicit, lawful_nothing, perhaps, element_same, begins_next, next_distinct, IsLoosening, lawful_loosened, least_unless}
 use Rattle.std.specs.Str.{bytes_eq}
 use Rattle.std.proofs.lemmas.Slice.Eq.{bytes_eq-Decides}
 use Rattle.asn1_leaves.specs.Strings.{lawful_bit_string}
 use Rattle.asn1_leaves_strings.specs.Bits.{IsBits}
 use Rattle.x509_base.specs.SpcLinks.{spc_link}
-use Rattle.pkcs7_content.specs.PeImages.{default_flags, PeImageValue, file_components, pe_image_spelled, HasFlags, flags_written, pe_image_data}
+use Rattle.pkcs7_content.specs.PeImages.{default_flags, PeImageValue, file_components, pe_image_spelled, HasFlags, flags_written}
 
 lawful_file_components : IsLawfulComponents file_components
 lawful_file_components = followed_by (lawful_explicit (omega arith) spc_link.law) lawful_nothing
@@ -64,8 +64,5 @@ flags_loosening = record {
   reached = λ k v h i. flags_reached (bytes_eq v.0 default_flags) k v refl h;
 }
 
-pub lawful_pe_image_data : IsLawful pe_image_data
-lawful_pe_image_data = lawful_loosened pe_image_spelled lawful_pe_image_spelled flags_written flags_loosening
-
 abbrev pub spc_pe_image_data : Asn1
-spc_pe_image_data = asn1 lawful_pe_image_data
+spc_pe_image_data = asn1_tagged (lawful_loosened pe_image_spelled lawful_pe_image_spelled flags_written flags_loosening) 0x30 (record { is_tag = omega arith; tags = λ t. (λ e. e, λ e. e); written = λ v. (_, refl) })

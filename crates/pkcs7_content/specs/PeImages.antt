@@ -3,7 +3,7 @@
 -- SpcPeImageData ::= SEQUENCE { flags SpcPeImageFlags DEFAULT { includeResources }, file [0] EXPLICIT SpcLink }
 -- Absent flags are read as their default. Flags are always written, the default too.
 use Rattle.std.specs.Prelude.{◌≡◌, ℕ, ◌+◌, List, [], ◌∷◌, Option, Some, None}
-use Rattle.asn1_core.specs.Der.{Format, sequence, part, optional, nothing, BitStringOctets, explicit, element, NextIs, Loosening, loosened, least_unless, SeesEqual, der_equal}
+use Rattle.asn1_core.specs.Der.{Format, sequence, part, optional, nothing, BitStringOctets, explicit, element, NextIs, Loosening, least_unless, SeesEqual, der_equal}
 use Rattle.std.specs.Str.{bytes_eq}
 use Rattle.asn1_leaves.specs.Strings.{bit_string}
 use Rattle.x509_base.specs.SpcLinks.{spc_link, spc_link_value}
@@ -48,9 +48,6 @@ flags_written = record {
   IsWritten = HasFlags;
   least = λ v. 1 + (least_unless (bytes_eq v.0 default_flags) 1 + file_components.least v.1);
 }
-
-abbrev pub pe_image_data : Format PeImageValue
-pe_image_data = loosened pe_image_spelled flags_written
 
 flags_equal : SeesEqual FlagsEq.ghosts.eq (λ x. contents_of x.0.0)
 flags_equal x y = search rules

@@ -1,17 +1,19 @@
 //! Encapsulated content (RFC 5652, 5.2).
 
 ghost use Rattle.std.specs.Prelude.{◌≡◌, ◌↔◌, Some, false, IsTrue, MatchResult};
+ghost use Rattle.asn1_core.specs.Asn1.{SEQUENCE};
 ghost use Rattle.asn1_core.specs.Der.{option_value, octets_of, GivesComponents};
 ghost use Rattle.std.proofs.Common.{inl, inr};
 ghost use Rattle.asn1_core_element.specs.declared.error.Error.TheVariants.{Memory};
-ghost use Rattle.pkcs7_content.specs.Contents.{ContentValues, content_values, ContentComponents, content_kind, IsPlain, octets_components, content_components, content_defined_by, EncapsulatedValue, encapsulated, content_value, content_components_value, encapsulated_value, content_value_equal, encapsulated_equal};
-ghost use Rattle.pkcs7_content.specs.ContentLaws.{content_is_defined_by, lawful_encapsulated};
+ghost use Rattle.pkcs7_content.specs.Contents.{ContentValues, content_values, ContentComponents, content_kind, IsPlain, octets_components, content_components, content_defined_by, content_value, content_components_value, encapsulated_content_info_value, content_value_equal, encapsulated_content_info_equal};
+ghost use Rattle.pkcs7_content.specs.ContentLaws.{content_is_defined_by, encapsulated_content_info};
 ghost use Rattle.pkcs7_content.specs.Oids.{data_oid};
 
+use crate::defined_by::read_inside_defined_by;
 use crate::indirect_data::SpcIndirectDataContent;
 use crate::oids::{DATA, INDIRECT_DATA, TRUST_LIST};
 use crate::trust_lists::Ctl;
-use asn1_choices::{AnyDefinedBy, OidAnd, read_sequence_defined_by};
+use asn1_choices::{AnyDefinedBy, OidAnd};
 use asn1_core::prelude::*;
 use std::alloc::Global;
 
@@ -234,7 +236,7 @@ impl EncapsulatedContentInfo {
     #[tactic(auto, using(crate::specs::ContentLaws::data_oid_is))]
     pub fn new_pkcs7_data(alloc: Global, content: Option<Vec<u8>>) -> Result<Self, Error>
         ensures { MatchResult result
-            (λ x. encapsulated_value x ≡ (data_oid, (option_value (λ octets. inr (inr (inl octets.items))) content, tt)))
+            (λ x. encapsulated_content_info_value x ≡ (data_oid, (option_value (λ octets. inr (inr (inl octets.items))) content, tt)))
             (λ e. e ≡ Memory) }
     {
         let octets = Vec::from_slice(alloc, &DATA)?;
@@ -242,41 +244,37 @@ impl EncapsulatedContentInfo {
     }
 }
 
-impl DerSerialize for EncapsulatedContentInfo {
-    ghost Value = { EncapsulatedValue };
+impl TaggedType for EncapsulatedContentInfo {
+    ghost asn1 = { SEQUENCE encapsulated_content_info };
 
-    ghost value = { encapsulated_value };
+    ghost value = { encapsulated_content_info_value };
 
-    ghost format = { encapsulated };
+    ghost TAG = { 0x30 };
 
-    fn put<W: Writer>(&self, w: &mut W) -> Result<(), WriteError> {
+    const TAG: u8 = 0x30;
+
+    fn put_tagged<W: Writer>(&self, tag: u8, w: &mut W) -> Result<(), WriteError> {
         let content = MaybeRef(&self.content, End);
-        put_within(0x30, &Part(Ref(&self.content_type), content), w)
+        put_within(tag, &Part(Ref(&self.content_type), content), w)
     }
 
-    fn well_formed_at(&self, limit: u8) -> bool {
+    fn is_well_formed_at(&self, limit: u8) -> bool {
         fits(&self.content, self.content_type.0.octets(), limit)
     }
-}
 
-impl DerDeserialize for EncapsulatedContentInfo {
-    fn read(alloc: Global, r: &mut Reader<'_>, nest: u8) -> Result<Self, Error> {
-        let OidAnd(content_type, Content(content)) = read_sequence_defined_by(alloc, r, nest)?;
+    fn read_open_contents(alloc: Global, r: &mut Reader<'_>, nest: u8) -> Result<Self, Error> {
+        let OidAnd(content_type, Content(content)) = read_inside_defined_by(alloc, r, nest)?;
         Ok(EncapsulatedContentInfo {
             content_type,
             content,
         })
     }
 
-    ghost lawful = { lawful_encapsulated };
-}
-
-impl EqualByText for EncapsulatedContentInfo {
-    ghost equal_by_text = { encapsulated_equal };
-}
-
-impl TryClone for EncapsulatedContentInfo {
-    fn try_clone(&self, alloc: Global) -> Result<Self, Error> {
+    fn clone_value(&self, alloc: Global) -> Result<Self, Error> {
         clone_of!(self, alloc; EncapsulatedContentInfo { content_type, content })
     }
+
+    ghost tagged = { (SEQUENCE encapsulated_content_info).tagged };
+
+    ghost equal = { encapsulated_content_info_equal };
 }

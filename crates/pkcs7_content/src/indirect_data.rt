@@ -1,12 +1,14 @@
 //! What Authenticode signs.
 
 ghost use Rattle.std.specs.Prelude.{◌≡◌, ◌↔◌, IsTrue};
-ghost use Rattle.pkcs7_content.specs.IndirectData.{SpcValue, spc_values, subject_of, spc_defined_by, SpcAttributeValue, spc_attribute, spc_indirect_data_content, spc_is_defined_by, lawful_spc_attribute, spc_value, spc_attribute_value, spc_indirect_data_content_value, spc_value_equal, spc_attribute_equal, spc_indirect_data_content_equal};
+ghost use Rattle.asn1_core.specs.Asn1.{SEQUENCE};
+ghost use Rattle.pkcs7_content.specs.IndirectData.{SpcValue, spc_values, subject_of, spc_defined_by, spc_attribute, spc_indirect_data_content, spc_is_defined_by, spc_value, spc_attribute_value, spc_indirect_data_content_value, spc_value_equal, spc_attribute_equal, spc_indirect_data_content_equal};
 
+use crate::defined_by::read_inside_defined_by;
 use crate::oids::{PE_IMAGE, SIP_INFO};
 use crate::pe_images::SpcPeImageData;
 use crate::sip_infos::SpcSipInfo;
-use asn1_choices::{AnyDefinedBy, OidAnd, read_sequence_defined_by};
+use asn1_choices::{AnyDefinedBy, OidAnd};
 use asn1_core::prelude::*;
 use std::alloc::Global;
 use x509_base::DigestInfo;
@@ -134,39 +136,35 @@ pub struct SpcAttributeAndOptionalValue {
     pub value: SpcAttributeAndOptionalValueValue,
 }
 
-impl DerSerialize for SpcAttributeAndOptionalValue {
-    ghost Value = { SpcAttributeValue };
+impl TaggedType for SpcAttributeAndOptionalValue {
+    ghost asn1 = { SEQUENCE spc_attribute };
 
     ghost value = { spc_attribute_value };
 
-    ghost format = { spc_attribute };
+    ghost TAG = { 0x30 };
 
-    fn put<W: Writer>(&self, w: &mut W) -> Result<(), WriteError> {
-        put_within(0x30, &Part(Ref(&self.ty), Alone(Ref(&self.value))), w)
+    const TAG: u8 = 0x30;
+
+    fn put_tagged<W: Writer>(&self, tag: u8, w: &mut W) -> Result<(), WriteError> {
+        put_within(tag, &Part(Ref(&self.ty), Alone(Ref(&self.value))), w)
     }
 
-    fn well_formed_at(&self, limit: u8) -> bool {
+    fn is_well_formed_at(&self, limit: u8) -> bool {
         self.value.fits(self.ty.0.octets(), limit)
     }
-}
 
-impl DerDeserialize for SpcAttributeAndOptionalValue {
-    fn read(alloc: Global, r: &mut Reader<'_>, nest: u8) -> Result<Self, Error> {
-        let OidAnd(ty, value) = read_sequence_defined_by(alloc, r, nest)?;
+    fn read_open_contents(alloc: Global, r: &mut Reader<'_>, nest: u8) -> Result<Self, Error> {
+        let OidAnd(ty, value) = read_inside_defined_by(alloc, r, nest)?;
         Ok(SpcAttributeAndOptionalValue { ty, value })
     }
 
-    ghost lawful = { lawful_spc_attribute };
-}
-
-impl EqualByText for SpcAttributeAndOptionalValue {
-    ghost equal_by_text = { spc_attribute_equal };
-}
-
-impl TryClone for SpcAttributeAndOptionalValue {
-    fn try_clone(&self, alloc: Global) -> Result<Self, Error> {
+    fn clone_value(&self, alloc: Global) -> Result<Self, Error> {
         clone_of!(self, alloc; SpcAttributeAndOptionalValue { ty, value })
     }
+
+    ghost tagged = { (SEQUENCE spc_attribute).tagged };
+
+    ghost equal = { spc_attribute_equal };
 }
 
 /// `SpcIndirectDataContent ::= SEQUENCE { data SpcAttributeTypeAndOptionalValue, messageDigest DigestInfo }`

@@ -3,7 +3,7 @@
 ghost use Rattle.std.specs.Prelude.{◌≡◌, MatchResult};
 ghost use Rattle.std.proofs.Common.{rules, arith};
 ghost use Rattle.asn1_core_element.specs.declared.error.Error.TheVariants.{Memory};
-ghost use Rattle.asn1_leaves.specs.Strings.{bit_string, lawful_bit_string};
+ghost use Rattle.asn1_leaves.specs.Asn1.{BIT_STRING};
 ghost use Rattle.asn1_leaves_strings.specs.Octets.{contents_of};
 ghost use Rattle.pkcs7_content.specs.PeImages.{default_flags, spc_pe_image_data_value, spc_pe_image_data_equal};
 ghost use Rattle.pkcs7_content.specs.PeImageLaws.{spc_pe_image_data};
@@ -28,44 +28,34 @@ impl SpcPeImageFlags {
     }
 }
 
-impl DerSerialize for SpcPeImageFlags {
-    ghost Value = { ⟦<BitStringAsn1 as DerSerialize>⟧.Value };
+impl TaggedType for SpcPeImageFlags {
+    ghost asn1 = { BIT_STRING };
 
-    ghost value = { λ x. ⟦<BitStringAsn1 as DerSerialize>⟧.value x.0 };
+    ghost value = { λ x. contents_of x.0.0 };
 
-    ghost format = { bit_string };
+    ghost TAG = { 0x03 };
 
-    fn put<W: Writer>(&self, w: &mut W) -> Result<(), WriteError> {
-        self.0.put(w)
+    const TAG: u8 = 0x03;
+
+    fn put_tagged<W: Writer>(&self, tag: u8, w: &mut W) -> Result<(), WriteError> {
+        self.0.put_as(tag, w)
     }
 
-    fn well_formed_at(&self, limit: u8) -> bool {
+    fn is_well_formed_at(&self, limit: u8) -> bool {
         self.0.well_formed_at(limit)
     }
-}
 
-impl DerDeserialize for SpcPeImageFlags {
-    fn read(alloc: Global, r: &mut Reader<'_>, nest: u8) -> Result<Self, Error> {
-        Ok(SpcPeImageFlags(BitStringAsn1::read(alloc, r, nest)?))
+    fn read_open_contents(alloc: Global, r: &mut Reader<'_>, nest: u8) -> Result<Self, Error> {
+        Ok(SpcPeImageFlags(BitStringAsn1::read_contents(alloc, r, nest)?))
     }
 
-    ghost lawful = { lawful_bit_string };
-}
-
-impl FirstTags for SpcPeImageFlags {
-    fn begins(tag: u8) -> bool {
-        tag == 0x03
-    }
-}
-
-impl EqualByText for SpcPeImageFlags {
-    ghost equal_by_text = { Prim.search rules };
-}
-
-impl TryClone for SpcPeImageFlags {
-    fn try_clone(&self, alloc: Global) -> Result<Self, Error> {
+    fn clone_value(&self, alloc: Global) -> Result<Self, Error> {
         Ok(SpcPeImageFlags(self.0.try_clone(alloc)?))
     }
+
+    ghost tagged = { BIT_STRING.tagged };
+
+    ghost equal = { Prim.search rules };
 }
 
 /// `SpcPeImageData ::= SEQUENCE { flags SpcPeImageFlags DEFAULT { includeResources }, file [0] EXPLICIT SpcLink }`.
@@ -76,27 +66,25 @@ pub struct SpcPeImageData {
     pub file: ExplicitContextTag0<SpcLink>,
 }
 
-type PeImageComponents = Maybe<SpcPeImageFlags, Part<ExplicitContextTag0<SpcLink>, End>>;
-
-impl DerSerialize for SpcPeImageData {
-    ghost Value = { spc_pe_image_data.Value };
+impl TaggedType for SpcPeImageData {
+    ghost asn1 = { spc_pe_image_data };
 
     ghost value = { spc_pe_image_data_value };
 
-    ghost format = { spc_pe_image_data.format };
+    ghost TAG = { 0x30 };
 
-    fn put<W: Writer>(&self, w: &mut W) -> Result<(), WriteError> {
-        put_of!(self, w; flags, file)
+    const TAG: u8 = 0x30;
+
+    fn put_tagged<W: Writer>(&self, tag: u8, w: &mut W) -> Result<(), WriteError> {
+        put_within(tag, &body_of!(self; flags, file), w)
     }
 
-    fn well_formed_at(&self, limit: u8) -> bool {
+    fn is_well_formed_at(&self, limit: u8) -> bool {
         formed_of!(self, limit; flags, file)
     }
-}
 
-impl DerDeserialize for SpcPeImageData {
-    fn read(alloc: Global, r: &mut Reader<'_>, nest: u8) -> Result<Self, Error> {
-        let components: PeImageComponents = read_within(alloc, r, nest, 0x30)?;
+    fn read_open_contents(alloc: Global, r: &mut Reader<'_>, nest: u8) -> Result<Self, Error> {
+        let components: types_of!(flags OPTIONAL, file) = read_inside(alloc, r, nest, 0x30)?;
         let fields_of!(spelled OPTIONAL, file) = components;
         match spelled {
             Some(flags) => Ok(SpcPeImageData { flags, file }),
@@ -107,15 +95,11 @@ impl DerDeserialize for SpcPeImageData {
         }
     }
 
-    ghost lawful = { spc_pe_image_data.law };
-}
-
-impl EqualByText for SpcPeImageData {
-    ghost equal_by_text = { spc_pe_image_data_equal };
-}
-
-impl TryClone for SpcPeImageData {
-    fn try_clone(&self, alloc: Global) -> Result<Self, Error> {
+    fn clone_value(&self, alloc: Global) -> Result<Self, Error> {
         clone_of!(self, alloc; SpcPeImageData { flags, file })
     }
+
+    ghost tagged = { spc_pe_image_data.tagged };
+
+    ghost equal = { spc_pe_image_data_equal };
 }

@@ -89,6 +89,10 @@ impl DerDeserialize for CmsVersion {
         read_leaf(alloc, r, nest, 0x02)
     }
 
+    fn begins(tag: u8) -> bool {
+        tag == 0x02
+    }
+
     ghost lawful = { lawful_number 6 };
 }
 

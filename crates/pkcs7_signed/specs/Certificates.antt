@@ -3,6 +3,7 @@
 -- CertificateSet ::= SET OF CertificateChoices, under its tag [0] IMPLICIT (RFC 5652, 5.1 and 10.2.3)
 use Rattle.std.specs.Prelude.{◌≡◌, ◌≤◌, ℕ, List, [], map}
 use Rattle.std.proofs.Common.{inl, inr, arith}
+use Rattle.std.proofs.lemmas.Bool.Decides.{eqb_tells}
 use Rattle.asn1_choices.specs.KnownOrRaw.{lawful_known_or_raw}
 use Rattle.asn1_core.specs.Asn1.{Asn1, asn1, asn1_tagged}
 use Rattle.asn1_core.specs.Der.{one_tag, each, element_of, lawful_element_of, element, empty_left_out, is_default, IsDefault, lawful_implicit_set, within_tagged}
@@ -16,6 +17,10 @@ IsSequenceTag t = t ≡ 0x30
 -- a certificate, or another choice
 abbrev pub certificate_choices : Asn1
 certificate_choices = asn1 (lawful_known_or_raw (element_of (one_tag 0x30)) (lawful_element_of (one_tag 0x30)))
+
+-- an element has the tag of a certificate, or another
+pub any_tag : (t : ℕ) → certificate_choices.format.IsTag t
+any_tag t = elim (eqb_tells t 0x30) [ inl e ↦ inl e.1 | inr n ↦ inr n.1 ]
 
 abbrev pub certificate_choices_value : CertificateChoices → certificate_choices.Value
 certificate_choices_value (Certificate c) = inl c.0.items

@@ -4,7 +4,8 @@ use Rattle.std.specs.Prelude.{◌≡◌, ℕ, List, [], ◌++◌, Option, map}
 use Rattle.std.proofs.Common.{refl, ap, ◌∙◌, append_assoc, Vec, Global}
 use Rattle.asn1_core.specs.Der.{Format, nothing, number_below, version, octet_string, option_value, ElementOctets, is_default, text_unless, text_if}
 use Rattle.asn1_core.specs.declared.raw.Asn1RawDer.{Asn1RawDer}
-use Rattle.pkcs7_content.specs.Contents.{encapsulated, encapsulated_value}
+use Rattle.pkcs7_content.specs.Contents.{encapsulated_content_info_value}
+use Rattle.pkcs7_content.specs.ContentLaws.{encapsulated_content_info}
 use Rattle.pkcs7_content.specs.Versions.{number_of}
 use Rattle.pkcs7_content.specs.declared.contents.EncapsulatedContentInfo.{EncapsulatedContentInfo}
 use Rattle.pkcs7_content.specs.declared.versions.CmsVersion.{CmsVersion}
@@ -35,7 +36,7 @@ abbrev pub signer_parts_value : {R : Type 0} → CmsVersion → SignerIdentifier
 signer_parts_value v s d a g o r = (number_of v, (signer_identifier_value s, (algorithm_identifier_value d.0, (attributes_value a, (algorithm_identifier_value g.0, (o.0.0.items, r))))))
 
 abbrev pub signed_parts_value : {R : Type 0} → CmsVersion → DigestAlgorithmIdentifiers → EncapsulatedContentInfo → CertificateSet → Option RevocationInfoChoices → R → SignedParts R
-signed_parts_value v d i c l r = (number_of v, (digest_algorithm_identifiers_value d, (encapsulated_value i, (certificate_set_value c, (option_value revocation_info_choices_value l, r)))))
+signed_parts_value v d i c l r = (number_of v, (digest_algorithm_identifiers_value d, (encapsulated_content_info_value i, (certificate_set_value c, (option_value revocation_info_choices_value l, r)))))
 
 abbrev pub signer_head_value : SignerHead → SignerParts (Unit {0})
 signer_head_value x = signer_parts_value x.version x.sid.now x.digest_algorithm.now x.signed_attrs.now x.signature_algorithm.now x.signature.now tt
@@ -57,11 +58,11 @@ module _ {R : Type 0} (F : Format R) (r : R) where
   pub signer_head_text : (p : SignerParts (Unit {0})) → (signer_parts nothing).text p ++ F.text r ≡ (signer_parts F).text (signer_end p r)
   signer_head_text p =
       six_after ((version 1).text p.0) (signer_identifier.format.text p.1.0) ((SEQUENCE algorithm_identifier).format.text p.1.1.0)
-      (text_unless (is_default attributes no_attributes p.1.1.1.0) (attributes.text p.1.1.1.0))
+      (text_unless (is_default attributes.format no_attributes p.1.1.1.0) (attributes.format.text p.1.1.1.0))
       ((SEQUENCE algorithm_identifier).format.text p.1.1.1.1.0) (octet_string.text p.1.1.1.1.1.0) (F.text r)
 
   pub signed_head_text : (p : SignedParts (Unit {0})) → (signed_parts nothing).text p ++ F.text r ≡ (signed_parts F).text (signed_end p r)
   signed_head_text p =
-      five_after ((number_below 6).text p.0) (digest_algorithm_identifiers.format.text p.1.0) (encapsulated.text p.1.1.0)
+      five_after ((number_below 6).text p.0) (digest_algorithm_identifiers.format.text p.1.0) ((SEQUENCE encapsulated_content_info).format.text p.1.1.0)
       (text_unless (is_default certificate_set.format no_certificates p.1.1.1.0) (certificate_set.format.text p.1.1.1.0))
       (text_if revocation_info_choices.format.text p.1.1.1.1.0) (F.text r)

@@ -4,7 +4,7 @@ use Rattle.std.specs.List.{AllByRecursion}
 use lib.Pointwise.{pointwise}
 use Rattle.asn1_core.specs.Der.{octets_equal, raw_equal, with_end, same_first, same_second, SeesEqual, two_equal, option_equal, list_equal, equal_octets}
 use Rattle.x509_base.specs.AlgorithmParts.{algorithm_identifier_equal}
-use Rattle.pkcs7_content.specs.Equal.{encapsulated_equal}
+use Rattle.pkcs7_content.specs.Equal.{encapsulated_content_info_equal}
 use Rattle.pkcs7_content.specs.Versions.{number_of}
 use Rattle.pkcs7_content.specs.contracts.versions.CmsVersionPartialEq.TheImpl as Version
 use Rattle.pkcs7_attributes.specs.Equal.{attributes_equal as signed_attributes_equal}
@@ -100,7 +100,7 @@ mutual
   pub signed_equal : SeesEqual Signed.ghosts.eq signed_value
   signed_equal (SignedData' v d i c l s) (SignedData' w e j b m t) =
       told (Signed.Laws.is _ _) (value_signed _) (value_signed _)
-      (two_equal (version_equal v w) (two_equal (digest_algorithm_identifiers_equal d e) (two_equal (encapsulated_equal i j) (two_equal (certificate_set_equal c.0 b.0) (two_equal (option_equal _ _ revocation_info_choices_equal l m) (signers_equal s t))))))
+      (two_equal (version_equal v w) (two_equal (digest_algorithm_identifiers_equal d e) (two_equal (encapsulated_content_info_equal i j) (two_equal (certificate_set_equal c.0 b.0) (two_equal (option_equal _ _ revocation_info_choices_equal l m) (signers_equal s t))))))
 
   pub signer_equal : SeesEqual Signer.ghosts.eq signer_value
   signer_equal (SignerInfo' v s d a g o u) (SignerInfo' w t e b h p n) =

@@ -41,6 +41,10 @@ impl<T: DerDeserialize> DerDeserialize for Boxed<T> {
         Ok(value)
     }
 
+    fn begins(tag: u8) -> bool {
+        T::begins(tag)
+    }
+
     ghost lawful = { T.lawful };
 }
 

@@ -1,7 +1,8 @@
 -- The types of PKIXTSP. Made by scripts/asn1 of rfc3161.asn1; not to be edited.
 use Rattle.asn1_core.specs.Asn1.{ANY, Asn1, BOOLEAN_or_FALSE, Contents, EXPLICIT, IMPLICIT, INTEGER_BELOW, OBJECT_IDENTIFIER, OCTET_STRING, SEQUENCE, SEQUENCE_OF, contents, end, ◌then◌, ◌OPTIONAL◌, ◌DEFAULT◌}
-use Rattle.asn1_leaves.specs.Asn1.{BIT_STRING, GENERALIZED_TIME, INTEGER, UTF8_STRING}
+use Rattle.asn1_leaves.specs.Asn1.{BIT_STRING, INTEGER, UTF8_STRING}
 use Rattle.std.proofs.lemmas.Bool.Decides.{Decides-eqb}
+use Rattle.asn1_other_leaves.specs.Asn1.{KEPT_STRING}
 use Rattle.asn1_core.specs.Der.{SeesEqual, list_equal, octets_of, option_equal, option_value, raw_equal, two_equal, with_end}
 use Rattle.x509_base.specs.AlgorithmLaws.{algorithm_identifier}
 use Rattle.x509_base.specs.AlgorithmParts.{algorithm_identifier_equal, algorithm_identifier_value}
@@ -9,11 +10,9 @@ use Rattle.asn1_other_leaves.specs.OtherEqual.{bits_equal, integer_equal, utf8_e
 use Rattle.std.specs.Cmp.{booleans_Decides}
 use Rattle.std.proofs.lemmas.Slice.Eq.{bytes_eq-Decides}
 use Rattle.asn1_leaves_strings.specs.Octets.{contents_of, octets_of_utf8}
-use Rattle.asn1_leaves_times.specs.TimesLaws.{equal_generalized}
 use Rattle.x509_base.specs.Extensions.{extensions, extensions_equal, extensions_value}
 use Rattle.rfc5280.specs.Pkix1Implicit88.{general_name, general_name_equal, general_name_value}
 use Rattle.std.specs.Prelude.{map, ◌^◌}
-use Rattle.asn1_leaves_times.specs.Times.{moment_of_generalized}
 use Rattle.asn1_core.specs.Equal.{oid_equal}
 use Rattle.std.proofs.Common.{refl}
 use Rattle.rfc3161.specs.declared.pkixtsp.MessageImprint.{MessageImprint}
@@ -132,12 +131,12 @@ accuracy_equal x y = two_equal (option_equal _ (λ y. y.0.items) integer_equal x
 --   2.4.2)
 abbrev pub tst_info : Contents
 tst_info =
-    contents (INTEGER_BELOW (2 ^ 8) then tsa_policy_id then SEQUENCE message_imprint then INTEGER then
-    GENERALIZED_TIME then SEQUENCE accuracy OPTIONAL BOOLEAN_or_FALSE DEFAULT INTEGER OPTIONAL EXPLICIT 0
-    general_name OPTIONAL IMPLICIT 1 (SEQUENCE extensions) OPTIONAL end) refl
+    contents (INTEGER_BELOW (2 ^ 8) then tsa_policy_id then SEQUENCE message_imprint then INTEGER then KEPT_STRING
+    0x18 then SEQUENCE accuracy OPTIONAL BOOLEAN_or_FALSE DEFAULT INTEGER OPTIONAL EXPLICIT 0 general_name OPTIONAL
+    IMPLICIT 1 (SEQUENCE extensions) OPTIONAL end) refl
 
 abbrev pub tst_info_value : TstInfo → tst_info.Value
-tst_info_value x = (x.version, (octets_of x.policy.0, (message_imprint_value x.message_imprint, (x.serial_number.0.items, (moment_of_generalized x.gen_time.0, (option_value accuracy_value x.accuracy, (x.ordering, (option_value (λ y. y.0.items) x.nonce, (option_value (λ y. general_name_value y.0) x.tsa, (option_value (λ y. extensions_value y.0) x.extensions, tt))))))))))
+tst_info_value x = (x.version, (octets_of x.policy.0, (message_imprint_value x.message_imprint, (x.serial_number.0.items, (x.gen_time.0.items, (option_value accuracy_value x.accuracy, (x.ordering, (option_value (λ y. y.0.items) x.nonce, (option_value (λ y. general_name_value y.0) x.tsa, (option_value (λ y. extensions_value y.0) x.extensions, tt))))))))))
 
 pub tst_info_equal : SeesEqual TstInfoEq.ghosts.eq tst_info_value
-tst_info_equal x y = two_equal (Decides-eqb x.version y.version) (two_equal (oid_equal x.policy y.policy) (two_equal (message_imprint_equal x.message_imprint y.message_imprint) (two_equal (integer_equal x.serial_number y.serial_number) (two_equal (equal_generalized x.gen_time.0 y.gen_time.0) (two_equal (option_equal _ accuracy_value accuracy_equal x.accuracy y.accuracy) (two_equal (booleans_Decides x.ordering y.ordering) (two_equal (option_equal _ (λ y. y.0.items) integer_equal x.nonce y.nonce) (two_equal (option_equal _ (λ y. general_name_value y.0) (λ x y. general_name_equal x.0 y.0) x.tsa y.tsa) (with_end (option_equal _ (λ y. extensions_value y.0) (λ x y. extensions_equal x.0 y.0) x.extensions y.extensions))))))))))
+tst_info_equal x y = two_equal (Decides-eqb x.version y.version) (two_equal (oid_equal x.policy y.policy) (two_equal (message_imprint_equal x.message_imprint y.message_imprint) (two_equal (integer_equal x.serial_number y.serial_number) (two_equal (bytes_eq-Decides x.gen_time.0.items y.gen_time.0.items) (two_equal (option_equal _ accuracy_value accuracy_equal x.accuracy y.accuracy) (two_equal (booleans_Decides x.ordering y.ordering) (two_equal (option_equal _ (λ y. y.0.items) integer_equal x.nonce y.nonce) (two_equal (option_equal _ (λ y. general_name_value y.0) (λ x y. general_name_equal x.0 y.0) x.tsa y.tsa) (with_end (option_equal _ (λ y. extensions_value y.0) (λ x y. extensions_equal x.0 y.0) x.extensions y.extensions))))))))))

@@ -12,8 +12,8 @@ ghost use Rattle.asn1_leaves_strings.specs.Octets.{contents_of};
 ghost use Rattle.asn1_other_leaves.specs.NamedBits.{HasBit};
 
 use asn1_core::prelude::*;
-use asn1_leaves::{BitStringAsn1, GeneralizedTimeAsn1, IntegerAsn1, Utf8StringAsn1};
-use asn1_other_leaves::has_bit;
+use asn1_leaves::{BitStringAsn1, IntegerAsn1, Utf8StringAsn1};
+use asn1_other_leaves::{KeptAsn1, has_bit};
 use rfc5280::pkix1_implicit88::GeneralName;
 use std::alloc::Global;
 use x509_base::{AlgorithmIdentifier, Extensions};
@@ -347,15 +347,15 @@ impl Sequence for Accuracy {
 /// nonce INTEGER OPTIONAL, tsa [0] GeneralName OPTIONAL, extensions [1] IMPLICIT Extensions OPTIONAL }` (RFC 3161,
 /// 2.4.2)
 ///
-/// An INTEGER with named numbers is read from 0 to 255 alone; a GeneralizedTime with a fraction of a second is
-/// refused.
+/// An INTEGER with named numbers is read from 0 to 255 alone; a kept GeneralizedTime is its contents octets, of
+/// any form, with any fraction of a second.
 #[derive(Debug, Drop, PartialEq, Eq)]
 pub struct TstInfo {
     pub version: u8,
     pub policy: TsaPolicyId,
     pub message_imprint: MessageImprint,
     pub serial_number: IntegerAsn1,
-    pub gen_time: GeneralizedTimeAsn1,
+    pub gen_time: KeptAsn1<0x18>,
     pub accuracy: Option<Accuracy>,
     pub ordering: bool,
     pub nonce: Option<IntegerAsn1>,

@@ -35,36 +35,22 @@ type DirectoryStringChoice = Either<
     Either<PrintableStringAsn1, Either<UniversalStringAsn1, Either<Utf8StringAsn1, BMPStringAsn1>>>,
 >;
 
-impl DerSerialize for DirectoryString {
-    ghost Value = { directory_string.Value };
+impl Asn1Type for DirectoryString {
+    ghost asn1 = { directory_string };
 
     ghost value = { directory_string_value };
 
-    ghost format = { directory_string.format };
-
-    fn put<W: Writer>(&self, w: &mut W) -> Result<(), WriteError> {
+    fn with_encoded<U: Task>(&self, task: &mut U) -> U::Out {
         match self {
-            DirectoryString::TeletexString(x) => x.put(w),
-            DirectoryString::PrintableString(x) => x.put(w),
-            DirectoryString::UniversalString(x) => x.put(w),
-            DirectoryString::Utf8String(x) => x.put(w),
-            DirectoryString::BmpString(x) => x.put(w),
+            DirectoryString::TeletexString(x) => task.run_on(x),
+            DirectoryString::PrintableString(x) => task.run_on(x),
+            DirectoryString::UniversalString(x) => task.run_on(x),
+            DirectoryString::Utf8String(x) => task.run_on(x),
+            DirectoryString::BmpString(x) => task.run_on(x),
         }
     }
 
-    fn well_formed_at(&self, limit: u8) -> bool {
-        match self {
-            DirectoryString::TeletexString(x) => x.well_formed_at(limit),
-            DirectoryString::PrintableString(x) => x.well_formed_at(limit),
-            DirectoryString::UniversalString(x) => x.well_formed_at(limit),
-            DirectoryString::Utf8String(x) => x.well_formed_at(limit),
-            DirectoryString::BmpString(x) => x.well_formed_at(limit),
-        }
-    }
-}
-
-impl DerDeserialize for DirectoryString {
-    fn read(alloc: Global, r: &mut Reader<'_>, nest: u8) -> Result<Self, Error> {
+    fn read_encoded(alloc: Global, r: &mut Reader<'_>, nest: u8) -> Result<Self, Error> {
         let choice: DirectoryStringChoice = Either::read_one(alloc, r, nest)?;
         match choice {
             Either::First(x) => Ok(DirectoryString::TeletexString(x)),
@@ -81,21 +67,11 @@ impl DerDeserialize for DirectoryString {
         }
     }
 
-    ghost lawful = { directory_string.law };
-}
-
-impl FirstTags for DirectoryString {
-    fn begins(tag: u8) -> bool {
+    fn is_first_tag(tag: u8) -> bool {
         tag == 0x0C || tag == 0x13 || tag == 0x14 || tag == 0x1C || tag == 0x1E
     }
-}
 
-impl EqualByText for DirectoryString {
-    ghost equal_by_text = { directory_string_equal };
-}
-
-impl TryClone for DirectoryString {
-    fn try_clone(&self, alloc: Global) -> Result<Self, Error> {
+    fn clone_value(&self, alloc: Global) -> Result<Self, Error> {
         match self {
             DirectoryString::TeletexString(x) => Ok(DirectoryString::TeletexString(x.try_clone(
                 alloc,
@@ -110,6 +86,8 @@ impl TryClone for DirectoryString {
             DirectoryString::BmpString(x) => Ok(DirectoryString::BmpString(x.try_clone(alloc)?)),
         }
     }
+
+    ghost equal = { directory_string_equal };
 }
 
 /// `RelativeDistinguishedName ::= SET SIZE (1..MAX) OF AttributeTypeAndValue` (RFC 5280, 4.1.2.4)

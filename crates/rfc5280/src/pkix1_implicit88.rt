@@ -33,7 +33,7 @@ use asn1_core::prelude::*;
 use asn1_leaves::{
     BMPStringAsn1, BitStringAsn1, GeneralizedTimeAsn1, IA5StringAsn1, IntegerAsn1, Utf8StringAsn1,
 };
-use asn1_other_leaves::{Enumerated, VisibleStringAsn1, enumerated_from_contents, has_bit};
+use asn1_other_leaves::{Enumerated, Under, VisibleStringAsn1, enumerated_from_contents, has_bit};
 use std::alloc::Global;
 use x509_base::{Attribute, Name};
 
@@ -138,44 +138,26 @@ type GeneralNameChoice = Either<
     >,
 >;
 
-impl DerSerialize for GeneralName {
-    ghost Value = { general_name.Value };
+impl Asn1Type for GeneralName {
+    ghost asn1 = { general_name };
 
     ghost value = { general_name_value };
 
-    ghost format = { general_name.format };
-
-    fn put<W: Writer>(&self, w: &mut W) -> Result<(), WriteError> {
+    fn with_encoded<U: Task>(&self, task: &mut U) -> U::Out {
         match self {
-            GeneralName::OtherName(x) => x.put_as(0xA0, w),
-            GeneralName::Rfc822Name(x) => x.put_as(0x81, w),
-            GeneralName::DnsName(x) => x.put_as(0x82, w),
-            GeneralName::X400Address(x) => x.put_as(0xA3, w),
-            GeneralName::DirectoryName(x) => put_within(0xA4, &Alone(Ref(x)), w),
-            GeneralName::EdiPartyName(x) => x.put_as(0xA5, w),
-            GeneralName::UniformResourceIdentifier(x) => x.put_as(0x86, w),
-            GeneralName::IpAddress(x) => x.put_as(0x87, w),
-            GeneralName::RegisteredId(x) => x.put_as(0x88, w),
+            GeneralName::OtherName(x) => task.run(&Under::<0xA0, _>(x)),
+            GeneralName::Rfc822Name(x) => task.run(&Under::<0x81, _>(x)),
+            GeneralName::DnsName(x) => task.run(&Under::<0x82, _>(x)),
+            GeneralName::X400Address(x) => task.run(&Under::<0xA3, _>(x)),
+            GeneralName::DirectoryName(x) => task.run_within::<0xA4, _>(&Alone(Ref(x))),
+            GeneralName::EdiPartyName(x) => task.run(&Under::<0xA5, _>(x)),
+            GeneralName::UniformResourceIdentifier(x) => task.run(&Under::<0x86, _>(x)),
+            GeneralName::IpAddress(x) => task.run(&Under::<0x87, _>(x)),
+            GeneralName::RegisteredId(x) => task.run(&Under::<0x88, _>(x)),
         }
     }
 
-    fn well_formed_at(&self, limit: u8) -> bool {
-        match self {
-            GeneralName::OtherName(x) => x.well_formed_at(limit),
-            GeneralName::Rfc822Name(x) => x.well_formed_at(limit),
-            GeneralName::DnsName(x) => x.well_formed_at(limit),
-            GeneralName::X400Address(x) => x.well_formed_at(limit),
-            GeneralName::DirectoryName(x) => x.well_formed_at(limit),
-            GeneralName::EdiPartyName(x) => x.well_formed_at(limit),
-            GeneralName::UniformResourceIdentifier(x) => x.well_formed_at(limit),
-            GeneralName::IpAddress(x) => x.well_formed_at(limit),
-            GeneralName::RegisteredId(x) => x.well_formed_at(limit),
-        }
-    }
-}
-
-impl DerDeserialize for GeneralName {
-    fn read(alloc: Global, r: &mut Reader<'_>, nest: u8) -> Result<Self, Error> {
+    fn read_encoded(alloc: Global, r: &mut Reader<'_>, nest: u8) -> Result<Self, Error> {
         let choice: GeneralNameChoice = Either::read_one(alloc, r, nest)?;
         match choice {
             Either::First(x) => {
@@ -241,11 +223,7 @@ impl DerDeserialize for GeneralName {
         }
     }
 
-    ghost lawful = { general_name.law };
-}
-
-impl FirstTags for GeneralName {
-    fn begins(tag: u8) -> bool {
+    fn is_first_tag(tag: u8) -> bool {
         tag == 0x81
             || tag == 0x82
             || tag == 0x86
@@ -256,14 +234,8 @@ impl FirstTags for GeneralName {
             || tag == 0xA4
             || tag == 0xA5
     }
-}
 
-impl EqualByText for GeneralName {
-    ghost equal_by_text = { general_name_equal };
-}
-
-impl TryClone for GeneralName {
-    fn try_clone(&self, alloc: Global) -> Result<Self, Error> {
+    fn clone_value(&self, alloc: Global) -> Result<Self, Error> {
         match self {
             GeneralName::OtherName(x) => Ok(GeneralName::OtherName(x.try_clone(alloc)?)),
             GeneralName::Rfc822Name(x) => Ok(GeneralName::Rfc822Name(x.try_clone(alloc)?)),
@@ -278,6 +250,8 @@ impl TryClone for GeneralName {
             GeneralName::RegisteredId(x) => Ok(GeneralName::RegisteredId(x.try_clone(alloc)?)),
         }
     }
+
+    ghost equal = { general_name_equal };
 }
 
 /// `GeneralNames ::= SEQUENCE SIZE (1..MAX) OF GeneralName` (RFC 5280, 4.2.1.6)
@@ -556,34 +530,21 @@ type DisplayTextChoice = Either<
     Either<VisibleStringAsn1, Either<BMPStringAsn1, Utf8StringAsn1>>,
 >;
 
-impl DerSerialize for DisplayText {
-    ghost Value = { display_text.Value };
+impl Asn1Type for DisplayText {
+    ghost asn1 = { display_text };
 
     ghost value = { display_text_value };
 
-    ghost format = { display_text.format };
-
-    fn put<W: Writer>(&self, w: &mut W) -> Result<(), WriteError> {
+    fn with_encoded<U: Task>(&self, task: &mut U) -> U::Out {
         match self {
-            DisplayText::Ia5String(x) => x.put(w),
-            DisplayText::VisibleString(x) => x.put(w),
-            DisplayText::BmpString(x) => x.put(w),
-            DisplayText::Utf8String(x) => x.put(w),
+            DisplayText::Ia5String(x) => task.run_on(x),
+            DisplayText::VisibleString(x) => task.run_on(x),
+            DisplayText::BmpString(x) => task.run_on(x),
+            DisplayText::Utf8String(x) => task.run_on(x),
         }
     }
 
-    fn well_formed_at(&self, limit: u8) -> bool {
-        match self {
-            DisplayText::Ia5String(x) => x.well_formed_at(limit),
-            DisplayText::VisibleString(x) => x.well_formed_at(limit),
-            DisplayText::BmpString(x) => x.well_formed_at(limit),
-            DisplayText::Utf8String(x) => x.well_formed_at(limit),
-        }
-    }
-}
-
-impl DerDeserialize for DisplayText {
-    fn read(alloc: Global, r: &mut Reader<'_>, nest: u8) -> Result<Self, Error> {
+    fn read_encoded(alloc: Global, r: &mut Reader<'_>, nest: u8) -> Result<Self, Error> {
         let choice: DisplayTextChoice = Either::read_one(alloc, r, nest)?;
         match choice {
             Either::First(x) => Ok(DisplayText::Ia5String(x)),
@@ -593,21 +554,11 @@ impl DerDeserialize for DisplayText {
         }
     }
 
-    ghost lawful = { display_text.law };
-}
-
-impl FirstTags for DisplayText {
-    fn begins(tag: u8) -> bool {
+    fn is_first_tag(tag: u8) -> bool {
         tag == 0x0C || tag == 0x16 || tag == 0x1A || tag == 0x1E
     }
-}
 
-impl EqualByText for DisplayText {
-    ghost equal_by_text = { display_text_equal };
-}
-
-impl TryClone for DisplayText {
-    fn try_clone(&self, alloc: Global) -> Result<Self, Error> {
+    fn clone_value(&self, alloc: Global) -> Result<Self, Error> {
         match self {
             DisplayText::Ia5String(x) => Ok(DisplayText::Ia5String(x.try_clone(alloc)?)),
             DisplayText::VisibleString(x) => Ok(DisplayText::VisibleString(x.try_clone(alloc)?)),
@@ -615,6 +566,8 @@ impl TryClone for DisplayText {
             DisplayText::Utf8String(x) => Ok(DisplayText::Utf8String(x.try_clone(alloc)?)),
         }
     }
+
+    ghost equal = { display_text_equal };
 }
 
 /// `NoticeReference ::= SEQUENCE { organization DisplayText, noticeNumbers SEQUENCE OF INTEGER }` (RFC 5280,
@@ -895,30 +848,19 @@ type DistributionPointNameChoice = Either<
     Implicit<1, RelativeDistinguishedName>,
 >;
 
-impl DerSerialize for DistributionPointName {
-    ghost Value = { distribution_point_name.Value };
+impl Asn1Type for DistributionPointName {
+    ghost asn1 = { distribution_point_name };
 
     ghost value = { distribution_point_name_value };
 
-    ghost format = { distribution_point_name.format };
-
-    fn put<W: Writer>(&self, w: &mut W) -> Result<(), WriteError> {
+    fn with_encoded<U: Task>(&self, task: &mut U) -> U::Out {
         match self {
-            DistributionPointName::FullName(x) => x.put_as(0xA0, w),
-            DistributionPointName::NameRelativeToCrlIssuer(x) => x.put_as(0xA1, w),
+            DistributionPointName::FullName(x) => task.run(&Under::<0xA0, _>(x)),
+            DistributionPointName::NameRelativeToCrlIssuer(x) => task.run(&Under::<0xA1, _>(x)),
         }
     }
 
-    fn well_formed_at(&self, limit: u8) -> bool {
-        match self {
-            DistributionPointName::FullName(x) => x.well_formed_at(limit),
-            DistributionPointName::NameRelativeToCrlIssuer(x) => x.well_formed_at(limit),
-        }
-    }
-}
-
-impl DerDeserialize for DistributionPointName {
-    fn read(alloc: Global, r: &mut Reader<'_>, nest: u8) -> Result<Self, Error> {
+    fn read_encoded(alloc: Global, r: &mut Reader<'_>, nest: u8) -> Result<Self, Error> {
         let choice: DistributionPointNameChoice = Either::read_one(alloc, r, nest)?;
         match choice {
             Either::First(x) => {
@@ -932,21 +874,11 @@ impl DerDeserialize for DistributionPointName {
         }
     }
 
-    ghost lawful = { distribution_point_name.law };
-}
-
-impl FirstTags for DistributionPointName {
-    fn begins(tag: u8) -> bool {
+    fn is_first_tag(tag: u8) -> bool {
         tag == 0xA0 || tag == 0xA1
     }
-}
 
-impl EqualByText for DistributionPointName {
-    ghost equal_by_text = { distribution_point_name_equal };
-}
-
-impl TryClone for DistributionPointName {
-    fn try_clone(&self, alloc: Global) -> Result<Self, Error> {
+    fn clone_value(&self, alloc: Global) -> Result<Self, Error> {
         match self {
             DistributionPointName::FullName(x) => Ok(DistributionPointName::FullName(x.try_clone(
                 alloc,
@@ -956,6 +888,8 @@ impl TryClone for DistributionPointName {
             ),
         }
     }
+
+    ghost equal = { distribution_point_name_equal };
 }
 
 /// `ReasonFlags ::= BIT STRING { unused(0), keyCompromise(1), cACompromise(2), affiliationChanged(3),
@@ -1270,55 +1204,35 @@ impl Leaf for CrlReason {
     }
 }
 
-impl DerSerialize for CrlReason {
-    ghost Value = { crl_reason.Value };
+impl TaggedType for CrlReason {
+    ghost asn1 = { crl_reason };
 
     ghost value = { crl_reason_value };
 
-    ghost format = { crl_reason.format };
-
-    fn put<W: Writer>(&self, w: &mut W) -> Result<(), WriteError> {
-        put_unsigned(0x0A, u32::from(self.number()), w)
-    }
-
-    #[tactic(auto, using(crate::specs::Pkix1Implicit88::crl_reason_listed))]
-    fn well_formed_at(&self, _limit: u8) -> bool {
-        true
-    }
-}
-
-impl DerDeserialize for CrlReason {
-    fn read(alloc: Global, r: &mut Reader<'_>, nest: u8) -> Result<Self, Error> {
-        read_leaf(alloc, r, nest, 0x0A)
-    }
-
-    ghost lawful = { crl_reason.law };
-}
-
-impl DerTagged for CrlReason {
     ghost TAG = { 0x0A };
 
     const TAG: u8 = 0x0A;
 
-    fn put_as<W: Writer>(&self, tag: u8, w: &mut W) -> Result<(), WriteError> {
+    fn put_tagged<W: Writer>(&self, tag: u8, w: &mut W) -> Result<(), WriteError> {
         put_unsigned(tag, u32::from(self.number()), w)
     }
 
-    fn read_contents(alloc: Global, r: &mut Reader<'_>, nest: u8) -> Result<Self, Error> {
+    #[tactic(auto, using(crate::specs::Pkix1Implicit88::crl_reason_listed))]
+    fn is_well_formed_at(&self, _limit: u8) -> bool {
+        true
+    }
+
+    fn read_open_contents(alloc: Global, r: &mut Reader<'_>, nest: u8) -> Result<Self, Error> {
         read_leaf_contents(alloc, r, nest, 0x0A)
     }
 
-    ghost tagged = { crl_reason.tagged };
-}
-
-impl EqualByText for CrlReason {
-    ghost equal_by_text = { crl_reason_equal };
-}
-
-impl TryClone for CrlReason {
-    fn try_clone(&self, _alloc: Global) -> Result<Self, Error> {
+    fn clone_value(&self, _alloc: Global) -> Result<Self, Error> {
         Ok(*self)
     }
+
+    ghost tagged = { crl_reason.tagged };
+
+    ghost equal = { crl_reason_equal };
 }
 
 /// `CertificateIssuer ::= GeneralNames` (RFC 5280, 5.3.3)

@@ -23,7 +23,7 @@ ghost use Rattle.asn1_other_leaves.specs.Enumerations.{numbers_in};
 
 use asn1_core::prelude::*;
 use asn1_leaves::{BitStringAsn1, GeneralizedTimeAsn1, IA5StringAsn1, IntegerAsn1};
-use asn1_other_leaves::{Enumerated, NullAsn1, enumerated_from_contents};
+use asn1_other_leaves::{Enumerated, NullAsn1, Under, enumerated_from_contents};
 use rfc5280::pkix1_explicit88::{Certificate, CertificateSerialNumber};
 use rfc5280::pkix1_implicit88::{AuthorityInfoAccessSyntax, CrlReason, GeneralName};
 use std::alloc::Global;
@@ -266,55 +266,35 @@ impl Leaf for OcspResponseStatus {
     }
 }
 
-impl DerSerialize for OcspResponseStatus {
-    ghost Value = { ocsp_response_status.Value };
+impl TaggedType for OcspResponseStatus {
+    ghost asn1 = { ocsp_response_status };
 
     ghost value = { ocsp_response_status_value };
 
-    ghost format = { ocsp_response_status.format };
-
-    fn put<W: Writer>(&self, w: &mut W) -> Result<(), WriteError> {
-        put_unsigned(0x0A, u32::from(self.number()), w)
-    }
-
-    #[tactic(auto, using(crate::specs::Ocsp201388::ocsp_response_status_listed))]
-    fn well_formed_at(&self, _limit: u8) -> bool {
-        true
-    }
-}
-
-impl DerDeserialize for OcspResponseStatus {
-    fn read(alloc: Global, r: &mut Reader<'_>, nest: u8) -> Result<Self, Error> {
-        read_leaf(alloc, r, nest, 0x0A)
-    }
-
-    ghost lawful = { ocsp_response_status.law };
-}
-
-impl DerTagged for OcspResponseStatus {
     ghost TAG = { 0x0A };
 
     const TAG: u8 = 0x0A;
 
-    fn put_as<W: Writer>(&self, tag: u8, w: &mut W) -> Result<(), WriteError> {
+    fn put_tagged<W: Writer>(&self, tag: u8, w: &mut W) -> Result<(), WriteError> {
         put_unsigned(tag, u32::from(self.number()), w)
     }
 
-    fn read_contents(alloc: Global, r: &mut Reader<'_>, nest: u8) -> Result<Self, Error> {
+    #[tactic(auto, using(crate::specs::Ocsp201388::ocsp_response_status_listed))]
+    fn is_well_formed_at(&self, _limit: u8) -> bool {
+        true
+    }
+
+    fn read_open_contents(alloc: Global, r: &mut Reader<'_>, nest: u8) -> Result<Self, Error> {
         read_leaf_contents(alloc, r, nest, 0x0A)
     }
 
-    ghost tagged = { ocsp_response_status.tagged };
-}
-
-impl EqualByText for OcspResponseStatus {
-    ghost equal_by_text = { ocsp_response_status_equal };
-}
-
-impl TryClone for OcspResponseStatus {
-    fn try_clone(&self, _alloc: Global) -> Result<Self, Error> {
+    fn clone_value(&self, _alloc: Global) -> Result<Self, Error> {
         Ok(*self)
     }
+
+    ghost tagged = { ocsp_response_status.tagged };
+
+    ghost equal = { ocsp_response_status_equal };
 }
 
 /// `ResponseBytes ::= SEQUENCE { responseType OBJECT IDENTIFIER, response OCTET STRING }` (RFC 6960, 4.2.1)
@@ -384,30 +364,19 @@ pub enum ResponderId {
 
 type ResponderIdChoice = Either<Explicit<1, Name>, Explicit<2, KeyHash>>;
 
-impl DerSerialize for ResponderId {
-    ghost Value = { responder_id.Value };
+impl Asn1Type for ResponderId {
+    ghost asn1 = { responder_id };
 
     ghost value = { responder_id_value };
 
-    ghost format = { responder_id.format };
-
-    fn put<W: Writer>(&self, w: &mut W) -> Result<(), WriteError> {
+    fn with_encoded<U: Task>(&self, task: &mut U) -> U::Out {
         match self {
-            ResponderId::ByName(x) => put_within(0xA1, &Alone(Ref(x)), w),
-            ResponderId::ByKey(x) => put_within(0xA2, &Alone(Ref(x)), w),
+            ResponderId::ByName(x) => task.run_within::<0xA1, _>(&Alone(Ref(x))),
+            ResponderId::ByKey(x) => task.run_within::<0xA2, _>(&Alone(Ref(x))),
         }
     }
 
-    fn well_formed_at(&self, limit: u8) -> bool {
-        match self {
-            ResponderId::ByName(x) => x.well_formed_at(limit),
-            ResponderId::ByKey(x) => x.well_formed_at(limit),
-        }
-    }
-}
-
-impl DerDeserialize for ResponderId {
-    fn read(alloc: Global, r: &mut Reader<'_>, nest: u8) -> Result<Self, Error> {
+    fn read_encoded(alloc: Global, r: &mut Reader<'_>, nest: u8) -> Result<Self, Error> {
         let choice: ResponderIdChoice = Either::read_one(alloc, r, nest)?;
         match choice {
             Either::First(x) => {
@@ -421,26 +390,18 @@ impl DerDeserialize for ResponderId {
         }
     }
 
-    ghost lawful = { responder_id.law };
-}
-
-impl FirstTags for ResponderId {
-    fn begins(tag: u8) -> bool {
+    fn is_first_tag(tag: u8) -> bool {
         tag == 0xA1 || tag == 0xA2
     }
-}
 
-impl EqualByText for ResponderId {
-    ghost equal_by_text = { responder_id_equal };
-}
-
-impl TryClone for ResponderId {
-    fn try_clone(&self, alloc: Global) -> Result<Self, Error> {
+    fn clone_value(&self, alloc: Global) -> Result<Self, Error> {
         match self {
             ResponderId::ByName(x) => Ok(ResponderId::ByName(x.try_clone(alloc)?)),
             ResponderId::ByKey(x) => Ok(ResponderId::ByKey(x.try_clone(alloc)?)),
         }
     }
+
+    ghost equal = { responder_id_equal };
 }
 
 /// `RevokedInfo ::= SEQUENCE { revocationTime GeneralizedTime, revocationReason [0] EXPLICIT CRLReason OPTIONAL }`
@@ -490,32 +451,20 @@ type CertStatusChoice = Either<
     Either<Implicit<1, RevokedInfo>, Implicit<2, UnknownInfo>>,
 >;
 
-impl DerSerialize for CertStatus {
-    ghost Value = { cert_status.Value };
+impl Asn1Type for CertStatus {
+    ghost asn1 = { cert_status };
 
     ghost value = { cert_status_value };
 
-    ghost format = { cert_status.format };
-
-    fn put<W: Writer>(&self, w: &mut W) -> Result<(), WriteError> {
+    fn with_encoded<U: Task>(&self, task: &mut U) -> U::Out {
         match self {
-            CertStatus::Good(x) => x.put_as(0x80, w),
-            CertStatus::Revoked(x) => x.put_as(0xA1, w),
-            CertStatus::Unknown(x) => x.put_as(0x82, w),
+            CertStatus::Good(x) => task.run(&Under::<0x80, _>(x)),
+            CertStatus::Revoked(x) => task.run(&Under::<0xA1, _>(x)),
+            CertStatus::Unknown(x) => task.run(&Under::<0x82, _>(x)),
         }
     }
 
-    fn well_formed_at(&self, limit: u8) -> bool {
-        match self {
-            CertStatus::Good(x) => x.well_formed_at(limit),
-            CertStatus::Revoked(x) => x.well_formed_at(limit),
-            CertStatus::Unknown(x) => x.well_formed_at(limit),
-        }
-    }
-}
-
-impl DerDeserialize for CertStatus {
-    fn read(alloc: Global, r: &mut Reader<'_>, nest: u8) -> Result<Self, Error> {
+    fn read_encoded(alloc: Global, r: &mut Reader<'_>, nest: u8) -> Result<Self, Error> {
         let choice: CertStatusChoice = Either::read_one(alloc, r, nest)?;
         match choice {
             Either::First(x) => {
@@ -533,27 +482,19 @@ impl DerDeserialize for CertStatus {
         }
     }
 
-    ghost lawful = { cert_status.law };
-}
-
-impl FirstTags for CertStatus {
-    fn begins(tag: u8) -> bool {
+    fn is_first_tag(tag: u8) -> bool {
         tag == 0x80 || tag == 0x82 || tag == 0xA1
     }
-}
 
-impl EqualByText for CertStatus {
-    ghost equal_by_text = { cert_status_equal };
-}
-
-impl TryClone for CertStatus {
-    fn try_clone(&self, alloc: Global) -> Result<Self, Error> {
+    fn clone_value(&self, alloc: Global) -> Result<Self, Error> {
         match self {
             CertStatus::Good(x) => Ok(CertStatus::Good(x.try_clone(alloc)?)),
             CertStatus::Revoked(x) => Ok(CertStatus::Revoked(x.try_clone(alloc)?)),
             CertStatus::Unknown(x) => Ok(CertStatus::Unknown(x.try_clone(alloc)?)),
         }
     }
+
+    ghost equal = { cert_status_equal };
 }
 
 /// `SingleResponse ::= SEQUENCE { certID CertID, certStatus CertStatus, thisUpdate GeneralizedTime, nextUpdate [0]

@@ -84,7 +84,7 @@ OnlyOrNone F found (Some v) = IsOnlyOf F found (Some v)
 
 -- signed attributes in the file, under the tag [0], and the digest among them
 pub record AreSignedAt (b : List ℕ) (attrs : List attribute.Value) (content_type : OidOctets) (r : SignedRanges) : Type 0 where
-  pub attributes : IsAt b (attributes.text attrs) r.attributes.start r.attributes.end
+  pub attributes : IsAt b (attributes.format.text attrs) r.attributes.start r.attributes.end
   pub digest : Octets
   pub signs : Signs attrs content_type digest
   pub message_digest : IsAt b digest r.message_digest.start r.message_digest.end

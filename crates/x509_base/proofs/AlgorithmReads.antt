@@ -7,7 +7,7 @@ use Rattle.x509_base.specs.OtherAlgorithms.{other_algorithm}
 
 -- absent parameters are read as absent
 module _ (key : List ℕ) {k : ℕ} {old new : Position} where
-  pub other_refused : {e : Error} → HasRefusedComponents (after_oid key (otherwise IsOid (optional raw nothing))) k old new e → HasRefusedComponents (after_oid key other_algorithm) k old new e
+  pub other_refused : {e : Error} → HasRefusedComponents (after_oid key (otherwise IsOid (optional raw nothing))) k old new e → HasRefusedComponents (after_oid key other_algorithm.choice) k old new e
   other_refused g = record {
     kind = g.kind;
     none = λ m v s. g.none m s.0 s.1;

@@ -4,22 +4,22 @@ use Rattle.std.specs.Prelude.{◌++◌}
 use Rattle.std.proofs.Common.{refl, ap, ◌∙◌, subst}
 use Rattle.asn1_core.specs.Asn1.{Contents}
 use Rattle.asn1_core.specs.Der.{Choice, Heads, IsLawfulChoice, loosened, lawful_loosened_components}
+use Rattle.asn1_choices.specs.ByOid.{ByOid, chosen}
 use Rattle.x509_base.specs.Algorithms.{algorithm_identifier, null_written}
 use Rattle.x509_base.specs.AlgorithmLaws.{null_loosening}
 
-abbrev pub other_algorithm : Choice algorithm_identifier.Value
-other_algorithm = record { components = loosened algorithm_identifier.format null_written; oid_of = λ v. v.0 }
+abbrev pub other : Choice algorithm_identifier.Value
+other = record { components = loosened algorithm_identifier.format null_written; oid_of = λ v. v.0 }
 
-pub lawful_other_algorithm : IsLawfulChoice other_algorithm
-lawful_other_algorithm = record {
+pub lawful_other : IsLawfulChoice other
+lawful_other = record {
   components = lawful_loosened_components algorithm_identifier.format algorithm_identifier.law null_written null_loosening;
   heads = λ k b v s. subst (λ a. Heads a.0 b) s.2 (s.1.1, s.1.2 ∙ ap (λ x. x ++ s.1.1) s.1.3.0);
   same_oid = λ v. refl;
 }
 
--- the contents of a SEQUENCE that begins with an object identifier, which picks what follows
-abbrev pub chosen : {V : Type 0} {C : Choice V} → IsLawfulChoice C → Contents
-chosen {V} {C} law = record { Value = V; format = C.components; law = law.components }
+abbrev pub other_algorithm : ByOid
+other_algorithm = record { Value = algorithm_identifier.Value; choice = other; law = lawful_other }
 
 abbrev pub raw_algorithm_identifier : Contents
-raw_algorithm_identifier = chosen lawful_other_algorithm
+raw_algorithm_identifier = chosen other_algorithm

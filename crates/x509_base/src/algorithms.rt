@@ -5,7 +5,7 @@ ghost use Rattle.std.proofs.Common.{rules, arith};
 ghost use Rattle.asn1_core.specs.Der.{option_value};
 ghost use Rattle.x509_base.specs.Algorithms.{algorithm_identifier, null};
 ghost use Rattle.x509_base.specs.AlgorithmParts.{algorithm_of, parameters_of, parts_of, algorithm_identifier_value, raw_algorithm_identifier_value, algorithm_identifier_equal};
-ghost use Rattle.x509_base.specs.OtherAlgorithms.{other_algorithm, lawful_other_algorithm, raw_algorithm_identifier};
+ghost use Rattle.x509_base.specs.OtherAlgorithms.{other_algorithm, raw_algorithm_identifier};
 
 use asn1_choices::{AnyOid, Chosen, ReadChoice, WriteChoice};
 use asn1_core::OidRef;
@@ -126,7 +126,7 @@ impl WriteChoice for RawAlgorithmIdentifier {
 
     ghost value = { raw_algorithm_identifier_value };
 
-    ghost choice = { other_algorithm };
+    ghost choice = { other_algorithm.choice };
 
     fn oid(&self) -> &[u8] {
         self.algorithm().octets()
@@ -153,7 +153,7 @@ impl ReadChoice for RawAlgorithmIdentifier {
         Ok(Self::from_parts(algorithm, parameters))
     }
 
-    ghost lawful = { λ _. lawful_other_algorithm };
+    ghost lawful = { λ _. other_algorithm.law };
 }
 
 /// Writes the contents of an algorithm identifier with these contents octets of its object identifier, and with NULL as

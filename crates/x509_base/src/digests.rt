@@ -40,52 +40,32 @@ impl Sequence for DigestInfo {
 #[derive(Debug, Drop, PartialEq, Eq)]
 pub struct SubjectKeyIdentifier(pub OctetStringAsn1);
 
-impl DerSerialize for SubjectKeyIdentifier {
-    ghost Value = { subject_key_identifier.Value };
+impl TaggedType for SubjectKeyIdentifier {
+    ghost asn1 = { subject_key_identifier };
 
     ghost value = { subject_key_identifier_value };
 
-    ghost format = { subject_key_identifier.format };
-
-    fn put<W: Writer>(&self, w: &mut W) -> Result<(), WriteError> {
-        self.0.put(w)
-    }
-
-    fn well_formed_at(&self, limit: u8) -> bool {
-        self.0.well_formed_at(limit)
-    }
-}
-
-impl DerDeserialize for SubjectKeyIdentifier {
-    fn read(alloc: Global, r: &mut Reader<'_>, nest: u8) -> Result<Self, Error> {
-        Ok(SubjectKeyIdentifier(OctetStringAsn1::read(alloc, r, nest)?))
-    }
-
-    ghost lawful = { subject_key_identifier.law };
-}
-
-impl DerTagged for SubjectKeyIdentifier {
     ghost TAG = { 0x04 };
 
     const TAG: u8 = 0x04;
 
-    fn put_as<W: Writer>(&self, tag: u8, w: &mut W) -> Result<(), WriteError> {
+    fn put_tagged<W: Writer>(&self, tag: u8, w: &mut W) -> Result<(), WriteError> {
         self.0.put_as(tag, w)
     }
 
-    fn read_contents(alloc: Global, r: &mut Reader<'_>, nest: u8) -> Result<Self, Error> {
+    fn is_well_formed_at(&self, limit: u8) -> bool {
+        self.0.well_formed_at(limit)
+    }
+
+    fn read_open_contents(alloc: Global, r: &mut Reader<'_>, nest: u8) -> Result<Self, Error> {
         Ok(SubjectKeyIdentifier(OctetStringAsn1::read_contents(alloc, r, nest)?))
     }
 
-    ghost tagged = { subject_key_identifier.tagged };
-}
-
-impl EqualByText for SubjectKeyIdentifier {
-    ghost equal_by_text = { Prim.search rules };
-}
-
-impl TryClone for SubjectKeyIdentifier {
-    fn try_clone(&self, alloc: Global) -> Result<Self, Error> {
+    fn clone_value(&self, alloc: Global) -> Result<Self, Error> {
         Ok(SubjectKeyIdentifier(self.0.try_clone(alloc)?))
     }
+
+    ghost tagged = { subject_key_identifier.tagged };
+
+    ghost equal = { Prim.search rules };
 }

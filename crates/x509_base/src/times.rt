@@ -55,13 +55,11 @@ impl DerDeserialize for Time {
         Ok(Time::Generalized(time))
     }
 
-    ghost lawful = { time.law };
-}
-
-impl FirstTags for Time {
     fn begins(tag: u8) -> bool {
         tag == 0x17 || tag == 0x18
     }
+
+    ghost lawful = { time.law };
 }
 
 impl EqualByText for Time {

@@ -67,13 +67,11 @@ impl DerDeserialize for Version {
         read_leaf(alloc, r, nest, 0x02)
     }
 
-    ghost lawful = { version.law };
-}
-
-impl FirstTags for Version {
     fn begins(tag: u8) -> bool {
         tag == 0x02
     }
+
+    ghost lawful = { version.law };
 }
 
 impl EqualByText for Version {

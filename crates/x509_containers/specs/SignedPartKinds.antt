@@ -16,7 +16,7 @@ use Rattle.x509_containers.specs.declared.kinds.signed_parts.SignedPartKind.{Sig
 use Rattle.x509_containers.specs.declared.kinds.signed_parts.SignedPartKind.TheVariants as Kind
 
 abbrev pub entry_of : SignedPartKind → Entry
-entry_of Kind.Attributes = entry (codes "attributes") attributes
+entry_of Kind.Attributes = entry (codes "attributes") attributes.format
 entry_of Kind.CertificateChoices = entry (codes "certificatechoices") certificate_choices.format
 entry_of Kind.CertificateList = entry (codes "certificatelist") (SEQUENCE certificate_list).format
 entry_of Kind.CertificateSerialNumber = entry (codes "certificateserialnumber") integer

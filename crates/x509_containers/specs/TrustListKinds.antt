@@ -2,7 +2,7 @@
 use Rattle.asn1_core.specs.Asn1.{SEQUENCE}
 use Rattle.std.specs.Prelude.{List, [], ◌∷◌, codes}
 use Rattle.pkcs7_content.specs.Policies.{cert_policy, root_program_chain_policy, policy_qualifier}
-use Rattle.pkcs7_content.specs.TrustLists.{ctl, ctl_entry, entry_attribute}
+use Rattle.pkcs7_content.specs.TrustLists.{ctl, ctl_entry, ctl_entry_attribute}
 use Rattle.x509_containers.specs.Entries.{Entry, entry}
 use Rattle.x509_containers.specs.declared.kinds.trust_lists.TrustListKind.{TrustListKind}
 use Rattle.x509_containers.specs.declared.kinds.trust_lists.TrustListKind.TheVariants as Kind
@@ -11,7 +11,7 @@ abbrev pub entry_of : TrustListKind → Entry
 entry_of Kind.CertPolicy = entry (codes "certpolicy") (SEQUENCE cert_policy).format
 entry_of Kind.Ctl = entry (codes "ctl") (SEQUENCE ctl).format
 entry_of Kind.CTLEntry = entry (codes "ctlentry") (SEQUENCE ctl_entry).format
-entry_of Kind.CTLEntryAttribute = entry (codes "ctlentryattribute") entry_attribute
+entry_of Kind.CTLEntryAttribute = entry (codes "ctlentryattribute") (SEQUENCE ctl_entry_attribute).format
 entry_of Kind.PolicyQualifier = entry (codes "policyqualifier") (SEQUENCE policy_qualifier).format
 entry_of Kind.RootProgramChainPolicy = entry (codes "rootprogramchainpolicy") (SEQUENCE root_program_chain_policy).format
 

@@ -2,7 +2,7 @@
 -- (RFC 2315, 7) of pkcs7-data, an OCTET STRING around an encoding of F
 use Rattle.std.specs.Prelude.{◌⊎◌}
 use Rattle.asn1_core.specs.Der.{Format, IsLawful, sequence, lawful_sequence, OidOctets, Choice, known, IsLawfulChoice, lawful_known}
-use Rattle.pkcs12_bags.specs.Chosen.{any_oid}
+use Rattle.asn1_choices.specs.ByOid.{any_oid}
 use Rattle.x509_pkcs12.specs.ContentInfos.{data_content, lawful_data_content, any_content}
 use Rattle.pkcs12_bags.specs.Oids.{data_oid}
 

@@ -7,7 +7,7 @@ use Rattle.asn1_core.specs.Der.{Format, within, octets_of, option_value, IsLawfu
 use Rattle.pkcs12_bags.specs.Bags.{safe_contents}
 use Rattle.pkcs12_bags.specs.BagsLaws.{lawful_safe_contents}
 use Rattle.pkcs12_bags.specs.BagValues.{contents_value}
-use Rattle.pkcs12_bags.specs.Chosen.{if_oid, any_oid, chosen, alone}
+use Rattle.asn1_choices.specs.ByOid.{if_oid, any_oid, chosen, alone}
 use Rattle.pkcs12_bags.specs.EncryptedContents.{encrypted_safe_contents, encrypted_safe_contents_value}
 use Rattle.pkcs12_bags.specs.Oids.{data_oid, oid}
 use Rattle.pkcs12_bags.specs.declared.parts.oids.TheConstants.{ENCRYPTED_DATA}

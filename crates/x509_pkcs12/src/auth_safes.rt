@@ -88,13 +88,11 @@ impl<R: AuthenticatedSafeDataRepr> DerDeserialize for AuthenticatedSafeContentIn
         }
     }
 
-    ghost lawful = { lawful_auth_safe R.DerSerialize.format R.lawful };
-}
-
-impl<R: AuthenticatedSafeDataRepr> FirstTags for AuthenticatedSafeContentInfo<R> {
     fn begins(tag: u8) -> bool {
         tag == 0x30
     }
+
+    ghost lawful = { lawful_auth_safe R.DerSerialize.format R.lawful };
 }
 
 impl<R: AuthenticatedSafeDataRepr> EqualByText for AuthenticatedSafeContentInfo<R> {

@@ -87,6 +87,10 @@ impl<A: DerDeserialize, B: DerDeserialize> DerDeserialize for Asn1Sequence<Part<
         Ok(Asn1Sequence(read_within(alloc, r, nest, 0x30)?))
     }
 
+    fn begins(tag: u8) -> bool {
+        tag == 0x30
+    }
+
     ghost lawful = { lawful_sequence (followed_by A.lawful (followed_by B.lawful lawful_nothing)) };
 }
 

@@ -54,13 +54,11 @@ impl<R: AuthenticatedSafeDataRepr> DerDeserialize for Pfx<R> {
         })
     }
 
-    ghost lawful = { lawful_pfx R.DerSerialize.format R.lawful };
-}
-
-impl<R: AuthenticatedSafeDataRepr> FirstTags for Pfx<R> {
     fn begins(tag: u8) -> bool {
         tag == 0x30
     }
+
+    ghost lawful = { lawful_pfx R.DerSerialize.format R.lawful };
 }
 
 impl<R: AuthenticatedSafeDataRepr> EqualByText for Pfx<R> {

@@ -47,6 +47,10 @@ impl DerDeserialize for RawAuthenticatedSafeDataRepr {
         Ok(RawAuthenticatedSafeDataRepr { raw })
     }
 
+    fn begins(tag: u8) -> bool {
+        Asn1RawDer::begins(tag)
+    }
+
     ghost lawful = { lawful_raw };
 }
 

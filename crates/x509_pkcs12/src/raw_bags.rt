@@ -70,7 +70,7 @@ impl RawSafeBag {
     /// The name that is shown to a user (RFC 2985, 5.5.1). `None` where there is no such attribute; what is no BMPString
     /// in UTF-16 is refused, as is a second one, or one without value or with several.
     pub fn friendly_name(&self, alloc: Global) -> Result<Option<Utf16String>, Error>
-        ensures { GivesOnly octets_of_utf16 utf16_string (with_oid (oid FRIENDLY_NAME) (attributes_of (raw_safe_bag_value self.now))) result }
+        ensures { GivesOnly octets_of_utf16 utf16_string.format (with_oid (oid FRIENDLY_NAME) (attributes_of (raw_safe_bag_value self.now))) result }
     {
         only_value_as(alloc, self.attributes(), octets_of_known(FRIENDLY_NAME))
     }
@@ -126,6 +126,10 @@ impl DerSerialize for RawSafeContents {
 impl DerDeserialize for RawSafeContents {
     fn read(alloc: Global, r: &mut Reader<'_>, nest: u8) -> Result<Self, Error> {
         Ok(RawSafeContents(read_within(alloc, r, nest, 0x30)?))
+    }
+
+    fn begins(tag: u8) -> bool {
+        tag == 0x30
     }
 
     ghost lawful = { (SEQUENCE raw_safe_contents).law };

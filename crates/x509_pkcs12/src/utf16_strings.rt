@@ -5,7 +5,7 @@ ghost use Rattle.std.specs.String.{IsUtf16Of};
 ghost use Rattle.std.proofs.Common.{rules};
 ghost use Rattle.asn1_core_element.specs.declared.error.Error.TheVariants.{Memory};
 ghost use Rattle.asn1_core_format.specs.Leaf.{kept};
-ghost use Rattle.x509_pkcs12.specs.Utf16.{units_of, IsUtf16, NoText, utf16_string, lawful_utf16_string};
+ghost use Rattle.x509_pkcs12.specs.Utf16.{units_of, IsUtf16, NoText, utf16_string};
 
 use asn1_core::prelude::*;
 use std::alloc::Global;
@@ -82,40 +82,36 @@ impl Leaf for Utf16String {
     }
 }
 
-impl DerSerialize for Utf16String {
+impl TaggedType for Utf16String {
     ghost use Rattle.x509_pkcs12.specs.Utf16Octets.{octets_of_utf16};
 
-    ghost Value = { List ℕ };
+    ghost asn1 = { utf16_string };
 
     ghost value = { octets_of_utf16 };
 
-    ghost format = { utf16_string };
+    ghost TAG = { 0x1E };
 
-    fn put<W: Writer>(&self, w: &mut W) -> Result<(), WriteError> {
-        put_element(0x1E, self.as_bytes(), w)
+    const TAG: u8 = 0x1E;
+
+    fn put_tagged<W: Writer>(&self, tag: u8, w: &mut W) -> Result<(), WriteError> {
+        put_element(tag, self.as_bytes(), w)
     }
 
-    fn well_formed_at(&self, _limit: u8) -> bool {
+    fn is_well_formed_at(&self, _limit: u8) -> bool {
         true
     }
-}
 
-impl DerDeserialize for Utf16String {
-    fn read(alloc: Global, r: &mut Reader<'_>, nest: u8) -> Result<Self, Error> {
-        read_leaf(alloc, r, nest, 0x1E)
+    fn read_open_contents(alloc: Global, r: &mut Reader<'_>, nest: u8) -> Result<Self, Error> {
+        read_leaf_contents(alloc, r, nest, 0x1E)
     }
 
-    ghost lawful = { lawful_utf16_string };
-}
-
-impl EqualByText for Utf16String {
-    ghost equal_by_text = { Prim.search rules };
-}
-
-impl TryClone for Utf16String {
-    fn try_clone(&self, alloc: Global) -> Result<Self, Error> {
+    fn clone_value(&self, alloc: Global) -> Result<Self, Error> {
         Ok(Utf16String {
             octets: Vec::from_slice(alloc, self.as_bytes())?,
         })
     }
+
+    ghost tagged = { utf16_string.tagged };
+
+    ghost equal = { Prim.search rules };
 }

@@ -2,12 +2,12 @@
 --   RecipientInfos, encryptedContentInfo EncryptedContentInfo, unprotectedAttrs [1] IMPLICIT UnprotectedAttributes
 --   OPTIONAL } (RFC 5652, 6.1)
 use Rattle.std.specs.Prelude.{ℕ, List, Option, map}
-use Rattle.std.proofs.Common.{arith, refl}
-use Rattle.asn1_core.specs.Asn1.{Asn1, asn1, asn1_tagged, Contents, contents, ◌then◌, ◌OPTIONAL◌, end, OBJECT_IDENTIFIER, OCTET_STRING, INTEGER_BELOW, IMPLICIT, SEQUENCE, SET_OF}
-use Rattle.asn1_core.specs.Der.{Format, IsLawful, sequence, part, optional, nothing, each, set_of, number_below, octets_of, option_value, implicit, within_tagged, SeesEqual, der_equal}
+use Rattle.std.proofs.Common.{refl}
+use Rattle.asn1_core.specs.Asn1.{asn1, Contents, contents, ◌then◌, ◌OPTIONAL◌, end, OBJECT_IDENTIFIER, OCTET_STRING, INTEGER_BELOW, IMPLICIT, SEQUENCE, SET_OF}
+use Rattle.asn1_core.specs.Der.{Format, IsLawful, sequence, part, optional, nothing, set_of, number_below, octets_of, option_value, implicit, SeesEqual, der_equal}
 use Rattle.pkcs7_content.specs.Versions.{number_of}
-use Rattle.pkcs7_signed.specs.Certificates.{certificate_set_value, certificate_choices, certificate_set}
-use Rattle.pkcs7_signed.specs.Revocations.{revocation_info_choices_value, revocation_info_choice, revocation_info_choices}
+use Rattle.pkcs7_signed.specs.Certificates.{certificate_set_value, certificate_set}
+use Rattle.pkcs7_signed.specs.Revocations.{revocation_info_choices_value, revocation_info_choices}
 use Rattle.x509_base.specs.AlgorithmLaws.{algorithm_identifier}
 use Rattle.x509_base.specs.AlgorithmParts.{algorithm_identifier_value}
 use Rattle.x509_base.specs.Names.{attribute, attribute_value}
@@ -27,16 +27,10 @@ encrypted_content_info = contents (OBJECT_IDENTIFIER then SEQUENCE algorithm_ide
 abbrev pub encrypted_content_info_value : EncryptedContentInfo → encrypted_content_info.Value
 encrypted_content_info_value x = (octets_of x.content_type.0, (algorithm_identifier_value x.content_encryption_algorithm, (option_value (λ c. c.0.0.items) x.encrypted_content.0, tt)))
 
-abbrev pub CERTIFICATES : Asn1
-CERTIFICATES = asn1_tagged certificate_set.law 0xA0 (within_tagged 0xA0 (omega arith) (each certificate_choices.format))
-
-abbrev pub REVOCATIONS : Asn1
-REVOCATIONS = asn1_tagged revocation_info_choices.law 0xA1 (within_tagged 0xA1 (omega arith) (each revocation_info_choice.format))
-
 -- OriginatorInfo ::= SEQUENCE { certs [0] IMPLICIT CertificateSet OPTIONAL, crls [1] IMPLICIT RevocationInfoChoices
 --   OPTIONAL }
 abbrev pub originator_info : Contents
-originator_info = contents (IMPLICIT 0 CERTIFICATES OPTIONAL IMPLICIT 1 REVOCATIONS OPTIONAL end) refl
+originator_info = contents (IMPLICIT 0 certificate_set OPTIONAL IMPLICIT 1 revocation_info_choices OPTIONAL end) refl
 
 abbrev pub originator_info_value : OriginatorInfo → originator_info.Value
 originator_info_value x = (option_value (λ c. certificate_set_value c.0) x.certs.0, (option_value (λ c. revocation_info_choices_value c.0) x.crls.0, tt))

@@ -3,10 +3,10 @@
 --   RevocationInfoChoices OPTIONAL, signerInfos SignerInfos } (RFC 5652, 5.1), over the signers' format
 -- ContentInfo ::= SEQUENCE { contentType ContentType, content [0] EXPLICIT ANY DEFINED BY contentType } (RFC 5652, 3)
 --   of id-signedData
-use Rattle.asn1_core.specs.Asn1.{SEQUENCE}
+use Rattle.asn1_core.specs.Asn1.{Asn1, asn1_tagged, ANY, SEQUENCE}
 use Rattle.std.specs.Prelude.{ℕ, List, [], ◌∷◌, Option, map, ◌≡◌, ◌↔◌, ◌&&◌, Bool, true}
 use Rattle.std.proofs.Common.{arith, refl, ap}
-use Rattle.asn1_core.specs.Der.{Format, IsLawful, IsLawfulComponents, sequence, part, optional, nothing, number_below, set_of, explicit, implicit_set, raw, only_oid, arcs, option_value, ElementOctets, omitted, is_default, lawful_sequence, followed_by, perhaps, lawful_number, lawful_nothing, lawful_set, lawful_explicit, lawful_implicit_set, lawful_only_oid, lawful_raw, unless, SeesEqual, der_equal, two_equal, with_end, list_equal, option_equal}
+use Rattle.asn1_core.specs.Der.{Format, IsLawful, IsLawfulComponents, sequence, part, optional, nothing, number_below, set_of, each, explicit, within_tagged, only_oid, arcs, option_value, ElementOctets, omitted, is_default, lawful_sequence, followed_by, perhaps, lawful_number, lawful_nothing, lawful_set, lawful_explicit, lawful_implicit_set, lawful_only_oid, unless, SeesEqual, der_equal, two_equal, with_end, list_equal, option_equal}
 use Rattle.pkcs7_content.specs.Versions.{number_of}
 use Rattle.pkcs7_signed.specs.Algorithms.{digest_algorithm_identifiers_value, digest_algorithm_identifiers}
 use Rattle.pkcs7_signed.specs.Certificates.{certificate_choices, certificate_set_value, certificate_set, no_certificates, no_certificates_left_out}
@@ -24,14 +24,12 @@ use Rattle.x509_pkcs7.specs.contracts.raw_contents.RawEncapsulatedContentInfoPar
 use Rattle.pkcs7_signed.specs.contracts.parts.certificates.CertificateSetPartialEq.TheImpl as Certificates
 use Rattle.x509_pkcs7.specs.contracts.raw_signed.RawRevocationInfoChoicesPartialEq.TheImpl as Revocations
 
-abbrev pub raw_revocations_value : RawRevocationInfoChoices → List ElementOctets
-raw_revocations_value x = map (λ e. e.0.items) x.0.items
+-- RevocationInfoChoices, each as it is
+abbrev pub raw_revocation_info_choices : Asn1
+raw_revocation_info_choices = asn1_tagged (lawful_implicit_set (omega arith) ANY.law) 0xA1 (within_tagged 0xA1 (omega arith) (each ANY.format))
 
-abbrev pub raw_revocations : Format (List ElementOctets)
-raw_revocations = implicit_set 1 raw
-
-pub lawful_raw_revocations : IsLawful raw_revocations
-lawful_raw_revocations = lawful_implicit_set (omega arith) lawful_raw
+abbrev pub raw_revocation_info_choices_value : RawRevocationInfoChoices → raw_revocation_info_choices.Value
+raw_revocation_info_choices_value x = map (λ e. e.0.items) x.0.items
 
 -- what follows the content
 abbrev pub SetsValue : Type 0 → Type 0
@@ -47,14 +45,14 @@ raw_signed_value value x = (
     digest_algorithm_identifiers_value x.digest_algorithms,
     (
       raw_encapsulated_content_info_value x.content_info,
-      (certificate_set_value x.certificates.0, (option_value raw_revocations_value x.crls, (map value x.signers_infos.0.0.items, tt))),
+      (certificate_set_value x.certificates.0, (option_value raw_revocation_info_choices_value x.crls, (map value x.signers_infos.0.0.items, tt))),
     ),
   ),
 )
 
 module _ {V : Type 0} where
   abbrev pub sets_components : Format V → Format (SetsValue V)
-  sets_components F = omitted (is_default certificate_set.format no_certificates) no_certificates certificate_set.format (optional raw_revocations (part (set_of F) nothing))
+  sets_components F = omitted (is_default certificate_set.format no_certificates) no_certificates certificate_set.format (optional raw_revocation_info_choices.format (part (set_of F) nothing))
 
   abbrev pub raw_signed : Format V → Format (RawSignedValue V)
   raw_signed F = sequence (part (number_below 6) (part digest_algorithm_identifiers.format (part (SEQUENCE raw_encapsulated_content_info).format (sets_components F))))
@@ -62,7 +60,7 @@ module _ {V : Type 0} where
   lawful_sets_components : (F : Format V) → IsLawful F → IsLawfulComponents (sets_components F)
   lawful_sets_components F f =
       unless certificate_set.law no_certificates_left_out refl
-      (perhaps lawful_raw_revocations refl (followed_by (lawful_set F f) lawful_nothing))
+      (perhaps raw_revocation_info_choices.law refl (followed_by (lawful_set F f) lawful_nothing))
 
   pub lawful_raw_signed : (F : Format V) → IsLawful F → IsLawful (raw_signed F)
   lawful_raw_signed F f = lawful_sequence (followed_by (lawful_number 6) (followed_by digest_algorithm_identifiers.law (followed_by (SEQUENCE raw_encapsulated_content_info).law (lawful_sets_components F f))))
@@ -80,8 +78,8 @@ raw_certificate F = sequence (part (only_oid signed_data_oid) (part (explicit 0 
 pub lawful_raw_certificate : {V : Type 0} (F : Format V) → IsLawful F → IsLawful (raw_certificate F)
 lawful_raw_certificate F f = lawful_sequence (followed_by (lawful_only_oid signed_data_oid) (followed_by (lawful_explicit (omega arith) (lawful_raw_signed F f)) lawful_nothing))
 
-pub raw_revocations_equal : SeesEqual Revocations.ghosts.eq raw_revocations_value
-raw_revocations_equal x y = search der_equal depth 20
+pub raw_revocation_info_choices_equal : SeesEqual Revocations.ghosts.eq raw_revocation_info_choices_value
+raw_revocation_info_choices_equal x y = search der_equal depth 20
 
 -- over the test and the value of signers
 abbrev pub signed_test : {S : Type 0} → (S → S → Bool) → RawSignedData S → RawSignedData S → Bool
@@ -96,7 +94,7 @@ raw_signed_equal eq value same x y =
     (two_equal (digest_algorithm_identifiers_equal x.digest_algorithms y.digest_algorithms)
     (two_equal (raw_encapsulated_equal x.content_info y.content_info)
     (two_equal (certificate_set_equal x.certificates.0 y.certificates.0)
-    (two_equal (option_equal _ raw_revocations_value raw_revocations_equal x.crls y.crls)
+    (two_equal (option_equal _ raw_revocation_info_choices_value raw_revocation_info_choices_equal x.crls y.crls)
     (with_end (list_equal eq value same x.signers_infos.0.0.items y.signers_infos.0.0.items))))))
 
 -- after a field that is always the same

@@ -1,10 +1,10 @@
 -- UnsignedAttributes ::= SET SIZE (1..MAX) OF Attribute (RFC 5652, 5.3)
 use Rattle.std.specs.Prelude.{ℕ, List, [], map}
 use Rattle.std.proofs.Common.{arith, refl}
-use Rattle.asn1_core.specs.Asn1.{asn1, Asn1Default, Contents, contents, ◌then◌, ◌DEFAULT◌, end, INTEGER_BELOW, OCTET_STRING, SEQUENCE}
-use Rattle.asn1_core.specs.Der.{Format, IsLawful, is_default, IsDefault, element, empty_left_out, implicit_set, lawful_implicit_set, SeesEqual, der_equal, two_equal, with_end, octets_equal}
+use Rattle.asn1_core.specs.Asn1.{Asn1, asn1_tagged, Asn1Default, Contents, list_of, contents, ◌then◌, ◌DEFAULT◌, end, INTEGER_BELOW, OCTET_STRING, SEQUENCE}
+use Rattle.asn1_core.specs.Der.{is_default, IsDefault, element, empty_left_out, lawful_implicit_set, within_tagged, SeesEqual, der_equal, two_equal, with_end, octets_equal}
 use Rattle.pkcs7_content.specs.Versions.{number_of}
-use Rattle.pkcs7_attributes.specs.Attributes.{attributes_value, lawful_attributes, no_attributes, no_attributes_left_out}
+use Rattle.pkcs7_attributes.specs.Attributes.{attributes, attributes_value, no_attributes, no_attributes_left_out}
 use Rattle.pkcs7_signed.specs.SignerParts.{signer_identifier_value, signer_identifier}
 use Rattle.x509_base.specs.AlgorithmLaws.{algorithm_identifier}
 use Rattle.x509_base.specs.AlgorithmParts.{algorithm_identifier_value, algorithm_identifier_equal}
@@ -17,27 +17,24 @@ use Rattle.x509_pkcs7.specs.Versions.{version_equal}
 use Rattle.x509_pkcs7.specs.contracts.raw_signers.RawUnsignedAttributesPartialEq.TheImpl as Unsigned
 use Rattle.x509_pkcs7.specs.contracts.raw_signers.RawSignerInfoPartialEq.TheImpl as Signer
 
-abbrev pub unsigned_attributes_value : RawUnsignedAttributes → List attribute.Value
-unsigned_attributes_value x = map attribute_value x.0.items
+abbrev pub raw_unsigned_attributes : Asn1
+raw_unsigned_attributes = asn1_tagged (lawful_implicit_set (omega arith) (SEQUENCE attribute).law) 0xA1 (within_tagged 0xA1 (omega arith) (list_of (SEQUENCE attribute)).format)
 
-abbrev pub unsigned_attributes : Format (List attribute.Value)
-unsigned_attributes = implicit_set 1 (SEQUENCE attribute).format
-
-pub lawful_unsigned_attributes : IsLawful unsigned_attributes
-lawful_unsigned_attributes = lawful_implicit_set (omega arith) (SEQUENCE attribute).law
+abbrev pub raw_unsigned_attributes_value : RawUnsignedAttributes → raw_unsigned_attributes.Value
+raw_unsigned_attributes_value x = map attribute_value x.0.items
 
 -- the empty set, which is left out
 abbrev pub no_unsigned_attributes : List ℕ
 no_unsigned_attributes = element 0xA1 []
 
-pub no_unsigned_attributes_left_out : IsDefault (is_default unsigned_attributes no_unsigned_attributes) no_unsigned_attributes unsigned_attributes
+pub no_unsigned_attributes_left_out : IsDefault (is_default raw_unsigned_attributes.format no_unsigned_attributes) no_unsigned_attributes raw_unsigned_attributes.format
 no_unsigned_attributes_left_out = empty_left_out 0xA1 (omega arith) (SEQUENCE attribute).format (SEQUENCE attribute).law
 
 abbrev pub SIGNED_ATTRIBUTES : Asn1Default
-SIGNED_ATTRIBUTES = record { type = asn1 lawful_attributes; text = no_attributes; inside = 0; left_out = no_attributes_left_out }
+SIGNED_ATTRIBUTES = record { type = attributes; text = no_attributes; inside = 0; left_out = no_attributes_left_out }
 
 abbrev pub UNSIGNED_ATTRIBUTES : Asn1Default
-UNSIGNED_ATTRIBUTES = record { type = asn1 lawful_unsigned_attributes; text = no_unsigned_attributes; inside = 0; left_out = no_unsigned_attributes_left_out }
+UNSIGNED_ATTRIBUTES = record { type = raw_unsigned_attributes; text = no_unsigned_attributes; inside = 0; left_out = no_unsigned_attributes_left_out }
 
 -- SignerInfo ::= SEQUENCE { version CMSVersion, sid SignerIdentifier, digestAlgorithm DigestAlgorithmIdentifier,
 --   signedAttrs [0] IMPLICIT SignedAttributes OPTIONAL, signatureAlgorithm SignatureAlgorithmIdentifier, signature
@@ -56,14 +53,14 @@ raw_signer_info_value x = (
       algorithm_identifier_value x.digest_algorithm.0,
       (
         attributes_value x.signed_attrs.0,
-        (algorithm_identifier_value x.signature_algorithm.0, (x.signature.0.0.items, (unsigned_attributes_value x.unsigned_attrs.0, tt))),
+        (algorithm_identifier_value x.signature_algorithm.0, (x.signature.0.0.items, (raw_unsigned_attributes_value x.unsigned_attrs.0, tt))),
       ),
     ),
   ),
 )
 
-pub unsigned_attributes_equal : SeesEqual Unsigned.ghosts.eq unsigned_attributes_value
-unsigned_attributes_equal x y = search (der_equal, attribute_equal) depth 20
+pub raw_unsigned_attributes_equal : SeesEqual Unsigned.ghosts.eq raw_unsigned_attributes_value
+raw_unsigned_attributes_equal x y = search (der_equal, attribute_equal) depth 20
 
 pub raw_signer_equal : SeesEqual Signer.ghosts.eq raw_signer_info_value
 raw_signer_equal x y =
@@ -73,4 +70,4 @@ raw_signer_equal x y =
     (two_equal (attributes_equal x.signed_attrs.0 y.signed_attrs.0)
     (two_equal (algorithm_identifier_equal x.signature_algorithm.0 y.signature_algorithm.0)
     (two_equal (octets_equal x.signature.0 y.signature.0)
-    (with_end (unsigned_attributes_equal x.unsigned_attrs.0 y.unsigned_attrs.0)))))))
+    (with_end (raw_unsigned_attributes_equal x.unsigned_attrs.0 y.unsigned_attrs.0)))))))

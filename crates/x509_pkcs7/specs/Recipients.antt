@@ -2,7 +2,7 @@
 --   its tag IMPLICIT
 use Rattle.std.proofs.Common.{refl}
 use Rattle.asn1_core.specs.Asn1.{Asn1, Contents, contents, ◌then◌, ◌OPTIONAL◌, end, OBJECT_IDENTIFIER, OCTET_STRING, ANY, INTEGER_BELOW, IMPLICIT, SEQUENCE}
-use Rattle.asn1_core.specs.Der.{Format, octets_of, option_value, SeesEqual, der_equal}
+use Rattle.asn1_core.specs.Der.{octets_of, option_value, SeesEqual, der_equal}
 use Rattle.asn1_leaves.specs.Asn1.{GENERALIZED_TIME}
 use Rattle.asn1_leaves_times.specs.Times.{moment_of_generalized}
 use Rattle.pkcs7_content.specs.Versions.{number_of}
@@ -50,9 +50,6 @@ recipient_info = IMPLICIT 2 (SEQUENCE kek_recipient_info)
 
 abbrev pub recipient_info_value : RecipientInfo → recipient_info.Value
 recipient_info_value (Kek k) = kek_recipient_info_value k
-
-abbrev pub recipient : Format recipient_info.Value
-recipient = recipient_info.format
 
 pub other_key_equal : SeesEqual OtherKey.ghosts.eq other_key_attribute_value
 other_key_equal x y = search der_equal depth 20

@@ -4,11 +4,12 @@
 -- genTime may have a fraction of a second, so its contents octets are kept; so are the name and the parts of Accuracy.
 use Rattle.std.specs.Prelude.{map}
 use Rattle.std.proofs.Common.{arith, rules, ap, refl}
-use Rattle.asn1_core.specs.Asn1.{asn1, Contents, contents, ◌then◌, ◌OPTIONAL◌, ◌DEFAULT◌, end, VERSION, OBJECT_IDENTIFIER, ANY, BOOLEAN_or_FALSE, list_of, SEQUENCE, SEQUENCE_OF, EXPLICIT, IMPLICIT}
-use Rattle.asn1_core.specs.Der.{Format, IsLawful, octets_of, option_value, leaf, any_octets, lawful_leaf, der_equal, SeesEqual, two_equal, option_equal, list_equal, with_end, raw_equal, Octets}
+use Rattle.asn1_core.specs.Asn1.{Asn1, asn1_tagged, Contents, contents, ◌then◌, ◌OPTIONAL◌, ◌DEFAULT◌, end, VERSION, OBJECT_IDENTIFIER, ANY, BOOLEAN_or_FALSE, list_of, SEQUENCE, SEQUENCE_OF, EXPLICIT, IMPLICIT}
+use Rattle.asn1_core.specs.Der.{octets_of, option_value, any_octets, lawful_leaf, der_equal, SeesEqual, two_equal, option_equal, list_equal, with_end, raw_equal}
 use Rattle.std.specs.Cmp.{booleans_Decides}
 use Rattle.asn1_core.specs.Equal.{oid_equal}
 use Rattle.asn1_core_format.specs.LeafLaws.{lawful_kept}
+use Rattle.asn1_core_format.specs.TaggedLaws.{leaf_tagged}
 use Rattle.asn1_leaves.specs.Asn1.{INTEGER}
 use Rattle.x509_base.specs.Digests.{digest_info_value, digest_info}
 use Rattle.x509_base.specs.Extensions.{extension_equal, extension, extension_value}
@@ -20,11 +21,8 @@ use Rattle.x509_pkcs7.specs.contracts.verifier.time_stamps.TstInfoPartialEq.TheI
 use Rattle.x509_pkcs7.specs.contracts.verifier.time_stamps.AccuracyPartialEq.TheImpl as AccuracyEq
 use Rattle.x509_pkcs7.specs.contracts.verifier.time_stamps.GenTimePartialEq.TheImpl as GenTimes
 
-abbrev pub generation_time : Format Octets
-generation_time = leaf 0x18 any_octets
-
-pub lawful_generation_time : IsLawful generation_time
-lawful_generation_time = lawful_leaf 0x18 (omega arith) any_octets (lawful_kept (λ _. Unit {0}))
+abbrev pub gen_time : Asn1
+gen_time = asn1_tagged (lawful_leaf 0x18 (omega arith) any_octets (lawful_kept (λ _. Unit {0}))) 0x18 (leaf_tagged 0x18 (omega arith) any_octets)
 
 abbrev pub accuracy : Contents
 accuracy = list_of ANY
@@ -40,7 +38,7 @@ accuracy_equal x y = search der_equal depth 20
 --   OPTIONAL, tsa [0] GeneralName OPTIONAL, extensions [1] IMPLICIT Extensions OPTIONAL }
 abbrev pub tst_info : Contents
 tst_info =
-    contents (VERSION 1 refl then OBJECT_IDENTIFIER then SEQUENCE digest_info then INTEGER then asn1 lawful_generation_time then
+    contents (VERSION 1 refl then OBJECT_IDENTIFIER then SEQUENCE digest_info then INTEGER then gen_time then
     SEQUENCE accuracy OPTIONAL BOOLEAN_or_FALSE DEFAULT INTEGER OPTIONAL EXPLICIT 0 ANY OPTIONAL
     IMPLICIT 1 (SEQUENCE_OF (SEQUENCE extension)) OPTIONAL end) refl
 
@@ -77,15 +75,15 @@ imprint_equal x y = search rules
 integer_equal : SeesEqual Integers.ghosts.eq (λ n. n.0.items)
 integer_equal x y = search rules
 
-generation_time_equal : SeesEqual GenTimes.ghosts.eq (λ t. t.0.items)
-generation_time_equal x y = search rules
+pub gen_time_equal : SeesEqual GenTimes.ghosts.eq (λ t. t.0.items)
+gen_time_equal x y = search rules
 
 parts_equal : SeesEqual TstEq.ghosts.eq (λ x. (tst_info_value x).1)
 parts_equal x y =
     two_equal (oid_equal x.policy y.policy)
     (two_equal (imprint_equal x.message_imprint y.message_imprint)
     (two_equal (integer_equal x.serial_number y.serial_number)
-    (two_equal (generation_time_equal x.gen_time y.gen_time)
+    (two_equal (gen_time_equal x.gen_time y.gen_time)
     (two_equal (option_equal AccuracyEq.ghosts.eq accuracy_value accuracy_equal x.accuracy y.accuracy)
     (two_equal (booleans_Decides x.ordering y.ordering)
     (two_equal (option_equal Integers.ghosts.eq (λ n. n.0.items) integer_equal x.nonce y.nonce)

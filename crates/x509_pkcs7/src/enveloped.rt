@@ -153,6 +153,10 @@ impl<R: DerDeserialize> DerDeserialize for EnvelopedData<R> {
         })
     }
 
+    fn begins(tag: u8) -> bool {
+        tag == 0x30
+    }
+
     ghost lawful = { lawful_enveloped R.DerSerialize.format R.lawful };
 }
 

@@ -1,9 +1,8 @@
 //! Signed data with content of any type, and signers of one of several types (RFC 5652, 5.1).
 
 ghost use Rattle.std.specs.Prelude.{◌≡◌, ℕ, List, map};
-ghost use Rattle.std.proofs.Common.{arith};
-ghost use Rattle.asn1_core.specs.Der.{set_of, lawful_set, list_equal, with_end, kept, only_oid, lawful_only_oid, ElementOctets};
-ghost use Rattle.x509_pkcs7.specs.RawSigned.{signed_data_oid, raw_revocations_value, raw_revocations, lawful_raw_revocations, RawSignedValue, raw_signed_value, raw_signed, lawful_raw_signed, RawCertificateValue, raw_certificate, lawful_raw_certificate, raw_revocations_equal, raw_signed_equal, with_head};
+ghost use Rattle.asn1_core.specs.Der.{set_of, lawful_set, list_equal, with_end, kept, only_oid, lawful_only_oid};
+ghost use Rattle.x509_pkcs7.specs.RawSigned.{signed_data_oid, raw_revocation_info_choices, raw_revocation_info_choices_value, RawSignedValue, raw_signed_value, raw_signed, lawful_raw_signed, RawCertificateValue, raw_certificate, lawful_raw_certificate, raw_revocation_info_choices_equal, raw_signed_equal, with_head};
 
 use crate::raw_contents::RawEncapsulatedContentInfo;
 use crate::raw_signers::RawSignerInfo;
@@ -16,44 +15,34 @@ use std::alloc::Global;
 #[derive(Debug, Drop, PartialEq, Eq)]
 pub struct RawRevocationInfoChoices(pub Vec<Asn1RawDer>);
 
-impl DerSerialize for RawRevocationInfoChoices {
-    ghost Value = { List ElementOctets };
+impl TaggedType for RawRevocationInfoChoices {
+    ghost asn1 = { raw_revocation_info_choices };
 
-    ghost value = { raw_revocations_value };
+    ghost value = { raw_revocation_info_choices_value };
 
-    ghost format = { raw_revocations };
+    ghost TAG = { 0xA1 };
 
-    fn put<W: Writer>(&self, w: &mut W) -> Result<(), WriteError> {
-        put_within(0xA1, &self.0, w)
+    const TAG: u8 = 0xA1;
+
+    fn put_tagged<W: Writer>(&self, tag: u8, w: &mut W) -> Result<(), WriteError> {
+        put_within(tag, &self.0, w)
     }
 
-    fn well_formed_at(&self, limit: u8) -> bool {
+    fn is_well_formed_at(&self, limit: u8) -> bool {
         self.0.components_well_formed_at(limit)
     }
-}
 
-impl DerDeserialize for RawRevocationInfoChoices {
-    fn read(alloc: Global, r: &mut Reader<'_>, nest: u8) -> Result<Self, Error> {
-        Ok(RawRevocationInfoChoices(read_within(alloc, r, nest, 0xA1)?))
+    fn read_open_contents(alloc: Global, r: &mut Reader<'_>, nest: u8) -> Result<Self, Error> {
+        Ok(RawRevocationInfoChoices(read_inside(alloc, r, nest, 0xA1)?))
     }
 
-    ghost lawful = { lawful_raw_revocations };
-}
-
-impl FirstTags for RawRevocationInfoChoices {
-    fn begins(tag: u8) -> bool {
-        tag == 0xA1
-    }
-}
-
-impl EqualByText for RawRevocationInfoChoices {
-    ghost equal_by_text = { raw_revocations_equal };
-}
-
-impl TryClone for RawRevocationInfoChoices {
-    fn try_clone(&self, alloc: Global) -> Result<Self, Error> {
+    fn clone_value(&self, alloc: Global) -> Result<Self, Error> {
         Ok(RawRevocationInfoChoices(self.0.try_clone(alloc)?))
     }
+
+    ghost tagged = { raw_revocation_info_choices.tagged };
+
+    ghost equal = { raw_revocation_info_choices_equal };
 }
 
 /// `SignerInfos ::= SET OF SignerInfo`
@@ -79,6 +68,10 @@ impl<S: DerSerialize> DerSerialize for RawSignersInfos<S> {
 impl<S: DerDeserialize> DerDeserialize for RawSignersInfos<S> {
     fn read(alloc: Global, r: &mut Reader<'_>, nest: u8) -> Result<Self, Error> {
         Ok(RawSignersInfos(Asn1SetOf::read(alloc, r, nest)?))
+    }
+
+    fn begins(tag: u8) -> bool {
+        tag == 0x31
     }
 
     ghost lawful = { lawful_set S.DerSerialize.format S.lawful };
@@ -147,6 +140,10 @@ impl<S: DerDeserialize> DerDeserialize for RawSignedData<S> {
         })
     }
 
+    fn begins(tag: u8) -> bool {
+        tag == 0x30
+    }
+
     ghost lawful = { lawful_raw_signed S.DerSerialize.format S.lawful };
 }
 
@@ -208,6 +205,10 @@ impl DerDeserialize for SignedDataType {
         read_leaf(alloc, r, nest, 0x06)
     }
 
+    fn begins(tag: u8) -> bool {
+        tag == 0x06
+    }
+
     ghost lawful = { lawful_only_oid signed_data_oid };
 }
 
@@ -238,6 +239,10 @@ impl<S: DerDeserialize> DerDeserialize for RawPkcs7Certificate<S> {
     fn read(alloc: Global, r: &mut Reader<'_>, nest: u8) -> Result<Self, Error> {
         let fields_of!((SignedDataType), signed_data) = read_within(alloc, r, nest, 0x30)?;
         Ok(RawPkcs7Certificate { signed_data })
+    }
+
+    fn begins(tag: u8) -> bool {
+        tag == 0x30
     }
 
     ghost lawful = { lawful_raw_certificate S.DerSerialize.format S.lawful };

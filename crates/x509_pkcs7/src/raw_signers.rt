@@ -1,8 +1,6 @@
 //! Signers of every version, whose unsigned attributes keep their values as they are (RFC 5652, 5.3).
 
-ghost use Rattle.std.specs.Prelude.{List};
-ghost use Rattle.x509_base.specs.Names.{attribute};
-ghost use Rattle.x509_pkcs7.specs.RawSigners.{unsigned_attributes_value, unsigned_attributes, lawful_unsigned_attributes, no_unsigned_attributes, no_unsigned_attributes_left_out, raw_signer_info, raw_signer_info_value, unsigned_attributes_equal, raw_signer_equal};
+ghost use Rattle.x509_pkcs7.specs.RawSigners.{raw_unsigned_attributes, raw_unsigned_attributes_value, no_unsigned_attributes, no_unsigned_attributes_left_out, raw_signer_info, raw_signer_info_value, raw_unsigned_attributes_equal, raw_signer_equal};
 
 use asn1_core::prelude::*;
 use pkcs7_content::CmsVersion;
@@ -18,58 +16,42 @@ use x509_base::Attribute;
 #[derive(Debug, Drop, PartialEq)]
 pub struct RawUnsignedAttributes(pub Vec<Attribute>);
 
-impl DerSerialize for RawUnsignedAttributes {
-    ghost Value = { List attribute.Value };
+impl Asn1Type for RawUnsignedAttributes {
+    ghost asn1 = { raw_unsigned_attributes };
 
-    ghost value = { unsigned_attributes_value };
+    ghost value = { raw_unsigned_attributes_value };
 
-    ghost format = { unsigned_attributes };
-
-    fn put<W: Writer>(&self, w: &mut W) -> Result<(), WriteError> {
-        put_within(0xA1, &self.0, w)
+    fn with_encoded<U: Task>(&self, task: &mut U) -> U::Out {
+        task.run_within::<0xA1, _>(&self.0)
     }
 
-    fn well_formed_at(&self, limit: u8) -> bool {
-        self.0.components_well_formed_at(limit)
-    }
-}
-
-impl DerDeserialize for RawUnsignedAttributes {
-    fn read(alloc: Global, r: &mut Reader<'_>, nest: u8) -> Result<Self, Error> {
+    fn read_encoded(alloc: Global, r: &mut Reader<'_>, nest: u8) -> Result<Self, Error> {
         Ok(RawUnsignedAttributes(read_within(alloc, r, nest, 0xA1)?))
     }
 
-    ghost lawful = { lawful_unsigned_attributes };
-}
-
-impl FirstTags for RawUnsignedAttributes {
-    fn begins(tag: u8) -> bool {
+    fn is_first_tag(tag: u8) -> bool {
         tag == 0xA1
     }
+
+    fn clone_value(&self, alloc: Global) -> Result<Self, Error> {
+        Ok(RawUnsignedAttributes(self.0.try_clone(alloc)?))
+    }
+
+    ghost equal = { raw_unsigned_attributes_equal };
 }
 
-impl HasDefault for RawUnsignedAttributes {
-    ghost DEFAULT = { no_unsigned_attributes };
+impl DefaultType for RawUnsignedAttributes {
+    ghost ABSENT = { no_unsigned_attributes };
 
-    fn is_default(&self) -> bool {
+    fn is_absent(&self) -> bool {
         is_left_out(0xA1, &self.0)
     }
 
-    fn absent(alloc: Global) -> Result<Self, Error> {
+    fn when_absent(alloc: Global) -> Result<Self, Error> {
         Ok(RawUnsignedAttributes(Vec::new(alloc)))
     }
 
-    ghost left_out = { no_unsigned_attributes_left_out };
-}
-
-impl EqualByText for RawUnsignedAttributes {
-    ghost equal_by_text = { unsigned_attributes_equal };
-}
-
-impl TryClone for RawUnsignedAttributes {
-    fn try_clone(&self, alloc: Global) -> Result<Self, Error> {
-        Ok(RawUnsignedAttributes(self.0.try_clone(alloc)?))
-    }
+    ghost absent_law = { no_unsigned_attributes_left_out };
 }
 
 /// `SignerInfo ::= SEQUENCE { version CMSVersion, sid SignerIdentifier, digestAlgorithm DigestAlgorithmIdentifier,

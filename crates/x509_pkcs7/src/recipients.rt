@@ -122,48 +122,38 @@ pub enum RecipientInfo {
     Kek(KekRecipientInfo),
 }
 
-impl DerSerialize for RecipientInfo {
-    ghost Value = { recipient_info.Value };
+impl TaggedType for RecipientInfo {
+    ghost asn1 = { recipient_info };
 
     ghost value = { recipient_info_value };
 
-    ghost format = { recipient_info.format };
+    ghost TAG = { 0xA2 };
 
-    fn put<W: Writer>(&self, w: &mut W) -> Result<(), WriteError> {
+    const TAG: u8 = 0xA2;
+
+    fn put_tagged<W: Writer>(&self, tag: u8, w: &mut W) -> Result<(), WriteError> {
         match self {
-            RecipientInfo::Kek(recipient) => recipient.put_as(0xA2, w),
+            RecipientInfo::Kek(recipient) => recipient.put_as(tag, w),
         }
     }
 
-    fn well_formed_at(&self, limit: u8) -> bool {
+    fn is_well_formed_at(&self, limit: u8) -> bool {
         match self {
             RecipientInfo::Kek(recipient) => recipient.well_formed_at(limit),
         }
     }
-}
 
-impl DerDeserialize for RecipientInfo {
-    fn read(alloc: Global, r: &mut Reader<'_>, nest: u8) -> Result<Self, Error> {
-        Ok(RecipientInfo::Kek(read_retagged(alloc, r, nest, 0xA2)?))
+    fn read_open_contents(alloc: Global, r: &mut Reader<'_>, nest: u8) -> Result<Self, Error> {
+        Ok(RecipientInfo::Kek(KekRecipientInfo::read_contents(alloc, r, nest)?))
     }
 
-    ghost lawful = { recipient_info.law };
-}
-
-impl FirstTags for RecipientInfo {
-    fn begins(tag: u8) -> bool {
-        tag == 0xA2
-    }
-}
-
-impl EqualByText for RecipientInfo {
-    ghost equal_by_text = { recipient_equal };
-}
-
-impl TryClone for RecipientInfo {
-    fn try_clone(&self, alloc: Global) -> Result<Self, Error> {
+    fn clone_value(&self, alloc: Global) -> Result<Self, Error> {
         match self {
             RecipientInfo::Kek(recipient) => Ok(RecipientInfo::Kek(recipient.try_clone(alloc)?)),
         }
     }
+
+    ghost tagged = { recipient_info.tagged };
+
+    ghost equal = { recipient_equal };
 }

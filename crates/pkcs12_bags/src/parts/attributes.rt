@@ -3,8 +3,8 @@
 ghost use Rattle.std.specs.Prelude.{◌≡◌, ℕ, List};
 ghost use Rattle.asn1_leaves.specs.Strings.{bmp_string};
 ghost use Rattle.asn1_leaves_strings.specs.Octets.{octets_of_bmp};
-ghost use Rattle.pkcs12_bags.specs.Attributes.{AttributeValue, attribute_value, pkcs12_attribute, AttributesValue, attributes_value, attributes, lawful_pkcs12_attribute, lawful_attributes};
-ghost use Rattle.pkcs12_bags.specs.AttributesEqual.{attribute_equal};
+ghost use Rattle.pkcs12_bags.specs.Attributes.{pkcs12_attribute, pkcs12_attribute_value, AttributesValue, attributes, attributes_value};
+ghost use Rattle.pkcs12_bags.specs.AttributesEqual.{pkcs12_attribute_equal};
 
 use crate::parts::oids::{FRIENDLY_NAME, Known, LOCAL_KEY_ID};
 use crate::parts::sets::{SetOfOne, SetRef};
@@ -67,7 +67,7 @@ type AttributeRef<'a> = Either<
 
 impl Pkcs12Attribute {
     fn choice(&self) -> AttributeRef<'_>
-        ensures { ⟦<AttributeRef<'static> as WriteChoice>⟧.value result ≡ attribute_value self.now }
+        ensures { ⟦<AttributeRef<'static> as WriteChoice>⟧.value result ≡ pkcs12_attribute_value self.now }
     {
         match self {
             Self::FriendlyName(name) => Either::First(Alternative::new(Alone(SetOfOne(BmpRef(
@@ -83,25 +83,17 @@ impl Pkcs12Attribute {
     }
 }
 
-impl DerSerialize for Pkcs12Attribute {
-    ghost Value = { AttributeValue };
+impl Sequence for Pkcs12Attribute {
+    ghost asn1 = { pkcs12_attribute };
 
-    ghost value = { attribute_value };
+    ghost value = { pkcs12_attribute_value };
 
-    ghost format = { pkcs12_attribute };
-
-    fn put<W: Writer>(&self, w: &mut W) -> Result<(), WriteError> {
-        put_within(0x30, &Chosen(self.choice()), w)
+    fn with_components<U: Task>(&self, task: &mut U) -> U::Out {
+        task.run(&Chosen(self.choice()))
     }
 
-    fn well_formed_at(&self, limit: u8) -> bool {
-        self.choice().choice_well_formed_at(limit)
-    }
-}
-
-impl DerDeserialize for Pkcs12Attribute {
-    fn read(alloc: Global, r: &mut Reader<'_>, nest: u8) -> Result<Self, Error> {
-        let Chosen(choice) = read_within::<Chosen<AttributeChoice>>(alloc, r, nest, 0x30)?;
+    fn read_fields(alloc: Global, r: &mut Reader<'_>, nest: u8) -> Result<Self, Error> {
+        let Chosen(choice) = Chosen::<AttributeChoice>::read_components(alloc, r, nest)?;
         match choice {
             Either::First(alternative) => Ok(Self::FriendlyName(
                 alternative.into_components().0.0.0,
@@ -116,29 +108,19 @@ impl DerDeserialize for Pkcs12Attribute {
         }
     }
 
-    ghost lawful = { lawful_pkcs12_attribute };
-}
-
-impl EqualByText for Pkcs12Attribute {
-    ghost equal_by_text = { attribute_equal };
-}
-
-impl TryClone for Pkcs12Attribute {
-    fn try_clone(&self, alloc: Global) -> Result<Self, Error> {
+    fn clone_fields(&self, alloc: Global) -> Result<Self, Error> {
         match self {
-            Pkcs12Attribute::FriendlyName(name) => {
-                Ok(Pkcs12Attribute::FriendlyName(name.try_clone(alloc)?))
-            }
-            Pkcs12Attribute::LocalKeyId(id) => {
-                Ok(Pkcs12Attribute::LocalKeyId(id.try_clone(alloc)?))
-            }
-            Pkcs12Attribute::Unknown { oid, value } => {
+            Self::FriendlyName(name) => Ok(Self::FriendlyName(name.try_clone(alloc)?)),
+            Self::LocalKeyId(id) => Ok(Self::LocalKeyId(id.try_clone(alloc)?)),
+            Self::Unknown { oid, value } => {
                 let oid = oid.try_clone(alloc)?;
                 let value = value.try_clone(alloc)?;
-                Ok(Pkcs12Attribute::Unknown { oid, value })
+                Ok(Self::Unknown { oid, value })
             }
         }
     }
+
+    ghost equal = { pkcs12_attribute_equal };
 }
 
 /// `bagAttributes SET OF PKCS12Attribute OPTIONAL`, at the end of a bag.
@@ -150,7 +132,7 @@ impl WriteComponents for BagAttributes {
 
     ghost value = { λ x. attributes_value x.0 };
 
-    ghost format = { attributes };
+    ghost format = { attributes.format };
 
     fn put_components<W: Writer>(&self, w: &mut W) -> Result<(), WriteError> {
         BagAttributesRef(&self.0).put_components(w)
@@ -172,7 +154,7 @@ impl ReadComponents for BagAttributes {
         }
     }
 
-    ghost lawful = { λ _. lawful_attributes };
+    ghost lawful = { λ _. attributes.law };
 }
 
 /// The borrowed attributes of a bag, for writing.
@@ -184,7 +166,7 @@ impl WriteComponents for BagAttributesRef<'_> {
 
     ghost value = { λ x. attributes_value x.0.now };
 
-    ghost format = { attributes };
+    ghost format = { attributes.format };
 
     fn put_components<W: Writer>(&self, w: &mut W) -> Result<(), WriteError> {
         match self.0 {

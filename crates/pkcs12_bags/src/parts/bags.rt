@@ -2,7 +2,8 @@
 
 ghost use Rattle.std.specs.Prelude.{◌≡◌};
 ghost use Rattle.std.proofs.Common.{rules};
-ghost use Rattle.pkcs12_bags.specs.BagParts.{OctetsOrAny, x509_value, x509_bag, lawful_x509_bag, secret_bag, secret_bag_value, encrypted_key_bag, encrypted_key_bag_value};
+ghost use Rattle.asn1_core.specs.Asn1.{SEQUENCE};
+ghost use Rattle.pkcs12_bags.specs.BagParts.{OctetsOrAny, x509_bag_value, x509_bag, secret_bag, secret_bag_value, encrypted_key_bag, encrypted_key_bag_value};
 ghost use Rattle.pkcs12_bags.specs.BagPartsEqual.{secret_equal, encrypted_key_equal};
 
 use crate::parts::oids::{Known, X509_CERTIFICATE, X509_CRL};
@@ -47,7 +48,7 @@ pub enum X509Bag<const KNOWN: usize> {
 
 impl<const KNOWN: usize> X509Bag<KNOWN> {
     fn choice(&self) -> OctetsOrAnyRef<'_, Known<KNOWN>>
-        ensures { ⟦<OctetsOrAnyRef<'static, Known<KNOWN>> as WriteChoice>⟧.value result ≡ x509_value self.now }
+        ensures { ⟦<OctetsOrAnyRef<'static, Known<KNOWN>> as WriteChoice>⟧.value result ≡ x509_bag_value self.now }
     {
         match self {
             Self::X509(octets) => Either::First(Alternative::new(Alone(ExplicitContextTag0(Ref(
@@ -63,9 +64,9 @@ impl<const KNOWN: usize> X509Bag<KNOWN> {
 impl<const KNOWN: usize> DerSerialize for X509Bag<KNOWN> {
     ghost Value = { OctetsOrAny };
 
-    ghost value = { x509_value };
+    ghost value = { x509_bag_value };
 
-    ghost format = { x509_bag KNOWN };
+    ghost format = { (SEQUENCE (x509_bag KNOWN)).format };
 
     fn put<W: Writer>(&self, w: &mut W) -> Result<(), WriteError> {
         put_within(0x30, &Chosen(self.choice()), w)
@@ -90,7 +91,11 @@ impl<const KNOWN: usize> DerDeserialize for X509Bag<KNOWN> {
         }
     }
 
-    ghost lawful = { lawful_x509_bag KNOWN };
+    fn begins(tag: u8) -> bool {
+        tag == 0x30
+    }
+
+    ghost lawful = { (SEQUENCE (x509_bag KNOWN)).law };
 }
 
 impl<const KNOWN: usize> EqualByText for X509Bag<KNOWN> {

@@ -53,6 +53,10 @@ impl DerDeserialize for DataType {
         read_leaf(alloc, r, nest, 0x06)
     }
 
+    fn begins(tag: u8) -> bool {
+        tag == 0x06
+    }
+
     ghost lawful = { lawful_fixed_oid data_oid };
 }
 

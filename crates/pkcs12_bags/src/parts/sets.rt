@@ -33,6 +33,10 @@ impl<T: DerDeserialize> DerDeserialize for SetOfOne<T> {
         Ok(SetOfOne(value))
     }
 
+    fn begins(tag: u8) -> bool {
+        tag == 0x31
+    }
+
     ghost lawful = { lawful_within T.DerSerialize.format T.lawful.components 0x31 (Prim.omega arith) };
 }
 

@@ -273,6 +273,10 @@ impl DerDeserialize for SafeContents {
         Ok(SafeContents(bags))
     }
 
+    fn begins(tag: u8) -> bool {
+        tag == 0x30
+    }
+
     ghost lawful = { lawful_safe_contents };
 }
 
@@ -296,6 +300,10 @@ impl DerDeserialize for SafeBag {
         )?;
         r.end(outer)?;
         Ok(SafeBag::of_components(components))
+    }
+
+    fn begins(tag: u8) -> bool {
+        tag == 0x30
     }
 
     ghost lawful = { lawful_safe_bag };

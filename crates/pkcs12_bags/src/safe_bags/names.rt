@@ -2,7 +2,7 @@
 
 ghost use Rattle.std.specs.Prelude.{◌≡◌, MatchOption, Some, None, map};
 ghost use Rattle.asn1_leaves_strings.specs.Octets.{octets_of_bmp};
-ghost use Rattle.pkcs12_bags.specs.Attributes.{attribute_value, attributes_value};
+ghost use Rattle.pkcs12_bags.specs.Attributes.{pkcs12_attribute_value, attributes_value};
 ghost use Rattle.pkcs12_bags.specs.FirstAttributes.{first_name, first_key_id, friendly_name_of, local_key_id_of};
 
 use crate::parts::Pkcs12Attribute;
@@ -35,8 +35,8 @@ impl SafeBag {
 }
 
 fn name_among(attributes: &Vec<Pkcs12Attribute>) -> Option<&BmpString>
-    ensures { MatchOption result (first_name (map attribute_value attributes.now.items) ≡ None)
-        (λ name. first_name (map attribute_value attributes.now.items) ≡ Some (octets_of_bmp name.now)) }
+    ensures { MatchOption result (first_name (map pkcs12_attribute_value attributes.now.items) ≡ None)
+        (λ name. first_name (map pkcs12_attribute_value attributes.now.items) ≡ Some (octets_of_bmp name.now)) }
 {
     for attribute in attributes {
         if let Pkcs12Attribute::FriendlyName(name) = attribute {
@@ -47,8 +47,8 @@ fn name_among(attributes: &Vec<Pkcs12Attribute>) -> Option<&BmpString>
 }
 
 fn key_id_among(attributes: &Vec<Pkcs12Attribute>) -> Option<&[u8]>
-    ensures { MatchOption result (first_key_id (map attribute_value attributes.now.items) ≡ None)
-        (λ id. first_key_id (map attribute_value attributes.now.items) ≡ Some id.now) }
+    ensures { MatchOption result (first_key_id (map pkcs12_attribute_value attributes.now.items) ≡ None)
+        (λ id. first_key_id (map pkcs12_attribute_value attributes.now.items) ≡ Some id.now) }
 {
     for attribute in attributes {
         if let Pkcs12Attribute::LocalKeyId(id) = attribute {

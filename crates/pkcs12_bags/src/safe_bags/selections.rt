@@ -4,7 +4,7 @@ ghost use Rattle.std.specs.Prelude.{◌≡◌, Some, None, MatchOption, MatchRes
 ghost use Rattle.std.specs.List.{filter, find};
 ghost use Rattle.asn1_core.specs.Der.{option_value};
 ghost use Rattle.asn1_core_element.specs.declared.error.Error.TheVariants.{Memory};
-ghost use Rattle.pkcs12_bags.specs.BagParts.{x509_value};
+ghost use Rattle.pkcs12_bags.specs.BagParts.{x509_bag_value};
 ghost use Rattle.pkcs12_bags.specs.BagValues.{bag_value, contents_value};
 ghost use Rattle.pkcs12_bags.specs.Selections.{certificate_of, x509_octets, is_certificate, is_key, has_key_id};
 ghost use Rattle.pkcs12_bags.specs.BagWalks.{walk};
@@ -16,7 +16,7 @@ use std::alloc::Global;
 
 impl SafeBag {
     fn certificate(&self) -> Option<&CertificateBag>
-        ensures { option_value (λ held. x509_value held.now) result ≡ certificate_of (bag_value self.now) }
+        ensures { option_value (λ held. x509_bag_value held.now) result ≡ certificate_of (bag_value self.now) }
     {
         match &self.kind {
             SafeBagKind::Certificate(held) => Some(held),

@@ -1,10 +1,11 @@
 //! Attributes of the entries of trust lists.
 
-ghost use Rattle.pkcs7_content.specs.TrustLists.{EntryAttributeValue, entry_attribute, lawful_entry_attribute, entry_attribute_value, entry_attribute_equal};
-ghost use Rattle.pkcs7_content.specs.AttributeValues.{attribute_values_value};
+ghost use Rattle.asn1_core.specs.Asn1.{SEQUENCE};
+ghost use Rattle.pkcs7_content.specs.TrustLists.{ctl_entry_attribute, ctl_entry_attribute_value, ctl_entry_attribute_equal};
 
+use crate::defined_by::read_inside_defined_by;
 use crate::trust_lists::values::CTLEntryAttributeValues;
-use asn1_choices::{OidAnd, read_sequence_defined_by};
+use asn1_choices::OidAnd;
 use asn1_core::prelude::*;
 use std::alloc::Global;
 
@@ -16,37 +17,33 @@ pub struct CTLEntryAttribute {
     pub value: CTLEntryAttributeValues,
 }
 
-impl DerSerialize for CTLEntryAttribute {
-    ghost Value = { EntryAttributeValue };
+impl TaggedType for CTLEntryAttribute {
+    ghost asn1 = { SEQUENCE ctl_entry_attribute };
 
-    ghost value = { entry_attribute_value };
+    ghost value = { ctl_entry_attribute_value };
 
-    ghost format = { entry_attribute };
+    ghost TAG = { 0x30 };
 
-    fn put<W: Writer>(&self, w: &mut W) -> Result<(), WriteError> {
-        put_within(0x30, &Part(Ref(&self.oid), Alone(Ref(&self.value))), w)
+    const TAG: u8 = 0x30;
+
+    fn put_tagged<W: Writer>(&self, tag: u8, w: &mut W) -> Result<(), WriteError> {
+        put_within(tag, &Part(Ref(&self.oid), Alone(Ref(&self.value))), w)
     }
 
-    fn well_formed_at(&self, limit: u8) -> bool {
+    fn is_well_formed_at(&self, limit: u8) -> bool {
         self.value.fits(self.oid.0.octets(), limit)
     }
-}
 
-impl DerDeserialize for CTLEntryAttribute {
-    fn read(alloc: Global, r: &mut Reader<'_>, nest: u8) -> Result<Self, Error> {
-        let OidAnd(oid, value) = read_sequence_defined_by(alloc, r, nest)?;
+    fn read_open_contents(alloc: Global, r: &mut Reader<'_>, nest: u8) -> Result<Self, Error> {
+        let OidAnd(oid, value) = read_inside_defined_by(alloc, r, nest)?;
         Ok(CTLEntryAttribute { oid, value })
     }
 
-    ghost lawful = { lawful_entry_attribute };
-}
-
-impl EqualByText for CTLEntryAttribute {
-    ghost equal_by_text = { entry_attribute_equal };
-}
-
-impl TryClone for CTLEntryAttribute {
-    fn try_clone(&self, alloc: Global) -> Result<Self, Error> {
+    fn clone_value(&self, alloc: Global) -> Result<Self, Error> {
         clone_of!(self, alloc; CTLEntryAttribute { oid, value })
     }
+
+    ghost tagged = { (SEQUENCE ctl_entry_attribute).tagged };
+
+    ghost equal = { ctl_entry_attribute_equal };
 }

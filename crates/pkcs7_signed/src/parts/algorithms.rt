@@ -38,22 +38,32 @@ impl Sequence for DigestAlgorithmIdentifier {
 #[derive(Debug, Drop, PartialEq, Eq)]
 pub struct DigestAlgorithmIdentifiers(pub Asn1SetOf<AlgorithmIdentifier>);
 
-impl Asn1Type for DigestAlgorithmIdentifiers {
+impl TaggedType for DigestAlgorithmIdentifiers {
     ghost asn1 = { digest_algorithm_identifiers };
 
     ghost value = { digest_algorithm_identifiers_value };
 
-    fn with_encoded<U: Task>(&self, task: &mut U) -> U::Out {
-        task.run_on(&self.0)
+    ghost TAG = { 0x31 };
+
+    const TAG: u8 = 0x31;
+
+    fn put_tagged<W: Writer>(&self, tag: u8, w: &mut W) -> Result<(), WriteError> {
+        self.0.put_as(tag, w)
     }
 
-    fn read_encoded(alloc: Global, r: &mut Reader<'_>, nest: u8) -> Result<Self, Error> {
-        Ok(DigestAlgorithmIdentifiers(Asn1SetOf::read(alloc, r, nest)?))
+    fn is_well_formed_at(&self, limit: u8) -> bool {
+        self.0.well_formed_at(limit)
+    }
+
+    fn read_open_contents(alloc: Global, r: &mut Reader<'_>, nest: u8) -> Result<Self, Error> {
+        Ok(DigestAlgorithmIdentifiers(Asn1SetOf::read_contents(alloc, r, nest)?))
     }
 
     fn clone_value(&self, alloc: Global) -> Result<Self, Error> {
         Ok(DigestAlgorithmIdentifiers(self.0.try_clone(alloc)?))
     }
+
+    ghost tagged = { digest_algorithm_identifiers.tagged };
 
     ghost equal = { digest_algorithm_identifiers_equal };
 }

@@ -1,8 +1,7 @@
 //! Certificates, each kept as it is (RFC 5652, 10.2.2 and 10.2.3).
 
 ghost use Rattle.std.specs.Prelude.{◌≡◌, ◌↔◌, IsTrue, []};
-ghost use Rattle.std.proofs.Common.{arith};
-ghost use Rattle.asn1_core.specs.Der.{NextIs, each, within_tagged};
+ghost use Rattle.asn1_core.specs.Der.{NextIs};
 ghost use Rattle.pkcs7_signed.specs.Certificates.{IsSequenceTag, certificate_choices, certificate_choices_value, certificate_set, certificate_set_value, no_certificates, no_certificates_left_out};
 ghost use Rattle.pkcs7_signed.specs.PartsEqual.{certificate_choices_equal, certificate_set_equal};
 
@@ -61,6 +60,11 @@ impl DerDeserialize for CertificateChoices {
         }
     }
 
+    #[tactic(auto, using(crate::specs::Certificates::any_tag))]
+    fn begins(_tag: u8) -> bool {
+        true
+    }
+
     ghost lawful = { certificate_choices.law };
 }
 
@@ -111,6 +115,10 @@ impl DerDeserialize for CertificateSet {
         Ok(CertificateSet(read_within(alloc, r, nest, 0xA0)?))
     }
 
+    fn begins(tag: u8) -> bool {
+        tag == 0xA0
+    }
+
     ghost lawful = { certificate_set.law };
 }
 
@@ -127,7 +135,7 @@ impl DerTagged for CertificateSet {
         Ok(CertificateSet(read_inside(alloc, r, nest, 0xA0)?))
     }
 
-    ghost tagged = { within_tagged 0xA0 (Prim.omega arith) (each certificate_choices.format) };
+    ghost tagged = { certificate_set.tagged };
 }
 
 impl HasDefault for CertificateSet {

@@ -1,8 +1,6 @@
 //! Information about revoked certificates (RFC 5652, 10.2.1).
 
 ghost use Rattle.std.specs.Prelude.{◌≡◌, []};
-ghost use Rattle.std.proofs.Common.{arith};
-ghost use Rattle.asn1_core.specs.Der.{each, within_tagged};
 ghost use Rattle.pkcs7_signed.specs.PartsEqual.{other_revocation_info_format_equal, revocation_info_choice_equal, revocation_info_choices_equal};
 ghost use Rattle.pkcs7_signed.specs.Revocations.{other_revocation_info_format, other_revocation_info_format_value, revocation_info_choice, revocation_info_choice_value, revocation_info_choices, revocation_info_choices_value};
 
@@ -72,6 +70,10 @@ impl Asn1Type for RevocationInfoChoice {
         }
     }
 
+    fn is_first_tag(tag: u8) -> bool {
+        tag == 0x30 || tag == 0xA1
+    }
+
     fn clone_value(&self, alloc: Global) -> Result<Self, Error> {
         match self {
             Self::Crl(list) => Ok(Self::Crl(list.try_clone(alloc)?)),
@@ -95,54 +97,34 @@ impl RevocationInfoChoices {
     }
 }
 
-impl DerSerialize for RevocationInfoChoices {
-    ghost Value = { revocation_info_choices.Value };
+impl TaggedType for RevocationInfoChoices {
+    ghost asn1 = { revocation_info_choices };
 
     ghost value = { revocation_info_choices_value };
 
-    ghost format = { revocation_info_choices.format };
-
-    fn put<W: Writer>(&self, w: &mut W) -> Result<(), WriteError> {
-        put_within(0xA1, &self.0, w)
-    }
-
-    fn well_formed_at(&self, limit: u8) -> bool {
-        self.0.components_well_formed_at(limit)
-    }
-}
-
-impl DerDeserialize for RevocationInfoChoices {
-    // so that it takes none of the stack that signed data takes at each level
-    #[inline(never)]
-    fn read(alloc: Global, r: &mut Reader<'_>, nest: u8) -> Result<Self, Error> {
-        Ok(RevocationInfoChoices(read_within(alloc, r, nest, 0xA1)?))
-    }
-
-    ghost lawful = { revocation_info_choices.law };
-}
-
-impl DerTagged for RevocationInfoChoices {
     ghost TAG = { 0xA1 };
 
     const TAG: u8 = 0xA1;
 
-    fn put_as<W: Writer>(&self, tag: u8, w: &mut W) -> Result<(), WriteError> {
+    fn put_tagged<W: Writer>(&self, tag: u8, w: &mut W) -> Result<(), WriteError> {
         put_within(tag, &self.0, w)
     }
 
-    fn read_contents(alloc: Global, r: &mut Reader<'_>, nest: u8) -> Result<Self, Error> {
+    fn is_well_formed_at(&self, limit: u8) -> bool {
+        self.0.components_well_formed_at(limit)
+    }
+
+    // so that it takes none of the stack that signed data takes at each level
+    #[inline(never)]
+    fn read_open_contents(alloc: Global, r: &mut Reader<'_>, nest: u8) -> Result<Self, Error> {
         Ok(RevocationInfoChoices(read_inside(alloc, r, nest, 0xA1)?))
     }
 
-    ghost tagged = { within_tagged 0xA1 (Prim.omega arith) (each revocation_info_choice.format) };
-}
-
-impl EqualByText for RevocationInfoChoices {
-    ghost equal_by_text = { revocation_info_choices_equal };
-}
-
-impl TryClone for RevocationInfoChoices {
-    fn try_clone(&self, alloc: Global) -> Result<Self, Error> {
+    fn clone_value(&self, alloc: Global) -> Result<Self, Error> {
         Ok(RevocationInfoChoices(self.0.try_clone(alloc)?))
     }
+
+    ghost tagged = { revocation_info_choices.tagged };
+
+    ghost equal = { revocation_info_choices_equal };
 }

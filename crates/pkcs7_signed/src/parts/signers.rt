@@ -14,22 +14,32 @@ use x509_base::{Name, SubjectKeyIdentifier};
 #[derive(Debug, Drop, PartialEq, Eq)]
 pub struct CertificateSerialNumber(pub IntegerAsn1);
 
-impl Asn1Type for CertificateSerialNumber {
+impl TaggedType for CertificateSerialNumber {
     ghost asn1 = { certificate_serial_number };
 
     ghost value = { certificate_serial_number_value };
 
-    fn with_encoded<U: Task>(&self, task: &mut U) -> U::Out {
-        task.run_on(&self.0)
+    ghost TAG = { 0x02 };
+
+    const TAG: u8 = 0x02;
+
+    fn put_tagged<W: Writer>(&self, tag: u8, w: &mut W) -> Result<(), WriteError> {
+        self.0.put_as(tag, w)
     }
 
-    fn read_encoded(alloc: Global, r: &mut Reader<'_>, nest: u8) -> Result<Self, Error> {
-        Ok(CertificateSerialNumber(IntegerAsn1::read(alloc, r, nest)?))
+    fn is_well_formed_at(&self, limit: u8) -> bool {
+        self.0.well_formed_at(limit)
+    }
+
+    fn read_open_contents(alloc: Global, r: &mut Reader<'_>, nest: u8) -> Result<Self, Error> {
+        Ok(CertificateSerialNumber(IntegerAsn1::read_contents(alloc, r, nest)?))
     }
 
     fn clone_value(&self, alloc: Global) -> Result<Self, Error> {
         Ok(CertificateSerialNumber(self.0.try_clone(alloc)?))
     }
+
+    ghost tagged = { certificate_serial_number.tagged };
 
     ghost equal = { certificate_serial_number_equal };
 }
@@ -88,6 +98,10 @@ impl Asn1Type for SignerIdentifier {
         }
     }
 
+    fn is_first_tag(tag: u8) -> bool {
+        tag == 0x30 || tag == 0x80
+    }
+
     fn clone_value(&self, alloc: Global) -> Result<Self, Error> {
         match self {
             Self::IssuerAndSerialNumber(certificate) => {
@@ -106,22 +120,32 @@ impl Asn1Type for SignerIdentifier {
 #[derive(Debug, Drop, PartialEq, Eq)]
 pub struct SignatureValue(pub OctetStringAsn1);
 
-impl Asn1Type for SignatureValue {
+impl TaggedType for SignatureValue {
     ghost asn1 = { OCTET_STRING };
 
     ghost value = { λ x. x.0.0.items };
 
-    fn with_encoded<U: Task>(&self, task: &mut U) -> U::Out {
-        task.run_on(&self.0)
+    ghost TAG = { 0x04 };
+
+    const TAG: u8 = 0x04;
+
+    fn put_tagged<W: Writer>(&self, tag: u8, w: &mut W) -> Result<(), WriteError> {
+        self.0.put_as(tag, w)
     }
 
-    fn read_encoded(alloc: Global, r: &mut Reader<'_>, nest: u8) -> Result<Self, Error> {
-        Ok(SignatureValue(OctetStringAsn1::read(alloc, r, nest)?))
+    fn is_well_formed_at(&self, limit: u8) -> bool {
+        self.0.well_formed_at(limit)
+    }
+
+    fn read_open_contents(alloc: Global, r: &mut Reader<'_>, nest: u8) -> Result<Self, Error> {
+        Ok(SignatureValue(OctetStringAsn1::read_contents(alloc, r, nest)?))
     }
 
     fn clone_value(&self, alloc: Global) -> Result<Self, Error> {
         Ok(SignatureValue(self.0.try_clone(alloc)?))
     }
+
+    ghost tagged = { OCTET_STRING.tagged };
 
     ghost equal = { λ x y. octets_equal x.0 y.0 };
 }

@@ -66,6 +66,10 @@ impl DerDeserialize for SignedDataType {
         read_leaf(alloc, r, nest, 0x06)
     }
 
+    fn begins(tag: u8) -> bool {
+        tag == 0x06
+    }
+
     ghost lawful = { lawful_only_oid signed_data_oid };
 }
 
@@ -210,6 +214,10 @@ impl DerDeserialize for Pkcs7Certificate {
             { read_boxed(alloc, s, below) },
         )?;
         Ok(certificate.open())
+    }
+
+    fn begins(tag: u8) -> bool {
+        tag == 0x30
     }
 
     ghost lawful = { lawful_certificate };

@@ -151,6 +151,10 @@ impl DerDeserialize for SignedData {
         Ok(signed.open())
     }
 
+    fn begins(tag: u8) -> bool {
+        tag == 0x30
+    }
+
     ghost lawful = { lawful_signed_data };
 }
 
@@ -268,6 +272,10 @@ pub(crate) fn read_signers_below<F: Fn(&mut Reader<'_>, u8) -> Result<Boxed<Sign
 impl DerDeserialize for SignersInfos {
     fn read(alloc: Global, r: &mut Reader<'_>, nest: u8) -> Result<Self, Error> {
         Ok(SignersInfos(Asn1SetOf::read(alloc, r, nest)?))
+    }
+
+    fn begins(tag: u8) -> bool {
+        tag == 0x31
     }
 
     ghost lawful = { lawful_signer_infos };

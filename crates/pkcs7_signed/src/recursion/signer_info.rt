@@ -169,6 +169,10 @@ impl DerDeserialize for SignerInfo {
         )
     }
 
+    fn begins(tag: u8) -> bool {
+        tag == 0x30
+    }
+
     ghost lawful = { lawful_signer };
 }
 

@@ -51,6 +51,10 @@ impl DerDeserialize for UnsignedAttributes {
         Ok(UnsignedAttributes(read_within(alloc, r, nest, 0xA1)?))
     }
 
+    fn begins(tag: u8) -> bool {
+        tag == 0xA1
+    }
+
     ghost lawful = { lawful_unsigned_attributes };
 }
 
@@ -119,6 +123,10 @@ impl DerDeserialize for UnsignedAttribute {
                 ensures { Gives (λ b. signer_value b.0.value) signer below s.old s.new result }
             { read_boxed(alloc, s, below) },
         )
+    }
+
+    fn begins(tag: u8) -> bool {
+        tag == 0x30
     }
 
     ghost lawful = { lawful_attribute };

@@ -26,22 +26,32 @@ impl SpcUuid {
     }
 }
 
-impl Asn1Type for SpcUuid {
+impl TaggedType for SpcUuid {
     ghost asn1 = { spc_uuid };
 
     ghost value = { spc_uuid_value };
 
-    fn with_encoded<U: Task>(&self, task: &mut U) -> U::Out {
-        task.run_on(&self.0)
+    ghost TAG = { 0x04 };
+
+    const TAG: u8 = 0x04;
+
+    fn put_tagged<W: Writer>(&self, tag: u8, w: &mut W) -> Result<(), WriteError> {
+        self.0.put_as(tag, w)
     }
 
-    fn read_encoded(alloc: Global, r: &mut Reader<'_>, nest: u8) -> Result<Self, Error> {
-        Ok(SpcUuid(OctetStringAsn1::read(alloc, r, nest)?))
+    fn is_well_formed_at(&self, limit: u8) -> bool {
+        self.0.well_formed_at(limit)
+    }
+
+    fn read_open_contents(alloc: Global, r: &mut Reader<'_>, nest: u8) -> Result<Self, Error> {
+        Ok(SpcUuid(OctetStringAsn1::read_contents(alloc, r, nest)?))
     }
 
     fn clone_value(&self, alloc: Global) -> Result<Self, Error> {
         Ok(SpcUuid(self.0.try_clone(alloc)?))
     }
+
+    ghost tagged = { spc_uuid.tagged };
 
     ghost equal = { Prim.search rules };
 }

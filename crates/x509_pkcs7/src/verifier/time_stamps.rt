@@ -1,9 +1,8 @@
 //! What a time stamp signs (RFC 3161, 2.4.2): the content of signed data whose content type is `id-ct-TSTInfo`, in its
 //! octets.
 
-ghost use Rattle.std.proofs.Common.{rules};
 ghost use Rattle.asn1_core.specs.Der.{any_octets, Octets};
-ghost use Rattle.x509_pkcs7.specs.TimeStamps.{generation_time, lawful_generation_time, accuracy, accuracy_value, accuracy_equal, tst_info, tst_info_value, tst_info_equal};
+ghost use Rattle.x509_pkcs7.specs.TimeStamps.{gen_time, gen_time_equal, accuracy, accuracy_value, accuracy_equal, tst_info, tst_info_value, tst_info_equal};
 
 use asn1_core::prelude::*;
 use asn1_leaves::IntegerAsn1;
@@ -27,38 +26,34 @@ impl Leaf for GenTime {
     }
 }
 
-impl DerSerialize for GenTime {
-    ghost Value = { Octets };
+impl TaggedType for GenTime {
+    ghost asn1 = { gen_time };
 
     ghost value = { λ x. x.0.items };
 
-    ghost format = { generation_time };
+    ghost TAG = { 0x18 };
 
-    fn put<W: Writer>(&self, w: &mut W) -> Result<(), WriteError> {
-        put_element(0x18, self.0.as_slice(), w)
+    const TAG: u8 = 0x18;
+
+    fn put_tagged<W: Writer>(&self, tag: u8, w: &mut W) -> Result<(), WriteError> {
+        put_element(tag, self.0.as_slice(), w)
     }
 
-    fn well_formed_at(&self, _limit: u8) -> bool {
+    fn is_well_formed_at(&self, _limit: u8) -> bool {
         true
     }
-}
 
-impl DerDeserialize for GenTime {
-    fn read(alloc: Global, r: &mut Reader<'_>, nest: u8) -> Result<Self, Error> {
-        read_leaf(alloc, r, nest, 0x18)
+    fn read_open_contents(alloc: Global, r: &mut Reader<'_>, nest: u8) -> Result<Self, Error> {
+        read_leaf_contents(alloc, r, nest, 0x18)
     }
 
-    ghost lawful = { lawful_generation_time };
-}
-
-impl EqualByText for GenTime {
-    ghost equal_by_text = { Prim.search rules };
-}
-
-impl TryClone for GenTime {
-    fn try_clone(&self, alloc: Global) -> Result<Self, Error> {
+    fn clone_value(&self, alloc: Global) -> Result<Self, Error> {
         Ok(GenTime(Vec::from_slice(alloc, self.0.as_slice())?))
     }
+
+    ghost tagged = { gen_time.tagged };
+
+    ghost equal = { gen_time_equal };
 }
 
 /// `Accuracy ::= SEQUENCE { seconds INTEGER OPTIONAL, millis [0] INTEGER OPTIONAL, micros [1] INTEGER OPTIONAL }`, each

@@ -2,8 +2,9 @@
 use Rattle.std.specs.Prelude.{◌⊎◌, ℕ, List}
 use Rattle.asn1_core.specs.Asn1.{Asn1, Contents}
 use Rattle.asn1_core.specs.Der.{Choice, IsLawfulChoice, known, lawful_known, otherwise, lawful_otherwise, IsOid, OidOctets}
+use Rattle.asn1_choices.specs.Tables.{Table, IsTable, among, lawful_among}
 
--- the alternatives in order, each for one object identifier, and the last for any other
+-- the alternatives in order, each for one object identifier or those of a table, and the last for any other
 pub record ByOid : Type 1 where
   pub Value : Type 0
   pub choice : Choice Value
@@ -14,6 +15,13 @@ if_oid o c others = record {
   Value = c.Value ⊎ others.Value;
   choice = known o c.format others.choice;
   law = lawful_known o c.format others.choice c.law others.law;
+}
+
+abbrev pub if_in : {A : Type 0} {T : Table A} → IsTable T → Contents → ByOid → ByOid
+if_in {A} {T} t c others = record {
+  Value = (A × c.Value) ⊎ others.Value;
+  choice = among T c.format others.choice;
+  law = lawful_among T c.format others.choice t c.law others.law;
 }
 
 abbrev pub any_oid : Contents → ByOid
