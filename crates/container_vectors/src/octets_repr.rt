@@ -1,39 +1,40 @@
-//! A representation of the data of `authSafe` as a caller would write it: one OCTET STRING.
+//! A representation of the data of `authSafe` as a caller would write it: the octets of one OCTET STRING.
 
 ghost use Rattle.std.specs.Prelude.{◌≡◌, ℕ, List};
 ghost use Rattle.std.proofs.Common.{refl};
 ghost use Rattle.asn1_core.specs.Der.{octet_string, lawful_octet_string};
 
 use asn1_core::{DerDeserialize, DerSerialize, Error, OctetStringAsn1, Reader, WriteError, Writer};
+use asn1_core_writers::put_element;
 use std::alloc::Global;
 use x509_containers::AuthenticatedSafeDataRepr;
 
 /// Data that is an OCTET STRING.
 #[derive(Debug, Drop)]
 pub struct OctetsRepr {
-    octets: OctetStringAsn1,
+    octets: Vec<u8>,
 }
 
 impl DerSerialize for OctetsRepr {
     ghost Value = { List ℕ };
 
-    ghost value = { λ x. x.octets.0.items };
+    ghost value = { λ x. x.octets.items };
 
     ghost format = { octet_string };
 
     fn put<W: Writer>(&self, w: &mut W) -> Result<(), WriteError> {
-        self.octets.put(w)
+        put_element(0x04, self.octets.as_slice(), w)
     }
 
-    fn well_formed_at(&self, limit: u8) -> bool {
-        self.octets.well_formed_at(limit)
+    fn well_formed_at(&self, _limit: u8) -> bool {
+        true
     }
 }
 
 impl DerDeserialize for OctetsRepr {
     fn read(alloc: Global, r: &mut Reader<'_>, nest: u8) -> Result<Self, Error> {
         let octets = OctetStringAsn1::read(alloc, r, nest)?;
-        Ok(OctetsRepr { octets })
+        Ok(OctetsRepr { octets: octets.0 })
     }
 
     fn begins(tag: u8) -> bool {
@@ -43,27 +44,28 @@ impl DerDeserialize for OctetsRepr {
     ghost lawful = { lawful_octet_string };
 }
 
+// `OctetStringAsn1` would do as `Repr`, but a kit refuses a concrete impl over a type whose clones come of a blanket impl
 impl AuthenticatedSafeDataRepr for OctetsRepr {
-    type Repr = OctetStringAsn1;
+    type Repr = Vec<u8>;
 
     ghost into = { λ x. x.octets };
 
     ghost from = { λ r. record { octets = r } };
 
-    fn into_repr(self) -> OctetStringAsn1 {
+    fn into_repr(self) -> Vec<u8> {
         self.octets
     }
 
-    fn from_repr(repr: OctetStringAsn1) -> Self {
+    fn from_repr(repr: Vec<u8>) -> Self {
         OctetsRepr { octets: repr }
     }
 
-    fn put_repr<W: Writer>(repr: &OctetStringAsn1, w: &mut W) -> Result<(), WriteError> {
-        repr.put(w)
+    fn put_repr<W: Writer>(repr: &Vec<u8>, w: &mut W) -> Result<(), WriteError> {
+        put_element(0x04, repr.as_slice(), w)
     }
 
-    fn repr_well_formed_at(repr: &OctetStringAsn1, limit: u8) -> bool {
-        repr.well_formed_at(limit)
+    fn repr_well_formed_at(_repr: &Vec<u8>, _limit: u8) -> bool {
+        true
     }
 
     ghost there = { λ x. refl };

@@ -1,7 +1,7 @@
 //! A representation of a caller's own in a PKCS #12 file.
 
 use crate::octets_repr::OctetsRepr;
-use asn1_core::{Error, OctetStringAsn1, from_bytes};
+use asn1_core::{Error, from_bytes};
 use std::alloc::Global;
 use std::test::Fail;
 use vector_checks::checks::{expect, is_rewritten};
@@ -16,8 +16,8 @@ const OCTETS_PFX: &[u8] = b"\
 const SEQUENCE_PFX: &[u8] = b"\
     \x30\x16\x02\x01\x03\x30\x11\x06\x09\x2A\x86\x48\x86\xF7\x0D\x01\x07\x01\xA0\x04\x04\x02\x30\x00";
 
-fn is_appended(alloc: Global, data: &OctetStringAsn1) -> Result<(), Fail> {
-    expect(data.0.as_slice() == b"\x07".as_slice(), "other data")?;
+fn is_appended(alloc: Global, data: &Vec<u8>) -> Result<(), Fail> {
+    expect(data.as_slice() == b"\x07".as_slice(), "other data")?;
     let mut out = Vec::from_slice(alloc, b"ab")?;
     OctetsRepr::write_repr(alloc, data, &mut out)?;
     expect(
