@@ -1,7 +1,8 @@
 //! A representation of the data of `authSafe` as a caller would write it: the octets of one OCTET STRING.
 
 ghost use Rattle.std.specs.Prelude.{◌≡◌, ℕ, List};
-ghost use Rattle.std.proofs.Common.{refl};
+ghost use Rattle.std.proofs.Common.{◌∙◌, refl, sym};
+ghost use Rattle.std.proofs.lemmas.List.{map-id};
 ghost use Rattle.asn1_core.specs.Der.{octet_string, lawful_octet_string};
 
 use asn1_core::{DerDeserialize, DerSerialize, Error, OctetStringAsn1, Reader, WriteError, Writer};
@@ -72,5 +73,8 @@ impl AuthenticatedSafeDataRepr for OctetsRepr {
 
     ghost back = { λ x. refl };
 
-    ghost seen = { λ x y. (λ e. e, λ e. e) };
+    ghost seen = { λ x y. (
+      λ e. sym (map-id x.items) ∙ e ∙ map-id y.items,
+      λ e. map-id x.items ∙ e ∙ sym (map-id y.items),
+    ) };
 }
