@@ -17,7 +17,7 @@ import os
 import sys
 from concurrent.futures import FIRST_COMPLETED, Future, ProcessPoolExecutor, wait
 from concurrent.futures.process import BrokenProcessPool
-from typing import IO, Any, Callable, Dict, Iterable, Iterator, Set, Tuple
+from typing import IO, Any, Callable, Dict, Iterable, Iterator, List, Set, Tuple
 
 try:
     from vuyhanip import checking, library
@@ -25,16 +25,17 @@ except ImportError:
     sys.path.insert(0, os.path.join(os.path.dirname(os.path.dirname(os.path.realpath(__file__))), "python"))
     from vuyhanip import checking, library
 
-# How many files are under way at once for each process, and how often a file is tried whose process ends.
-AHEAD, TRIES = 64, 3
+# How many lists of names are under way at once for each process, how many names one has at most, and how often a file
+# is tried whose process ends.
+AHEAD, MOST, TRIES = 4, 64, 3
 
 Fields = Dict[str, Any]
-Job = Callable[[str], Fields]
+Job = Callable[[List[str]], List[Fields]]
 
 
-def answer(kind: "str | None", name: str) -> Fields:
-    """What is said of one file."""
-    return dict(checking.check(name, kind, False).fields)
+def answer(kind: "str | None", names: List[str]) -> List[Fields]:
+    """What is said of some files."""
+    return [dict(checking.check(name, kind, False).fields) for name in names]
 
 
 def ended(name: str, why: str) -> Fields:
@@ -51,6 +52,15 @@ def names_in(source: str) -> Iterator[str]:
         return
     with sys.stdin if source == "-" else open(source, encoding="utf-8", errors="surrogateescape") as lines:
         yield from filter(None, (line.rstrip("\n") for line in lines))
+
+
+def lists_of(names: Iterable[str], processes: int) -> Iterator[List[str]]:
+    """The names in lists, of one name at first and of more later: so few files are shared by all processes, and of many
+    none costs a message of its own."""
+    left, count = iter(names), 0
+    while some := list(itertools.islice(left, min(MOST, 1 + count // (16 * processes)))):
+        count += len(some)
+        yield some
 
 
 def whole_lines(file: IO[bytes]) -> Iterator[bytes]:
@@ -72,53 +82,61 @@ def answered(file: IO[bytes]) -> Set[str]:
 
 def here(job: Job, names: Iterable[str], processes: int) -> Iterator[Fields]:
     """The answers of processes on this machine, as they come."""
-    left = iter(names)
+    left = lists_of(names, processes)
     while True:
         with ProcessPoolExecutor(processes) as pool:
-            under_way: Dict["Future[Fields]", str] = {}
+            under_way: Dict["Future[List[Fields]]", List[str]] = {}
             try:
                 yield from _of_pool(pool, job, left, under_way, processes * AHEAD)
                 return
             except BrokenProcessPool:
                 pass
-        for name in under_way.values():
-            yield _apart(job, name)
+        for some in under_way.values():
+            yield from _apart(job, some)
 
 
 def _of_pool(
-    pool: ProcessPoolExecutor, job: Job, left: Iterator[str], under_way: "Dict[Future[Fields], str]", ahead: int
+    pool: ProcessPoolExecutor,
+    job: Job,
+    left: Iterator[List[str]],
+    under_way: "Dict[Future[List[Fields]], List[str]]",
+    ahead: int,
 ) -> Iterator[Fields]:
     """The answers of a pool. Where a process ends, what was under way is left to the caller."""
     while True:
-        for name in itertools.islice(left, ahead - len(under_way)):
-            under_way[_submitted(pool, job, name)] = name
+        for some in itertools.islice(left, ahead - len(under_way)):
+            under_way[_submitted(pool, job, some)] = some
         if not under_way:
             return
         for future in wait(under_way, return_when=FIRST_COMPLETED).done:
             said = future.result()
             del under_way[future]
-            yield said
+            yield from said
 
 
-def _submitted(pool: ProcessPoolExecutor, job: Job, name: str) -> "Future[Fields]":
-    """The work on a file; where the pool is broken already, work that fails in the same way."""
+def _submitted(pool: ProcessPoolExecutor, job: Job, some: List[str]) -> "Future[List[Fields]]":
+    """The work on some files; where the pool is broken already, work that fails in the same way."""
     try:
-        return pool.submit(job, name)
+        return pool.submit(job, some)
     except BrokenProcessPool as fault:
-        failed: "Future[Fields]" = Future()
+        failed: "Future[List[Fields]]" = Future()
         failed.set_exception(fault)
         return failed
 
 
-def _apart(job: Job, name: str) -> Fields:
-    """The answer of a process that does nothing else, so that it is this file where it ends."""
-    for _ in range(TRIES):
+def _apart(job: Job, some: List[str]) -> List[Fields]:
+    """The answers of a process that does nothing else. Where it ends, those of each half, so that it is one file in the
+    end at which it does."""
+    for _ in range(TRIES if len(some) == 1 else 1):
         try:
             with ProcessPoolExecutor(1) as pool:
-                return pool.submit(job, name).result()
+                return pool.submit(job, some).result()
         except BrokenProcessPool:
             continue
-    return ended(name, "the process ended")
+    if len(some) == 1:
+        return [ended(some[0], "the process ended")]
+    half = len(some) // 2
+    return _apart(job, some[:half]) + _apart(job, some[half:])
 
 
 def of_scheduler(job: Job, names: Iterable[str], address: str) -> Iterator[Fields]:
@@ -126,24 +144,26 @@ def of_scheduler(job: Job, names: Iterable[str], address: str) -> Iterator[Field
     from distributed import Client, KilledWorker, as_completed
 
     with Client(address) as client:
-        left, under_way = iter(names), as_completed()
-        ahead = AHEAD * max(1, len(client.scheduler_info()["workers"]))
-        of: Dict[Any, str] = {}
+        workers = max(1, len(client.scheduler_info()["workers"]))
+        left, under_way = lists_of(names, workers), as_completed()
+        of: Dict[Any, List[str]] = {}
 
-        def add(count: int) -> None:
-            for name in itertools.islice(left, count):
-                future = client.submit(job, name, pure=False)
-                of[future.key] = name
+        def add(lists: Iterable[List[str]]) -> None:
+            for some in lists:
+                future = client.submit(job, some, pure=False)
+                of[future.key] = some
                 under_way.add(future)
 
-        add(ahead)
+        add(itertools.islice(left, AHEAD * workers))
         for future in under_way:
-            name = of.pop(future.key)
+            some = of.pop(future.key)
             try:
-                yield future.result()
+                said = future.result()
             except KilledWorker:
-                yield ended(name, "the worker ended")
-            add(1)
+                said = [ended(some[0], "the worker ended")] if len(some) == 1 else []
+                add([name] for name in some if len(some) > 1)
+            yield from said
+            add(itertools.islice(left, 1))
 
 
 def scan(names: Iterable[str], out: str, answers: Callable[[Iterable[str]], Iterator[Fields]]) -> Tuple[int, int]:
