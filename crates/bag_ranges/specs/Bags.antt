@@ -94,7 +94,7 @@ InOrder Q (v ∷ vs) rows = (first : List BagRanges) × (rest : List BagRanges) 
 pub record AreInside (Rows : List BagValue → List BagRanges → Type 0) (element : ElementOctets) (rows : List BagRanges) : Type 0 where
   pub bags : List BagValue
   pub reads : (SEQUENCE raw_safe_contents).format.Reads 64 element bags
-  pub rows : Rows bags rows
+  pub all : Rows bags rows
 
 -- the rows of the bags in a bag: none, unless its kind is SafeContents
 abbrev pub AreHeld : (List BagValue → List BagRanges → Type 0) → BagKind → ElementOctets → List BagRanges → Type 0

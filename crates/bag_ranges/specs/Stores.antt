@@ -36,7 +36,7 @@ pub record AreOfData (b : List ℕ) (content : Option ElementOctets) (rows : Lis
   pub is : content ≡ Some element
   pub bags : List BagValue
   pub reads : (within 0x04 (SEQUENCE raw_safe_contents).format).Reads 64 element bags
-  pub rows : AreBags 64 b bags rows
+  pub all : AreBags 64 b bags rows
 
 -- the rows of a content, by its type
 abbrev pub AreOfContent : List ℕ → ContentValue → List BagRanges → Type 0
@@ -46,7 +46,7 @@ AreOfContent b content rows = ((content.0 ≡ data_oid) × AreOfData b content.1
 pub record AreOfSafe (b : List ℕ) (octets : Octets) (rows : List BagRanges) : Type 0 where
   pub contents : List ContentValue
   pub reads : (within 0x30 (each (SEQUENCE raw_content_info).format)).Reads 64 octets contents
-  pub rows : InOrder (AreOfContent b) contents rows
+  pub all : InOrder (AreOfContent b) contents rows
 
 -- the rows of a store, by the octets of its data, if its authSafe is data
 abbrev pub AreOfStore : List ℕ → StoreValue → Option Octets → List BagRanges → Type 0
@@ -57,7 +57,7 @@ AreOfStore b store (Some octets) rows = AreOfSafe b octets rows
 pub record AreBagsOf (b : List ℕ) (rows : List BagRanges) : Type 0 where
   pub store : StoreValue
   pub is_value : IsValueOf (pfx raw) 64 b store
-  pub rows : AreOfStore b store (mac_octets store) rows
+  pub all : AreOfStore b store (mac_octets store) rows
 
 -- the input is a store
 pub record IsStore (b : List ℕ) : Type 0 where

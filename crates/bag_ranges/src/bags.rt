@@ -2,7 +2,7 @@
 
 ghost use Rattle.std.specs.Prelude.{◌≡◌, ◌∷◌, IfOk, map};
 ghost use Rattle.asn1_core.specs.Der.{octet_string, octets_of};
-ghost use Rattle.bag_ranges.specs.Bags.{AreBags, AreHeld, AreOfBag, IsAttributeAt, IsBagAt, IsKeyAt, IsKind, IsValueAt, IsX509At};
+ghost use Rattle.bag_ranges.specs.Bags.{AreBags, AreHeld, AreOfBag, InOrder, IsAt, IsAttributeAt, IsBagAt, IsKeyAt, IsKind, IsValueAt, IsX509At};
 ghost use Rattle.pkcs12_bags.specs.Oids.{oid};
 ghost use Rattle.pkcs12_bags.specs.declared.parts.oids.TheConstants.{FRIENDLY_NAME, LOCAL_KEY_ID};
 ghost use Rattle.x509_base.specs.AttributesByOid.{with_oid};
@@ -223,7 +223,8 @@ fn rows_of_bag(
 {
     let own = ranges_of(alloc, input, place, bag, below)?;
     let others = rows_inside(alloc, input, own.kind, own.value.start, bag.value(), below)?;
-    first_then(alloc, own, others)
+    let rows = first_then(alloc, own, others)?;
+    Ok(rows)
 }
 
 /// The rows of the bags in the value of a bag of a kind, which begins there.
@@ -241,14 +242,22 @@ fn rows_inside(
     match kind {
         BagKind::SafeContents => {
             let held: RawSafeContents = read_at(alloc, element, start)?;
-            rows_of_bags(alloc, input, start, held.0.as_slice(), below)
+            let rows = rows_of_bags(alloc, input, start, held.0.as_slice(), below)?;
+            Ok(rows)
         }
-        _ => Ok(Vec::new(alloc)),
+        BagKind::Key => Ok(Vec::new(alloc)),
+        BagKind::ShroudedKey => Ok(Vec::new(alloc)),
+        BagKind::Certificate => Ok(Vec::new(alloc)),
+        BagKind::Crl => Ok(Vec::new(alloc)),
+        BagKind::Secret => Ok(Vec::new(alloc)),
+        BagKind::Other => Ok(Vec::new(alloc)),
+        BagKind::Unread => Ok(Vec::new(alloc)),
     }
 }
 
 /// The rows of the bags of a `SafeContents` that begins there, in at most so many levels.
 #[cycle(rows)]
+#[tactic(auto, using(crate::proofs::Rows::one_level))]
 pub(crate) fn rows_of_bags(
     alloc: Global,
     input: &[u8],
@@ -261,9 +270,24 @@ pub(crate) fn rows_of_bags(
     if levels == 0 {
         return Err(Refusal::Part(Error::TooDeep, start));
     }
-    let below = levels - 1;
+    let first = there(place_at(input, start))?.contents;
+    let rows = rows_from(alloc, input, first, bags, levels - 1)?;
+    Ok(rows)
+}
+
+/// The rows of bags that follow one another, the first of them from there on.
+#[cycle(rows)]
+fn rows_from(
+    alloc: Global,
+    input: &[u8],
+    start: usize,
+    bags: &[RawSafeBag],
+    below: u8,
+) -> Result<Vec<BagRanges>, Refusal>
+    ensures { IfOk result (λ rows. InOrder (AreOfBag (AreBags below input.now) below input.now) (map raw_safe_bag_value bags.now) rows.items) }
+{
     let mut rows = Vec::new(alloc);
-    let mut next = there(place_at(input, start))?.contents;
+    let mut next = start;
     for bag in bags {
         let place = there(place_at(input, next))?;
         let mut found = rows_of_bag(alloc, input, place, bag, below)?;

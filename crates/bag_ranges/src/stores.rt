@@ -58,7 +58,8 @@ fn rows_of_data(
                 data.0.0.as_slice(),
                 held.start,
             )?;
-            rows_of_bags(alloc, input, held.contents, bags.0.0.as_slice(), LEVELS)
+            let rows = rows_of_bags(alloc, input, held.contents, bags.0.0.as_slice(), LEVELS)?;
+            Ok(rows)
         }
         None => Err(Refusal::Part(Error::Missing, place.end)),
     }
@@ -74,9 +75,11 @@ fn rows_of_content(
     ensures { IfOk result (λ rows. AreOfContent input.now (raw_content_info_value content.now) rows.items) }
 {
     if is_oid_of(&content.content_type.0, &DATA) {
-        rows_of_data(alloc, input, place, &content.content)
+        let rows = rows_of_data(alloc, input, place, &content.content)?;
+        Ok(rows)
     } else {
-        unread(alloc, input, place, content)
+        let rows = unread(alloc, input, place, content)?;
+        Ok(rows)
     }
 }
 
@@ -111,21 +114,40 @@ fn rows_of_safe(
 {
     let contents: Asn1SequenceOf<RawContentInfo> = read_at(alloc, octets, place.contents)?;
     let first = there(place.inside(input))?.contents;
-    rows_of_contents(alloc, input, first, contents.0.as_slice())
+    let rows = rows_of_contents(alloc, input, first, contents.0.as_slice())?;
+    Ok(rows)
+}
+
+/// The rows of a store, by the octets of its data, where its `authSafe` is data.
+fn rows_by_octets(
+    alloc: Global,
+    input: &[u8],
+    file: &RawPfx,
+    octets: Option<&[u8]>,
+) -> Result<Vec<BagRanges>, Refusal>
+    ensures { IfOk result (λ rows. AreOfStore input.now (⟦<RawPfx as DerSerialize>⟧.value file.now) (option_value (λ s. s.now) octets.entry) rows.items) }
+{
+    let place = there(safe_place(input))?;
+    match octets {
+        Some(octets) => {
+            let data = there(held_place(input, place))?;
+            let rows = rows_of_safe(alloc, input, data, octets)?;
+            Ok(rows)
+        }
+        None => {
+            let rows = unread(alloc, input, place, &file.auth_safe)?;
+            Ok(rows)
+        }
+    }
 }
 
 /// The rows of a store that was read.
+#[tactic(auto, using(crate::proofs::Rows::by_octets))]
 fn rows_of_store(alloc: Global, input: &[u8], file: &RawPfx) -> Result<Vec<BagRanges>, Refusal>
     ensures { IfOk result (λ rows. AreOfStore input.now (⟦<RawPfx as DerSerialize>⟧.value file.now) (mac_octets (⟦<RawPfx as DerSerialize>⟧.value file.now)) rows.items) }
 {
-    let place = there(safe_place(input))?;
-    match file.mac_octets() {
-        Some(octets) => {
-            let data = there(held_place(input, place))?;
-            rows_of_safe(alloc, input, data, octets)
-        }
-        None => unread(alloc, input, place, &file.auth_safe),
-    }
+    let rows = rows_by_octets(alloc, input, file, file.mac_octets())?;
+    Ok(rows)
 }
 
 /// Where an input has each bag of a PKCS #12 store that isn't encrypted, in their order, those in bags after them, at most
