@@ -10,7 +10,7 @@ DER, from Python.
     library.ranges(Part.CERTIFICATE, signed)  [range(58, 912), ..], of all certificates
     library.certificates(signed)     each of them, as memoryviews of signed
     library.signers(signed)         [Signer(is_over_attributes=True, covered=b'1..', ..), BadAttributes()]
-    library.bags(store)              [Bag(kind=BagKind.CERTIFICATE, level=0, friendly_name='me', ..), ..], but for encrypted ones
+    library.bags(store)              all Bag(kind=BagKind.CERTIFICATE, friendly_name='me', ..) that aren't encrypted
     library.from_ber(data)           the DER of an input in BER, as bytes
     library.mac_ber(der)             as mac, of a file that from_ber returned
     library.kinds()                  ["macdata", ..]
@@ -458,8 +458,8 @@ class Library:
         """All bags of a PKCS #12 store that aren't encrypted, in order, those in a bag after it, in one reading or two.
 
         The parts are memoryviews of data, and of a copy where data aren't bytes. What is encrypted is of kind
-        BagKind.UNREAD. Raises Refused, before the first of them, where data are no store, or a part of them doesn't read
-        as its type; its reason is "no range" where a part isn't in them as its value is written.
+        BagKind.UNREAD. Raises Refused, before the first of them, where data are no store, or a part doesn't read as its
+        type; its reason is "no range" where a part isn't in them as its value is written.
         """
         octets = _octets(data)
         room, count, place = FEW_BAGS, ctypes.c_size_t(), ctypes.c_size_t()

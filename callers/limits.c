@@ -204,8 +204,8 @@ static answer made(call it, const given *its, uint8_t *room, size_t out_len) {
 
 /* Whether the numbers are 0, but for a place, which has no use where memory is refused. */
 static int is_without_use(call it, const answer *said) {
-  return (!said->first || it == SIGNER) && (!said->second || it == FROM_BER || it == SIGNERS || it == RANGES || it == BAGS) &&
-         !said->third;
+  const int has_place = it == FROM_BER || it == SIGNERS || it == RANGES || it == BAGS;
+  return (!said->first || it == SIGNER) && (!said->second || has_place) && !said->third;
 }
 
 /* Makes a call, says what it answers, and then refuses its requests for memory in turn. */
@@ -304,8 +304,8 @@ static void ranges(given *its, uint8_t *room) {
   }
 }
 
-/* Asks for the bags of a store: with room for one, and where it is one for one more than all, for just them, and for one
- * less. */
+/* Asks for the bags of a store: with room for one, and where it is one for one more than all, for just them, and for
+ * one less. */
 static void bags(const given *its, uint8_t *room) {
   const size_t one = sizeof(der_bag_parts);
   const answer said = tried(BAGS, its, room, one);
