@@ -64,8 +64,7 @@ pub fn bags(input: &[u8]) -> Result<Vec<Bag<'_>>, Error> {
     loop {
         let (out, out_len) = (rows.as_mut_ptr(), rows.len());
         // SAFETY: the pointers of slices aren't null and have their lengths; all is borrowed for the call
-        let status =
-            unsafe { calls::der_bag_rows(input.as_ptr(), input.len(), out, out_len, &mut count, &mut place) };
+        let status = unsafe { calls::der_bag_rows(input.as_ptr(), input.len(), out, out_len, &mut count, &mut place) };
         match status {
             NORMAL => return Ok(rows[..count].iter().map(|row| bag(input, row)).collect()),
             NO_ROOM => rows.resize(count, BagParts::default()),
