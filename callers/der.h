@@ -189,9 +189,9 @@ typedef struct der_bag_parts {
   size_t has_friendly_name; /* 1: it has one */
   size_t has_local_key_id;  /* 1: it has one */
   der_range element;        /* the whole bag, or the ContentInfo */
-  der_range value;          /* DER of the X.509 certificate or revocation list; of other kinds, and of a certificate or
-                               list of another type, the element that the bag holds, without the [0] around it; of what
-                               is unread the ContentInfo */
+  der_range value;          /* DER of the X.509 certificate or revocation list, or the element of one of another type; of
+                               other kinds the element that the bag holds, without the [0] around it; of what is unread
+                               the ContentInfo */
   der_range friendly_name;  /* in UTF-16, two octets for each unit, the high one first; it may be empty */
   der_range local_key_id;   /* its octets; a key has those of its certificate */
 } der_bag_parts;
