@@ -9,7 +9,7 @@
  *    below.
  *  - DER_NORMAL, DER_LOOSE, DER_UNKNOWN_KIND, DER_TOO_LONG, DER_NO_ROOM, DER_NO_RANGE and DER_NO_PART are true where
  *    they are answered, but for DER_NO_RANGE of der_signer_rows and der_part_ranges, of which nothing is proved.
- *    At DER_NO_RANGE of der_bag_rows the input is a store, and no more is proved.
+ *    At DER_NO_RANGE of der_bag_rows the input is a store, and no more is proved; of its DER_TOO_LONG nothing is.
  *    DER_BAD_ATTRIBUTES is true where a row of der_signer_rows has it, but that an empty set of signed attributes is that
  *    signer's: proved is that the signer's value has none, and that A0 00 is in the input.
  *  - At DER_MALFORMED, DER_MISSING, DER_INVALID and DER_TOO_DEEP the input is no encoding of the kind, of der_from_ber
