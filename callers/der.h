@@ -4,16 +4,18 @@
  *
  * What is proved of its calls der_check_word_limited, der_rewrite_word_limited, der_kind_word, der_part_octets,
  * der_signer_rows, der_part_ranges, der_mac_range, der_mac, der_from_ber, der_mac_ber, der_mac_part_ber, der_name_text,
- * der_oid_text, der_oid_name and der_integer_text, for all inputs, and what isn't:
+ * der_oid_text, der_oid_name, der_integer_text and der_bag_rows, for all inputs, and what isn't:
  *  - A call answers no status but those that are listed at it. What it writes into numbers and into out is as said
  *    below.
  *  - DER_NORMAL, DER_LOOSE, DER_UNKNOWN_KIND, DER_TOO_LONG, DER_NO_ROOM, DER_NO_RANGE and DER_NO_PART are true where
  *    they are answered, but for DER_NO_RANGE of der_signer_rows and der_part_ranges, of which nothing is proved.
+ *    At DER_NO_RANGE of der_bag_rows the input is a store, and no more is proved; of its DER_TOO_LONG nothing is.
  *    DER_BAD_ATTRIBUTES is true where a row of der_signer_rows has it, but that an empty set of signed attributes is that
  *    signer's: proved is that the signer's value has none, and that A0 00 is in the input.
  *  - At DER_MALFORMED, DER_MISSING, DER_INVALID and DER_TOO_DEEP the input is no encoding of the kind, of der_from_ber
  *    it has no DER, of der_signer_rows and der_part_ranges it is no signed data, and of the calls that write text it has
- *    none, as said there. Which of the four it is isn't proved: tests tell them apart.
+ *    none, as said there. Which of the four it is isn't proved: tests tell them apart. Nothing is proved of them at
+ *    der_bag_rows, which has them of a part of a store too, but that the place is in the input.
  *  - That memory was refused where a call answers DER_NO_MEMORY isn't proved. Tests show that calls with memory enough
  *    don't answer it, on inputs of up to 190 KB and of hundreds of parts, and that calls keep no memory.
  *  - The functions in this file, in C, are tested and not proved, nor are der_version and der_processor.
@@ -21,8 +23,8 @@
  * What a caller has to keep to:
  *  - word, input, out and the pointers to numbers aren't null, also where a length is 0. word and input point to so
  *    many bytes that can be read, out to so many that can be read and written.
- *  - A pointer to a number is aligned as a size_t is, and what it points to can be written. out of der_signer_rows and
- *    of der_part_ranges points to out_len structs and not bytes, and is aligned so too.
+ *  - A pointer to a number is aligned as a size_t is, and what it points to can be written. out of der_signer_rows,
+ *    der_bag_rows and der_part_ranges points to out_len structs and not bytes, and is aligned so too.
  *  - The string kind ends in a zero byte.
  *  - out and each number overlap nothing else that is passed, and not one another.
  *  - While a call runs nothing else reads or writes out or the numbers, and nothing writes word or input: no other
@@ -167,6 +169,48 @@ typedef struct der_signer_parts {
  * octets in each range are those of the part; that they are the part itself, and no equal octets, is tested. */
 uint32_t der_signer_rows(const uint8_t *input, size_t input_len, size_t first, der_signer_parts *out, size_t out_len,
                          size_t *count, size_t *place);
+
+/* What a bag holds: the last number of its object identifier (RFC 7292, 4.2). */
+typedef enum der_bag_kind {
+  DER_BAG_OTHER = 0,
+  DER_BAG_KEY = 1,
+  DER_BAG_SHROUDED_KEY = 2,
+  DER_BAG_CERTIFICATE = 3,
+  DER_BAG_CRL = 4,
+  DER_BAG_SECRET = 5,
+  DER_BAG_SAFE_CONTENTS = 6, /* bags, whose rows follow this one, one level down */
+  DER_BAG_UNREAD = 7         /* no bag, but a whole ContentInfo that isn't data: encrypted bags, say */
+} der_bag_kind;
+
+/* Where a bag is. A range that isn't there is 0 and 0. */
+typedef struct der_bag_parts {
+  size_t kind;              /* a der_bag_kind */
+  size_t level;             /* in how many bags it is, at most 63 */
+  size_t has_friendly_name; /* 1: it has one */
+  size_t has_local_key_id;  /* 1: it has one */
+  der_range element;        /* the whole bag, or the ContentInfo */
+  der_range value;          /* DER of the X.509 certificate or revocation list, or the element of one of another type; of
+                               other kinds the element that the bag holds, without the [0] around it; of what is unread
+                               the ContentInfo */
+  der_range friendly_name;  /* in UTF-16, two octets for each unit, the high one first; it may be empty */
+  der_range local_key_id;   /* its octets; a key has those of its certificate */
+} der_bag_parts;
+
+/* Where a PKCS #12 file has each bag that isn't encrypted, in one reading: bags in bags after those that hold them, in at
+ * most 64 levels. The MAC isn't looked at, and nothing is decrypted: see der_mac.
+ *  - DER_NORMAL: *count rows are at the front of out, in the order of the file, and the rest of out is as it was.
+ *  - DER_NO_ROOM: there are *count rows, and out_len is less.
+ *  - DER_MALFORMED to DER_TOO_DEEP: the input is no PFX, read as "rawpfx"; or a SafeContents, certificate, revocation
+ *    list or encrypted key doesn't read as its type, or a friendlyName or localKeyId doesn't, or is there twice. *place
+ *    says where: of an attribute, where the first of its type begins.
+ *  - DER_TOO_LONG: as of der_part; no input that fits into memory has it.
+ *  - DER_NO_MEMORY: *place is an offset without use.
+ *  - DER_NO_RANGE: the input is a PFX, and a part isn't in it as its value is written: where it is loose, say.
+ * Unless at DER_NORMAL out is as it was, unless at DER_NORMAL and DER_NO_ROOM *count is 0, and but for the refusals and
+ * DER_NO_MEMORY *place is 0. Proved is that each bag has a row, and that the octets in each range are those of the part;
+ * that they are the part itself, and no equal octets, is tested. */
+uint32_t der_bag_rows(const uint8_t *input, size_t input_len, der_bag_parts *out, size_t out_len, size_t *count,
+                      size_t *place);
 
 /* Which octets of a PKCS #12 file a MAC covers: the contents octets of the OCTET STRING that is the content of
  * authSafe, without its tag and length.
@@ -372,6 +416,12 @@ static inline der_status der_signer(size_t index, const uint8_t *input, size_t i
   if (status != DER_NORMAL) out->status = status;
   else if (index >= count) out->status = DER_NO_PART;
   return (der_status)out->status;
+}
+
+/* The same as der_bag_rows. */
+static inline der_status der_bags(const uint8_t *input, size_t input_len, der_bag_parts *out, size_t out_len,
+                                  size_t *count, size_t *place) {
+  return (der_status)der_bag_rows(input, input_len, out, out_len, count, place);
 }
 
 /* Copies what the signature of a signer covers to out, which has room for covered.len bytes. */

@@ -10,6 +10,7 @@ DER, from Python.
     library.ranges(Part.CERTIFICATE, signed)  [range(58, 912), ..], of all certificates
     library.certificates(signed)     each of them, as memoryviews of signed
     library.signers(signed)         [Signer(is_over_attributes=True, covered=b'1..', ..), BadAttributes()]
+    library.bags(store)              all Bag(kind=BagKind.CERTIFICATE, friendly_name='me', ..) that aren't encrypted
     library.from_ber(data)           the DER of an input in BER, as bytes
     library.mac_ber(der)             as mac, of a file that from_ber returned
     library.kinds()                  ["macdata", ..]
@@ -40,6 +41,8 @@ REASONS = {3: "malformed", 4: "missing", 5: "invalid", 6: "too deep"}
 FEW_SIGNERS = 64
 # How many ranges there is room for at first, alike.
 FEW_RANGES = 1024
+# How many bags there is room for at first, alike.
+FEW_BAGS = 64
 
 Bytes = Union[bytes, bytearray, memoryview]
 # A call of the library, which returns a status.
@@ -178,6 +181,39 @@ class Signer(NamedTuple):
         return dotted(_first(self.signature_algorithm))
 
 
+class BagKind(enum.Enum):
+    """What a bag of a PKCS #12 store holds: the last number of its object identifier (RFC 7292, 4.2)."""
+
+    OTHER = 0
+    KEY = 1
+    SHROUDED_KEY = 2
+    CERTIFICATE = 3
+    CRL = 4
+    SECRET = 5
+    # bags, which follow it one level down
+    SAFE_CONTENTS = 6
+    # no bag, but a whole ContentInfo that isn't data: encrypted bags, say
+    UNREAD = 7
+
+
+class Bag(NamedTuple):
+    """A bag of a PKCS #12 store that isn't encrypted, as octets of the store. A part may be empty, and is false then:
+    compare with None.
+    """
+
+    kind: BagKind
+    # in how many bags it is
+    level: int
+    # the whole bag
+    element: memoryview
+    # the DER of the X.509 certificate or revocation list; of other kinds the element that the bag holds
+    value: memoryview
+    # None where it has none
+    friendly_name: Optional[str]
+    # its octets, which a key and its certificate have in common; None where it has none
+    local_key_id: Optional[memoryview]
+
+
 class _Octets(ctypes.Structure):
     """A der_range."""
 
@@ -228,6 +264,35 @@ class _SignerParts(ctypes.Structure):
         )
 
 
+class _BagParts(ctypes.Structure):
+    """A der_bag_parts."""
+
+    _fields_ = [
+        *((name, ctypes.c_size_t) for name in ("kind", "level", "has_friendly_name", "has_local_key_id")),
+        *((name, _Octets) for name in ("element", "value", "friendly_name", "local_key_id")),
+    ]
+    kind: int
+    level: int
+    has_friendly_name: int
+    has_local_key_id: int
+    element: _Octets
+    value: _Octets
+    friendly_name: _Octets
+    local_key_id: _Octets
+
+    def of(self, data: memoryview) -> Bag:
+        """The bag of the store that has these parts."""
+        name = bytes(self.friendly_name.of(data)).decode("utf-16-be") if self.has_friendly_name else None
+        return Bag(
+            BagKind(self.kind),
+            self.level,
+            self.element.of(data),
+            self.value.of(data),
+            name,
+            self.local_key_id.of(data) if self.has_local_key_id else None,
+        )
+
+
 class Library:
     """The calls of a shared library that der_c was made into."""
 
@@ -240,6 +305,7 @@ class Library:
             ("der_rewrite_word_limited", [*word, octets, size, number]),
             ("der_mac_range", [octets, size, number, number]),
             ("der_signer_rows", [octets, size, size, ctypes.POINTER(_SignerParts), size, number, number]),
+            ("der_bag_rows", [octets, size, ctypes.POINTER(_BagParts), size, number, number]),
             ("der_part_ranges", [size, octets, size, number, size, number, number]),
             ("der_kind_word", [size, octets, size, number]),
             ("der_mac", [octets, size, number, number, number]),
@@ -384,6 +450,29 @@ class Library:
                 raise Refused("no range", 0)
             if status == UNKNOWN_KIND:
                 raise ValueError(f"the items of {part.name} aren't listed")
+            if status != NO_ROOM:
+                _raise_for(status, "", place.value)
+            room = count.value
+
+    def bags(self, data: Bytes) -> Iterator[Bag]:
+        """All bags of a PKCS #12 store that aren't encrypted, in order, those in a bag after it, in one reading or two.
+
+        The parts are memoryviews of data, and of a copy where data aren't bytes. What is encrypted is of kind
+        BagKind.UNREAD. Raises Refused, before the first of them, where data are no store, or a part doesn't read as its
+        type; its reason is "no range" where a part isn't in them as its value is written.
+        """
+        octets = _octets(data)
+        room, count, place = FEW_BAGS, ctypes.c_size_t(), ctypes.c_size_t()
+        while True:
+            rows = (_BagParts * room)()
+            status = self._library.der_bag_rows(
+                octets, len(octets), rows, room, ctypes.byref(count), ctypes.byref(place)
+            )
+            if status == NORMAL:
+                whole = memoryview(octets)
+                return (row.of(whole) for row in rows[: count.value])
+            if status == NO_RANGE:
+                raise Refused("no range", 0)
             if status != NO_ROOM:
                 _raise_for(status, "", place.value)
             room = count.value

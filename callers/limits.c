@@ -16,11 +16,12 @@ enum { LONGEST_INTEGER = 24 };
 /* The calls, by the word that begins their lines. */
 typedef enum {
   CHECK, LOCATE, LOOSE_END, REWRITE, MAC, MAC_NUMBERS, FROM_BER, MAC_BER, MAC_PART_BER, NAME, OID, OID_NAME, PART, KIND,
-  SIGNERS, SIGNER, RANGES, INTEGER
+  SIGNERS, SIGNER, RANGES, BAGS, INTEGER
 } call;
 static const char *const calls[] = {
     "check",     "locate",   "loose_end", "rewrite", "mac",  "mac_numbers", "from_ber", "mac_ber", "mac_part_ber",
-    "name_text", "oid_text", "oid_name",  "part",    "kind", "signers",     "signer",   "ranges",  "integer_text"};
+    "name_text", "oid_text", "oid_name",  "part",    "kind", "signers",     "signer",   "ranges",
+    "bags",      "integer_text"};
 
 /* What a call is given: the index of a kind or of a signer, or the number of a part, where it takes one, and a limit if
  * there is one. */
@@ -78,7 +79,8 @@ static int is_marked(const number *it) { return it->before == MARKS && it->behin
 
 /* How many numbers a call writes. */
 static int numbers_of(call it) {
-  return it == MAC_NUMBERS || it == MAC_BER ? 3 : it == MAC || it == FROM_BER || it == SIGNERS || it == RANGES ? 2 : 1;
+  const int two = it == MAC || it == FROM_BER || it == SIGNERS || it == RANGES || it == BAGS;
+  return it == MAC_NUMBERS || it == MAC_BER ? 3 : two ? 2 : 1;
 }
 
 /* Whether a call writes so many bytes as its first number says. */
@@ -178,6 +180,12 @@ static answer made(call it, const given *its, uint8_t *room, size_t out_len) {
     if (said.status == DER_NORMAL)
       written = first.it * sizeof(der_range);
     break;
+  case BAGS:
+    said.status = der_bags(its->input, its->len, (der_bag_parts *)(void *)out, out_len / sizeof(der_bag_parts),
+                           &first.it, &second.it);
+    if (said.status == DER_NORMAL)
+      written = first.it * sizeof(der_bag_parts);
+    break;
   }
   said.first = first.it;
   said.second = second.it;
@@ -196,8 +204,8 @@ static answer made(call it, const given *its, uint8_t *room, size_t out_len) {
 
 /* Whether the numbers are 0, but for a place, which has no use where memory is refused. */
 static int is_without_use(call it, const answer *said) {
-  return (!said->first || it == SIGNER) && (!said->second || it == FROM_BER || it == SIGNERS || it == RANGES) &&
-         !said->third;
+  const int has_place = it == FROM_BER || it == SIGNERS || it == RANGES || it == BAGS;
+  return (!said->first || it == SIGNER) && (!said->second || has_place) && !said->third;
 }
 
 /* Makes a call, says what it answers, and then refuses its requests for memory in turn. */
@@ -296,6 +304,21 @@ static void ranges(given *its, uint8_t *room) {
   }
 }
 
+/* Asks for the bags of a store: with room for one, and where it is one for one more than all, for just them, and for
+ * one less. */
+static void bags(const given *its, uint8_t *room) {
+  const size_t one = sizeof(der_bag_parts);
+  const answer said = tried(BAGS, its, room, one);
+  if (said.status != DER_NORMAL && said.status != DER_NO_ROOM)
+    return;
+  if ((said.first + 1) * one > 2 * LONGEST)
+    fault(BAGS, "there are more than this program has room for");
+  tried(BAGS, its, room, (said.first + 1) * one);
+  tried(BAGS, its, room, said.first * one);
+  if (said.first)
+    tried(BAGS, its, room, (said.first - 1) * one);
+}
+
 int main(int count, char **words) {
   static uint8_t input[LONGEST];
   static _Alignas(der_signer_parts) uint8_t room[MARGIN + 2 * LONGEST + MARGIN];
@@ -335,6 +358,7 @@ int main(int count, char **words) {
   text(OID_NAME, &its, room);
   signers(&its, room);
   ranges(&its, room);
+  bags(&its, room);
   its.len = its.len < LONGEST_INTEGER ? its.len : LONGEST_INTEGER;
   text(INTEGER, &its, room);
   return 0;

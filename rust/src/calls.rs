@@ -26,6 +26,20 @@ pub struct SignerParts {
     pub certificate: Range,
 }
 
+/// `der_bag_parts`
+#[repr(C)]
+#[derive(Clone, Copy, Default)]
+pub struct BagParts {
+    pub kind: usize,
+    pub level: usize,
+    pub has_friendly_name: usize,
+    pub has_local_key_id: usize,
+    pub element: Range,
+    pub value: Range,
+    pub friendly_name: Range,
+    pub local_key_id: Range,
+}
+
 extern "C" {
     pub fn der_check_word_limited(
         word: *const u8,
@@ -101,6 +115,14 @@ extern "C" {
         input: *const u8,
         input_len: usize,
         out: *mut Range,
+        out_len: usize,
+        count: *mut usize,
+        place: *mut usize,
+    ) -> u32;
+    pub fn der_bag_rows(
+        input: *const u8,
+        input_len: usize,
+        out: *mut BagParts,
         out_len: usize,
         count: *mut usize,
         place: *mut usize,

@@ -1,5 +1,5 @@
 //! Safe calls of the library for C: checks and rewritings of DER, the parts of containers that a verifier needs, as
-//! octets, the certificates and signers of signed data, and conversions of BER to DER.
+//! octets, the certificates and signers of signed data, the bags of stores, and conversions of BER to DER.
 //!
 //! ```
 //! // the shortest PKCS #12 file
@@ -15,10 +15,12 @@
 //! them side by side.
 #![warn(missing_docs)]
 
+mod bags;
 mod calls;
 mod ranges;
 mod signers;
 
+pub use bags::{bags, Bag, BagKind};
 pub use ranges::certificates;
 pub use signers::{signers, BadAttributes, Signer};
 
@@ -65,7 +67,8 @@ pub enum Error {
     TooLong,
     /// The library's request for memory was refused, which says nothing of the input.
     NoMemory,
-    /// Of [`signers`] and [`certificates`]: a part isn't found in the input. No input is known where that is returned.
+    /// Of [`signers`] and [`certificates`]: a part isn't found in the input. No input is known where that is returned. Of
+    /// [`bags`]: a part isn't in the input as its value is written.
     NoRange,
     /// A status that a library of another version may return.
     Unknown(u32),

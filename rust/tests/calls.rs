@@ -1,6 +1,6 @@
 //! Each call, over files that openssl made, whose offsets and octets are those that `openssl asn1parse` shows, and over
 //! examples of X.690.
-use vuyhanip::{BadAttributes, Error, Part, Reason, Verdict};
+use vuyhanip::{BadAttributes, BagKind, Error, Part, Reason, Verdict};
 
 /// A key store.
 const STORE: &[u8] = include_bytes!("store.p12");
@@ -33,6 +33,19 @@ fn the_library_is_of_the_same_version() {
 fn a_store_is_normal() {
     assert_eq!(vuyhanip::check("pfx", STORE), Ok(Verdict { is_normal: true, len: 1010, loose_end: None }));
     assert_eq!(vuyhanip::rewrite("rawpfx", STORE).as_deref(), Ok(STORE));
+}
+
+/// Of the file, an encrypted certificate, which isn't read, and an encrypted key with a name.
+#[test]
+fn bags_of_a_store() {
+    let bags = vuyhanip::bags(STORE).unwrap();
+    assert_eq!(bags.len(), 2);
+    assert_eq!((bags[0].kind, bags[0].element, bags[0].name()), (BagKind::Unread, &STORE[34..648], None));
+    assert_eq!((bags[1].kind, bags[1].level, bags[1].element), (BagKind::ShroudedKey, 0, &STORE[675..943]));
+    assert_eq!((bags[1].value, bags[1].friendly_name), (&STORE[695..875], Some(&STORE[894..906])));
+    assert_eq!(bags[1].local_key_id, Some(&STORE[923..943]));
+    let reason = Reason::Malformed;
+    assert_eq!(vuyhanip::bags(&STORE[..1009]), Err(Error::Refused { reason, place: 0 }));
 }
 
 #[test]

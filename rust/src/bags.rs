@@ -1,0 +1,95 @@
+//! The bags of a PKCS #12 store, borrowed from the file.
+use crate::calls::{self, BagParts, Range};
+use crate::{error, Error, NORMAL, NO_ROOM};
+
+/// What a bag holds, by its object identifier (RFC 7292, 4.2).
+#[derive(Debug, Clone, Copy, PartialEq, Eq)]
+#[non_exhaustive]
+pub enum BagKind {
+    /// A key that isn't encrypted.
+    Key,
+    /// An encrypted key.
+    ShroudedKey,
+    /// A certificate.
+    Certificate,
+    /// A revocation list.
+    Crl,
+    /// A secret of any type.
+    Secret,
+    /// Bags, which follow it one level down.
+    SafeContents,
+    /// Something that RFC 7292 doesn't know.
+    Other,
+    /// No bag, but a whole ContentInfo that isn't data: encrypted bags, say.
+    Unread,
+}
+
+/// A bag that isn't encrypted.
+#[derive(Debug, Clone, Copy, PartialEq, Eq)]
+#[non_exhaustive]
+pub struct Bag<'a> {
+    /// What it holds.
+    pub kind: BagKind,
+    /// In how many bags it is.
+    pub level: usize,
+    /// The whole bag.
+    pub element: &'a [u8],
+    /// The DER of an X.509 certificate or revocation list; of other kinds the element that the bag holds.
+    pub value: &'a [u8],
+    /// The friendly name, in UTF-16, two octets for each unit, the high one first.
+    pub friendly_name: Option<&'a [u8]>,
+    /// The local key identifier, which a key and its certificate have in common.
+    pub local_key_id: Option<&'a [u8]>,
+}
+
+impl Bag<'_> {
+    /// The friendly name as text.
+    pub fn name(&self) -> Option<String> {
+        let units = self.friendly_name?.chunks_exact(2).map(|it| u16::from_be_bytes([it[0], it[1]]));
+        Some(char::decode_utf16(units).map(|it| it.unwrap_or(char::REPLACEMENT_CHARACTER)).collect())
+    }
+}
+
+/// The bags of a PKCS #12 store that aren't encrypted, in their order, those in a bag after it. Up to 64 are found in one
+/// reading, more in two. Neither is the MAC looked at nor anything decrypted.
+///
+/// ```
+/// // the shortest PKCS #12 file
+/// let file = b"\x30\x16\x02\x01\x03\x30\x11\x06\x09\x2A\x86\x48\x86\xF7\x0D\x01\x07\x01\xA0\x04\x04\x02\x30\x00";
+/// assert!(vuyhanip::bags(file)?.is_empty());
+/// # Ok::<(), vuyhanip::Error>(())
+/// ```
+pub fn bags(input: &[u8]) -> Result<Vec<Bag<'_>>, Error> {
+    let (mut rows, mut count, mut place) = (vec![BagParts::default(); 64], 0, 0);
+    loop {
+        let (out, out_len) = (rows.as_mut_ptr(), rows.len());
+        // SAFETY: the pointers of slices aren't null and have their lengths; all is borrowed for the call
+        let status = unsafe { calls::der_bag_rows(input.as_ptr(), input.len(), out, out_len, &mut count, &mut place) };
+        match status {
+            NORMAL => return Ok(rows[..count].iter().map(|row| bag(input, row)).collect()),
+            NO_ROOM => rows.resize(count, BagParts::default()),
+            status => return Err(error(status, place)),
+        }
+    }
+}
+
+fn bag<'a>(input: &'a [u8], row: &BagParts) -> Bag<'a> {
+    let of = |it: Range| &input[it.start..][..it.len];
+    Bag {
+        kind: match row.kind {
+            1 => BagKind::Key,
+            2 => BagKind::ShroudedKey,
+            3 => BagKind::Certificate,
+            4 => BagKind::Crl,
+            5 => BagKind::Secret,
+            6 => BagKind::SafeContents,
+            7 => BagKind::Unread,
+            _ => BagKind::Other,
+        },
+        level: row.level,
+        element: of(row.element),
+        value: of(row.value),
+        friendly_name: (row.has_friendly_name != 0).then(|| of(row.friendly_name)),
+        local_key_id: (row.has_local_key_id != 0).then(|| of(row.local_key_id)),
+    }
+}
