@@ -5,8 +5,8 @@ use Rattle.std.proofs.Common.{refl, sym, ap, subst, ◌∙◌}
 use Rattle.std.proofs.lemmas.List.{map-append, take_more}
 use Rattle.std.proofs.lemmas.List.Elements.{All-push}
 use Rattle.asn1_core.specs.Der.{ElementOctets}
-use Rattle.pkcs7_signed.specs.Certificates.{certificate_choices_value}
-use Rattle.pkcs7_signed.specs.declared.parts.certificates.CertificateChoices.{CertificateChoices}
+use Rattle.pkcs7_signed_crl.specs.Certificates.{certificate_choices_value}
+use Rattle.pkcs7_signed_crl.specs.declared.certificates.CertificateChoices.{CertificateChoices}
 use Rattle.signer_ranges.specs.Signers.{IsAt}
 use Rattle.x509_pkcs7.specs.Matches.{choice_octets}
 use Rattle.part_ranges.specs.Ranges.{AreAt, IsInside, octets_in}

@@ -2,7 +2,7 @@
 
 ghost use Rattle.std.specs.Prelude.{◌≡◌, IfOk, MatchResult, map};
 ghost use Rattle.part_ranges.specs.Ranges.{AreAt, AreCertificatesAt};
-ghost use Rattle.pkcs7_signed.specs.Certificates.{certificate_choices_value};
+ghost use Rattle.pkcs7_signed_crl.specs.Certificates.{certificate_choices_value};
 ghost use Rattle.signer_ranges.specs.Files.{file_value};
 ghost use Rattle.signer_ranges.specs.Signers.{IsAt, IsRefusal, certificates_of};
 ghost use Rattle.x509_pkcs7.specs.Matches.{choice_octets};

@@ -5,7 +5,7 @@ ghost use Rattle.asn1_core.specs.Der.{object_identifier, octet_string, octets_of
 ghost use Rattle.asn1_core_element.specs.declared.error.Error.TheVariants.{Memory};
 ghost use Rattle.pkcs7_attributes.specs.Attributes.{attributes_value};
 ghost use Rattle.pkcs7_attributes.specs.NamedAttributes.{content_type_oid, message_digest_oid};
-ghost use Rattle.pkcs7_signed.specs.SignerParts.{signer_identifier_value};
+ghost use Rattle.pkcs7_signed_crl.specs.SignerParts.{signer_identifier_value};
 ghost use Rattle.signer_ranges.specs.Files.{file_value};
 ghost use Rattle.signer_ranges.specs.Signers.{AreFound, AreRangesOfAll, AreRangesOrNone, AreSignedAt, AreSignedOrBroken, certificates_of, HasEmptySet, IsAtOrNone, IsContentAt, IsPartOf, IsRefusal, OnlyOrNone, Signs, SignsOrNone};
 ghost use Rattle.x509_base.specs.AttributesByOid.{with_oid, IsOnlyOf};
@@ -23,7 +23,7 @@ use crate::ranges::{
 use asn1_core::{Error, ObjectIdentifierAsn1, OctetStringAsn1, from_bytes_located};
 use asn1_core_oid::is_oid_of;
 use pkcs7_attributes::Attributes;
-use pkcs7_signed::parts::SignerIdentifier;
+use pkcs7_signed_crl::SignerIdentifier;
 use std::alloc::Global;
 use std::ops::Range;
 use x509_base::Attribute;
