@@ -13,6 +13,30 @@ pub(crate) struct Place {
     pub end: usize,
 }
 
+/// Where to look where no element is found.
+const BEGINNING: Place = Place {
+    tag: 0,
+    start: 0,
+    contents: 0,
+    end: 0,
+};
+
+/// Where an element begins, if it is found.
+pub(crate) fn start_of(place: Option<Place>) -> usize {
+    match place {
+        Some(place) => place.start,
+        None => 0,
+    }
+}
+
+/// Where the contents of an element begin, if it is found.
+pub(crate) fn contents_of(place: Option<Place>) -> usize {
+    match place {
+        Some(place) => place.contents,
+        None => 0,
+    }
+}
+
 /// The element that begins there.
 pub(crate) fn place_at(input: &[u8], start: usize) -> Option<Place> {
     if start > input.len() {
@@ -61,7 +85,18 @@ pub(crate) struct FilePlaces {
 }
 
 /// Where the parts of signed data are, in an input that is read as such.
-pub(crate) fn file_places(input: &[u8]) -> Option<FilePlaces> {
+pub(crate) fn file_places(input: &[u8]) -> FilePlaces {
+    match places_of_file(input) {
+        Some(places) => places,
+        None => FilePlaces {
+            content: None,
+            certificate: None,
+            signer: None,
+        },
+    }
+}
+
+fn places_of_file(input: &[u8]) -> Option<FilePlaces> {
     let content_type = place_at(input, 0)?.inside(input)?;
     let version = content_type.after(input)?.inside(input)?.inside(input)?;
     let content_info = version.after(input)?.after(input)?;
@@ -80,12 +115,23 @@ pub(crate) struct SignerPlaces {
     pub digest_algorithm: Place,
     /// The signed attributes, where there are any.
     pub attributes: Place,
-    pub signature_algorithm: Place,
     pub signature: Place,
 }
 
 /// Where the parts of a signer are that begins there.
-pub(crate) fn signer_places(input: &[u8], signer: Place) -> Option<SignerPlaces> {
+pub(crate) fn signer_places(input: &[u8], signer: Option<Place>) -> SignerPlaces {
+    match places_of_signer(input, signer) {
+        Some(places) => places,
+        None => SignerPlaces {
+            digest_algorithm: BEGINNING,
+            attributes: BEGINNING,
+            signature: BEGINNING,
+        },
+    }
+}
+
+fn places_of_signer(input: &[u8], signer: Option<Place>) -> Option<SignerPlaces> {
+    let signer = signer?;
     let version = signer.inside(input)?;
     let digest_algorithm = version.after(input)?.after(input)?;
     let attributes = digest_algorithm.after(input)?;
@@ -93,7 +139,6 @@ pub(crate) fn signer_places(input: &[u8], signer: Place) -> Option<SignerPlaces>
     Some(SignerPlaces {
         digest_algorithm,
         attributes,
-        signature_algorithm,
         signature: signature_algorithm.after(input)?,
     })
 }
