@@ -5,21 +5,11 @@
 #![tactic(auto)]
 
 #[cfg(test)]
-mod attributes;
-#[cfg(test)]
-mod authenticode;
-#[cfg(test)]
 mod bags;
 #[cfg(test)]
 mod built_signed;
 #[cfg(test)]
 mod built_stores;
-#[cfg(test)]
-mod certificate_heads;
-#[cfg(test)]
-mod constructors;
-#[cfg(test)]
-mod contents_as;
 #[cfg(test)]
 mod errors;
 #[cfg(test)]
@@ -41,21 +31,15 @@ mod object_identifiers;
 #[cfg(test)]
 mod octets_repr;
 #[cfg(test)]
-mod parts;
-#[cfg(test)]
 mod places;
 #[cfg(test)]
 mod program;
 #[cfg(test)]
 mod readers;
 #[cfg(test)]
-mod recipients;
-#[cfg(test)]
 mod representations;
 #[cfg(test)]
 mod runs;
-#[cfg(test)]
-mod signers;
 #[cfg(test)]
 mod sinks;
 #[cfg(test)]

@@ -8,8 +8,8 @@ use Rattle.std.proofs.lemmas.List.Elements.{All-push}
 use Rattle.asn1_core.specs.Der.{ElementOctets}
 use Rattle.asn1_core_element.specs.declared.error.Error.{Error}
 use Rattle.asn1_core_format.specs.Whole.{IsValueOf}
-use Rattle.pkcs7_signed.specs.Certificates.{certificate_choices_value}
-use Rattle.pkcs7_signed.specs.declared.parts.certificates.CertificateChoices.{CertificateChoices}
+use Rattle.pkcs7_signed_crl.specs.Certificates.{certificate_choices_value}
+use Rattle.pkcs7_signed_crl.specs.declared.certificates.CertificateChoices.{CertificateChoices}
 use Rattle.signer_ranges.specs.Signers.{FileValue, certificates_of, IsAt, IsNowhere, IsRefusal, signed_file}
 use Rattle.signer_ranges.specs.Failures.{failure_of, IsFailure, is_refusal, refusal_of}
 use Rattle.signer_ranges.specs.declared.ranges.Refusal.{Refusal}

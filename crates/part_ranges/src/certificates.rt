@@ -2,7 +2,7 @@
 
 ghost use Rattle.std.specs.Prelude.{MatchResult, map};
 ghost use Rattle.part_ranges.specs.Ranges.{AreAt, AreCertificatesAt, LacksCertificate, LacksItem};
-ghost use Rattle.pkcs7_signed.specs.Certificates.{certificate_choices_value};
+ghost use Rattle.pkcs7_signed_crl.specs.Certificates.{certificate_choices_value};
 ghost use Rattle.signer_ranges.specs.Failures.{IsFailure};
 ghost use Rattle.signer_ranges.specs.Files.{file_value};
 ghost use Rattle.signer_ranges.specs.Signers.{IsRefusal, certificates_of};

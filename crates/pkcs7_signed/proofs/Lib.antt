@@ -1,3 +1,2 @@
 pub mod SignerTests
 pub mod SignerReads
-pub mod ByTag

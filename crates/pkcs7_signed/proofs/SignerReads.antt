@@ -6,11 +6,11 @@ use Rattle.asn1_core_element.specs.declared.error.Error.{Error}
 use Rattle.asn1_core_element.specs.declared.error.Error.TheVariants.{Memory}
 use Rattle.asn1_core_format.proofs.LevelReads.{has_read_level, refused_level, has_read_rolled, refused_rolled}
 use Rattle.pkcs7_content.specs.declared.versions.CmsVersion.{CmsVersion}
-use Rattle.pkcs7_signed.specs.declared.parts.algorithms.DigestAlgorithmIdentifier.{DigestAlgorithmIdentifier}
-use Rattle.pkcs7_signed.specs.declared.parts.algorithms.SignatureAlgorithmIdentifier.{SignatureAlgorithmIdentifier}
+use Rattle.pkcs7_signed_crl.specs.declared.algorithms.DigestAlgorithmIdentifier.{DigestAlgorithmIdentifier}
+use Rattle.pkcs7_signed_crl.specs.declared.algorithms.SignatureAlgorithmIdentifier.{SignatureAlgorithmIdentifier}
 use Rattle.pkcs7_attributes.specs.declared.attributes.Attributes.{Attributes}
-use Rattle.pkcs7_signed.specs.declared.parts.signers.SignatureValue.{SignatureValue}
-use Rattle.pkcs7_signed.specs.declared.parts.signers.SignerIdentifier.{SignerIdentifier}
+use Rattle.pkcs7_signed_crl.specs.declared.signers.SignatureValue.{SignatureValue}
+use Rattle.pkcs7_signed_crl.specs.declared.signers.SignerIdentifier.{SignerIdentifier}
 use Rattle.pkcs7_signed.specs.Components.{signer_components, certificate_components, attribute_components, UnsignedValues, kind_of, values_components}
 use Rattle.pkcs7_signed.specs.Signers.{Value, signers, attributes, certificates, signer_out, signer_into, certificate_out, certificate_into, attribute_out, attribute_into, still, step, signer, attribute, certificate}
 use Rattle.pkcs7_signed.specs.SignerLaws.{signer_there, certificate_there, attribute_there, signer_step}

@@ -11,19 +11,19 @@ use Rattle.pkcs7_content.specs.declared.contents.EncapsulatedContentInfo.{Encaps
 use Rattle.pkcs7_content.specs.declared.versions.CmsVersion.{CmsVersion}
 use Rattle.x509_base.specs.Algorithms.{algorithm_identifier}
 use Rattle.x509_base.specs.AlgorithmParts.{algorithm_identifier_value}
-use Rattle.pkcs7_signed.specs.Algorithms.{digest_algorithm_identifiers, digest_algorithm_identifiers_value}
+use Rattle.pkcs7_signed_crl.specs.Algorithms.{digest_algorithm_identifiers, digest_algorithm_identifiers_value}
 use Rattle.pkcs7_attributes.specs.Attributes.{attributes, attributes_value, no_attributes}
-use Rattle.pkcs7_signed.specs.Certificates.{certificate_set, certificate_set_value, no_certificates}
-use Rattle.pkcs7_signed.specs.Revocations.{revocation_info_choices, revocation_info_choices_value}
-use Rattle.pkcs7_signed.specs.SignerParts.{signer_identifier, signer_identifier_value}
-use Rattle.pkcs7_signed.specs.declared.parts.algorithms.DigestAlgorithmIdentifier.{DigestAlgorithmIdentifier}
-use Rattle.pkcs7_signed.specs.declared.parts.algorithms.DigestAlgorithmIdentifiers.{DigestAlgorithmIdentifiers}
-use Rattle.pkcs7_signed.specs.declared.parts.algorithms.SignatureAlgorithmIdentifier.{SignatureAlgorithmIdentifier}
+use Rattle.pkcs7_signed_crl.specs.Certificates.{certificate_set, certificate_set_value, no_certificates}
+use Rattle.pkcs7_signed_crl.specs.Revocations.{revocation_info_choices, revocation_info_choices_value}
+use Rattle.pkcs7_signed_crl.specs.SignerParts.{signer_identifier, signer_identifier_value}
+use Rattle.pkcs7_signed_crl.specs.declared.algorithms.DigestAlgorithmIdentifier.{DigestAlgorithmIdentifier}
+use Rattle.pkcs7_signed_crl.specs.declared.algorithms.DigestAlgorithmIdentifiers.{DigestAlgorithmIdentifiers}
+use Rattle.pkcs7_signed_crl.specs.declared.algorithms.SignatureAlgorithmIdentifier.{SignatureAlgorithmIdentifier}
 use Rattle.pkcs7_attributes.specs.declared.attributes.Attributes.{Attributes}
-use Rattle.pkcs7_signed.specs.declared.parts.certificates.CertificateSet.{CertificateSet}
-use Rattle.pkcs7_signed.specs.declared.parts.revocations.RevocationInfoChoices.{RevocationInfoChoices}
-use Rattle.pkcs7_signed.specs.declared.parts.signers.SignatureValue.{SignatureValue}
-use Rattle.pkcs7_signed.specs.declared.parts.signers.SignerIdentifier.{SignerIdentifier}
+use Rattle.pkcs7_signed_crl.specs.declared.certificates.CertificateSet.{CertificateSet}
+use Rattle.pkcs7_signed_crl.specs.declared.revocations.RevocationInfoChoices.{RevocationInfoChoices}
+use Rattle.pkcs7_signed_crl.specs.declared.signers.SignatureValue.{SignatureValue}
+use Rattle.pkcs7_signed_crl.specs.declared.signers.SignerIdentifier.{SignerIdentifier}
 use Rattle.pkcs7_signed.specs.Parts.{SignerParts, signer_end, signer_parts, SignedParts, signed_end, signed_parts}
 use Rattle.pkcs7_signed.specs.declared.heads.SignedHead.{SignedHead}
 use Rattle.pkcs7_signed.specs.declared.heads.SignerHead.{SignerHead}

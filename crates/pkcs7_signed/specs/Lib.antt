@@ -9,10 +9,3 @@ pub mod Heads
 pub mod SignerValues
 pub mod SignerLevels
 pub mod SignerEqual
-pub mod Algorithms
-pub mod SignerParts
-pub mod Certificates
-pub mod Revoked
-pub mod CertificateLists
-pub mod Revocations
-pub mod PartsEqual

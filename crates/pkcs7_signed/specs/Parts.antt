@@ -4,11 +4,11 @@ use Rattle.std.specs.Prelude.{◌≡◌, ℕ, List, Option, true}
 use Rattle.std.proofs.Common.{arith, refl, ⊎_elim}
 use Rattle.asn1_core.specs.Der.{no_tag, Format, IsLawfulComponents, number_below, lawful_number, version, lawful_version_1, part, optional, followed_by, perhaps, octet_string, lawful_octet_string, Octets, no_grammar, always, omitted, is_default, lawful_omitted, unless, are_distinct, distinct_tags}
 use Rattle.pkcs7_content.specs.ContentLaws.{encapsulated_content_info}
-use Rattle.pkcs7_signed.specs.Algorithms.{digest_algorithm_identifiers}
+use Rattle.pkcs7_signed_crl.specs.Algorithms.{digest_algorithm_identifiers}
 use Rattle.pkcs7_attributes.specs.Attributes.{attributes, no_attributes, no_attributes_left_out}
-use Rattle.pkcs7_signed.specs.Certificates.{certificate_choices, certificate_set, no_certificates, no_certificates_left_out}
-use Rattle.pkcs7_signed.specs.Revocations.{revocation_info_choice, revocation_info_choices}
-use Rattle.pkcs7_signed.specs.SignerParts.{signer_identifier}
+use Rattle.pkcs7_signed_crl.specs.Certificates.{certificate_choices, certificate_set, no_certificates, no_certificates_left_out}
+use Rattle.pkcs7_signed_crl.specs.Revocations.{revocation_info_choice, revocation_info_choices}
+use Rattle.pkcs7_signed_crl.specs.SignerParts.{signer_identifier}
 use Rattle.x509_base.specs.Algorithms.{algorithm_identifier}
 use Rattle.x509_base.specs.Names.{attribute}
 

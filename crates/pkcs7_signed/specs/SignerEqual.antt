@@ -8,7 +8,7 @@ use Rattle.pkcs7_content.specs.Equal.{encapsulated_content_info_equal}
 use Rattle.pkcs7_content.specs.Versions.{number_of}
 use Rattle.pkcs7_content.specs.contracts.versions.CmsVersionPartialEq.TheImpl as Version
 use Rattle.pkcs7_attributes.specs.Equal.{attributes_equal as signed_attributes_equal}
-use Rattle.pkcs7_signed.specs.PartsEqual.{digest_algorithm_identifiers_equal, certificate_set_equal, revocation_info_choices_equal, signer_identifier_equal}
+use Rattle.pkcs7_signed_crl.specs.PartsEqual.{digest_algorithm_identifiers_equal, certificate_set_equal, revocation_info_choices_equal, signer_identifier_equal}
 use Rattle.pkcs7_signed.specs.Heads.{elements}
 use Rattle.pkcs7_signed.specs.Components.{UnsignedValues}
 use Rattle.pkcs7_signed.specs.Signers.{Value, signers, certificates, signer_out, signer_into, certificate_out, certificate_into, attribute_out, attribute_into}

@@ -6,12 +6,12 @@ ghost use Rattle.asn1_choices.specs.DefinedBy.{only_written};
 ghost use Rattle.pkcs7_signed.specs.Parts.{SignerParts, signer_parts, SignedParts, signed_parts};
 ghost use Rattle.pkcs7_signed.specs.Heads.{signer_head_value, signed_head_value};
 
-use crate::parts::{
+use asn1_core::prelude::*;
+use pkcs7_content::{CmsVersion, EncapsulatedContentInfo};
+use pkcs7_signed_crl::{
     Attributes, CertificateSet, DigestAlgorithmIdentifier, DigestAlgorithmIdentifiers,
     RevocationInfoChoices, SignatureAlgorithmIdentifier, SignatureValue, SignerIdentifier,
 };
-use asn1_core::prelude::*;
-use pkcs7_content::{CmsVersion, EncapsulatedContentInfo};
 
 /// A signer before its unsigned attributes.
 #[derive(Drop)]

@@ -4,11 +4,10 @@
 mod boxed;
 mod heads;
 mod oids;
-pub mod parts;
 mod recursion;
 pub mod signers;
 
-pub use parts::{
+pub use pkcs7_signed_crl::{
     Attributes, CertificateChoices, CertificateList, CertificateSerialNumber, CertificateSet,
     DigestAlgorithmIdentifier, DigestAlgorithmIdentifiers, IssuerAndSerialNumber,
     OtherRevocationInfoFormat, RevocationInfoChoice, RevocationInfoChoices, RevokedCertificate,

@@ -5,12 +5,12 @@ ghost use Rattle.pkcs7_signed.specs.Components.{kind_of};
 ghost use Rattle.pkcs7_signed.specs.declared.signers.UnsignedAttributes.{out-UnsignedAttributes};
 
 use crate::oids::{COUNTERSIGNATURE, MS_COUNTER_SIGN};
-use crate::parts::{
+use asn1_core::prelude::*;
+use pkcs7_content::{CmsVersion, EncapsulatedContentInfo};
+use pkcs7_signed_crl::{
     Attributes, CertificateSet, DigestAlgorithmIdentifier, DigestAlgorithmIdentifiers,
     RevocationInfoChoices, SignatureAlgorithmIdentifier, SignatureValue, SignerIdentifier,
 };
-use asn1_core::prelude::*;
-use pkcs7_content::{CmsVersion, EncapsulatedContentInfo};
 use std::alloc::Global;
 
 /// `SignerInfo ::= SEQUENCE { version CMSVersion, sid SignerIdentifier, digestAlgorithm DigestAlgorithmIdentifier,

@@ -9,7 +9,7 @@ use Rattle.asn1_core.specs.Der.{ElementOctets, Octets}
 use Rattle.asn1_core_element.specs.declared.error.Error.{Error}
 use Rattle.asn1_core_element.specs.declared.error.Error.TheVariants.{Invalid}
 use Rattle.asn1_core_format.specs.Whole.{IsValueOf}
-use Rattle.pkcs7_signed.specs.SignerParts.{signer_identifier}
+use Rattle.pkcs7_signed_crl.specs.SignerParts.{signer_identifier}
 use Rattle.x509_pkcs7.specs.AllSigners.{AreSigners}
 use Rattle.x509_pkcs7.specs.Matches.{IsFirst, IsSigners}
 use Rattle.x509_pkcs7.specs.RawHashed.{content_of, IsNoElement, IsRawHashed}

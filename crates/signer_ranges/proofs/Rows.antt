@@ -4,9 +4,9 @@ use Rattle.std.proofs.Common.{refl, sym, ap, subst, ◌∙◌, add-one, drop-con
 use Rattle.std.proofs.Math.ListN.{drop_of_length-le}
 use Rattle.std.proofs.lemmas.List.{append-nil, append_assoc, take_all, length-drop, take-map, drop-map, length-map}
 use Rattle.asn1_core.specs.Der.{ElementOctets}
-use Rattle.pkcs7_signed.specs.Certificates.{certificate_choices_value}
-use Rattle.pkcs7_signed.specs.declared.parts.certificates.CertificateChoices.{CertificateChoices}
-use Rattle.pkcs7_signed.specs.SignerParts.{signer_identifier}
+use Rattle.pkcs7_signed_crl.specs.Certificates.{certificate_choices_value}
+use Rattle.pkcs7_signed_crl.specs.declared.certificates.CertificateChoices.{CertificateChoices}
+use Rattle.pkcs7_signed_crl.specs.SignerParts.{signer_identifier}
 use Rattle.signer_ranges.specs.Signers.{SignerValue, FileValue, signers_of, AreRangesOrNone, AreRangesOfAll, IsPartOf}
 use Rattle.signer_ranges.specs.declared.ranges.SignerRanges.{SignerRanges}
 use Rattle.x509_pkcs7.specs.AllSigners.{AreSigners}

@@ -7,7 +7,7 @@ use Rattle.asn1_core.specs.Der.{Format, object_identifier, octet_string, Element
 use Rattle.asn1_core_format.specs.Whole.{IsValueOf}
 use Rattle.pkcs7_attributes.specs.Attributes.{attributes}
 use Rattle.pkcs7_attributes.specs.NamedAttributes.{content_type_oid, message_digest_oid}
-use Rattle.pkcs7_signed.specs.SignerParts.{signer_identifier}
+use Rattle.pkcs7_signed_crl.specs.SignerParts.{signer_identifier}
 use Rattle.x509_base.specs.AlgorithmLaws.{algorithm_identifier}
 use Rattle.x509_base.specs.AttributesByOid.{with_oid, IsOnlyOf}
 use Rattle.x509_base.specs.Names.{attribute}

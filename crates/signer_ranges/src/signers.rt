@@ -6,7 +6,7 @@ ghost use Rattle.asn1_core.specs.Der.{object_identifier, octet_string, octets_of
 ghost use Rattle.asn1_core_element.specs.declared.error.Error.TheVariants.{Memory};
 ghost use Rattle.pkcs7_attributes.specs.Attributes.{attributes_value};
 ghost use Rattle.pkcs7_attributes.specs.NamedAttributes.{content_type_oid, message_digest_oid};
-ghost use Rattle.pkcs7_signed.specs.SignerParts.{signer_identifier_value};
+ghost use Rattle.pkcs7_signed_crl.specs.SignerParts.{signer_identifier_value};
 ghost use Rattle.signer_ranges.specs.Failures.{IsFailure};
 ghost use Rattle.signer_ranges.specs.Files.{file_value};
 ghost use Rattle.signer_ranges.specs.Pieces.{AreSignedIn, IsDigestOrBroken, LacksDigest, LacksOctets};
@@ -26,7 +26,7 @@ use crate::search::{is_there, range_of};
 use asn1_core::{Error, ObjectIdentifierAsn1, OctetStringAsn1, from_bytes_located};
 use asn1_core_oid::is_oid_of;
 use pkcs7_attributes::Attributes;
-use pkcs7_signed::parts::SignerIdentifier;
+use pkcs7_signed_crl::SignerIdentifier;
 use std::alloc::Global;
 use std::ops::Range;
 use x509_base::Attribute;

@@ -3,13 +3,13 @@ use Rattle.asn1_core.specs.Asn1.{SEQUENCE}
 use Rattle.std.specs.Prelude.{List, [], ◌∷◌, codes}
 use Rattle.asn1_core.specs.Der.{octet_string}
 use Rattle.asn1_leaves.specs.Integers.{integer}
-use Rattle.pkcs7_signed.specs.Algorithms.{digest_algorithm_identifiers}
+use Rattle.pkcs7_signed_crl.specs.Algorithms.{digest_algorithm_identifiers}
 use Rattle.pkcs7_attributes.specs.Attributes.{attributes}
-use Rattle.pkcs7_signed.specs.CertificateLists.{certificate_list, tbs_cert_list}
-use Rattle.pkcs7_signed.specs.Certificates.{certificate_choices, certificate_set}
-use Rattle.pkcs7_signed.specs.Revocations.{other_revocation_info_format, revocation_info_choice, revocation_info_choices}
-use Rattle.pkcs7_signed.specs.Revoked.{revoked_certificates, revoked_certificate}
-use Rattle.pkcs7_signed.specs.SignerParts.{issuer_and_serial_number, signer_identifier}
+use Rattle.pkcs7_signed_crl.specs.CertificateLists.{certificate_list, tbs_cert_list}
+use Rattle.pkcs7_signed_crl.specs.Certificates.{certificate_choices, certificate_set}
+use Rattle.pkcs7_signed_crl.specs.Revocations.{other_revocation_info_format, revocation_info_choice, revocation_info_choices}
+use Rattle.pkcs7_signed_crl.specs.Revoked.{revoked_certificates, revoked_certificate}
+use Rattle.pkcs7_signed_crl.specs.SignerParts.{issuer_and_serial_number, signer_identifier}
 use Rattle.x509_base.specs.Algorithms.{algorithm_identifier}
 use Rattle.x509_containers.specs.Entries.{Entry, entry}
 use Rattle.x509_containers.specs.declared.kinds.signed_parts.SignedPartKind.{SignedPartKind}

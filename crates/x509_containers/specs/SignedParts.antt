@@ -6,9 +6,9 @@ use Rattle.asn1_core.specs.Der.{option_value}
 use Rattle.x509_base.specs.Algorithms.{algorithm_identifier}
 use Rattle.x509_base.specs.Names.{name}
 use Rattle.pkcs7_content.specs.Contents.{ContentValues, content_values}
-use Rattle.pkcs7_signed.specs.Certificates.{certificate_choices}
+use Rattle.pkcs7_signed_crl.specs.Certificates.{certificate_choices}
 use Rattle.pkcs7_attributes.specs.SignedSets.{attributes_as_set, some_attributes}
-use Rattle.pkcs7_signed.specs.SignerParts.{signer_identifier}
+use Rattle.pkcs7_signed_crl.specs.SignerParts.{signer_identifier}
 use Rattle.pkcs7_signed.specs.Parts.{SignerParts, after_signed}
 use Rattle.pkcs7_signed.specs.Signers.{Value, signers, certificates, certificate, signer_out, certificate_out}
 use Rattle.x509_pkcs7.specs.Hashed.{content_is_element}

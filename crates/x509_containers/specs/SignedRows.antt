@@ -13,7 +13,7 @@ use Rattle.pkcs7_signed.specs.declared.signers.Pkcs7Certificate.{Pkcs7Certificat
 use Rattle.pkcs7_signed.specs.declared.signers.SignedData.{SignedData, out-SignedData}
 use Rattle.pkcs7_signed.specs.declared.signers.SignerInfo.{SignerInfo}
 use Rattle.pkcs7_signed.specs.declared.signers.SignersInfos.{out-SignersInfos}
-use Rattle.pkcs7_signed.specs.Certificates.{certificate_set_value}
+use Rattle.pkcs7_signed_crl.specs.Certificates.{certificate_set_value}
 use Rattle.x509_pkcs7.specs.Hashed.{IsHashed, IsNotHashed, AreContentsOf, content_is_element}
 use Rattle.x509_containers.specs.Copies.{copied, CopiesOutOf}
 use Rattle.x509_containers.specs.SignedParts.{signers_in, certificates_in, content_in, hashed_of, of_signer}

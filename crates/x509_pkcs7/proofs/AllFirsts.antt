@@ -8,9 +8,9 @@ use Rattle.asn1_core.specs.Der.{HasNoValue, IsValueOf, ElementOctets, Octets, op
 use Rattle.asn1_core_element.specs.declared.error.Error.{Error}
 use Rattle.asn1_core_element.specs.declared.error.Error.TheVariants.{Memory}
 use Rattle.asn1_core.specs.declared.implicit.ImplicitContextTag0.{ImplicitContextTag0}
-use Rattle.pkcs7_signed.specs.SignerParts.{signer_identifier, signer_identifier_value}
-use Rattle.pkcs7_signed.specs.declared.parts.signers.SignerIdentifier.{SignerIdentifier}
-use Rattle.pkcs7_signed.specs.declared.parts.signers.SignerIdentifier.TheVariants as By
+use Rattle.pkcs7_signed_crl.specs.SignerParts.{signer_identifier, signer_identifier_value}
+use Rattle.pkcs7_signed_crl.specs.declared.signers.SignerIdentifier.{SignerIdentifier}
+use Rattle.pkcs7_signed_crl.specs.declared.signers.SignerIdentifier.TheVariants as By
 use Rattle.x509_base.specs.declared.digests.SubjectKeyIdentifier.{SubjectKeyIdentifier}
 use Rattle.x509_pkcs7.specs.AllSigners.{AreSigners, KnownValue, key_octets, IsKnownAs, IsKnownKey, IsKnownOf, IsKnownOrNone, AreKnownOf, listed, IsAppended}
 use Rattle.x509_pkcs7.specs.Heads.{certificate_head}

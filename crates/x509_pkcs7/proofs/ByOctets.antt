@@ -16,10 +16,10 @@ use Rattle.std.specs.BTreeMap.{BTreeMap, get_by, is_at, UpdatesBy}
 use Rattle.std.specs.Map.{lookup, IsKeyTest, AreApart, KeepsOthers}
 use Rattle.asn1_core.specs.Der.{Octets, option_value}
 use Rattle.asn1_core.specs.declared.implicit.ImplicitContextTag0.{ImplicitContextTag0}
-use Rattle.pkcs7_signed.specs.SignerParts.{certificate_serial_number_value, signer_identifier_value}
-use Rattle.pkcs7_signed.specs.declared.parts.signers.IssuerAndSerialNumber.{IssuerAndSerialNumber}
-use Rattle.pkcs7_signed.specs.declared.parts.signers.SignerIdentifier.{SignerIdentifier}
-use Rattle.pkcs7_signed.specs.declared.parts.signers.SignerIdentifier.TheVariants as By
+use Rattle.pkcs7_signed_crl.specs.SignerParts.{certificate_serial_number_value, signer_identifier_value}
+use Rattle.pkcs7_signed_crl.specs.declared.signers.IssuerAndSerialNumber.{IssuerAndSerialNumber}
+use Rattle.pkcs7_signed_crl.specs.declared.signers.SignerIdentifier.{SignerIdentifier}
+use Rattle.pkcs7_signed_crl.specs.declared.signers.SignerIdentifier.TheVariants as By
 use Rattle.x509_base.specs.Names.{name_parts}
 use Rattle.x509_base.specs.declared.digests.SubjectKeyIdentifier.{SubjectKeyIdentifier}
 use Rattle.x509_pkcs7.proofs.Firsts.{from_here}

@@ -10,9 +10,9 @@ use Rattle.asn1_core.specs.Der.{HasNoValue, octet_string, lawful_octet_string, O
 use Rattle.asn1_core_element.specs.declared.error.Error.{Error}
 use Rattle.asn1_core_element.specs.declared.error.Error.TheVariants.{Memory}
 use Rattle.asn1_core.specs.declared.implicit.ImplicitContextTag0.{ImplicitContextTag0}
-use Rattle.pkcs7_signed.specs.SignerParts.{signer_identifier, signer_identifier_value}
-use Rattle.pkcs7_signed.specs.declared.parts.signers.SignerIdentifier.{SignerIdentifier}
-use Rattle.pkcs7_signed.specs.declared.parts.signers.SignerIdentifier.TheVariants as By
+use Rattle.pkcs7_signed_crl.specs.SignerParts.{signer_identifier, signer_identifier_value}
+use Rattle.pkcs7_signed_crl.specs.declared.signers.SignerIdentifier.{SignerIdentifier}
+use Rattle.pkcs7_signed_crl.specs.declared.signers.SignerIdentifier.TheVariants as By
 use Rattle.x509_base.specs.Extensions.{extension, extension_value, extensions_value}
 use Rattle.x509_base.specs.declared.extensions.Extension.{Extension}
 use Rattle.x509_base.specs.declared.extensions.Extensions.{Extensions}

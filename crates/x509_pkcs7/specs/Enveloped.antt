@@ -6,8 +6,8 @@ use Rattle.std.proofs.Common.{refl}
 use Rattle.asn1_core.specs.Asn1.{asn1, Contents, contents, ◌then◌, ◌OPTIONAL◌, end, OBJECT_IDENTIFIER, OCTET_STRING, INTEGER_BELOW, IMPLICIT, SEQUENCE, SET_OF}
 use Rattle.asn1_core.specs.Der.{Format, IsLawful, sequence, part, optional, nothing, set_of, number_below, octets_of, option_value, implicit, SeesEqual, der_equal}
 use Rattle.pkcs7_content.specs.Versions.{number_of}
-use Rattle.pkcs7_signed.specs.Certificates.{certificate_set_value, certificate_set}
-use Rattle.pkcs7_signed.specs.Revocations.{revocation_info_choices_value, revocation_info_choices}
+use Rattle.pkcs7_signed_crl.specs.Certificates.{certificate_set_value, certificate_set}
+use Rattle.pkcs7_signed_crl.specs.Revocations.{revocation_info_choices_value, revocation_info_choices}
 use Rattle.x509_base.specs.AlgorithmLaws.{algorithm_identifier}
 use Rattle.x509_base.specs.AlgorithmParts.{algorithm_identifier_value}
 use Rattle.x509_base.specs.Names.{attribute, attribute_value}
@@ -15,7 +15,7 @@ use Rattle.x509_pkcs7.specs.declared.enveloped.EncryptedContentInfo.{EncryptedCo
 use Rattle.x509_pkcs7.specs.declared.enveloped.EnvelopedData.{EnvelopedData}
 use Rattle.x509_pkcs7.specs.declared.enveloped.OriginatorInfo.{OriginatorInfo}
 use Rattle.x509_base.specs.BaseEqual.{x509_equal}
-use Rattle.pkcs7_signed.specs.PartsEqual.{certificate_set_equal, revocation_info_choices_equal}
+use Rattle.pkcs7_signed_crl.specs.PartsEqual.{certificate_set_equal, revocation_info_choices_equal}
 use Rattle.x509_pkcs7.specs.contracts.enveloped.EncryptedContentInfoPartialEq.TheImpl as Encrypted
 use Rattle.x509_pkcs7.specs.contracts.enveloped.OriginatorInfoPartialEq.TheImpl as Originator
 

@@ -3,8 +3,8 @@ use Rattle.asn1_core.specs.Asn1.{SEQUENCE}
 use Rattle.std.specs.Prelude.{◌≡◌, ◌⊎◌, List, [], ◌∷◌, Option, None, Some}
 use Rattle.std.proofs.Common.{inl, inr}
 use Rattle.asn1_core.specs.Der.{ElementOctets}
-use Rattle.pkcs7_signed.specs.Certificates.{certificate_choices}
-use Rattle.pkcs7_signed.specs.SignerParts.{signer_identifier}
+use Rattle.pkcs7_signed_crl.specs.Certificates.{certificate_choices}
+use Rattle.pkcs7_signed_crl.specs.SignerParts.{signer_identifier}
 use Rattle.x509_pkcs7.specs.Heads.{certificate_head}
 use Rattle.x509_pkcs7.specs.KeyIdentifiers.{rest_of, IsKeyIdOf, HasExtensions}
 

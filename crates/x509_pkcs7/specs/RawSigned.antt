@@ -8,20 +8,20 @@ use Rattle.std.specs.Prelude.{ℕ, List, [], ◌∷◌, Option, map, ◌≡◌, 
 use Rattle.std.proofs.Common.{arith, refl, ap}
 use Rattle.asn1_core.specs.Der.{Format, IsLawful, IsLawfulComponents, sequence, part, optional, nothing, number_below, set_of, each, explicit, within_tagged, only_oid, arcs, option_value, ElementOctets, omitted, is_default, lawful_sequence, followed_by, perhaps, lawful_number, lawful_nothing, lawful_set, lawful_explicit, lawful_implicit_set, lawful_only_oid, unless, SeesEqual, der_equal, two_equal, with_end, list_equal, option_equal}
 use Rattle.pkcs7_content.specs.Versions.{number_of}
-use Rattle.pkcs7_signed.specs.Algorithms.{digest_algorithm_identifiers_value, digest_algorithm_identifiers}
-use Rattle.pkcs7_signed.specs.Certificates.{certificate_choices, certificate_set_value, certificate_set, no_certificates, no_certificates_left_out}
+use Rattle.pkcs7_signed_crl.specs.Algorithms.{digest_algorithm_identifiers_value, digest_algorithm_identifiers}
+use Rattle.pkcs7_signed_crl.specs.Certificates.{certificate_choices, certificate_set_value, certificate_set, no_certificates, no_certificates_left_out}
 use Rattle.x509_base.specs.Algorithms.{algorithm_identifier}
 use Rattle.x509_pkcs7.specs.RawContents.{raw_encapsulated_content_info, raw_encapsulated_content_info_value, raw_encapsulated_equal}
 use Rattle.x509_pkcs7.specs.declared.raw_signed.RawSignedData.{RawSignedData}
 use Rattle.x509_pkcs7.specs.declared.raw_signed.RawRevocationInfoChoices.{RawRevocationInfoChoices}
 use Rattle.std.specs.Option.{option_eq}
 use lib.Pointwise.{pointwise}
-use Rattle.pkcs7_signed.specs.PartsEqual.{digest_algorithm_identifiers_equal, certificate_set_equal}
+use Rattle.pkcs7_signed_crl.specs.PartsEqual.{digest_algorithm_identifiers_equal, certificate_set_equal}
 use Rattle.x509_pkcs7.specs.Versions.{version_equal}
 use Rattle.pkcs7_content.specs.contracts.versions.CmsVersionPartialEq.TheImpl as Version
-use Rattle.pkcs7_signed.specs.contracts.parts.algorithms.DigestAlgorithmIdentifiersPartialEq.TheImpl as Algorithms
+use Rattle.pkcs7_signed_crl.specs.contracts.algorithms.DigestAlgorithmIdentifiersPartialEq.TheImpl as Algorithms
 use Rattle.x509_pkcs7.specs.contracts.raw_contents.RawEncapsulatedContentInfoPartialEq.TheImpl as Encapsulated
-use Rattle.pkcs7_signed.specs.contracts.parts.certificates.CertificateSetPartialEq.TheImpl as Certificates
+use Rattle.pkcs7_signed_crl.specs.contracts.certificates.CertificateSetPartialEq.TheImpl as Certificates
 use Rattle.x509_pkcs7.specs.contracts.raw_signed.RawRevocationInfoChoicesPartialEq.TheImpl as Revocations
 
 -- RevocationInfoChoices, each as it is

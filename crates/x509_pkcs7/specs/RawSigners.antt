@@ -5,14 +5,14 @@ use Rattle.asn1_core.specs.Asn1.{Asn1, asn1_tagged, Asn1Default, Contents, list_
 use Rattle.asn1_core.specs.Der.{is_default, IsDefault, element, empty_left_out, lawful_implicit_set, within_tagged, SeesEqual, der_equal, two_equal, with_end, octets_equal}
 use Rattle.pkcs7_content.specs.Versions.{number_of}
 use Rattle.pkcs7_attributes.specs.Attributes.{attributes, attributes_value, no_attributes, no_attributes_left_out}
-use Rattle.pkcs7_signed.specs.SignerParts.{signer_identifier_value, signer_identifier}
+use Rattle.pkcs7_signed_crl.specs.SignerParts.{signer_identifier_value, signer_identifier}
 use Rattle.x509_base.specs.AlgorithmLaws.{algorithm_identifier}
 use Rattle.x509_base.specs.AlgorithmParts.{algorithm_identifier_value, algorithm_identifier_equal}
 use Rattle.x509_base.specs.Names.{attribute, attribute_value, attribute_equal}
 use Rattle.x509_pkcs7.specs.declared.raw_signers.RawSignerInfo.{RawSignerInfo}
 use Rattle.x509_pkcs7.specs.declared.raw_signers.RawUnsignedAttributes.{RawUnsignedAttributes}
 use Rattle.pkcs7_attributes.specs.Equal.{attributes_equal}
-use Rattle.pkcs7_signed.specs.PartsEqual.{signer_identifier_equal}
+use Rattle.pkcs7_signed_crl.specs.PartsEqual.{signer_identifier_equal}
 use Rattle.x509_pkcs7.specs.Versions.{version_equal}
 use Rattle.x509_pkcs7.specs.contracts.raw_signers.RawUnsignedAttributesPartialEq.TheImpl as Unsigned
 use Rattle.x509_pkcs7.specs.contracts.raw_signers.RawSignerInfoPartialEq.TheImpl as Signer

@@ -10,7 +10,7 @@ use crate::contents::ContentType;
 use crate::recipients::RecipientInfo;
 use asn1_core::prelude::*;
 use pkcs7_content::CmsVersion;
-use pkcs7_signed::parts::{CertificateSet, RevocationInfoChoices};
+use pkcs7_signed_crl::{CertificateSet, RevocationInfoChoices};
 use std::alloc::Global;
 use x509_base::{AlgorithmIdentifier, Attribute};
 

@@ -8,7 +8,7 @@ use crate::raw_contents::RawEncapsulatedContentInfo;
 use crate::raw_signers::RawSignerInfo;
 use asn1_core::prelude::*;
 use pkcs7_content::CmsVersion;
-use pkcs7_signed::parts::{CertificateSet, DigestAlgorithmIdentifiers};
+use pkcs7_signed_crl::{CertificateSet, DigestAlgorithmIdentifiers};
 use std::alloc::Global;
 
 /// `RevocationInfoChoices ::= SET OF RevocationInfoChoice`, under its tag `[1] IMPLICIT`, each kept as it is.

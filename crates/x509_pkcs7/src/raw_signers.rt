@@ -4,7 +4,7 @@ ghost use Rattle.x509_pkcs7.specs.RawSigners.{raw_unsigned_attributes, raw_unsig
 
 use asn1_core::prelude::*;
 use pkcs7_content::CmsVersion;
-use pkcs7_signed::parts::{
+use pkcs7_signed_crl::{
     Attributes, DigestAlgorithmIdentifier, SignatureAlgorithmIdentifier, SignatureValue,
     SignerIdentifier,
 };

@@ -14,12 +14,12 @@ ghost use Rattle.pkcs7_signed.specs.declared.signers.SignedData.{out-SignedData}
 
 use crate::boxed::{Boxed, in_box, opened};
 use crate::heads::{SignedHead, put_two};
-use crate::parts::{CertificateSet, DigestAlgorithmIdentifiers, RevocationInfoChoices};
 use crate::recursion::signer_info::{push_signer, read_boxed};
 use crate::signers::{SignedData, SignerInfo, SignersInfos};
 use asn1_core::prelude::*;
 use asn1_core_format::{Tail, read_set_below_with, read_within_with};
 use pkcs7_content::{CmsVersion, EncapsulatedContentInfo};
+use pkcs7_signed_crl::{CertificateSet, DigestAlgorithmIdentifiers, RevocationInfoChoices};
 use std::alloc::Global;
 
 /// Signers a level down, at the end of signed data.

@@ -15,16 +15,16 @@ ghost use Rattle.pkcs7_signed.specs.declared.signers.SignerInfo.{out-SignerInfo}
 
 use crate::boxed::{Boxed, in_box};
 use crate::heads::{SignerHead, put_two};
-use crate::parts::{
-    Attributes, DigestAlgorithmIdentifier, SignatureAlgorithmIdentifier, SignatureValue,
-    SignerIdentifier,
-};
 use crate::recursion::signed_data::is_none;
 use crate::recursion::unsigned_attribute::read_attribute_with;
 use crate::signers::{SignerInfo, UnsignedAttribute, UnsignedAttributes};
 use asn1_core::prelude::*;
 use asn1_core_format::{SetOrNone, Tail, read_set_or_none_with, read_within_with};
 use pkcs7_content::CmsVersion;
+use pkcs7_signed_crl::{
+    Attributes, DigestAlgorithmIdentifier, SignatureAlgorithmIdentifier, SignatureValue,
+    SignerIdentifier,
+};
 use std::alloc::Global;
 
 type SignerTail = Part<

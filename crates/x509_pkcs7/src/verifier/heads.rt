@@ -7,7 +7,7 @@ ghost use Rattle.x509_pkcs7.specs.Heads.{tbs_certificate_head, tbs_certificate_h
 
 use asn1_core::prelude::*;
 use asn1_leaves::BitStringAsn1;
-use pkcs7_signed::parts::CertificateSerialNumber;
+use pkcs7_signed_crl::CertificateSerialNumber;
 use std::alloc::Global;
 use x509_base::{AlgorithmIdentifier, Name, Version};
 

@@ -4,8 +4,8 @@ ghost use Rattle.std.specs.Prelude.{◌≡◌, ◌≢◌, ◌↔◌, IsTrue, Som
 ghost use Rattle.std.proofs.Common.{inl};
 ghost use Rattle.asn1_core.specs.Der.{option_value};
 ghost use Rattle.asn1_core_element.specs.declared.error.Error.TheVariants.{Memory};
-ghost use Rattle.pkcs7_signed.specs.Certificates.{certificate_choices_value};
-ghost use Rattle.pkcs7_signed.specs.SignerParts.{issuer_and_serial_number_value, signer_identifier_value};
+ghost use Rattle.pkcs7_signed_crl.specs.Certificates.{certificate_choices_value};
+ghost use Rattle.pkcs7_signed_crl.specs.SignerParts.{issuer_and_serial_number_value, signer_identifier_value};
 ghost use Rattle.x509_pkcs7.specs.Heads.{certificate_head_value};
 ghost use Rattle.x509_pkcs7.specs.KeyIdentifiers.{rest_of, IsKeyIdOf, HasExtensions};
 ghost use Rattle.x509_pkcs7.specs.Matches.{IsNamedBy, NeedsExtensions, IsSigners, choice_octets, IsFirst};
@@ -13,7 +13,7 @@ ghost use Rattle.x509_pkcs7.specs.Matches.{IsNamedBy, NeedsExtensions, IsSigners
 use crate::verifier::heads::CertificateHead;
 use asn1_core::from_bytes;
 use asn1_core::prelude::*;
-use pkcs7_signed::parts::{CertificateChoices, IssuerAndSerialNumber, SignerIdentifier};
+use pkcs7_signed_crl::{CertificateChoices, IssuerAndSerialNumber, SignerIdentifier};
 use std::alloc::Global;
 use x509_base::SubjectKeyIdentifier;
 

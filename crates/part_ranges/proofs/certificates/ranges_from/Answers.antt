@@ -1,6 +1,6 @@
 use Rattle.std.proofs.Common.{subst, ◌∙◌}
 use Rattle.part_ranges.proofs.Rows.{one_more}
-use Rattle.pkcs7_signed.specs.Certificates.{certificate_choices_value}
+use Rattle.pkcs7_signed_crl.specs.Certificates.{certificate_choices_value}
 use Rattle.signer_ranges.specs.Signers.{IsAt}
 use Rattle.x509_pkcs7.specs.Matches.{choice_octets}
 use Rattle.part_ranges.proofs.certificates.ranges_from.Goals as goal

@@ -1,6 +1,6 @@
 use Rattle.std.proofs.Common.{ap, map, ◌∙◌}
 use Rattle.asn1_core.specs.Der.{option_value}
-use Rattle.pkcs7_signed.specs.SignerParts.{signer_identifier_value}
+use Rattle.pkcs7_signed_crl.specs.SignerParts.{signer_identifier_value}
 use Rattle.signer_ranges.proofs.Rows.{certificates_are}
 use Rattle.signer_ranges.proofs.signers.certificates_of_all.Goals as goal
 

@@ -1,5 +1,5 @@
 use Rattle.std.proofs.Common.{◌≡◌, map, take}
-use Rattle.pkcs7_signed.specs.SignerParts.{signer_identifier_value}
+use Rattle.pkcs7_signed_crl.specs.SignerParts.{signer_identifier_value}
 use Rattle.signer_ranges.proofs.signers.names_of.Given as goal
 
 abbrev pub invariant-loop-signer : goal.invariant-loop-signer

@@ -1,5 +1,5 @@
 use Rattle.asn1_core.specs.Der.{option_value}
-use Rattle.pkcs7_signed.specs.SignerParts.{signer_identifier_value}
+use Rattle.pkcs7_signed_crl.specs.SignerParts.{signer_identifier_value}
 use Rattle.signer_ranges.proofs.Rows.{certificate_at, ranges_all, ranges_step}
 use Rattle.signer_ranges.specs.Files.{file_value}
 use Rattle.signer_ranges.specs.Signers.{certificates_of}

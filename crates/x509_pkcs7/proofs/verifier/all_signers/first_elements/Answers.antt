@@ -1,7 +1,7 @@
 use Rattle.std.proofs.Common.{map, ap, ◌∙◌}
 use Rattle.std.proofs.lemmas.List.{map_push}
 use Rattle.asn1_core.specs.Der.{option_value}
-use Rattle.pkcs7_signed.specs.SignerParts.{signer_identifier_value}
+use Rattle.pkcs7_signed_crl.specs.SignerParts.{signer_identifier_value}
 use Rattle.x509_pkcs7.proofs.AllFirsts.{signers_step, signers_all}
 use Rattle.x509_pkcs7.proofs.verifier.all_signers.first_elements.Goals as goal
 

@@ -1,6 +1,6 @@
 use Rattle.std.proofs.Common.{List, Option, ◌++◌, map, drop}
 use Rattle.asn1_core.specs.Der.{ElementOctets, option_value}
-use Rattle.pkcs7_signed.specs.SignerParts.{signer_identifier_value}
+use Rattle.pkcs7_signed_crl.specs.SignerParts.{signer_identifier_value}
 use Rattle.x509_pkcs7.specs.AllSigners.{AreSigners, known_value, AreKnownOf}
 use Rattle.x509_pkcs7.proofs.verifier.all_signers.first_elements.Given as goal
 

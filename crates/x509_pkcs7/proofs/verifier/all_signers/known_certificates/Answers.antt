@@ -1,5 +1,5 @@
 use Rattle.std.proofs.Common.{map}
-use Rattle.pkcs7_signed.specs.Certificates.{certificate_choices_value}
+use Rattle.pkcs7_signed_crl.specs.Certificates.{certificate_choices_value}
 use Rattle.x509_pkcs7.proofs.AllFirsts.{known_step, known_all}
 use Rattle.x509_pkcs7.specs.AllSigners.{known_value}
 use Rattle.x509_pkcs7.specs.Matches.{choice_octets}

@@ -1,7 +1,7 @@
 use Rattle.std.proofs.Common.{ap, map, subst, sym, ◌∙◌}
 use Rattle.asn1_core.specs.Der.{option_value}
-use Rattle.pkcs7_signed.specs.Certificates.{certificate_choices_value}
-use Rattle.pkcs7_signed.specs.SignerParts.{signer_identifier_value}
+use Rattle.pkcs7_signed_crl.specs.Certificates.{certificate_choices_value}
+use Rattle.pkcs7_signed_crl.specs.SignerParts.{signer_identifier_value}
 use Rattle.x509_pkcs7.specs.AllSigners.{AreSigners}
 use Rattle.x509_pkcs7.specs.Matches.{choice_octets}
 use Rattle.x509_pkcs7.proofs.verifier.all_signers.signer_certificates.Goals as goal

@@ -1,4 +1,4 @@
-use Rattle.pkcs7_signed.specs.SignerParts.{signer_identifier_value}
+use Rattle.pkcs7_signed_crl.specs.SignerParts.{signer_identifier_value}
 use Rattle.x509_pkcs7.proofs.KeyIds.{signers_if_named, not_signers}
 use Rattle.x509_pkcs7.specs.Heads.{certificate_head_value}
 use Rattle.x509_pkcs7.proofs.verifier.matches.is_signers.Goals as goal

@@ -1,6 +1,6 @@
 use Rattle.std.proofs.Common.{◌↔◌, IsTrue, subst}
-use Rattle.pkcs7_signed.specs.Certificates.{certificate_choices_value}
-use Rattle.pkcs7_signed.specs.SignerParts.{signer_identifier_value}
+use Rattle.pkcs7_signed_crl.specs.Certificates.{certificate_choices_value}
+use Rattle.pkcs7_signed_crl.specs.SignerParts.{signer_identifier_value}
 use Rattle.x509_pkcs7.proofs.Firsts.{is_first_at}
 use Rattle.x509_pkcs7.specs.Matches.{IsSigners, choice_octets}
 use Rattle.x509_pkcs7.proofs.verifier.matches.signer_certificate.Goals as goal

@@ -1,7 +1,7 @@
 use Rattle.std.proofs.Common.{Option, map, drop}
 use Rattle.asn1_core.specs.Der.{ElementOctets}
-use Rattle.pkcs7_signed.specs.Certificates.{certificate_choices_value}
-use Rattle.pkcs7_signed.specs.SignerParts.{signer_identifier_value}
+use Rattle.pkcs7_signed_crl.specs.Certificates.{certificate_choices_value}
+use Rattle.pkcs7_signed_crl.specs.SignerParts.{signer_identifier_value}
 use Rattle.x509_pkcs7.specs.Matches.{IsSigners, choice_octets, IsFirst}
 use Rattle.x509_pkcs7.proofs.verifier.matches.signer_certificate.Given as goal
 

@@ -1,0 +1,7 @@
+use Rattle.std.proofs.Common.{sym, subst}
+use Rattle.pkcs7_signed_crl.specs.Revocations.{revocation_info_choice, revocation_info_choice_value}
+use Rattle.pkcs7_signed_crl.proofs.revocations.RevocationInfoChoiceAsn1Type.with_encoded.Goals as goal
+
+pub returns-in-Crl : goal.returns-in-Crl
+returns-in-Crl g c =
+    subst (λ x. g.U.Task.does c.args.task.now c.run_on.new.self (revocation_info_choice.format.text (revocation_info_choice_value x)) (λ k. revocation_info_choice.format.IsWellFormed k (revocation_info_choice_value x)) c.run_on.result) (sym c.in-Crl.is) c.run_on.ensures

@@ -1,0 +1,7 @@
+pub mod Algorithms
+pub mod SignerParts
+pub mod Certificates
+pub mod Revoked
+pub mod CertificateLists
+pub mod Revocations
+pub mod PartsEqual
