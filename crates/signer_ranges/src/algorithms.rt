@@ -24,7 +24,6 @@ pub(crate) fn is_none(attributes: &Attributes) -> bool
 }
 
 /// The encoding of signed attributes, nothing where there are none.
-#[tactic(auto, using(crate::proofs::Pieces::no_text, crate::proofs::Pieces::some_text, crate::proofs::Pieces::some_error))]
 fn attributes_text(alloc: Global, attributes: &Attributes) -> Result<Vec<u8>, Error>
     ensures { Written (λ v. v.items) (attributes_text (attributes_value attributes.now)) result }
 {
