@@ -60,10 +60,20 @@ fn ranges_of(
 {
     match set {
         AttributeSet::Signed => {
-            ranges_from(alloc, input, places.signed, signer.signed_attrs.0.0.0.as_slice())
+            ranges_from(
+                alloc,
+                input,
+                places.signed,
+                signer.signed_attrs.0.0.0.as_slice(),
+            )
         }
         AttributeSet::Unsigned => {
-            ranges_from(alloc, input, places.unsigned, signer.unsigned_attrs.0.0.as_slice())
+            ranges_from(
+                alloc,
+                input,
+                places.unsigned,
+                signer.unsigned_attrs.0.0.as_slice(),
+            )
         }
     }
 }

@@ -78,7 +78,13 @@ fn content_range(
         (λ e. IsFailure (LacksItem input.now (listed (encrypted_of (envelope_value (λ x. x.0.items) file.now)))) e) }
 {
     let mut found = Vec::new(alloc);
-    match &file.enveloped_data.0.encrypted_content_info.encrypted_content.0 {
+    match &file
+        .enveloped_data
+        .0
+        .encrypted_content_info
+        .encrypted_content
+        .0
+    {
         Some(content) => {
             let range = range_of(input, start, content.0.0.as_slice())?;
             found.push(range)?;
