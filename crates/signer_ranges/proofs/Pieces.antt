@@ -55,9 +55,9 @@ module _ (b x y : List ℕ) (start end : ℕ) (at : IsAt b (x ++ y) start end) w
   front : IsAt b x start (end - length y)
   front = record {
     is =
-      ap (λ n. take n (drop start b)) (let n : (end - length y) - start ≡ length x = omega (arith, size, at.ordered) in n)
-      ∙ sym (take-take (length x) (end - start) (drop start b) (omega (arith, size)))
-      ∙ ap (take (length x)) at.is ∙ take_at x y (length x) refl;
+        ap (λ n. take n (drop start b)) (let n : (end - length y) - start ≡ length x = omega (arith, size, at.ordered) in n)
+        ∙ sym (take-take (length x) (end - start) (drop start b) (omega (arith, size)))
+        ∙ ap (take (length x)) at.is ∙ take_at x y (length x) refl;
     inside = omega (arith, at.inside);
     ordered = omega (arith, size, at.ordered);
   }
@@ -65,11 +65,11 @@ module _ (b x y : List ℕ) (start end : ℕ) (at : IsAt b (x ++ y) start end) w
   back : IsAt b y (end - length y) end
   back = record {
     is =
-      ap (λ n. take n (drop (end - length y) b)) (let n : end - (end - length y) ≡ (end - start) - length x = omega (arith, size, at.ordered) in n)
-      ∙ ap (λ n. take ((end - start) - length x) (drop n b)) (let n : end - length y ≡ start + length x = omega (arith, size, at.ordered) in n)
-      ∙ ap (take ((end - start) - length x)) (sym (drop-drop (length x) start b))
-      ∙ between_is (drop start b) (length x) (end - start)
-      ∙ ap (drop (length x)) at.is ∙ drop_at x y (length x) refl;
+        ap (λ n. take n (drop (end - length y) b)) (let n : end - (end - length y) ≡ (end - start) - length x = omega (arith, size, at.ordered) in n)
+        ∙ ap (λ n. take ((end - start) - length x) (drop n b)) (let n : end - length y ≡ start + length x = omega (arith, size, at.ordered) in n)
+        ∙ ap (take ((end - start) - length x)) (sym (drop-drop (length x) start b))
+        ∙ between_is (drop start b) (length x) (end - start)
+        ∙ ap (drop (length x)) at.is ∙ drop_at x y (length x) refl;
     inside = at.inside;
     ordered = omega arith;
   }

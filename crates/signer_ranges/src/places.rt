@@ -1,5 +1,8 @@
 //! Where elements are in an input. Nothing is said of what they are: callers compare.
 
+ghost use Rattle.std.specs.Prelude.{◌≡◌, IfErr};
+ghost use Rattle.asn1_core_element.specs.declared.error.Error.TheVariants.{Memory};
+
 use asn1_core::Error;
 use asn1_core_element::front::front;
 use std::alloc::Global;
@@ -158,7 +161,9 @@ pub(crate) fn places_from(
     input: &[u8],
     first: Option<Place>,
     count: usize,
-) -> Result<Vec<Place>, Error> {
+) -> Result<Vec<Place>, Error>
+    ensures { IfErr result (λ e. e ≡ Memory) }
+{
     let mut found = Vec::new(alloc);
     let mut next = first;
     for _ in 0..count {

@@ -303,7 +303,7 @@ fn ranges_of(
 }
 
 /// The ranges of each of some signers that follow one another.
-#[tactic(auto, using(crate::specs::Failures::memory_fails))]
+#[tactic(auto, using(crate::specs::Failures::memory_fails, crate::proofs::Lacks::one_lacks, crate::proofs::Lacks::none_lacking))]
 fn ranges_of_all(
     alloc: Global,
     known: &Known<'_>,

@@ -8,8 +8,8 @@ use Rattle.signer_ranges.proofs.signers.ranges_of_all.Goals as goal
 
 pub ranges_of-requires-clause-certificate : goal.ranges_of-requires-clause-certificate
 ranges_of-requires-clause-certificate c =
-    certificate_at (λ s. signer_identifier_value s.sid) (λ f. option_value (λ e. e.element.now.0.items) f) (certificates_of (file_value c.args.known.now.file.now)) c.args.signers.now c.args.certificates.now c.loop-index.index c.index-signers-index.result c.in-Some-get.certificate.now
-    c.requires.certificates c.loop-index-test.true c.index-signers-index.is c.in-Some-get.ensures.lookup.1
+    certificate_at (λ s. signer_identifier_value s.sid) (λ f. option_value (λ e. e.element.now.0.items) f) (certificates_of (file_value c.args.known.now.file.now)) c.args.signers.now c.args.certificates.now c.loop-index.index c.index-signers-index.result c.in-Some.certificate.now
+    c.requires.certificates c.loop-index-test.true c.index-signers-index.is c.in-Some.ensures.lookup.1
 
 pub loop-index-preserved : goal.loop-index-preserved
 loop-index-preserved c =
