@@ -1,5 +1,5 @@
 -- What the parts of a signer are put together of.
-use Rattle.std.specs.Prelude.{◌≡◌, ◌≢◌, ℕ, List, [], ◌++◌, Option, None, Some}
+use Rattle.std.specs.Prelude.{◌≡◌, ◌≢◌, ℕ, List, [], Option, None, Some}
 use Rattle.std.specs.declared.ops.Range.{Range}
 use Rattle.asn1_core.specs.Der.{Octets, OidOctets}
 use Rattle.x509_base.specs.Names.{attribute}

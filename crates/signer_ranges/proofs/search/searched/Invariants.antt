@@ -1,4 +1,4 @@
-use Rattle.std.proofs.Common.{length, ◌-◌, ◌≡◌, ◌+◌, ℕ, ◌<◌, ◌≤◌}
+use Rattle.std.proofs.Common.{length, ◌-◌, ◌≤◌}
 use Rattle.signer_ranges.proofs.Found.{BeginNotBefore}
 use Rattle.signer_ranges.proofs.search.searched.Given as goal
 
