@@ -1,11 +1,9 @@
 -- Ranges of items, along lists.
-use Rattle.std.specs.Prelude.{◌≡◌, ℕ, ◌+◌, ◌<◌, ◌≤◌, List, [], ◌∷◌, ◌++◌, length, take, get_or, map, All}
-use Rattle.std.specs.List.{Any}
+use Rattle.std.specs.Prelude.{◌≡◌, ℕ, ◌+◌, ◌<◌, List, [], ◌∷◌, ◌++◌, length, take, get_or, map, All}
 use Rattle.std.specs.declared.ops.Range.{Range}
 use Rattle.std.proofs.Common.{refl, sym, ap, subst, ◌∙◌, arith}
 use Rattle.std.proofs.lemmas.List.{get_or-map, length-map, map-append, take_more}
 use Rattle.std.proofs.lemmas.List.Elements.{All-push}
-use Rattle.asn1_core.specs.Der.{ElementOctets}
 use Rattle.asn1_core_element.specs.declared.error.Error.{Error}
 use Rattle.asn1_core_format.specs.Whole.{IsValueOf}
 use Rattle.pkcs7_signed_crl.specs.Certificates.{certificate_choices_value}
@@ -34,8 +32,11 @@ module _ (b : List ℕ) {X : Type 0} (f : X → List ℕ) (xs : List X) (i : ℕ
   pub one_lacks : (e : Error) → i < length xs → x ≡ get_or xs i x → IsFailure (IsNowhere b (f x)) e → IsFailure (LacksItem b (map f xs)) e
   one_lacks e h g l = failure_of e (λ n. (i, f x, omega (arith, h, length-map xs f), get_or-map f xs i x (f x) h ∙ ap f (sym g), n)) l
 
+  pub one_lacks_at : (octets : List ℕ) (e : Error) → octets ≡ f x → i < length xs → x ≡ get_or xs i x → IsFailure (IsNowhere b octets) e → IsFailure (LacksItem b (map f xs)) e
+  one_lacks_at octets e w h g l = one_lacks e h g (subst (λ o. IsFailure (IsNowhere b o) e) w l)
+
 -- a list of two functions' values
-map_twice : {A B C : Type 0} (f : A → B) (g : B → C) (xs : List A) → map (λ x. g (f x)) xs ≡ map g (map f xs)
+pub map_twice : {A B C : Type 0} (f : A → B) (g : B → C) (xs : List A) → map (λ x. g (f x)) xs ≡ map g (map f xs)
 map_twice f g [] = refl
 map_twice f g (x ∷ xs) = ap (λ ys. g (f x) ∷ ys) (map_twice f g xs)
 

@@ -1,6 +1,6 @@
 -- ContentInfo ::= SEQUENCE { contentType ContentType, content [0] EXPLICIT ANY DEFINED BY contentType } (RFC 5652, 3)
 --   of id-envelopedData, and where an input has its parts
-use Rattle.std.specs.Prelude.{◌≡◌, ℕ, List, [], ◌∷◌, Option, None, Some}
+use Rattle.std.specs.Prelude.{ℕ, List, [], ◌∷◌, Option, None, Some}
 use Rattle.std.specs.declared.ops.Range.{Range}
 use Rattle.std.proofs.Common.{arith}
 use Rattle.asn1_core.specs.Asn1.{ANY, SEQUENCE}

@@ -33,8 +33,8 @@ fn ranges_from(
     attributes: &[Attribute],
 ) -> Result<Vec<Range<usize>>, Error>
     ensures { MatchResult result
-        (λ found. AreAt input.now (map attribute_text (map attribute_value attributes.now)) found.items)
-        (λ e. IsFailure (LacksItem input.now (map attribute_text (map attribute_value attributes.now))) e) }
+        (λ found. AreAt input.now (map (λ a. attribute_text (attribute_value a)) attributes.now) found.items)
+        (λ e. IsFailure (LacksItem input.now (map (λ a. attribute_text (attribute_value a)) attributes.now)) e) }
 {
     let mut found = Vec::new(alloc);
     let mut next = first;
