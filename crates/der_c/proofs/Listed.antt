@@ -1,5 +1,5 @@
 -- From ranges that were found to the status of a call.
-use Rattle.std.proofs.Common.{◌≡◌, ◌≢◌, ℕ, ◌≤◌, ◌<◌, ◌⊎◌, List, ◌++◌, Vec, Global, length, drop, map, ap, arith, inl, inr, refl, sym, ◌∙◌}
+use Rattle.std.proofs.Common.{◌≡◌, ◌≢◌, ℕ, ◌≤◌, ◌<◌, ◌⊎◌, List, ◌++◌, Vec, Global, length, drop, map, ap, arith, inl, inr, refl, subst, sym, ◌∙◌}
 use Rattle.std.specs.Prelude.{Option, None, Some, Result, Ok, Err, MatchResult}
 use Rattle.std.specs.declared.ops.Range.{Range}
 use Rattle.asn1_core.specs.Der.{Format, option_value}
@@ -7,6 +7,7 @@ use Rattle.asn1_core_element.specs.declared.error.Error.{Error}
 use Rattle.part_ranges.specs.Enveloped.{AreEnvelopedAt, enveloped_file, IsEnvelopedRefusal, LacksEnveloped}
 use Rattle.part_ranges.specs.Ranges.{AreCertificatesAt, LacksCertificate}
 use Rattle.part_ranges.specs.SignerAttributes.{AreAttributesAt, IsAttributeRefusal, LacksAttribute}
+use Rattle.part_ranges.specs.declared.attributes.AttributeSet.{AttributeSet}
 use Rattle.part_ranges.specs.declared.envelope_parts.EnvelopePart.{EnvelopePart}
 use Rattle.part_ranges.specs.declared.envelope_parts.EnvelopePart.TheVariants.{Recipients, EncryptionAlgorithm, EncryptedContent}
 use Rattle.signer_ranges.specs.Failures.{IsRefusalOf}
@@ -147,6 +148,10 @@ not_listed number b old other envelope = record {
   no_place = λ _. refl;
   range = (λ h. omega (arith, h), (λ h. omega (arith, h), omega arith));
 }
+
+-- the attributes that a number asks for
+pub of_set : (signed index : ℕ) (b : List ℕ) (set : AttributeSet) (found : Result (Option (Vec (Range ℕ) Global)) Refusal) → set ≡ set_of signed → MatchResult found (λ r. AreAttributesAt set index b (option_value (λ v. v.items) r)) (λ e. IsAttributeRefusal set index b e) → MatchResult found (λ r. AreAttributesAt (set_of signed) index b (option_value (λ v. v.items) r)) (λ e. IsAttributeRefusal (set_of signed) index b e)
+of_set signed index b set found is given = subst (λ s. MatchResult found (λ r. AreAttributesAt s index b (option_value (λ v. v.items) r)) (λ e. IsAttributeRefusal s index b e)) is given
 
 -- the same of a signer's attributes
 pub listed_attributes : (signed index : ℕ) (b : List ℕ) (old new : List Item) (count place status : ℕ) (found : Result (Option (Vec (Range ℕ) Global)) Refusal) → MatchResult found (λ r. AreAttributesAt (set_of signed) index b (option_value (λ v. v.items) r)) (λ e. IsAttributeRefusal (set_of signed) index b e) → PutsSome found old new count place status → ListsAttributes signed index b old new count place status
