@@ -19,7 +19,7 @@ mod calls;
 mod ranges;
 mod signers;
 
-pub use ranges::certificates;
+pub use ranges::{attributes, certificates, encrypted_content, encryption_algorithm, recipients};
 pub use signers::{signers, BadAttributes, Signer};
 
 use std::ffi::CStr;
