@@ -3,19 +3,19 @@
  * der_mac_part_ber where the MAC of a PKCS #12 file is to be verified.
  *
  * What is proved of its calls der_check_word_limited, der_rewrite_word_limited, der_kind_word, der_part_octets,
- * der_signer_rows, der_part_ranges, der_mac_range, der_mac, der_from_ber, der_mac_ber, der_mac_part_ber, der_name_text,
- * der_oid_text, der_oid_name, der_integer_text and der_bag_rows, for all inputs, and what isn't:
+ * der_signer_rows, der_part_ranges, der_attribute_ranges, der_mac_range, der_mac, der_from_ber, der_mac_ber,
+ * der_mac_part_ber, der_name_text, der_oid_text, der_oid_name, der_integer_text and der_bag_rows, for all inputs, and
+ * what isn't:
  *  - A call answers no status but those that are listed at it. What it writes into numbers and into out is as said
  *    below.
  *  - DER_NORMAL, DER_LOOSE, DER_UNKNOWN_KIND, DER_TOO_LONG, DER_NO_ROOM, DER_NO_RANGE and DER_NO_PART are true where
- *    they are answered, but for DER_NO_RANGE of der_signer_rows and der_part_ranges, of which nothing is proved.
- *    At DER_NO_RANGE of der_bag_rows the input is a store, and no more is proved; of its DER_TOO_LONG nothing is.
- *    DER_BAD_ATTRIBUTES is true where a row of der_signer_rows has it, but that an empty set of signed attributes is that
- *    signer's: proved is that the signer's value has none, and that A0 00 is in the input.
+ *    they are answered. At DER_NO_RANGE of der_bag_rows the input is a store, and no more is proved; of its DER_TOO_LONG
+ *    nothing is. DER_BAD_ATTRIBUTES is true where a row of der_signer_rows has it, but that an empty set of signed
+ *    attributes is that signer's: proved is that the signer's value has none, and that A0 00 is in the input.
  *  - At DER_MALFORMED, DER_MISSING, DER_INVALID and DER_TOO_DEEP the input is no encoding of the kind, of der_from_ber
- *    it has no DER, of der_signer_rows and der_part_ranges it is no signed data, and of the calls that write text it has
- *    none, as said there. Which of the four it is isn't proved: tests tell them apart. Nothing is proved of them at
- *    der_bag_rows, which has them of a part of a store too, but that the place is in the input.
+ *    it has no DER, of der_signer_rows and the calls for ranges it isn't what has the part, and of the calls that write
+ *    text it has none, as said there. Which of the four it is isn't proved: tests tell them apart. Nothing is proved of
+ *    them at der_bag_rows, which has them of a part of a store too, but that the place is in the input.
  *  - That memory was refused where a call answers DER_NO_MEMORY isn't proved. Tests show that calls with memory enough
  *    don't answer it, on inputs of up to 190 KB and of hundreds of parts, and that calls keep no memory.
  *  - The functions in this file, in C, are tested and not proved, nor are der_version and der_processor.
@@ -24,7 +24,7 @@
  *  - word, input, out and the pointers to numbers aren't null, also where a length is 0. word and input point to so
  *    many bytes that can be read, out to so many that can be read and written.
  *  - A pointer to a number is aligned as a size_t is, and what it points to can be written. out of der_signer_rows,
- *    der_bag_rows and der_part_ranges points to out_len structs and not bytes, and is aligned so too.
+ *    der_bag_rows and the calls for ranges points to out_len structs and not bytes, and is aligned so too.
  *  - The string kind ends in a zero byte.
  *  - out and each number overlap nothing else that is passed, and not one another.
  *  - While a call runs nothing else reads or writes out or the numbers, and nothing writes word or input: no other
@@ -100,7 +100,11 @@ typedef enum der_part_number {
   /* "rawpfx": the MAC of a PKCS #12 file; the index isn't looked at */
   DER_PART_MAC_DIGEST_ALGORITHM = 13, /* the contents octets of the object identifier */
   DER_PART_MAC_DIGEST = 14,           /* what a verifier compares with the MAC that it makes */
-  DER_PART_MAC_SALT = 15              /* macSalt */
+  DER_PART_MAC_SALT = 15,             /* macSalt */
+  /* of enveloped data under its content type, a ContentInfo (RFC 5652, 3 and 6.1): der_ranges alone knows these */
+  DER_PART_RECIPIENT = 16,            /* a RecipientInfo of any kind, as it is */
+  DER_PART_ENCRYPTION_ALGORITHM = 17, /* contentEncryptionAlgorithm, with its parameters: one item */
+  DER_PART_ENCRYPTED_CONTENT = 18     /* the octets of encryptedContent: one item, or none where that is absent */
 } der_part_number;
 
 /* The calls themselves, which answer a der_status. The functions that follow them take strings. A limit above 64 counts
@@ -120,19 +124,28 @@ typedef struct der_range {
 
 /* Where the input has each item of a part, in one reading, where der_part_octets reads it anew for each. number is
  * DER_PART_CERTIFICATE: certificates of signed data, or other choices, of any CMSVersion, with signers of any version
- * and over content of any type (RawPkcs7Certificate), which der_part_octets takes of fewer.
+ * and over content of any type (RawPkcs7Certificate), which der_part_octets takes of fewer. Or it is one of the three
+ * parts of enveloped data.
  *  - DER_NORMAL: *count ranges are at the front of out, in the order of the items, and the rest of out is as it was.
  *  - DER_NO_ROOM: there are *count items, and out_len is less.
  *  - DER_UNKNOWN_KIND: the items of the part with that number aren't listed, or no part has it.
- *  - DER_MALFORMED to DER_TOO_DEEP: the input is no signed data, and *place says where, as of der_locate.
+ *  - DER_MALFORMED to DER_TOO_DEEP: the input is no signed or no enveloped data, and *place says where, as of
+ *    der_locate.
  *  - DER_NO_MEMORY: *place is an offset without use.
- *  - DER_NO_RANGE: an item isn't in the input where it is looked for. No input is known where it is answered, and that
+ *  - DER_NO_RANGE: the octets of an item are nowhere in the input. No input is known where it is answered, and that
  *    there is none isn't proved.
  * Unless at DER_NORMAL out is as it was, unless at DER_NORMAL and DER_NO_ROOM *count is 0, and but for the refusals and
  * DER_NO_MEMORY *place is 0. Proved is that the octets in each range are those of the item, and that each item has one;
  * that they are the item itself, and no equal octets, is tested. */
 uint32_t der_part_ranges(size_t number, const uint8_t *input, size_t input_len, der_range *out, size_t out_len,
                          size_t *count, size_t *place);
+
+/* Where signed data, as of DER_PART_CERTIFICATE, have each attribute of the signer with that index, an Attribute with its
+ * type and values (RFC 5652, 5.3): each signed one, or, where is_signed is 0, each unsigned one, as countersignatures and
+ * time stamps. At DER_NO_PART there are fewer signers. Any other status is as of der_part_ranges, but never
+ * DER_UNKNOWN_KIND. */
+uint32_t der_attribute_ranges(size_t is_signed, size_t index, const uint8_t *input, size_t input_len, der_range *out,
+                              size_t out_len, size_t *count, size_t *place);
 
 /* What a verification of one signer needs (RFC 5652, 5.3 to 5.6). A verifier
  *  1. takes the signer only where status is DER_NORMAL;
@@ -163,7 +176,7 @@ typedef struct der_signer_parts {
  *    where contentType is another than the content's (RFC 5652, 5.3, 11.1, 11.2).
  *  - DER_MALFORMED to DER_TOO_DEEP: the input is no signed data, and *place says where, as of der_locate.
  *  - DER_NO_MEMORY: *place is an offset without use.
- *  - DER_NO_RANGE: a part isn't in the input as its value is written. No input is known where it is answered, and that
+ *  - DER_NO_RANGE: the octets of a part are nowhere in the input. No input is known where it is answered, and that
  *    there is none isn't proved.
  * Unless at DER_NORMAL out is as it was and *count is 0; at DER_NORMAL and DER_NO_RANGE *place is 0. Proved is that the
  * octets in each range are those of the part; that they are the part itself, and no equal octets, is tested. */
@@ -398,6 +411,12 @@ static inline der_status der_part(der_part_number part, size_t index, const uint
 static inline der_status der_ranges(der_part_number part, const uint8_t *input, size_t input_len, der_range *out,
                                     size_t out_len, size_t *count, size_t *place) {
   return (der_status)der_part_ranges((size_t)part, input, input_len, out, out_len, count, place);
+}
+
+/* The same as der_attribute_ranges. */
+static inline der_status der_attributes(int is_signed, size_t index, const uint8_t *input, size_t input_len,
+                                        der_range *out, size_t out_len, size_t *count, size_t *place) {
+  return (der_status)der_attribute_ranges(is_signed != 0, index, input, input_len, out, out_len, count, place);
 }
 
 /* The same as der_signer_rows. */

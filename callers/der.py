@@ -123,11 +123,21 @@ class Part(enum.Enum):
     MAC_DIGEST_ALGORITHM = 13, "rawpfx"
     MAC_DIGEST = 14, "rawpfx"
     MAC_SALT = 15, "rawpfx"
-
     @property
     def kind(self) -> str:
         """The kind that the input is read as."""
         return self.value[1]
+
+
+class EnvelopePart(enum.Enum):
+    """A part of enveloped data under its content type, a ContentInfo, whose items ranges lists."""
+
+    # each RecipientInfo, as it is
+    RECIPIENT = 16
+    # contentEncryptionAlgorithm, with its parameters: one range
+    ENCRYPTION_ALGORITHM = 17
+    # the octets of encryptedContent: one range, or none where they are elsewhere
+    ENCRYPTED_CONTENT = 18
 
 
 class Mac(NamedTuple):
@@ -307,6 +317,7 @@ class Library:
             ("der_signer_rows", [octets, size, size, ctypes.POINTER(_SignerParts), size, number, number]),
             ("der_bag_rows", [octets, size, ctypes.POINTER(_BagParts), size, number, number]),
             ("der_part_ranges", [size, octets, size, number, size, number, number]),
+            ("der_attribute_ranges", [size, size, octets, size, number, size, number, number]),
             ("der_kind_word", [size, octets, size, number]),
             ("der_mac", [octets, size, number, number, number]),
             ("der_part_octets", [size, size, octets, size, octets, size, number]),
@@ -419,12 +430,12 @@ class Library:
             return None
         return self._part(self._library.der_part_octets, (part.value[0], index), part, data)
 
-    def ranges(self, part: Part, data: Bytes) -> List[range]:
+    def ranges(self, part: Union[Part, EnvelopePart], data: Bytes) -> List[range]:
         """Where the input has each item of a part, in order: of Part.CERTIFICATE, all certificates of signed data.
 
-        Reads data once, or twice where there are more than FEW_RANGES. Signed data are taken of any CMSVersion and over
-        content of any type. Raises Refused where data are none, and ValueError where the items of the part aren't
-        listed.
+        Of an EnvelopePart those of enveloped data. Reads data once, or twice where there are more than FEW_RANGES.
+        Signed data are taken of any CMSVersion and over content of any type. Raises Refused where data are none, and
+        ValueError where the items of the part aren't listed.
         """
         return [range(start, start + size) for start, size in self._places(part, _octets(data))]
 
@@ -436,20 +447,43 @@ class Library:
         whole = memoryview(octets)
         return (whole[start : start + size] for start, size in self._places(Part.CERTIFICATE, octets))
 
-    def _places(self, part: Part, data: bytes) -> Iterator[Tuple[int, int]]:
+    def recipients(self, data: Bytes) -> Iterator[memoryview]:
+        """All recipients of enveloped data, as certificates does. Raises Refused where data are no enveloped data."""
+        octets = _octets(data)
+        whole = memoryview(octets)
+        return (whole[start : start + size] for start, size in self._places(EnvelopePart.RECIPIENT, octets))
+
+    def attributes(self, data: Bytes, index: int, is_signed: bool = True) -> Optional[List[memoryview]]:
+        """Each Attribute of the signer with an index, from 0 on, in order, as certificates does: signed ones, or unsigned
+        ones. None where there are fewer signers.
+        """
+        if index < 0:
+            raise ValueError(f"an index of {index}")
+        octets = _octets(data)
+        found = self._listed(self._library.der_attribute_ranges, (is_signed, min(index, (1 << 64) - 1)), octets)
+        whole = memoryview(octets)
+        return None if found is None else [whole[start : start + size] for start, size in found]
+
+    def _places(self, part: Union[Part, EnvelopePart], data: bytes) -> Iterator[Tuple[int, int]]:
         """The start and the length of each item of a part."""
+        number = part.value if isinstance(part, EnvelopePart) else part.value[0]
+        found = self._listed(self._library.der_part_ranges, (number,), data)
+        if found is None:
+            raise ValueError(f"the items of {part.name} aren't listed")
+        return found
+
+    def _listed(self, call: Call, which: Tuple[int, ...], data: bytes) -> Optional[Iterator[Tuple[int, int]]]:
+        """The start and the length of each range that a call writes. None where there is no such part."""
         room, count, place = FEW_RANGES, ctypes.c_size_t(), ctypes.c_size_t()
         while True:
             out = (ctypes.c_size_t * (2 * room))()
-            status = self._library.der_part_ranges(
-                part.value[0], data, len(data), out, room, ctypes.byref(count), ctypes.byref(place)
-            )
+            status = call(*which, data, len(data), out, room, ctypes.byref(count), ctypes.byref(place))
             if status == NORMAL:
                 return zip(out[0 : 2 * count.value : 2], out[1 : 2 * count.value : 2])
             if status == NO_RANGE:
                 raise Refused("no range", 0)
-            if status == UNKNOWN_KIND:
-                raise ValueError(f"the items of {part.name} aren't listed")
+            if status in (UNKNOWN_KIND, NO_PART):
+                return None
             if status != NO_ROOM:
                 _raise_for(status, "", place.value)
             room = count.value

@@ -291,7 +291,7 @@ static void signers(given *its, uint8_t *room) {
  * and for one less. And for those of a number that no part has. */
 static void ranges(given *its, uint8_t *room) {
   const size_t one = sizeof(der_range);
-  for (its->index = 0; its->index <= DER_PART_MAC_SALT + 1; its->index++) {
+  for (its->index = 0; its->index <= DER_PART_ENCRYPTED_CONTENT + 1; its->index++) {
     const answer said = tried(RANGES, its, room, one);
     if (said.status != DER_NORMAL && said.status != DER_NO_ROOM)
       continue;

@@ -127,6 +127,16 @@ extern "C" {
         count: *mut usize,
         place: *mut usize,
     ) -> u32;
+    pub fn der_attribute_ranges(
+        is_signed: usize,
+        index: usize,
+        input: *const u8,
+        input_len: usize,
+        out: *mut Range,
+        out_len: usize,
+        count: *mut usize,
+        place: *mut usize,
+    ) -> u32;
     pub fn der_name_text(
         input: *const u8,
         input_len: usize,

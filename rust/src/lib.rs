@@ -21,7 +21,7 @@ mod ranges;
 mod signers;
 
 pub use bags::{bags, Bag, BagKind};
-pub use ranges::certificates;
+pub use ranges::{attributes, certificates, encrypted_content, encryption_algorithm, recipients};
 pub use signers::{signers, BadAttributes, Signer};
 
 use std::ffi::CStr;

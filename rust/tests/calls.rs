@@ -14,6 +14,11 @@ const DETACHED: &[u8] = &[
     6, 3, 0x2A, 3, 4, 0x31, 0x17, 0x30, 0x15, 2, 1, 3, 0x80, 0, 0x30, 5, 6, 3, 0x2A, 3, 4, 0x30, 5, 6, 3, 0x2A, 3, 5,
     4, 0,
 ];
+/// Enveloped data by hand: one recipient, `[4]`, an algorithm, and two octets.
+const ENVELOPE: &[u8] = &[
+    0x30, 0x2E, 6, 9, 0x2A, 0x86, 0x48, 0x86, 0xF7, 0x0D, 1, 7, 3, 0xA0, 0x21, 0x30, 0x1F, 2, 1, 0, 0x31, 2, 0xA4, 0,
+    0x30, 0x16, 6, 9, 0x2A, 0x86, 0x48, 0x86, 0xF7, 0x0D, 1, 7, 1, 0x30, 5, 6, 3, 0x2A, 3, 4, 0x80, 2, 7, 8,
+];
 const SHA256: &[u8] = &[0x60, 0x86, 0x48, 1, 0x65, 3, 4, 2, 1];
 /// A digest info without the NULL that its algorithm has in DER, up to the digest.
 const LOOSE: &[u8] = &[0x30, 0x1F, 0x30, 7, 6, 5, 0x2B, 0x0E, 3, 2, 0x1A, 4, 0x14];
@@ -255,4 +260,21 @@ fn integers_are_in_decimal() {
         assert_eq!(vuyhanip::integer_text(contents).as_deref(), Ok(text));
     }
     assert!(vuyhanip::integer_text(&[]).is_err() && vuyhanip::integer_text(&[1; 1025]).is_err());
+}
+
+#[test]
+fn parts_of_enveloped_data_are_where_they_are() {
+    assert_eq!(vuyhanip::recipients(ENVELOPE), Ok(vec![&ENVELOPE[22..24]]));
+    assert_eq!(vuyhanip::encryption_algorithm(ENVELOPE), Ok(Some(&ENVELOPE[37..44])));
+    assert_eq!(vuyhanip::encrypted_content(ENVELOPE), Ok(Some(&ENVELOPE[46..48])));
+    assert_eq!(vuyhanip::certificates(ENVELOPE), Err(Error::Refused { reason: Reason::Invalid, place: 2 }));
+}
+
+#[test]
+fn attributes_are_elements() {
+    let attributes = vuyhanip::attributes(SIGNED, 0, true).unwrap().unwrap();
+    assert!(attributes.len() > 1 && attributes.iter().all(|it| it[0] == 0x30));
+    assert_eq!(attributes[0].as_ptr_range().end, attributes[1].as_ptr());
+    assert_eq!(vuyhanip::attributes(SIGNED, 0, false), Ok(Some(vec![])));
+    assert_eq!(vuyhanip::attributes(SIGNED, 1, true), Ok(None));
 }

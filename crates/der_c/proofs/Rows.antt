@@ -3,7 +3,7 @@ use Rattle.std.proofs.Common.{◌≡◌, ℕ, ◌≤◌, ◌⊎◌, List, [], �
 use Rattle.std.proofs.lemmas.List.{length-map}
 use Rattle.asn1_core.specs.Der.{HasNoValue}
 use Rattle.asn1_core_element.specs.declared.error.Error.{Error}
-use Rattle.signer_ranges.specs.Signers.{AreFound, AreRangesOfAll, FileValue, IsRefusal, SignerValue, signers_of, signed_file}
+use Rattle.signer_ranges.specs.Signers.{AreFound, AreRangesOfAll, FileValue, HasNoRange, IsRefusal, SignerValue, signers_of, signed_file}
 use Rattle.signer_ranges.specs.declared.ranges.Refusal.{Refusal}
 use Rattle.signer_ranges.specs.declared.ranges.Refusal.TheVariants.{Refused, NoRange}
 use Rattle.signer_ranges.specs.declared.ranges.SignerRanges.{SignerRanges}
@@ -29,13 +29,14 @@ neither status low high (inl e) = omega (arith, low, e)
 neither status low high (inr e) = omega (arith, high, e)
 
 module _ (b : List ℕ) (first : ℕ) (old : List Signer) where
-  pub rows_fit : (count : ℕ) (found : List (Option SignerRanges)) (rows : List Signer) → AreFound b first (length old) count found → rows ≡ map row_of found → length rows ≤ length old
-  rows_fit count found rows a e = omega (arith, ap length e, length-map found row_of, as_many b a.value (take (length old) (drop first (signers_of a.value))) found a.part.ranges, take_fits (length old) (drop first (signers_of a.value)))
+  pub rows_fit : (count : ℕ) (found : List (Option SignerRanges)) → AreFound b first (length old) count found → length found ≤ length old
+  rows_fit count found a = omega (arith, as_many b a.value (take (length old) (drop first (signers_of a.value))) found a.part.ranges, take_fits (length old) (drop first (signers_of a.value)))
 
-  pub rows_found : (count : ℕ) (found : List (Option SignerRanges)) (rows new : List Signer) → AreFound b first (length old) count found → rows ≡ map row_of found → new ≡ rows ++ drop (length rows) old → FindsSigners b first old new count 0 0
-  rows_found count found rows new a e w = record {
-    found = λ _. (found, a, w ∙ ap (λ xs. xs ++ drop (length xs) old) e ∙ ap (λ n. map row_of found ++ drop n old) (length-map found row_of));
+  pub rows_found : (count : ℕ) (found : List (Option SignerRanges)) (new : List Signer) → AreFound b first (length old) count found → new ≡ map row_of found ++ drop (length found) old → FindsSigners b first old new count 0 0
+  rows_found count found new a w = record {
+    found = λ _. (found, a, w);
     refused = λ h. absurd (omega (arith, h));
+    no_range = λ h. absurd (omega (arith, h));
     kept = λ h. absurd (h refl);
     inside = omega arith;
     no_place = λ _. refl;
@@ -48,32 +49,24 @@ module _ (b : List ℕ) (first : ℕ) (old : List Signer) where
       record {
         found = λ h. absurd (omega (arith, h, is, range.0));
         refused = λ h low. why.none (λ memory. let eight : status_of e ≡ 8 = ap status_of memory in omega (arith, low, is, eight));
+        no_range = λ h. absurd (omega (arith, h, is, range.1.0));
         kept = λ _. (refl, refl);
         inside = inside;
         no_place = λ s. absurd (neither status (omega (arith, is, range.0)) (omega (arith, is, range.1.0)) s);
         range = inr (inr (omega (arith, is, range.0), (omega (arith, is, range.1.0), λ seven. range.1.1 (omega (arith, is, seven)))));
       }
 
-  nowhere : FindsSigners b first old old 0 0 10
-  nowhere = record {
+  nowhere : HasNoRange b first (length old) → FindsSigners b first old old 0 0 10
+  nowhere why = record {
     found = λ h. absurd (omega (arith, h));
     refused = λ h low. absurd (omega (arith, low));
+    no_range = λ _. why;
     kept = λ _. (refl, refl);
     inside = omega arith;
     no_place = λ _. refl;
     range = inr (inl refl);
   }
 
-  pub signers_refused : (r : Refusal) (place status : ℕ) → place ≡ place_of r → status ≡ status_of_refusal r → IsRefusal b r → FindsSigners b first old old 0 place status
+  pub signers_refused : (r : Refusal) (place status : ℕ) → place ≡ place_of r → status ≡ status_of_refusal r → IsRefusal b (HasNoRange b first (length old)) r → FindsSigners b first old old 0 place status
   signers_refused (Refused e at) place status p s why = subst (λ n. FindsSigners b first old old 0 n status) (sym p) (refused_at e at status s why.0 why.1)
-  signers_refused NoRange place status p s why = subst (λ n. FindsSigners b first old old 0 n status) (sym p) (subst (λ n. FindsSigners b first old old 0 0 n) (sym s) nowhere)
-
-  pub no_memory : FindsSigners b first old old 0 0 8
-  no_memory = record {
-    found = λ h. absurd (omega (arith, h));
-    refused = λ h low. absurd (omega (arith, low));
-    kept = λ _. (refl, refl);
-    inside = omega arith;
-    no_place = λ _. refl;
-    range = inr (inr (omega arith, (omega arith, λ h. omega (arith, h))));
-  }
+  signers_refused NoRange place status p s why = subst (λ n. FindsSigners b first old old 0 n status) (sym p) (subst (λ n. FindsSigners b first old old 0 0 n) (sym s) (nowhere why))

@@ -1,7 +1,7 @@
 -- What the call from C says of the signers of signed data, by its status.
 use Rattle.std.specs.Prelude.{◌≡◌, ◌≢◌, ◌≤◌, ◌⊎◌, ◌-◌, ℕ, List, ◌++◌, length, drop, map, Option, None, Some}
 use Rattle.std.specs.declared.ops.Range.{Range}
-use Rattle.signer_ranges.specs.Signers.{AreFound, FileValue, signed_file}
+use Rattle.signer_ranges.specs.Signers.{AreFound, FileValue, HasNoRange, signed_file}
 use Rattle.signer_ranges.specs.declared.ranges.SignedRanges.{SignedRanges}
 use Rattle.signer_ranges.specs.declared.ranges.SignerRanges.{SignerRanges}
 use Rattle.signer_ranges.specs.declared.ranges.Refusal.{Refusal}
@@ -80,6 +80,8 @@ pub record FindsSigners (b : List ℕ) (first : ℕ) (old new : List Signer) (co
   pub found : status ≡ 0 → (found : List (Option SignerRanges)) × AreFound b first (length old) count found × (new ≡ map row_of found ++ drop (length found) old)
   -- DER_MALFORMED, DER_MISSING, DER_INVALID, DER_TOO_DEEP: the input is no signed data
   pub refused : 3 ≤ status → status ≤ 6 → (v : FileValue) → signed_file.Reads 64 b v → ⊥
+  -- DER_NO_RANGE: a part is nowhere in the input
+  pub no_range : status ≡ 10 → HasNoRange b first (length old)
   pub kept : status ≢ 0 → (new ≡ old) × (count ≡ 0)
   pub inside : place ≤ length b
   pub no_place : (status ≡ 0) ⊎ (status ≡ 10) → place ≡ 0

@@ -8,6 +8,7 @@ ghost use Rattle.x509_containers.specs.Parts.{parts};
 ghost use Rattle.der_c.specs.Calls.{status_of, ChecksWord, CopiesPart, IsKindAt, IsPartAt, NamesKind, PutsPart, RewritesWord};
 ghost use Rattle.der_c.specs.Conversions.{ConvertsBer};
 
+pub mod attributes;
 pub mod bags;
 mod integers;
 pub mod lists;

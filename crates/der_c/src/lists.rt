@@ -1,15 +1,14 @@
 //! Where an input has all items of a part, in one reading, for callers in C.
 
-ghost use Rattle.std.specs.Prelude.{◌≡◌, IfOk, map};
-ghost use Rattle.der_c.specs.Ranges.{item_of, ListsRanges, PutsRanges};
+ghost use Rattle.std.specs.Prelude.{◌≡◌, ◌≢◌, ◌≤◌, ◌++◌, length, drop, map, MatchOption};
+ghost use Rattle.der_c.specs.Ranges.{item_of, ListsRanges, number_of, PutsRanges};
 ghost use Rattle.der_c.specs.Signers.{place_of, status_of_refusal};
 
 use crate::status_of;
-use part_ranges::certificate_ranges;
+use part_ranges::{EnvelopePart, certificate_ranges, envelope_ranges};
 use signer_ranges::Refusal;
 use std::alloc::Global;
 use std::ops::Range;
-use x509_containers::Error;
 
 /// Octets of the input: `len` of them from `start` on. `der_range` of der.h.
 #[repr(C)]
@@ -22,6 +21,19 @@ pub struct Item {
 /// `DER_PART_CERTIFICATE` of der.h.
 const CERTIFICATES: usize = 1;
 
+/// The part of enveloped data with that number in der.h.
+#[tactic(auto, using(crate::proofs::Listed::no_envelope_part))]
+fn envelope_part(number: usize) -> Option<EnvelopePart>
+    ensures { MatchOption result ((part : EnvelopePart) → number ≢ number_of part) (λ part. number ≡ number_of part) }
+{
+    match number {
+        16 => Some(EnvelopePart::Recipients),
+        17 => Some(EnvelopePart::EncryptionAlgorithm),
+        18 => Some(EnvelopePart::EncryptedContent),
+        _ => None,
+    }
+}
+
 fn item_of(range: &Range<usize>) -> Item
     ensures { result ≡ item_of range.now }
 {
@@ -31,14 +43,15 @@ fn item_of(range: &Range<usize>) -> Item
     }
 }
 
-fn items_of(alloc: Global, ranges: &[Range<usize>]) -> Result<Vec<Item>, Error>
-    ensures { IfOk result (λ items. items.items ≡ map item_of ranges.now) }
+/// Writes ranges to the front of `out`.
+#[tactic(auto, using(crate::proofs::Written::one_written, crate::proofs::Written::all_written))]
+fn write_items(ranges: &[Range<usize>], out: &mut [Item])
+    requires { length ranges.now ≤ length out.old }
+    ensures { out.new ≡ map item_of ranges.now ++ drop (length ranges.now) out.old }
 {
-    let mut items = Vec::new(alloc);
-    for range in ranges {
-        items.push(item_of(range))?;
+    for (index, range) in ranges.iter().enumerate() {
+        out[index] = item_of(range);
     }
-    Ok(items)
 }
 
 fn status_of_refusal(refusal: Refusal) -> u32
@@ -59,10 +72,9 @@ fn place_of(refusal: Refusal) -> usize
     }
 }
 
-/// Writes ranges that were found to the front of `out`, as `der_part_ranges` says.
-#[tactic(auto, using(crate::proofs::Listed::put_all, crate::proofs::Listed::too_many, crate::proofs::Listed::no_memory))]
-fn put_ranges(
-    alloc: Global,
+/// Writes ranges that were found to the front of `out`, as `der_part_ranges` says. Takes no memory.
+#[tactic(auto, using(crate::proofs::Listed::put_all, crate::proofs::Listed::too_many))]
+pub(crate) fn put_ranges(
     found: Result<Vec<Range<usize>>, Refusal>,
     out: &mut [Item],
     count: &mut usize,
@@ -74,15 +86,12 @@ fn put_ranges(
     *place = 0;
     match found {
         Ok(ranges) => {
-            let Ok(items) = items_of(alloc, &ranges) else {
-                return 8;
-            };
-            let needed = items.len();
+            let needed = ranges.len();
             *count = needed;
             if out.len() < needed {
                 return 9;
             }
-            out[..needed].copy_from_slice(&items);
+            write_items(&ranges, out);
             0
         }
         Err(refusal) => {
@@ -93,11 +102,11 @@ fn put_ranges(
 }
 
 /// Writes where the input has each item of the part with that number to the front of `out`: of the certificates of signed
-/// data. At 0 `count` is how many items there are, at 9, where `out` has room for fewer, too, and otherwise 0. At 2 the
-/// items of the part with that number aren't listed, or no part has it. At 3 to 6 the input is no signed data, and
-/// `place` is where; at 8, for want of memory, it is an offset without use, and otherwise 0. At 10 an item isn't in the
-/// input as its value is written. Unless at 0 `out` is as it was.
-#[tactic(auto, using(crate::proofs::Listed::listed, crate::proofs::Listed::not_listed))]
+/// data, or of the recipients, the algorithm or the octets of enveloped data. At 0 `count` is how many items there are,
+/// at 9, where `out` has room for fewer, too, and otherwise 0. At 2 the items of the part with that number aren't listed,
+/// or no part has it. At 3 to 6 the input isn't what has the part, and `place` is where; at 8, for want of memory, it is
+/// an offset without use, and otherwise 0. At 10 an item is nowhere in the input. Unless at 0 `out` is as it was.
+#[tactic(auto, using(crate::proofs::Listed::listed_certificates, crate::proofs::Listed::listed_envelope, crate::proofs::Listed::not_listed))]
 #[unsafe(no_mangle)]
 pub extern "C" fn der_part_ranges(
     alloc: Global,
@@ -111,8 +120,11 @@ pub extern "C" fn der_part_ranges(
 {
     *count = 0;
     *place = 0;
-    if number != CERTIFICATES {
-        return 2;
+    if number == CERTIFICATES {
+        return put_ranges(certificate_ranges(alloc, input), out, count, place);
     }
-    put_ranges(alloc, certificate_ranges(alloc, input), out, count, place)
+    let Some(part) = envelope_part(number) else {
+        return 2;
+    };
+    put_ranges(envelope_ranges(alloc, part, input), out, count, place)
 }

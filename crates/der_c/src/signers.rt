@@ -1,13 +1,12 @@
 //! What a verifier needs of signers, as ranges of the input, for callers in C.
 
-ghost use Rattle.std.specs.Prelude.{◌≡◌, IfOk, map};
+ghost use Rattle.std.specs.Prelude.{◌≡◌, ◌≤◌, ◌++◌, length, drop, map};
 ghost use Rattle.der_c.specs.Signers.{covered_by, digest_in, octets_of, octets_or_none, is_there, place_of, row_of, status_of_refusal, FindsSigners};
 
 use crate::status_of;
 use signer_ranges::{Refusal, SignedRanges, SignerRanges, signer_ranges};
 use std::alloc::Global;
 use std::ops::Range;
-use x509_containers::Error;
 
 /// Octets of the input: `len` of them from `start` on. `der_range` of der.h.
 #[repr(C)]
@@ -120,14 +119,15 @@ fn row_of(ranges: &Option<SignerRanges>) -> Signer
     }
 }
 
-fn rows_of(alloc: Global, found: &[Option<SignerRanges>]) -> Result<Vec<Signer>, Error>
-    ensures { IfOk result (λ rows. rows.items ≡ map row_of found.now) }
+/// Writes rows to the front of `out`.
+#[tactic(auto, using(crate::proofs::Written::one_written, crate::proofs::Written::all_written))]
+fn write_rows(found: &[Option<SignerRanges>], out: &mut [Signer])
+    requires { length found.now ≤ length out.old }
+    ensures { out.new ≡ map row_of found.now ++ drop (length found.now) out.old }
 {
-    let mut rows = Vec::new(alloc);
-    for ranges in found {
-        rows.push(row_of(ranges))?;
+    for (index, ranges) in found.iter().enumerate() {
+        out[index] = row_of(ranges);
     }
-    Ok(rows)
 }
 
 fn status_of_refusal(refusal: Refusal) -> u32
@@ -151,8 +151,8 @@ fn place_of(refusal: Refusal) -> usize
 /// What a verifier needs of the signers of signed data, from the one with the index `first` on, as many as `out` has room
 /// for: at 0 their rows are at the front of `out`, and `count` is how many signers there are in all, otherwise 0. At 3
 /// to 6 the input is no signed data, and `place` is where; at 8, for want of memory, it is an offset without use, and
-/// otherwise 0. At 10 a part isn't in the input as its value is written. Unless at 0 `out` is as it was.
-#[tactic(auto, using(crate::proofs::Rows::signers_refused, crate::proofs::Rows::no_memory))]
+/// otherwise 0. At 10 a part is nowhere in the input. Unless at 0 `out` is as it was.
+#[tactic(auto, using(crate::proofs::Rows::signers_refused, crate::proofs::Rows::rows_found, crate::proofs::Rows::rows_fit))]
 #[unsafe(no_mangle)]
 pub extern "C" fn der_signer_rows(
     alloc: Global,
@@ -168,12 +168,7 @@ pub extern "C" fn der_signer_rows(
     *place = 0;
     match signer_ranges(alloc, input, first, out.len()) {
         Ok(signers) => {
-            let Ok(rows) = rows_of(alloc, &signers.found) else {
-                return 8;
-            };
-            let written = rows.as_slice();
-            let len = written.len();
-            out[..len].copy_from_slice(written);
+            write_rows(&signers.found, out);
             *count = signers.count;
             0
         }

@@ -1,9 +1,10 @@
 -- Where an input has all items of a part.
 use Rattle.std.specs.Prelude.{◌≡◌, ◌≤◌, ℕ, List, length, map, All, slice_range}
+use Rattle.std.specs.List.{Any}
 use Rattle.std.specs.declared.ops.Range.{Range}
 use Rattle.asn1_core.specs.Der.{ElementOctets}
 use Rattle.asn1_core_format.specs.Whole.{IsValueOf}
-use Rattle.signer_ranges.specs.Signers.{FileValue, certificates_of, signed_file}
+use Rattle.signer_ranges.specs.Signers.{FileValue, certificates_of, IsNowhere, signed_file}
 
 -- the octets of the input in a range
 abbrev pub octets_in : List ℕ → Range ℕ → List ℕ
@@ -23,3 +24,13 @@ pub record AreCertificatesAt (b : List ℕ) (ranges : List (Range ℕ)) : Type 0
   pub value : FileValue
   pub is_value : IsValueOf signed_file 64 b value
   pub items : AreAt b (certificates_of value) ranges
+
+-- an item is nowhere in the input
+abbrev pub LacksItem : List ℕ → List ElementOctets → Type 0
+LacksItem b items = Any (IsNowhere b) items
+
+-- the input is signed data, and a certificate of it is nowhere in the input
+pub record LacksCertificate (b : List ℕ) : Type 0 where
+  pub value : FileValue
+  pub is_value : IsValueOf signed_file 64 b value
+  pub lacks : LacksItem b (certificates_of value)

@@ -1,13 +1,13 @@
 -- What signed attributes say of the content.
 use Rattle.std.specs.Prelude.{◌≡◌, ◌≢◌, ◌↔◌, IsTrue, ℕ, Bool, true, false, List, [], ◌∷◌, Option, None, Some}
 use Rattle.std.proofs.Common.{refl, sym, ap, subst, ◌∙◌, inl, inr, true≢false}
-use Rattle.std.specs.declared.ops.Range.{Range}
 use Rattle.asn1_core.specs.Der.{Format, object_identifier, lawful_object_identifier, octet_string, option_value, ElementOctets, Octets, OidOctets}
 use Rattle.asn1_core_element.specs.declared.error.Error.{Error}
 use Rattle.asn1_core_element.specs.declared.error.Error.TheVariants.{Memory}
 use Rattle.asn1_core_format.specs.Whole.{value_of}
 use Rattle.pkcs7_attributes.specs.NamedAttributes.{content_type_oid, message_digest_oid}
-use Rattle.signer_ranges.specs.Signers.{AreSignedOrBroken, HasEmptySet, IsAt, OnlyOrNone, SignsOrNone}
+use Rattle.signer_ranges.specs.Pieces.{IsDigestOrBroken}
+use Rattle.signer_ranges.specs.Signers.{HasEmptySet, IsAt, OnlyOrNone, SignsOrNone}
 use Rattle.x509_base.specs.AttributesByOid.{with_oid, IsOnlyOf, HasNoOnly}
 use Rattle.x509_base.specs.Names.{attribute}
 
@@ -43,16 +43,22 @@ module _ (attrs : List attribute.Value) (type : OidOctets) (b : Bool) (s : IsTru
   pub signs_no_type : false ≡ b → SignsOrNone attrs type None
   signs_no_type f digest r = true≢false (sym (s.1 r.content) ∙ sym f)
 
+pub not_empty : (attrs : List attribute.Value) (empty : Bool) → (IsTrue empty ↔ (attrs ≡ [])) → false ≡ empty → attrs ≢ []
+not_empty attrs empty s e h = true≢false (sym (s.1 h) ∙ sym e)
+
 module _ (attrs : List attribute.Value) (type : OidOctets) {T : Type 0} (f : T → Octets) (d : Option T) (none : d ≡ None) where
   pub signs_no_digest : OnlyOrNone octet_string (with_oid message_digest_oid attrs) (option_value f d) → SignsOrNone attrs type None
   signs_no_digest n digest r = subst (λ o. OnlyOrNone octet_string (with_oid message_digest_oid attrs) (option_value f o)) none n digest r.message
 
-  pub is_broken : (b : List ℕ) (empty : Bool) → (IsTrue empty ↔ (attrs ≡ [])) → false ≡ empty → SignsOrNone attrs type (option_value f d) → AreSignedOrBroken b attrs type None
-  is_broken b empty s e n = inl (λ h. true≢false (sym (s.1 h) ∙ sym e), subst (λ o. SignsOrNone attrs type (option_value f o)) none n)
+  pub is_broken : (b : List ℕ) (empty : Bool) → (IsTrue empty ↔ (attrs ≡ [])) → false ≡ empty → SignsOrNone attrs type (option_value f d) → IsDigestOrBroken b attrs type None
+  is_broken b empty s e n = inl (not_empty attrs empty s e, subst (λ o. SignsOrNone attrs type (option_value f o)) none n)
 
--- an empty set where a range is
-pub empty_set : (b : List ℕ) (r : Range ℕ) → IsAt b (0xA0 ∷ 0x00 ∷ []) r.start r.end → HasEmptySet b
-empty_set b r h = record { start = r.start; end = r.end; is = h }
+-- an empty set where it is looked for
+pub is_empty_set : (b : List ℕ) (start end : ℕ) (there : Bool) → (IsTrue there ↔ IsAt b (0xA0 ∷ 0x00 ∷ []) start end) → IsTrue there → HasEmptySet b
+is_empty_set b start end there is t = record { start = start; end = end; is = is.0 t }
 
-pub is_emptied : (attrs : List attribute.Value) (type : OidOctets) (b : List ℕ) → (IsTrue true ↔ (attrs ≡ [])) → (IsTrue true → HasEmptySet b) → AreSignedOrBroken b attrs type None
+pub is_emptied : (attrs : List attribute.Value) (type : OidOctets) (b : List ℕ) → (IsTrue true ↔ (attrs ≡ [])) → (IsTrue true → HasEmptySet b) → IsDigestOrBroken b attrs type None
 is_emptied attrs type b s h = inr (s.0 refl, h refl)
+
+pub is_signed : (attrs : List attribute.Value) (type : OidOctets) (b : List ℕ) (empty : Bool) (digest : Octets) → (IsTrue empty ↔ (attrs ≡ [])) → false ≡ empty → SignsOrNone attrs type (Some digest) → IsDigestOrBroken b attrs type (Some (Some digest))
+is_signed attrs type b empty digest s e d = (not_empty attrs empty s e, d)

@@ -1,2 +1,4 @@
+pub mod Failures
 pub mod Signers
 pub mod Files
+pub mod Pieces

@@ -1,9 +1,10 @@
 -- What a verification of a signer needs, as ranges of the file (RFC 5652, 5.3 to 5.6, 11.1 and 11.2).
-use Rattle.std.specs.Prelude.{◌≡◌, ◌≢◌, ◌≤◌, ◌⊎◌, ℕ, List, [], ◌∷◌, length, take, drop, map, Option, None, Some, slice_range}
+use Rattle.std.specs.Prelude.{◌≡◌, ◌≢◌, ◌≤◌, ◌⊎◌, ℕ, List, [], ◌∷◌, ◌++◌, length, take, drop, map, Option, None, Some, slice_range}
+use Rattle.std.specs.List.{Any}
 use Rattle.std.specs.declared.ops.Range.{Range}
 use Rattle.asn1_core.specs.Asn1.{SEQUENCE}
 use Rattle.asn1_core.specs.Der.{Format, object_identifier, octet_string, ElementOctets, Octets, OidOctets}
-use Rattle.asn1_core_format.specs.Whole.{IsValueOf, HasNoValue}
+use Rattle.asn1_core_format.specs.Whole.{IsValueOf}
 use Rattle.pkcs7_attributes.specs.Attributes.{attributes}
 use Rattle.pkcs7_attributes.specs.NamedAttributes.{content_type_oid, message_digest_oid}
 use Rattle.pkcs7_signed_crl.specs.SignerParts.{signer_identifier}
@@ -12,13 +13,13 @@ use Rattle.x509_base.specs.AttributesByOid.{with_oid, IsOnlyOf}
 use Rattle.x509_base.specs.Names.{attribute}
 use Rattle.x509_pkcs7.specs.Matches.{choice_octets, IsSigners, IsFirst}
 use Rattle.x509_pkcs7.specs.RawContents.{raw_encapsulated_content_info}
-use Rattle.x509_pkcs7.specs.RawHashed.{content_of, IsRawHashed}
+use Rattle.x509_pkcs7.specs.RawHashed.{content_of, IsNoElement, IsRawHashed}
 use Rattle.x509_pkcs7.specs.RawSigned.{RawCertificateValue, raw_certificate}
 use Rattle.x509_pkcs7.specs.RawSigners.{raw_signer_info}
+use Rattle.signer_ranges.specs.Failures.{IsRefusalOf}
 use Rattle.signer_ranges.specs.declared.ranges.SignedRanges.{SignedRanges}
 use Rattle.signer_ranges.specs.declared.ranges.SignerRanges.{SignerRanges}
 use Rattle.signer_ranges.specs.declared.ranges.Refusal.{Refusal}
-use Rattle.signer_ranges.specs.declared.ranges.Refusal.TheVariants.{Refused, NoRange}
 
 abbrev pub SignerValue : Type 0
 SignerValue = raw_signer_info.Value
@@ -110,11 +111,6 @@ abbrev pub AreAdjacent : Option SignedRanges → Range ℕ → Range ℕ → Typ
 AreAdjacent None digest signature = signature.start ≡ digest.end
 AreAdjacent (Some r) digest signature = (r.attributes.start ≡ digest.end) × (signature.start ≡ r.attributes.end)
 
--- nothing where there are attributes that aren't as they have to be
-abbrev pub AreSignedOrBroken : List ℕ → List attribute.Value → OidOctets → Option (Option SignedRanges) → Type 0
-AreSignedOrBroken b attrs content_type None = AreBroken b attrs content_type
-AreSignedOrBroken b attrs content_type (Some r) = AreSignedOrNone b attrs content_type r
-
 -- the octets of the content that are hashed, or none where the signature is detached
 abbrev pub IsContentAt : List ℕ → FileValue → Option (Range ℕ) → Type 0
 IsContentAt b v r = (octets : Option Octets) × IsRawHashed (content_of (content_info_of v)) octets × IsAtOrNone b octets r
@@ -158,12 +154,46 @@ pub record AreFound (b : List ℕ) (first most count : ℕ) (found : List (Optio
   pub is_value : IsValueOf signed_file 64 b value
   pub part : IsPartOf b value first most count found
 
--- the input is signed data. Which part has no range isn't described.
-pub record HasNoRange (b : List ℕ) : Type 0 where
+-- these octets are nowhere in the input
+abbrev pub IsNowhere : List ℕ → List ℕ → Type 0
+IsNowhere b octets = (start end : ℕ) → IsAt b octets start end → ⊥
+
+-- signed attributes as the file has them, under the tag [0]: nothing where there are none
+abbrev pub attributes_text : List attribute.Value → List ℕ
+attributes_text [] = []
+attributes_text (a ∷ attrs) = attributes.format.text (a ∷ attrs)
+
+abbrev pub algorithm_text : algorithm_identifier.Value → List ℕ
+algorithm_text a = (SEQUENCE algorithm_identifier).format.text a
+
+-- the algorithms of a signer, with the signed attributes between them (RFC 5652, 5.3)
+abbrev pub algorithms_text : SignerValue → List ℕ
+algorithms_text s = algorithm_text (digest_algorithm_of s) ++ (attributes_text (signed_of s) ++ algorithm_text (signature_algorithm_of s))
+
+-- these are the octets of a part of a signer s of signed data v: of both algorithms with the signed attributes between
+-- them, of messageDigest, of the signature or of the certificate
+abbrev pub IsSignerPart : FileValue → SignerValue → List ℕ → Type 0
+IsSignerPart v s octets =
+    (octets ≡ algorithms_text s) ⊎ (Signs (signed_of s) (content_info_of v).0 octets ⊎ ((octets ≡ signature_of s) ⊎ IsFirst (IsSigners (sid_of s)) (certificates_of v) (Some octets)))
+
+-- a part of a signer is nowhere in the input
+abbrev pub LacksPart : List ℕ → FileValue → SignerValue → Type 0
+LacksPart b v s = (octets : List ℕ) × IsSignerPart v s octets × IsNowhere b octets
+
+-- the content is nowhere in the input, or no one element
+abbrev pub LacksContent : List ℕ → FileValue → Type 0
+LacksContent b v = IsNoElement (content_of (content_info_of v)) ⊎ ((octets : Octets) × IsRawHashed (content_of (content_info_of v)) (Some octets) × IsNowhere b octets)
+
+-- the content is nowhere in the input, or a part of one of at most `most` signers from one on
+abbrev pub LacksRange : List ℕ → FileValue → ℕ → ℕ → Type 0
+LacksRange b v first most = LacksContent b v ⊎ Any (LacksPart b v) (take most (drop first (signers_of v)))
+
+-- the input is signed data that lacks a range
+pub record HasNoRange (b : List ℕ) (first most : ℕ) : Type 0 where
   pub value : FileValue
   pub is_value : IsValueOf signed_file 64 b value
+  pub lacks : LacksRange b value first most
 
--- why there are none: the input is no signed data, or memory was refused, or it is signed data, and a part has no range
-abbrev pub IsRefusal : List ℕ → Refusal → Type 0
-IsRefusal b (Refused e place) = HasNoValue signed_file 64 b e × (place ≤ length b)
-IsRefusal b NoRange = HasNoRange b
+-- why there are none: the input is no signed data, or memory was refused, or it is signed data that lacks a range
+abbrev pub IsRefusal : List ℕ → Type 0 → Refusal → Type 0
+IsRefusal b Lacks = IsRefusalOf signed_file b Lacks

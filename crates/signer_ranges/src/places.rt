@@ -1,5 +1,8 @@
 //! Where elements are in an input. Nothing is said of what they are: callers compare.
 
+ghost use Rattle.std.specs.Prelude.{◌≡◌, IfErr};
+ghost use Rattle.asn1_core_element.specs.declared.error.Error.TheVariants.{Memory};
+
 use asn1_core::Error;
 use asn1_core_element::front::front;
 use std::alloc::Global;
@@ -11,6 +14,30 @@ pub(crate) struct Place {
     pub start: usize,
     pub contents: usize,
     pub end: usize,
+}
+
+/// Where to look where no element is found.
+const BEGINNING: Place = Place {
+    tag: 0,
+    start: 0,
+    contents: 0,
+    end: 0,
+};
+
+/// Where an element begins, if it is found.
+pub(crate) fn start_of(place: Option<Place>) -> usize {
+    match place {
+        Some(place) => place.start,
+        None => 0,
+    }
+}
+
+/// Where the contents of an element begin, if it is found.
+pub(crate) fn contents_of(place: Option<Place>) -> usize {
+    match place {
+        Some(place) => place.contents,
+        None => 0,
+    }
 }
 
 /// The element that begins there.
@@ -61,7 +88,18 @@ pub(crate) struct FilePlaces {
 }
 
 /// Where the parts of signed data are, in an input that is read as such.
-pub(crate) fn file_places(input: &[u8]) -> Option<FilePlaces> {
+pub(crate) fn file_places(input: &[u8]) -> FilePlaces {
+    match places_of_file(input) {
+        Some(places) => places,
+        None => FilePlaces {
+            content: None,
+            certificate: None,
+            signer: None,
+        },
+    }
+}
+
+fn places_of_file(input: &[u8]) -> Option<FilePlaces> {
     let content_type = place_at(input, 0)?.inside(input)?;
     let version = content_type.after(input)?.inside(input)?.inside(input)?;
     let content_info = version.after(input)?.after(input)?;
@@ -80,12 +118,23 @@ pub(crate) struct SignerPlaces {
     pub digest_algorithm: Place,
     /// The signed attributes, where there are any.
     pub attributes: Place,
-    pub signature_algorithm: Place,
     pub signature: Place,
 }
 
 /// Where the parts of a signer are that begins there.
-pub(crate) fn signer_places(input: &[u8], signer: Place) -> Option<SignerPlaces> {
+pub(crate) fn signer_places(input: &[u8], signer: Option<Place>) -> SignerPlaces {
+    match places_of_signer(input, signer) {
+        Some(places) => places,
+        None => SignerPlaces {
+            digest_algorithm: BEGINNING,
+            attributes: BEGINNING,
+            signature: BEGINNING,
+        },
+    }
+}
+
+fn places_of_signer(input: &[u8], signer: Option<Place>) -> Option<SignerPlaces> {
+    let signer = signer?;
     let version = signer.inside(input)?;
     let digest_algorithm = version.after(input)?.after(input)?;
     let attributes = digest_algorithm.after(input)?;
@@ -93,7 +142,6 @@ pub(crate) fn signer_places(input: &[u8], signer: Place) -> Option<SignerPlaces>
     Some(SignerPlaces {
         digest_algorithm,
         attributes,
-        signature_algorithm,
         signature: signature_algorithm.after(input)?,
     })
 }
@@ -113,7 +161,9 @@ pub(crate) fn places_from(
     input: &[u8],
     first: Option<Place>,
     count: usize,
-) -> Result<Vec<Place>, Error> {
+) -> Result<Vec<Place>, Error>
+    ensures { IfErr result (λ e. e ≡ Memory) }
+{
     let mut found = Vec::new(alloc);
     let mut next = first;
     for _ in 0..count {

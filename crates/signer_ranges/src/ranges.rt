@@ -1,11 +1,9 @@
-//! What is found of signers, and whether octets are where they are looked for.
+//! What is found of signers.
 
-ghost use Rattle.std.specs.Prelude.{◌↔◌, IsTrue, MatchResult, IfOk};
-ghost use Rattle.signer_ranges.specs.Signers.{AreAdjacent, IsAt};
+ghost use Rattle.std.specs.Prelude.{◌≡◌};
+ghost use Rattle.signer_ranges.specs.Failures.{refusal_of};
 
-use crate::places::Place;
-use asn1_core::{DerSerialize, Error, to_vec};
-use std::alloc::Global;
+use asn1_core::Error;
 use std::ops::Range;
 
 /// Signed attributes, with the digest among them.
@@ -50,82 +48,28 @@ pub struct Signers {
 pub enum Refusal {
     /// The input isn't signed data: why, and where, as `from_bytes_located` says. Or memory was refused.
     Refused(Error, usize),
-    /// The input is signed data, and a part isn't in it as its value is written.
+    /// The input is signed data, and the octets of a part are nowhere in it.
     NoRange,
 }
 
-/// The range, where the input has these octets there.
-pub(crate) fn range_of(
-    input: &[u8],
-    start: usize,
-    end: usize,
-    octets: &[u8],
-) -> Result<Range<usize>, Error>
-    ensures { IfOk result (λ r. IsAt input.now octets.now r.start r.end) }
-{
-    if start > end || end > input.len() {
-        return Err(Error::Missing);
-    }
-    if &input[start..end] != octets {
-        return Err(Error::Missing);
-    }
-    Ok(start..end)
+/// Where the algorithms of a signer are, and its signed attributes, which are between them.
+#[derive(Drop)]
+pub(crate) struct AlgorithmRanges {
+    pub digest: Range<usize>,
+    pub attributes: Range<usize>,
+    pub signature: Range<usize>,
 }
 
-/// Whether the algorithms of a signer follow one another, with the signed attributes between them where there are any.
-pub(crate) fn are_adjacent(
-    signed: &Option<SignedRanges>,
-    digest_algorithm: &Range<usize>,
-    signature_algorithm: &Range<usize>,
-) -> bool
-    ensures { IsTrue result ↔ AreAdjacent signed.now digest_algorithm.now signature_algorithm.now }
+/// What is answered where the parts of a file that was read aren't found.
+pub fn refusal_of(error: Error) -> Refusal
+    ensures { result ≡ refusal_of error }
 {
-    match signed {
-        Some(signed) => {
-            let attributes = &signed.attributes;
-            attributes.start == digest_algorithm.end && signature_algorithm.start == attributes.end
-        }
-        None => signature_algorithm.start == digest_algorithm.end,
+    match error {
+        Error::Malformed => Refusal::NoRange,
+        Error::Missing => Refusal::NoRange,
+        Error::Invalid => Refusal::NoRange,
+        Error::TooDeep => Refusal::NoRange,
+        Error::TooLong => Refusal::NoRange,
+        Error::Memory => Refusal::Refused(Error::Memory, 0),
     }
-}
-
-/// The range of an element.
-pub(crate) fn element_range(
-    input: &[u8],
-    place: Option<Place>,
-    octets: &[u8],
-) -> Result<Range<usize>, Error>
-    ensures { IfOk result (λ r. IsAt input.now octets.now r.start r.end) }
-{
-    match place {
-        Some(place) => range_of(input, place.start, place.end, octets),
-        None => Err(Error::Missing),
-    }
-}
-
-/// The range of the contents of an element.
-pub(crate) fn contents_range(
-    input: &[u8],
-    place: Option<Place>,
-    octets: &[u8],
-) -> Result<Range<usize>, Error>
-    ensures { IfOk result (λ r. IsAt input.now octets.now r.start r.end) }
-{
-    match place {
-        Some(place) => range_of(input, place.contents, place.end, octets),
-        None => Err(Error::Missing),
-    }
-}
-
-/// The range of the encoding of a value.
-pub(crate) fn encoding_range<T: DerSerialize>(
-    alloc: Global,
-    input: &[u8],
-    place: Place,
-    value: &T,
-) -> Result<Range<usize>, Error>
-    ensures { IfOk result (λ r. IsAt input.now (T.format.text (T.value value.now)) r.start r.end) }
-{
-    let octets = to_vec(alloc, value)?;
-    range_of(input, place.start, place.end, octets.as_slice())
 }

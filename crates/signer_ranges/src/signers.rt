@@ -1,25 +1,28 @@
 //! The ranges of each signer's parts, from one reading of the file.
 
-ghost use Rattle.std.specs.Prelude.{◌≡◌, ◌≢◌, ◌↔◌, [], IsTrue, Some, MatchResult, IfOk, map, take, drop};
+ghost use Rattle.std.specs.List.{Any};
+ghost use Rattle.std.specs.Prelude.{◌≡◌, ◌≢◌, ◌↔◌, IsTrue, Some, MatchResult, map, take, drop};
 ghost use Rattle.asn1_core.specs.Der.{object_identifier, octet_string, octets_of, option_value};
 ghost use Rattle.asn1_core_element.specs.declared.error.Error.TheVariants.{Memory};
 ghost use Rattle.pkcs7_attributes.specs.Attributes.{attributes_value};
 ghost use Rattle.pkcs7_attributes.specs.NamedAttributes.{content_type_oid, message_digest_oid};
 ghost use Rattle.pkcs7_signed_crl.specs.SignerParts.{signer_identifier_value};
+ghost use Rattle.signer_ranges.specs.Failures.{IsFailure};
 ghost use Rattle.signer_ranges.specs.Files.{file_value};
-ghost use Rattle.signer_ranges.specs.Signers.{AreFound, AreRangesOfAll, AreRangesOrNone, AreSignedAt, AreSignedOrBroken, certificates_of, HasEmptySet, IsAtOrNone, IsContentAt, IsPartOf, IsRefusal, OnlyOrNone, Signs, SignsOrNone};
+ghost use Rattle.signer_ranges.specs.Pieces.{AreSignedIn, IsDigestOrBroken, LacksDigest, LacksOctets};
+ghost use Rattle.signer_ranges.specs.Signers.{AreFound, AreRangesOfAll, AreRangesOrNone, attributes_text, certificates_of, HasEmptySet, HasNoRange, IsAt, IsAtOrNone, IsContentAt, IsPartOf, IsRefusal, LacksContent, LacksPart, LacksRange, OnlyOrNone, SignsOrNone};
 ghost use Rattle.x509_base.specs.AttributesByOid.{with_oid, IsOnlyOf};
 ghost use Rattle.x509_pkcs7.specs.AllSigners.{AreSigners};
 ghost use Rattle.x509_pkcs7.specs.Matches.{IsFirst, IsSigners};
 ghost use Rattle.x509_pkcs7.specs.RawSigners.{raw_signer_info_value};
 
+use crate::algorithms::{algorithm_ranges, is_none};
 use crate::places::{
-    Place, SignerPlaces, attribute_value_at, file_places, places_from, signer_places,
+    Place, SignerPlaces, attribute_value_at, contents_of, file_places, places_from, signer_places,
+    start_of,
 };
-use crate::ranges::{
-    Refusal, SignedRanges, SignerRanges, Signers, are_adjacent, contents_range, element_range,
-    encoding_range, range_of,
-};
+use crate::ranges::{AlgorithmRanges, Refusal, SignedRanges, SignerRanges, Signers, refusal_of};
+use crate::search::{is_there, range_of};
 use asn1_core::{Error, ObjectIdentifierAsn1, OctetStringAsn1, from_bytes_located};
 use asn1_core_oid::is_oid_of;
 use pkcs7_attributes::Attributes;
@@ -44,7 +47,7 @@ fn is_same(a: &ObjectIdentifierAsn1, b: &ObjectIdentifierAsn1) -> bool
 
 /// Why nothing is read doesn't matter, unless memory was refused: then this refuses too.
 fn without_answer(error: Error) -> Result<(), Error>
-    ensures { IfOk result (λ _. error ≢ Memory) }
+    ensures { MatchResult result (λ _. error ≢ Memory) (λ e. e ≡ Memory) }
 {
     match error {
         Error::Memory => Err(Error::Memory),
@@ -54,7 +57,9 @@ fn without_answer(error: Error) -> Result<(), Error>
 
 /// The only contentType. `None` where there is none, or more than one. Refuses by `Memory` alone, as the next one.
 fn only_type(alloc: Global, attributes: &Attributes) -> Result<Option<ObjectIdentifierAsn1>, Error>
-    ensures { IfOk result (λ t. OnlyOrNone object_identifier (with_oid content_type_oid (attributes_value attributes.now)) (option_value (λ oid. octets_of oid.0) t)) }
+    ensures { MatchResult result
+        (λ t. OnlyOrNone object_identifier (with_oid content_type_oid (attributes_value attributes.now)) (option_value (λ oid. octets_of oid.0) t))
+        (λ e. e ≡ Memory) }
 {
     match attributes.content_type(alloc) {
         Ok(Some(named)) => Ok(Some(named)),
@@ -68,7 +73,9 @@ fn only_type(alloc: Global, attributes: &Attributes) -> Result<Option<ObjectIden
 
 /// The only messageDigest. `None` where there is none, or more than one.
 fn only_digest(alloc: Global, attributes: &Attributes) -> Result<Option<OctetStringAsn1>, Error>
-    ensures { IfOk result (λ d. OnlyOrNone octet_string (with_oid message_digest_oid (attributes_value attributes.now)) (option_value (λ o. o.0.items) d)) }
+    ensures { MatchResult result
+        (λ d. OnlyOrNone octet_string (with_oid message_digest_oid (attributes_value attributes.now)) (option_value (λ o. o.0.items) d))
+        (λ e. e ≡ Memory) }
 {
     match attributes.message_digest(alloc) {
         Ok(Some(digest)) => Ok(Some(digest)),
@@ -86,7 +93,9 @@ fn names_type(
     attributes: &Attributes,
     content_type: &ObjectIdentifierAsn1,
 ) -> Result<bool, Error>
-    ensures { IfOk result (λ b. IsTrue b ↔ IsOnlyOf object_identifier (with_oid content_type_oid (attributes_value attributes.now)) (Some (octets_of content_type.now.0))) }
+    ensures { MatchResult result
+        (λ b. IsTrue b ↔ IsOnlyOf object_identifier (with_oid content_type_oid (attributes_value attributes.now)) (Some (octets_of content_type.now.0)))
+        (λ e. e ≡ Memory) }
 {
     match only_type(alloc, attributes)? {
         Some(named) => Ok(is_same(&named, content_type)),
@@ -101,7 +110,9 @@ fn signed_digest(
     attributes: &Attributes,
     content_type: &ObjectIdentifierAsn1,
 ) -> Result<Option<OctetStringAsn1>, Error>
-    ensures { IfOk result (λ d. SignsOrNone (attributes_value attributes.now) (octets_of content_type.now.0) (option_value (λ o. o.0.items) d)) }
+    ensures { MatchResult result
+        (λ d. SignsOrNone (attributes_value attributes.now) (octets_of content_type.now.0) (option_value (λ o. o.0.items) d))
+        (λ e. e ≡ Memory) }
 {
     let names = names_type(alloc, attributes, content_type)?;
     if !names {
@@ -123,48 +134,55 @@ fn digest_index(attributes: &[Attribute]) -> usize {
     0
 }
 
-/// Where attributes and their digest are.
+/// Where signed attributes and their digest are, where there are any.
+#[tactic(auto, using(crate::proofs::Pieces::are_signed_in, crate::proofs::Pieces::lacks_digest))]
 fn signed_ranges(
-    alloc: Global,
     input: &[u8],
     place: Place,
     attributes: &Attributes,
     content_type: &ObjectIdentifierAsn1,
-    digest: &OctetStringAsn1,
-) -> Result<SignedRanges, Error>
-    requires { Signs (attributes_value attributes.now) (octets_of content_type.now.0) digest.now.0.items }
-    ensures { IfOk result (λ r. AreSignedAt input.now (attributes_value attributes.now) (octets_of content_type.now.0) r) }
+    range: Range<usize>,
+    digest: Option<OctetStringAsn1>,
+) -> Result<Option<SignedRanges>, Error>
+    requires digest { IsDigestOrBroken input.now (attributes_value attributes.now) (octets_of content_type.now.0) (Some (option_value (λ o. o.0.items) digest)) }
+    requires range { IsAt input.now (attributes_text (attributes_value attributes.now)) range.start range.end }
+    ensures { MatchResult result
+        (λ r. AreSignedIn input.now (attributes_value attributes.now) (octets_of content_type.now.0) range r)
+        (λ e. IsFailure (LacksDigest input.now (attributes_value attributes.now) (octets_of content_type.now.0)) e) }
 {
-    let value = attribute_value_at(input, place, digest_index(&attributes.0.0));
-    let message_digest = contents_range(input, value, digest.0.as_slice())?;
-    let attributes = encoding_range(alloc, input, place, attributes)?;
-    Ok(SignedRanges {
-        attributes,
-        message_digest,
-    })
-}
-
-/// Whether the element is an empty set of signed attributes, which is read as none.
-#[tactic(auto, using(crate::proofs::Attributes::empty_set))]
-fn is_empty_set(input: &[u8], place: Place) -> bool
-    ensures { IsTrue result → HasEmptySet input.now }
-{
-    match range_of(input, place.start, place.end, &EMPTY_SET) {
-        Ok(_) => true,
-        Err(_) => false,
+    match digest {
+        Some(digest) => {
+            let value = attribute_value_at(input, place, digest_index(&attributes.0.0));
+            let message_digest = range_of(input, contents_of(value), digest.0.as_slice())?;
+            Ok(Some(SignedRanges {
+                attributes: range,
+                message_digest,
+            }))
+        }
+        None => Ok(None),
     }
 }
 
-/// The same where there are attributes. The outer `None` is said of those that aren't as they have to be.
-#[tactic(auto, using(crate::proofs::Attributes::is_broken, crate::proofs::Attributes::is_emptied))]
-fn signed_or_none(
+/// Whether the element is an empty set of signed attributes, which is read as none.
+#[tactic(auto, using(crate::proofs::Attributes::is_empty_set))]
+fn is_empty_set(input: &[u8], place: Place) -> bool
+    ensures { IsTrue result → HasEmptySet input.now }
+{
+    is_there(input, place.start, &EMPTY_SET)
+}
+
+/// The digest in signed attributes, where there are any. The outer `None` is said of those that aren't as they have to be.
+#[tactic(auto, using(crate::proofs::Attributes::is_broken, crate::proofs::Attributes::is_emptied, crate::proofs::Attributes::is_signed))]
+fn digest_or_none(
     alloc: Global,
     input: &[u8],
     place: Place,
     attributes: &Attributes,
     content_type: &ObjectIdentifierAsn1,
-) -> Result<Option<Option<SignedRanges>>, Error>
-    ensures { IfOk result (λ r. AreSignedOrBroken input.now (attributes_value attributes.now) (octets_of content_type.now.0) r) }
+) -> Result<Option<Option<OctetStringAsn1>>, Error>
+    ensures { MatchResult result
+        (λ d. IsDigestOrBroken input.now (attributes_value attributes.now) (octets_of content_type.now.0) (option_value (λ o. option_value (λ s. s.0.items) o) d))
+        (λ e. e ≡ Memory) }
 {
     if is_none(attributes) {
         if is_empty_set(input, place) {
@@ -173,31 +191,24 @@ fn signed_or_none(
         return Ok(Some(None));
     }
     match signed_digest(alloc, attributes, content_type)? {
-        Some(digest) => {
-            let signed = signed_ranges(alloc, input, place, attributes, content_type, &digest)?;
-            Ok(Some(Some(signed)))
-        }
+        Some(digest) => Ok(Some(Some(digest))),
         None => Ok(None),
     }
 }
 
-/// Whether there are no attributes.
-fn is_none(attributes: &Attributes) -> bool
-    ensures { IsTrue result ↔ (attributes_value attributes.now ≡ []) }
-{
-    attributes.0.0.is_empty()
-}
-
 /// Where the content's octets are. `None` where they aren't in the file.
+#[tactic(auto, using(crate::proofs::Lacks::no_element, crate::proofs::Lacks::no_content))]
 fn content_range(
     input: &[u8],
     file: &RawPkcs7Certificate,
     place: Option<Place>,
 ) -> Result<Option<Range<usize>>, Error>
-    ensures { IfOk result (λ r. IsContentAt input.now (file_value file.now) r) }
+    ensures { MatchResult result
+        (λ r. IsContentAt input.now (file_value file.now) r)
+        (λ e. IsFailure (LacksContent input.now (file_value file.now)) e) }
 {
     match file.signed_data.0.content_info.hashed_octets()? {
-        Some(octets) => Ok(Some(contents_range(input, place, octets)?)),
+        Some(octets) => Ok(Some(range_of(input, contents_of(place), octets)?)),
         None => Ok(None),
     }
 }
@@ -226,12 +237,14 @@ fn certificate_range(
     places: &[Place],
     certificate: Option<SignerCertificate<'_>>,
 ) -> Result<Option<Range<usize>>, Error>
-    ensures { IfOk result (λ r. IsAtOrNone input.now (option_value (λ f. f.element.now.0.items) certificate.entry) r) }
+    ensures { MatchResult result
+        (λ r. IsAtOrNone input.now (option_value (λ f. f.element.now.0.items) certificate.entry) r)
+        (λ e. IsFailure (LacksOctets input.now (option_value (λ f. f.element.now.0.items) certificate.entry)) e) }
 {
     match certificate {
         Some(found) => {
-            let place = place_with(places, found.index);
-            Ok(Some(element_range(input, place, found.element.0.as_slice())?))
+            let start = start_of(place_with(places, found.index));
+            Ok(Some(range_of(input, start, found.element.0.as_slice())?))
         }
         None => Ok(None),
     }
@@ -247,6 +260,7 @@ struct Known<'a> {
 }
 
 /// The ranges of a signer, whose certificate is known. `None` where its signed attributes aren't as they have to be.
+#[tactic(auto, using(crate::specs::Failures::memory_fails, crate::proofs::Lacks::no_algorithms, crate::proofs::Lacks::no_digest, crate::proofs::Lacks::no_signature, crate::proofs::Lacks::no_certificate, crate::proofs::Lacks::are_ranges))]
 fn ranges_of(
     alloc: Global,
     known: &Known<'_>,
@@ -256,33 +270,32 @@ fn ranges_of(
 ) -> Result<Option<SignerRanges>, Error>
     requires content { IsContentAt known.now.input.now (file_value known.now.file.now) known.now.content }
     requires certificate { IsFirst (IsSigners (signer_identifier_value signer.now.sid)) (certificates_of (file_value known.now.file.now)) (option_value (λ f. f.element.now.0.items) certificate) }
-    ensures { IfOk result (λ r. AreRangesOrNone known.now.input.now (file_value known.now.file.now) (raw_signer_info_value signer.now) r) }
+    ensures { MatchResult result
+        (λ r. AreRangesOrNone known.now.input.now (file_value known.now.file.now) (raw_signer_info_value signer.now) r)
+        (λ e. IsFailure (LacksPart known.now.input.now (file_value known.now.file.now) (raw_signer_info_value signer.now)) e) }
 {
     let input = known.input;
     let content_type = &known.file.signed_data.0.content_info.content_type;
     let attributes = &signer.signed_attrs.0;
-    let signed = match signed_or_none(alloc, input, places.attributes, attributes, content_type)? {
-        Some(signed) => signed,
+    let place = places.attributes;
+    let digest = match digest_or_none(alloc, input, place, attributes, content_type)? {
+        Some(digest) => digest,
         None => return Ok(None),
     };
-    let digest = encoding_range(
-        alloc,
-        input,
-        places.digest_algorithm,
-        &signer.digest_algorithm.0,
-    )?;
-    let algorithm = &signer.signature_algorithm.0;
-    let signature_algorithm = encoding_range(alloc, input, places.signature_algorithm, algorithm)?;
+    let found = algorithm_ranges(alloc, input, places.digest_algorithm.start, signer)?;
+    let AlgorithmRanges {
+        digest: digest_algorithm,
+        attributes: range,
+        signature: signature_algorithm,
+    } = found;
+    let signed = signed_ranges(input, place, attributes, content_type, range, digest)?;
     let octets = signer.signature.0.0.as_slice();
-    let signature = contents_range(input, Some(places.signature), octets)?;
+    let signature = range_of(input, places.signature.contents, octets)?;
     let certificate = certificate_range(input, &known.certificates, certificate)?;
-    if !are_adjacent(&signed, &digest, &signature_algorithm) {
-        return Err(Error::Missing);
-    }
     Ok(Some(SignerRanges {
         signed,
         content: copied(&known.content),
-        digest_algorithm: digest,
+        digest_algorithm,
         signature_algorithm,
         signature,
         certificate,
@@ -290,6 +303,7 @@ fn ranges_of(
 }
 
 /// The ranges of each of some signers that follow one another.
+#[tactic(auto, using(crate::specs::Failures::memory_fails, crate::proofs::Lacks::one_lacks, crate::proofs::Lacks::none_lacking))]
 fn ranges_of_all(
     alloc: Global,
     known: &Known<'_>,
@@ -299,23 +313,20 @@ fn ranges_of_all(
 ) -> Result<Vec<Option<SignerRanges>>, Error>
     requires content { IsContentAt known.now.input.now (file_value known.now.file.now) known.now.content }
     requires certificates { AreSigners (certificates_of (file_value known.now.file.now)) (map (λ s. signer_identifier_value s.sid) signers.now) (map (λ f. option_value (λ e. e.element.now.0.items) f) certificates.now) }
-    ensures { IfOk result (λ found. AreRangesOfAll known.now.input.now (file_value known.now.file.now) (map raw_signer_info_value signers.now) found.items) }
+    ensures { MatchResult result
+        (λ found. AreRangesOfAll known.now.input.now (file_value known.now.file.now) (map raw_signer_info_value signers.now) found.items)
+        (λ e. IsFailure (Any (LacksPart known.now.input.now (file_value known.now.file.now)) (map raw_signer_info_value signers.now)) e) }
 {
     let mut found = Vec::new(alloc);
     let mut next = first;
     for (index, signer) in signers.iter().enumerate() {
-        let Some(place) = next else {
-            return Err(Error::Missing);
-        };
-        let Some(places) = signer_places(known.input, place) else {
-            return Err(Error::Missing);
-        };
         let Some(certificate) = certificates.get(index) else {
             return Err(Error::Missing);
         };
+        let places = signer_places(known.input, next);
         let ranges = ranges_of(alloc, known, signer, places, *certificate)?;
         found.push(ranges)?;
-        next = place.after(known.input);
+        next = after(known.input, next);
     }
     Ok(found)
 }
@@ -339,7 +350,9 @@ fn names_of<'a>(
     alloc: Global,
     signers: &'a [RawSignerInfo],
 ) -> Result<Vec<&'a SignerIdentifier>, Error>
-    ensures { IfOk result (λ names. map (λ n. signer_identifier_value n.now) names.items ≡ map (λ s. signer_identifier_value s.sid) signers.now) }
+    ensures { MatchResult result
+        (λ names. map (λ n. signer_identifier_value n.now) names.items ≡ map (λ s. signer_identifier_value s.sid) signers.now)
+        (λ e. e ≡ Memory) }
 {
     let mut names = Vec::new(alloc);
     for signer in signers {
@@ -354,25 +367,31 @@ fn certificates_of_all<'a>(
     file: &'a RawPkcs7Certificate,
     signers: &[RawSignerInfo],
 ) -> Result<Vec<Option<SignerCertificate<'a>>>, Error>
-    ensures { IfOk result (λ found. AreSigners (certificates_of (file_value file.now)) (map (λ s. signer_identifier_value s.sid) signers.now) (map (λ f. option_value (λ e. e.element.now.0.items) f) found.items)) }
+    ensures { MatchResult result
+        (λ found. AreSigners (certificates_of (file_value file.now)) (map (λ s. signer_identifier_value s.sid) signers.now) (map (λ f. option_value (λ e. e.element.now.0.items) f) found.items))
+        (λ e. e ≡ Memory) }
 {
     let names = names_of(alloc, signers)?;
     let found = signer_certificates_at(alloc, &file.signed_data.0.certificates.0.0, &names)?;
     Ok(found)
 }
 
+/// The element that begins where this one ends.
+fn after(input: &[u8], place: Option<Place>) -> Option<Place> {
+    place?.after(input)
+}
+
 /// The element that so many others come before.
 fn nth(input: &[u8], first: Option<Place>, count: usize) -> Option<Place> {
     let mut next = first;
     for _ in 0..count {
-        if let Some(place) = next {
-            next = place.after(input);
-        }
+        next = after(input, next);
     }
     next
 }
 
 /// The ranges of some signers of a file that was read.
+#[tactic(auto, using(crate::specs::Failures::memory_fails, crate::proofs::Lacks::content_lacks, crate::proofs::Lacks::signer_lacks))]
 fn ranges_in(
     alloc: Global,
     input: &[u8],
@@ -380,11 +399,11 @@ fn ranges_in(
     first: usize,
     most: usize,
 ) -> Result<Signers, Error>
-    ensures { IfOk result (λ s. IsPartOf input.now (file_value file.now) first most s.count s.found.items) }
+    ensures { MatchResult result
+        (λ s. IsPartOf input.now (file_value file.now) first most s.count s.found.items)
+        (λ e. IsFailure (LacksRange input.now (file_value file.now) first most) e) }
 {
-    let Some(places) = file_places(input) else {
-        return Err(Error::Missing);
-    };
+    let places = file_places(input);
     let signed = &file.signed_data.0;
     let certificates = signed.certificates.0.0.len();
     let known = Known {
@@ -406,8 +425,9 @@ fn ranges_in(
 
 /// What a verification of signers needs, of at most `most` of them from the one with the index `first` on, in signed data
 /// with signers of every version and content of any type. Reads the input once, and compares the octets of each part
-/// with those in its range. Proved is what is in the ranges; that a range is that of the part itself, and not of equal
-/// octets, is tested, and so is that each part has a range.
+/// with those in its range. Proved is what is in the ranges, and that `NoRange` is answered only where the octets of a
+/// part are nowhere in the input; that a range is that of the part itself, and not of equal octets, is tested.
+#[tactic(auto, using(crate::proofs::Lacks::refused))]
 pub fn signer_ranges(
     alloc: Global,
     input: &[u8],
@@ -416,13 +436,12 @@ pub fn signer_ranges(
 ) -> Result<Signers, Refusal>
     ensures { MatchResult result
         (λ s. AreFound input.now first most s.count s.found.items)
-        (λ e. IsRefusal input.now e) }
+        (λ e. IsRefusal input.now (HasNoRange input.now first most) e) }
 {
     match from_bytes_located::<RawPkcs7Certificate>(alloc, input) {
         Ok(file) => match ranges_in(alloc, input, &file, first, most) {
             Ok(signers) => Ok(signers),
-            Err(Error::Memory) => Err(Refusal::Refused(Error::Memory, 0)),
-            Err(_) => Err(Refusal::NoRange),
+            Err(error) => Err(refusal_of(error)),
         },
         Err((error, place)) => Err(Refusal::Refused(error, place)),
     }

@@ -1,0 +1,97 @@
+//! Enveloped data under its content type (RFC 5652, 3 and 6.1), with recipients of every kind, each kept as it is.
+
+ghost use Rattle.std.specs.Prelude.{◌≡◌, ℕ, List};
+ghost use Rattle.asn1_core.specs.Der.{kept, lawful_only_oid, only_oid};
+ghost use Rattle.part_ranges.specs.Enveloped.{enveloped_data_oid, envelope, EnvelopeValue, envelope_value, lawful_envelope};
+
+use asn1_core::prelude::*;
+use std::alloc::Global;
+use x509_pkcs7::EnvelopedData;
+
+/// `id-envelopedData` (RFC 5652, 6.1)
+const ENVELOPED_DATA: [u8; 9] = [0x2A, 0x86, 0x48, 0x86, 0xF7, 0x0D, 0x01, 0x07, 0x03];
+
+/// `id-envelopedData`, and no other object identifier.
+#[derive(Drop)]
+struct EnvelopedDataType;
+
+impl Leaf for EnvelopedDataType {
+    ghost Value = { List ℕ };
+
+    ghost value = { λ _. enveloped_data_oid };
+
+    ghost spelling = { kept (λ c. c ≡ enveloped_data_oid) };
+
+    ghost MayLackMemory = { ⊥ };
+
+    fn from_contents(_alloc: Global, contents: &[u8]) -> Result<Self, Error> {
+        if contents != ENVELOPED_DATA.as_slice() {
+            return Err(Error::Invalid);
+        }
+        Ok(EnvelopedDataType)
+    }
+}
+
+impl DerSerialize for EnvelopedDataType {
+    ghost Value = { List ℕ };
+
+    ghost value = { λ _. enveloped_data_oid };
+
+    ghost format = { only_oid enveloped_data_oid };
+
+    fn put<W: Writer>(&self, w: &mut W) -> Result<(), WriteError> {
+        put_element(0x06, &ENVELOPED_DATA, w)
+    }
+
+    fn well_formed_at(&self, _limit: u8) -> bool {
+        true
+    }
+}
+
+impl DerDeserialize for EnvelopedDataType {
+    fn read(alloc: Global, r: &mut Reader<'_>, nest: u8) -> Result<Self, Error> {
+        read_leaf(alloc, r, nest, 0x06)
+    }
+
+    fn begins(tag: u8) -> bool {
+        tag == 0x06
+    }
+
+    ghost lawful = { lawful_only_oid enveloped_data_oid };
+}
+
+/// `ContentInfo ::= SEQUENCE { contentType ContentType, content [0] EXPLICIT ANY DEFINED BY contentType }` (RFC 5652,
+/// 3) of `id-envelopedData`, with recipients of the type `R`.
+#[derive(Drop)]
+pub struct Envelope<R = Asn1RawDer> {
+    pub enveloped_data: ExplicitContextTag0<EnvelopedData<R>>,
+}
+
+impl<R: DerSerialize> DerSerialize for Envelope<R> {
+    ghost Value = { EnvelopeValue R.Value };
+
+    ghost value = { envelope_value R.value };
+
+    ghost format = { envelope R.format };
+
+    fn put<W: Writer>(&self, w: &mut W) -> Result<(), WriteError> {
+        put_of!(self, w; (EnvelopedDataType), enveloped_data)
+    }
+
+    fn well_formed_at(&self, limit: u8) -> bool {
+        self.enveloped_data.well_formed_at(limit)
+    }
+}
+
+impl<R: DerDeserialize> DerDeserialize for Envelope<R> {
+    fn read(alloc: Global, r: &mut Reader<'_>, nest: u8) -> Result<Self, Error> {
+        let fields_of!((EnvelopedDataType), enveloped_data) = read_within(alloc, r, nest, 0x30)?;
+        Ok(Envelope { enveloped_data })
+    }
+
+    fn begins(tag: u8) -> bool {
+        tag == 0x30
+    }
+
+    ghost lawful = { lawful_envelope R.DerSerialize.format R.lawful };
+}
