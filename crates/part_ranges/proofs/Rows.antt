@@ -1,18 +1,19 @@
 -- Ranges of items, along lists.
-use Rattle.std.specs.Prelude.{◌≡◌, ℕ, ◌+◌, ◌<◌, List, [], ◌∷◌, ◌++◌, length, take, get_or, map, All}
+use Rattle.std.specs.Prelude.{◌≡◌, ℕ, ◌+◌, ◌<◌, List, [], ◌∷◌, ◌++◌, length, take, get_or, map, All, Result}
 use Rattle.std.specs.declared.ops.Range.{Range}
-use Rattle.std.proofs.Common.{refl, sym, ap, subst, ◌∙◌, arith}
+use Rattle.std.proofs.Common.{Vec, Global, refl, sym, ap, subst, ◌∙◌, arith}
 use Rattle.std.proofs.lemmas.List.{get_or-map, length-map, map-append, take_more}
 use Rattle.std.proofs.lemmas.List.Elements.{All-push}
 use Rattle.asn1_core_element.specs.declared.error.Error.{Error}
 use Rattle.asn1_core_format.specs.Whole.{IsValueOf}
+use Rattle.input_ranges.specs.Failures.{failure_of, IsFailure, is_refusal, refusal_of}
+use Rattle.input_ranges.specs.Ranges.{IsAt, IsNowhere}
+use Rattle.input_ranges.specs.declared.ranges.Refusal.{Refusal}
 use Rattle.pkcs7_signed_crl.specs.Certificates.{certificate_choices_value}
 use Rattle.pkcs7_signed_crl.specs.declared.certificates.CertificateChoices.{CertificateChoices}
-use Rattle.signer_ranges.specs.Signers.{FileValue, certificates_of, IsAt, IsNowhere, IsRefusal, signed_file}
-use Rattle.signer_ranges.specs.Failures.{failure_of, IsFailure, is_refusal, refusal_of}
-use Rattle.signer_ranges.specs.declared.ranges.Refusal.{Refusal}
+use Rattle.signer_ranges.specs.Signers.{FileValue, certificates_of, IsRefusal, signed_file}
 use Rattle.x509_pkcs7.specs.Matches.{choice_octets}
-use Rattle.part_ranges.specs.Ranges.{AreAt, IsInside, LacksCertificate, LacksItem, octets_in}
+use Rattle.part_ranges.specs.Ranges.{AreAt, FindsItems, IsInside, LacksCertificate, LacksItem, octets_in}
 
 module _ (b : List ℕ) {X : Type 0} (f : X → List ℕ) (xs : List X) (i : ℕ) (x : X) where
   -- the items up to one, and that one
@@ -32,22 +33,15 @@ module _ (b : List ℕ) {X : Type 0} (f : X → List ℕ) (xs : List X) (i : ℕ
   pub one_lacks : (e : Error) → i < length xs → x ≡ get_or xs i x → IsFailure (IsNowhere b (f x)) e → IsFailure (LacksItem b (map f xs)) e
   one_lacks e h g l = failure_of e (λ n. (i, f x, omega (arith, h, length-map xs f), get_or-map f xs i x (f x) h ∙ ap f (sym g), n)) l
 
-  pub one_lacks_at : (octets : List ℕ) (e : Error) → octets ≡ f x → i < length xs → x ≡ get_or xs i x → IsFailure (IsNowhere b octets) e → IsFailure (LacksItem b (map f xs)) e
-  one_lacks_at octets e w h g l = one_lacks e h g (subst (λ o. IsFailure (IsNowhere b o) e) w l)
-
 -- a list of two functions' values
 pub map_twice : {A B C : Type 0} (f : A → B) (g : B → C) (xs : List A) → map (λ x. g (f x)) xs ≡ map g (map f xs)
 map_twice f g [] = refl
 map_twice f g (x ∷ xs) = ap (λ ys. g (f x) ∷ ys) (map_twice f g xs)
 
 -- the certificates of a file
-pub of_file : (b : List ℕ) (cs ds : List CertificateChoices) (found : List (Range ℕ)) → ds ≡ cs → AreAt b (map (λ c. choice_octets (certificate_choices_value c)) ds) found → AreAt b (map choice_octets (map certificate_choices_value cs)) found
-of_file b cs ds found e a =
-    subst (λ items. AreAt b items found) (ap (map (λ c. choice_octets (certificate_choices_value c))) e ∙ map_twice certificate_choices_value choice_octets cs) a
-
-pub file_lacks : (b : List ℕ) (cs ds : List CertificateChoices) (e : Error) → ds ≡ cs → IsFailure (LacksItem b (map (λ c. choice_octets (certificate_choices_value c)) ds)) e → IsFailure (LacksItem b (map choice_octets (map certificate_choices_value cs))) e
-file_lacks b cs ds e g f =
-    subst (λ items. IsFailure (LacksItem b items) e) (ap (map (λ c. choice_octets (certificate_choices_value c))) g ∙ map_twice certificate_choices_value choice_octets cs) f
+pub of_file : (b : List ℕ) (cs ds : List CertificateChoices) (found : Result (Vec (Range ℕ) Global) Error) → ds ≡ cs → FindsItems b (map (λ c. choice_octets (certificate_choices_value c)) ds) found → FindsItems b (map choice_octets (map certificate_choices_value cs)) found
+of_file b cs ds found e f =
+    subst (λ items. FindsItems b items found) (ap (map (λ c. choice_octets (certificate_choices_value c))) e ∙ map_twice certificate_choices_value choice_octets cs) f
 
 pub refused : (b : List ℕ) (v : FileValue) (e : Error) (r : Refusal) → IsValueOf signed_file 64 b v → IsFailure (LacksItem b (certificates_of v)) e → r ≡ refusal_of e → IsRefusal b (LacksCertificate b) r
 refused b v e r is f g = is_refusal signed_file b (LacksCertificate b) e r g (failure_of e (λ l. record { value = v; is_value = is; lacks = l }) f)

@@ -1,18 +1,25 @@
 -- The ranges of a signer's attributes.
-use Rattle.std.specs.Prelude.{◌≡◌, ◌≤◌, ◌<◌, ℕ, List, length, get_or, map, Some}
+use Rattle.std.specs.Prelude.{◌≡◌, ◌≤◌, ◌<◌, ℕ, List, length, get_or, map, Result, Some}
 use Rattle.std.specs.declared.ops.Range.{Range}
-use Rattle.std.proofs.Common.{sym, ap, ◌∙◌, arith}
+use Rattle.std.proofs.Common.{Vec, Global, sym, ap, subst, ◌∙◌, arith}
 use Rattle.std.proofs.lemmas.List.{get_or-map, length-map}
 use Rattle.asn1_core_element.specs.declared.error.Error.{Error}
 use Rattle.asn1_core_format.specs.Whole.{IsValueOf}
-use Rattle.signer_ranges.specs.Failures.{failure_of, IsFailure, is_refusal, refusal_of}
-use Rattle.signer_ranges.specs.Signers.{FileValue, signed_file, signers_of}
-use Rattle.signer_ranges.specs.declared.ranges.Refusal.{Refusal}
+use Rattle.input_ranges.specs.Failures.{failure_of, IsFailure, is_refusal, refusal_of}
+use Rattle.input_ranges.specs.declared.ranges.Refusal.{Refusal}
+use Rattle.signer_ranges.specs.Signers.{FileValue, SignerValue, signed_file, signers_of}
+use Rattle.x509_base.specs.Names.{attribute_value}
+use Rattle.x509_base.specs.declared.names.Attribute.{Attribute}
 use Rattle.x509_pkcs7.specs.RawSigners.{raw_signer_info_value}
 use Rattle.x509_pkcs7.specs.declared.raw_signers.RawSignerInfo.{RawSignerInfo}
-use Rattle.part_ranges.specs.Ranges.{AreAt, LacksItem}
-use Rattle.part_ranges.specs.SignerAttributes.{AreAttributesIn, IsAttributeRefusal, IsSignerAt, LacksAttribute, LacksAttributeIn, texts_of}
+use Rattle.part_ranges.proofs.Rows.{map_twice}
+use Rattle.part_ranges.specs.Ranges.{AreAt, FindsItems, LacksItem}
+use Rattle.part_ranges.specs.SignerAttributes.{AreAttributesIn, attribute_text, attributes_of, IsAttributeRefusal, IsSignerAt, LacksAttribute, LacksAttributeIn, texts_of}
 use Rattle.part_ranges.specs.declared.attributes.AttributeSet.{AttributeSet}
+
+-- the attributes of a signer
+pub of_signer : (b : List ℕ) (set : AttributeSet) (s : SignerValue) (attrs : List Attribute) (found : Result (Vec (Range ℕ) Global) Error) → map attribute_value attrs ≡ attributes_of set s → FindsItems b (map (λ a. attribute_text (attribute_value a)) attrs) found → FindsItems b (texts_of set s) found
+of_signer b set s attrs found e f = subst (λ items. FindsItems b items found) (map_twice attribute_value attribute_text attrs ∙ ap (map attribute_text) e) f
 
 module _ (v : FileValue) (xs : List RawSignerInfo) (is : signers_of v ≡ map raw_signer_info_value xs) (index : ℕ) where
   pub fewer_signers : length xs ≤ index → length (signers_of v) ≤ index

@@ -6,8 +6,8 @@ use Rattle.std.proofs.Common.{arith}
 use Rattle.asn1_core.specs.Asn1.{ANY, SEQUENCE}
 use Rattle.asn1_core.specs.Der.{arcs, explicit, ElementOctets, followed_by, Format, IsLawful, lawful_explicit, lawful_nothing, lawful_only_oid, lawful_sequence, nothing, Octets, only_oid, part, sequence}
 use Rattle.asn1_core_format.specs.Whole.{IsValueOf}
-use Rattle.signer_ranges.specs.Failures.{IsRefusalOf}
-use Rattle.signer_ranges.specs.declared.ranges.Refusal.{Refusal}
+use Rattle.input_ranges.specs.Failures.{IsRefusalOf}
+use Rattle.input_ranges.specs.declared.ranges.Refusal.{Refusal}
 use Rattle.x509_base.specs.AlgorithmLaws.{algorithm_identifier}
 use Rattle.x509_pkcs7.specs.Enveloped.{encrypted_content_info, enveloped, enveloped_value, EnvelopedValue, lawful_enveloped}
 use Rattle.part_ranges.specs.Ranges.{AreAt, LacksItem}

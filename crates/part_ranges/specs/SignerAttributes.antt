@@ -4,8 +4,8 @@ use Rattle.std.specs.declared.ops.Range.{Range}
 use Rattle.asn1_core.specs.Asn1.{SEQUENCE}
 use Rattle.asn1_core.specs.Der.{ElementOctets}
 use Rattle.asn1_core_format.specs.Whole.{IsValueOf}
+use Rattle.input_ranges.specs.declared.ranges.Refusal.{Refusal}
 use Rattle.signer_ranges.specs.Signers.{FileValue, IsRefusal, signed_file, signed_of, signers_of, SignerValue}
-use Rattle.signer_ranges.specs.declared.ranges.Refusal.{Refusal}
 use Rattle.x509_base.specs.Names.{attribute}
 use Rattle.part_ranges.specs.Ranges.{AreAt, LacksItem}
 use Rattle.part_ranges.specs.declared.attributes.AttributeSet.{AttributeSet}

@@ -1,17 +1,18 @@
 //! The ranges of a signer's attributes, from one reading of the file.
 
-ghost use Rattle.std.specs.Prelude.{MatchResult, map};
+ghost use Rattle.std.specs.Prelude.{◌≡◌, MatchResult, map};
 ghost use Rattle.asn1_core.specs.Der.{option_value};
-ghost use Rattle.part_ranges.specs.Ranges.{AreAt, LacksItem};
-ghost use Rattle.part_ranges.specs.SignerAttributes.{AreAttributesAt, AreAttributesIn, attribute_text, IsAttributeRefusal, LacksAttributeIn, texts_of};
-ghost use Rattle.signer_ranges.specs.Failures.{IsFailure};
+ghost use Rattle.input_ranges.specs.Failures.{IsFailure};
+ghost use Rattle.part_ranges.specs.Ranges.{FindsItems};
+ghost use Rattle.part_ranges.specs.SignerAttributes.{AreAttributesAt, AreAttributesIn, attributes_of, IsAttributeRefusal, LacksAttributeIn, texts_of};
 ghost use Rattle.signer_ranges.specs.Files.{file_value};
 ghost use Rattle.x509_base.specs.Names.{attribute_value};
 ghost use Rattle.x509_pkcs7.specs.RawSigners.{raw_signer_info_value};
 
-use crate::places::{AttributePlaces, attribute_places};
+use crate::items::ranges_from;
 use asn1_core::{Error, from_bytes_located};
-use signer_ranges::{Refusal, encoding_range, refusal_of};
+use input_ranges::{Refusal, contents_of, nth_from, refusal_of};
+use signer_ranges::{file_places, signer_places};
 use std::alloc::Global;
 use std::ops::Range;
 use x509_base::Attribute;
@@ -24,58 +25,38 @@ pub enum AttributeSet {
     Unsigned,
 }
 
-/// The ranges of attributes that follow one another, the first of them from there on.
-#[tactic(auto, using(signer_ranges::specs::Failures::memory_fails))]
-fn ranges_from(
-    alloc: Global,
-    input: &[u8],
-    first: usize,
-    attributes: &[Attribute],
-) -> Result<Vec<Range<usize>>, Error>
-    ensures { MatchResult result
-        (λ found. AreAt input.now (map (λ a. attribute_text (attribute_value a)) attributes.now) found.items)
-        (λ e. IsFailure (LacksItem input.now (map (λ a. attribute_text (attribute_value a)) attributes.now)) e) }
+/// The attributes of a signer.
+fn attributes_of(set: AttributeSet, signer: &RawSignerInfo) -> &[Attribute]
+    ensures { map attribute_value result.now ≡ attributes_of set (raw_signer_info_value signer.now) }
 {
-    let mut found = Vec::new(alloc);
-    let mut next = first;
-    for attribute in attributes {
-        let range = encoding_range(alloc, input, next, attribute)?;
-        next = range.end;
-        found.push(range)?;
+    match set {
+        AttributeSet::Signed => signer.signed_attrs.0.0.0.as_slice(),
+        AttributeSet::Unsigned => signer.unsigned_attrs.0.0.as_slice(),
     }
-    Ok(found)
+}
+
+/// Where the first of them begins, in an input that is read as signed data, or else some other place.
+fn first_start(set: AttributeSet, index: usize, input: &[u8]) -> usize {
+    let signer = nth_from(input, file_places(input).signer, index);
+    let places = signer_places(input, signer);
+    match set {
+        AttributeSet::Signed => contents_of(places.attributes),
+        AttributeSet::Unsigned => contents_of(nth_from(input, places.signature, 1)),
+    }
 }
 
 /// The ranges of one signer's attributes.
+#[tactic(auto, using(crate::proofs::SignerAttributes::of_signer))]
 fn ranges_of(
     alloc: Global,
     set: AttributeSet,
     input: &[u8],
-    places: AttributePlaces,
+    start: usize,
     signer: &RawSignerInfo,
 ) -> Result<Vec<Range<usize>>, Error>
-    ensures { MatchResult result
-        (λ found. AreAt input.now (texts_of set (raw_signer_info_value signer.now)) found.items)
-        (λ e. IsFailure (LacksItem input.now (texts_of set (raw_signer_info_value signer.now))) e) }
+    ensures { FindsItems input.now (texts_of set (raw_signer_info_value signer.now)) result }
 {
-    match set {
-        AttributeSet::Signed => {
-            ranges_from(
-                alloc,
-                input,
-                places.signed,
-                signer.signed_attrs.0.0.0.as_slice(),
-            )
-        }
-        AttributeSet::Unsigned => {
-            ranges_from(
-                alloc,
-                input,
-                places.unsigned,
-                signer.unsigned_attrs.0.0.as_slice(),
-            )
-        }
-    }
+    ranges_from(alloc, input, start, attributes_of(set, signer))
 }
 
 /// The ranges of the attributes of the signer with an index, of a file that was read.
@@ -94,8 +75,8 @@ fn ranges_in(
     let Some(signer) = file.signed_data.0.signers_infos.0.0.get(index) else {
         return Ok(None);
     };
-    let places = attribute_places(input, index);
-    Ok(Some(ranges_of(alloc, set, input, places, signer)?))
+    let start = first_start(set, index, input);
+    Ok(Some(ranges_of(alloc, set, input, start, signer)?))
 }
 
 /// Where an input has each attribute of the signer with an index, in signed data with signers of every version and content

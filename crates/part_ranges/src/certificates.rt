@@ -1,60 +1,30 @@
 //! The ranges of all certificates of signed data, from one reading of the file.
 
-ghost use Rattle.std.specs.Prelude.{MatchResult, map};
-ghost use Rattle.part_ranges.specs.Ranges.{AreAt, AreCertificatesAt, LacksCertificate, LacksItem};
-ghost use Rattle.pkcs7_signed_crl.specs.Certificates.{certificate_choices_value};
-ghost use Rattle.signer_ranges.specs.Failures.{IsFailure};
+ghost use Rattle.std.specs.Prelude.{MatchResult};
+ghost use Rattle.part_ranges.specs.Ranges.{AreCertificatesAt, FindsItems, LacksCertificate};
 ghost use Rattle.signer_ranges.specs.Files.{file_value};
 ghost use Rattle.signer_ranges.specs.Signers.{IsRefusal, certificates_of};
-ghost use Rattle.x509_pkcs7.specs.Matches.{choice_octets};
 
-use crate::places::certificates_start;
+use crate::items::ranges_from;
 use asn1_core::{Error, from_bytes_located};
-use pkcs7_signed::CertificateChoices;
-use signer_ranges::{Refusal, range_of, refusal_of};
+use input_ranges::{Refusal, refusal_of, start_of};
+use signer_ranges::file_places;
 use std::alloc::Global;
 use std::ops::Range;
-use x509_pkcs7::{RawPkcs7Certificate, RawSignerInfo, certificate_element};
-
-/// The ranges of certificates that follow one another, the first of them from there on.
-#[tactic(auto, using(signer_ranges::specs::Failures::memory_fails))]
-fn ranges_from(
-    alloc: Global,
-    input: &[u8],
-    first: usize,
-    certificates: &[CertificateChoices],
-) -> Result<Vec<Range<usize>>, Error>
-    ensures { MatchResult result
-        (λ found. AreAt input.now (map (λ c. choice_octets (certificate_choices_value c)) certificates.now) found.items)
-        (λ e. IsFailure (LacksItem input.now (map (λ c. choice_octets (certificate_choices_value c)) certificates.now)) e) }
-{
-    let mut found = Vec::new(alloc);
-    let mut next = first;
-    for certificate in certificates {
-        let range = range_of(input, next, certificate_element(certificate).0.as_slice())?;
-        next = range.end;
-        found.push(range)?;
-    }
-    Ok(found)
-}
+use x509_pkcs7::{RawPkcs7Certificate, RawSignerInfo};
 
 /// The ranges of the certificates of a file that was read.
-#[tactic(auto, using(crate::proofs::Rows::of_file, crate::proofs::Rows::file_lacks))]
+#[tactic(auto, using(crate::proofs::Rows::of_file))]
 fn ranges_in(
     alloc: Global,
     input: &[u8],
     file: &RawPkcs7Certificate<RawSignerInfo>,
 ) -> Result<Vec<Range<usize>>, Error>
-    ensures { MatchResult result
-        (λ found. AreAt input.now (certificates_of (file_value file.now)) found.items)
-        (λ e. IsFailure (LacksItem input.now (certificates_of (file_value file.now))) e) }
+    ensures { FindsItems input.now (certificates_of (file_value file.now)) result }
 {
-    ranges_from(
-        alloc,
-        input,
-        certificates_start(input),
-        file.signed_data.0.certificates.0.0.as_slice(),
-    )
+    let start = start_of(file_places(input).certificate);
+    let certificates = file.signed_data.0.certificates.0.0.as_slice();
+    ranges_from(alloc, input, start, certificates)
 }
 
 /// Where an input has each certificate of signed data, with signers of every version and content of any type, in their

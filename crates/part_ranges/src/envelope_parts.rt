@@ -1,17 +1,19 @@
 //! The ranges of recipients, of the algorithm and of the octets of enveloped data.
 
-ghost use Rattle.std.specs.Prelude.{[], ◌∷◌, MatchResult, map};
+ghost use Rattle.std.specs.Prelude.{MatchResult};
 ghost use Rattle.asn1_core.specs.Der.{option_value};
-ghost use Rattle.part_ranges.specs.Enveloped.{AreEnvelopedAt, encrypted_of, encryption_text, envelope_value, IsEnvelopedRefusal, items_of, listed, recipients_of};
-ghost use Rattle.part_ranges.specs.Ranges.{AreAt, LacksItem};
-ghost use Rattle.signer_ranges.specs.Failures.{IsFailure};
+ghost use Rattle.part_ranges.specs.Enveloped.{AreEnvelopedAt, envelope_value, IsEnvelopedRefusal, items_of, listed};
+ghost use Rattle.part_ranges.specs.Ranges.{FindsItems};
 
 use crate::enveloped::Envelope;
-use crate::places::{EnvelopePlaces, envelope_places};
-use asn1_core::{Asn1RawDer, Error, from_bytes_located};
-use signer_ranges::{Refusal, encoding_range, range_of, refusal_of};
+use crate::items::ranges_from;
+use crate::places::part_start;
+use asn1_core::{Error, from_bytes_located};
+use input_ranges::{Refusal, refusal_of};
 use std::alloc::Global;
 use std::ops::Range;
+use std::slice;
+use x509_pkcs7::EncryptedContentInfo;
 
 /// A part of enveloped data.
 #[derive(Clone, Copy, Debug, PartialEq, Eq)]
@@ -24,73 +26,18 @@ pub enum EnvelopePart {
     EncryptedContent,
 }
 
-/// The ranges of elements that follow one another, the first of them from there on.
-#[tactic(auto, using(signer_ranges::specs::Failures::memory_fails))]
-fn element_ranges(
-    alloc: Global,
-    input: &[u8],
-    first: usize,
-    elements: &[Asn1RawDer],
-) -> Result<Vec<Range<usize>>, Error>
-    ensures { MatchResult result
-        (λ found. AreAt input.now (map (λ x. x.0.items) elements.now) found.items)
-        (λ e. IsFailure (LacksItem input.now (map (λ x. x.0.items) elements.now)) e) }
-{
-    let mut found = Vec::new(alloc);
-    let mut next = first;
-    for element in elements {
-        let range = range_of(input, next, element.0.as_slice())?;
-        next = range.end;
-        found.push(range)?;
-    }
-    Ok(found)
-}
-
-/// The range of the algorithm.
-#[tactic(auto, using(signer_ranges::specs::Failures::memory_fails, crate::proofs::Envelopes::one_at, crate::proofs::Envelopes::one_lacks))]
-fn algorithm_range(
-    alloc: Global,
-    input: &[u8],
-    start: usize,
-    file: &Envelope,
-) -> Result<Vec<Range<usize>>, Error>
-    ensures { MatchResult result
-        (λ found. AreAt input.now (encryption_text (envelope_value (λ x. x.0.items) file.now) ∷ []) found.items)
-        (λ e. IsFailure (LacksItem input.now (encryption_text (envelope_value (λ x. x.0.items) file.now) ∷ [])) e) }
-{
-    let info = &file.enveloped_data.0.encrypted_content_info;
-    let range = encoding_range(alloc, input, start, &info.content_encryption_algorithm)?;
-    let mut found = Vec::new(alloc);
-    found.push(range)?;
-    Ok(found)
-}
-
 /// The range of the octets, where they are there.
-#[tactic(auto, using(signer_ranges::specs::Failures::memory_fails, crate::proofs::Envelopes::one_at, crate::proofs::Envelopes::one_lacks, crate::proofs::Envelopes::none_at))]
 fn content_range(
     alloc: Global,
     input: &[u8],
     start: usize,
-    file: &Envelope,
+    info: &EncryptedContentInfo,
 ) -> Result<Vec<Range<usize>>, Error>
-    ensures { MatchResult result
-        (λ found. AreAt input.now (listed (encrypted_of (envelope_value (λ x. x.0.items) file.now))) found.items)
-        (λ e. IsFailure (LacksItem input.now (listed (encrypted_of (envelope_value (λ x. x.0.items) file.now)))) e) }
+    ensures { FindsItems input.now (listed (option_value (λ c. c.0.0.items) info.now.encrypted_content.0)) result }
 {
-    let mut found = Vec::new(alloc);
-    match &file
-        .enveloped_data
-        .0
-        .encrypted_content_info
-        .encrypted_content
-        .0
-    {
-        Some(content) => {
-            let range = range_of(input, start, content.0.0.as_slice())?;
-            found.push(range)?;
-            Ok(found)
-        }
-        None => Ok(found),
+    match &info.encrypted_content.0 {
+        Some(content) => ranges_from(alloc, input, start, slice::from_ref(&content.0)),
+        None => Ok(Vec::new(alloc)),
     }
 }
 
@@ -101,16 +48,16 @@ fn ranges_in(
     input: &[u8],
     file: &Envelope,
 ) -> Result<Vec<Range<usize>>, Error>
-    ensures { MatchResult result
-        (λ found. AreAt input.now (items_of part (envelope_value (λ x. x.0.items) file.now)) found.items)
-        (λ e. IsFailure (LacksItem input.now (items_of part (envelope_value (λ x. x.0.items) file.now))) e) }
+    ensures { FindsItems input.now (items_of part (envelope_value (λ x. x.0.items) file.now)) result }
 {
-    let places = envelope_places(input);
+    let start = part_start(part, input);
     let recipients = file.enveloped_data.0.recipient_infos.0.as_slice();
+    let info = &file.enveloped_data.0.encrypted_content_info;
+    let algorithm = slice::from_ref(&info.content_encryption_algorithm);
     match part {
-        EnvelopePart::Recipients => element_ranges(alloc, input, places.recipient, recipients),
-        EnvelopePart::EncryptionAlgorithm => algorithm_range(alloc, input, places.algorithm, file),
-        EnvelopePart::EncryptedContent => content_range(alloc, input, places.content, file),
+        EnvelopePart::Recipients => ranges_from(alloc, input, start, recipients),
+        EnvelopePart::EncryptionAlgorithm => ranges_from(alloc, input, start, algorithm),
+        EnvelopePart::EncryptedContent => content_range(alloc, input, start, info),
     }
 }
 

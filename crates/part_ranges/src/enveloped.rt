@@ -1,8 +1,12 @@
 //! Enveloped data under its content type (RFC 5652, 3 and 6.1), with recipients of every kind, each kept as it is.
 
-ghost use Rattle.std.specs.Prelude.{◌≡◌, ℕ, List};
-ghost use Rattle.asn1_core.specs.Der.{kept, lawful_only_oid, only_oid};
+ghost use Rattle.std.specs.Prelude.{◌≡◌, ℕ, List, map};
+ghost use Rattle.asn1_core.specs.Der.{kept, lawful_only_oid, list_equal, only_oid, option_equal, two_equal, with_end};
 ghost use Rattle.part_ranges.specs.Enveloped.{enveloped_data_oid, envelope, EnvelopeValue, envelope_value, lawful_envelope};
+ghost use Rattle.x509_base.specs.Names.{attribute_equal, attribute_value};
+ghost use Rattle.x509_pkcs7.specs.Enveloped.{encrypted_content_equal, originator_equal, originator_info_value};
+ghost use Rattle.x509_pkcs7.specs.RawSigned.{with_head};
+ghost use Rattle.x509_pkcs7.specs.Versions.{version_equal};
 
 use asn1_core::prelude::*;
 use std::alloc::Global;
@@ -62,7 +66,7 @@ impl DerDeserialize for EnvelopedDataType {
 
 /// `ContentInfo ::= SEQUENCE { contentType ContentType, content [0] EXPLICIT ANY DEFINED BY contentType }` (RFC 5652,
 /// 3) of `id-envelopedData`, with recipients of the type `R`.
-#[derive(Drop)]
+#[derive(Debug, Drop, PartialEq)]
 pub struct Envelope<R = Asn1RawDer> {
     pub enveloped_data: ExplicitContextTag0<EnvelopedData<R>>,
 }
@@ -94,4 +98,22 @@ impl<R: DerDeserialize> DerDeserialize for Envelope<R> {
     }
 
     ghost lawful = { lawful_envelope R.DerSerialize.format R.lawful };
+}
+
+impl<R: EqualByText> EqualByText for Envelope<R> {
+    ghost equal_by_text = { λ x y.
+        with_head (with_end
+        (two_equal (version_equal x.enveloped_data.0.version y.enveloped_data.0.version)
+        (two_equal (option_equal _ (λ o. originator_info_value o.0) (λ a b. originator_equal a.0 b.0) x.enveloped_data.0.originator_info.0 y.enveloped_data.0.originator_info.0)
+        (two_equal (list_equal R.eq R.DerSerialize.value R.equal_by_text x.enveloped_data.0.recipient_infos.0.items y.enveloped_data.0.recipient_infos.0.items)
+        (two_equal (encrypted_content_equal x.enveloped_data.0.encrypted_content_info y.enveloped_data.0.encrypted_content_info)
+        (with_end (option_equal _ (λ a. map attribute_value a.0.0.items) (λ a b. list_equal _ _ attribute_equal a.0.0.items b.0.0.items) x.enveloped_data.0.unprotected_attrs.0 y.enveloped_data.0.unprotected_attrs.0))))))) };
+}
+
+impl<R: TryClone + EqualByText> TryClone for Envelope<R> {
+    fn try_clone(&self, alloc: Global) -> Result<Self, Error> {
+        Ok(Envelope {
+            enveloped_data: self.enveloped_data.try_clone(alloc)?,
+        })
+    }
 }

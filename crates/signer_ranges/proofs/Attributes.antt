@@ -5,9 +5,10 @@ use Rattle.asn1_core.specs.Der.{Format, object_identifier, lawful_object_identif
 use Rattle.asn1_core_element.specs.declared.error.Error.{Error}
 use Rattle.asn1_core_element.specs.declared.error.Error.TheVariants.{Memory}
 use Rattle.asn1_core_format.specs.Whole.{value_of}
+use Rattle.input_ranges.specs.Ranges.{IsAt}
 use Rattle.pkcs7_attributes.specs.NamedAttributes.{content_type_oid, message_digest_oid}
 use Rattle.signer_ranges.specs.Pieces.{IsDigestOrBroken}
-use Rattle.signer_ranges.specs.Signers.{HasEmptySet, IsAt, OnlyOrNone, SignsOrNone}
+use Rattle.signer_ranges.specs.Signers.{HasEmptySet, OnlyOrNone, SignsOrNone}
 use Rattle.x509_base.specs.AttributesByOid.{with_oid, IsOnlyOf, HasNoOnly}
 use Rattle.x509_base.specs.Names.{attribute}
 

@@ -9,16 +9,17 @@ use Rattle.asn1_core.specs.Der.{ElementOctets, Octets}
 use Rattle.asn1_core_element.specs.declared.error.Error.{Error}
 use Rattle.asn1_core_element.specs.declared.error.Error.TheVariants.{Invalid}
 use Rattle.asn1_core_format.specs.Whole.{IsValueOf}
+use Rattle.input_ranges.specs.Failures.{failure_of, IsFailure, is_refusal, refusal_of}
+use Rattle.input_ranges.specs.Ranges.{IsAt, IsNowhere}
+use Rattle.input_ranges.specs.declared.ranges.Refusal.{Refusal}
 use Rattle.pkcs7_signed_crl.specs.SignerParts.{signer_identifier}
 use Rattle.x509_pkcs7.specs.AllSigners.{AreSigners}
 use Rattle.x509_pkcs7.specs.Matches.{IsFirst, IsSigners}
 use Rattle.x509_pkcs7.specs.RawHashed.{content_of, IsNoElement, IsRawHashed}
 use Rattle.x509_pkcs7.specs.RawSigners.{raw_signer_info_value}
 use Rattle.x509_pkcs7.specs.declared.raw_signers.RawSignerInfo.{RawSignerInfo}
-use Rattle.signer_ranges.specs.Failures.{failure_of, IsFailure, is_refusal, refusal_of}
 use Rattle.signer_ranges.specs.Pieces.{AreAlgorithmsAt, AreSignedIn, LacksDigest, LacksOctets}
-use Rattle.signer_ranges.specs.Signers.{FileValue, SignerValue, algorithms_text, AreAdjacent, AreRangesOf, AreSignedOrNone, attributes_text, certificates_of, content_info_of, HasNoRange, IsAt, IsCertificateAt, IsContentAt, IsNowhere, IsRefusal, LacksContent, LacksPart, LacksRange, sid_of, signature_of, signed_file, signed_of, signers_of}
-use Rattle.signer_ranges.specs.declared.ranges.Refusal.{Refusal}
+use Rattle.signer_ranges.specs.Signers.{FileValue, SignerValue, algorithms_text, AreAdjacent, AreRangesOf, AreSignedOrNone, attributes_text, certificates_of, content_info_of, HasNoRange, IsCertificateAt, IsContentAt, IsRefusal, LacksContent, LacksPart, LacksRange, sid_of, signature_of, signed_file, signed_of, signers_of}
 use Rattle.signer_ranges.specs.declared.ranges.SignedRanges.{SignedRanges}
 
 module _ (b : List ℕ) (v : FileValue) (e : Error) where

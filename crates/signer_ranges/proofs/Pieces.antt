@@ -1,7 +1,7 @@
 -- The algorithms of a signer, with the signed attributes between them.
-use Rattle.std.specs.Prelude.{◌≡◌, ◌≢◌, ◌↔◌, ℕ, ◌+◌, ◌-◌, ◌^◌, ◌<◌, ◌≤◌, List, [], ◌∷◌, ◌++◌, length, take, drop, Bool, true, false, IsTrue, Result, Some, slice_range}
+use Rattle.std.specs.Prelude.{◌≡◌, ◌≢◌, ◌↔◌, ℕ, ◌+◌, ◌-◌, ◌^◌, ◌<◌, List, [], ◌∷◌, ◌++◌, length, take, drop, Bool, true, false, IsTrue, Result, Some, slice_range}
 use Rattle.std.specs.declared.ops.Range.{Range}
-use Rattle.std.proofs.Common.{refl, sym, ap, subst, ◌∙◌, arith, ⊎_elim, length-append}
+use Rattle.std.proofs.Common.{refl, sym, ap, subst, ◌∙◌, arith, length-append}
 use Rattle.std.proofs.lemmas.List.{append_assoc, drop-drop, drop_at, take-take, take_at}
 use Rattle.std.proofs.lemmas.List.Edits.{length-between}
 use Rattle.std.proofs.lemmas.Slice.{between_is}
@@ -9,12 +9,14 @@ use Rattle.asn1_core.specs.Der.{Octets, OidOctets}
 use Rattle.asn1_core_element.specs.declared.error.Error.{Error}
 use Rattle.asn1_core_format.specs.Whole.{Written}
 use Rattle.asn1_core_writers.specs.Texts.{IsWriteError}
+use Rattle.input_ranges.proofs.Texts.{lacks_long}
+use Rattle.input_ranges.specs.Failures.{failure_of, IsFailure}
+use Rattle.input_ranges.specs.Ranges.{IsAt, IsNowhere}
 use Rattle.pkcs7_attributes.specs.Attributes.{attributes}
 use Rattle.x509_base.specs.Names.{attribute}
 use Rattle.signer_ranges.proofs.Attributes.{not_empty}
-use Rattle.signer_ranges.specs.Failures.{failure_of, IsFailure, memory_fails}
 use Rattle.signer_ranges.specs.Pieces.{AreAlgorithmsAt, AreSignedIn, LacksDigest}
-use Rattle.signer_ranges.specs.Signers.{SignerValue, algorithm_text, algorithms_text, attributes_text, digest_algorithm_of, IsAt, IsNowhere, signature_algorithm_of, signed_of, Signs}
+use Rattle.signer_ranges.specs.Signers.{SignerValue, algorithm_text, algorithms_text, attributes_text, digest_algorithm_of, signature_algorithm_of, signed_of, Signs}
 
 text_is : (attrs : List attribute.Value) → attrs ≢ [] → attributes_text attrs ≡ attributes.format.text attrs
 text_is [] h = absurd (h refl)
@@ -26,16 +28,6 @@ module _ (attrs : List attribute.Value) (empty : Bool) (is : IsTrue empty ↔ (a
 
   pub some_text : {A : Type 0} (items : A → List ℕ) (r : Result A Error) → false ≡ empty → Written items (attributes.format.text attrs) r → Written items (attributes_text attrs) r
   some_text items r f w = subst (λ t. Written items t r) (sym (text_is attrs (not_empty attrs empty is f))) w
-
--- what holds a text that is too long to be written is nowhere in an input
-lacks_long : (b t u : List ℕ) (e : Error) → IsWriteError t e → length b < 2 ^ 64 → length t ≤ length u → IsFailure (IsNowhere b u) e
-lacks_long b t u e w h l = ⊎_elim
-    (λ memory. memory_fails (IsNowhere b u) e memory)
-    (λ long. record { says = λ _ start end at. (let size : length (slice_range b start end) ≡ end - start = length-between b start end at.inside in omega (arith, h, l, long.1, size, ap length at.is, at.inside)) })
-    w
-
-pub lacks_encoding : (b t : List ℕ) (e : Error) → IsWriteError t e → length b < 2 ^ 64 → IsFailure (IsNowhere b t) e
-lacks_encoding b t e w h = lacks_long b t t e w h (omega arith)
 
 module _ (b x y z : List ℕ) (e : Error) where
   pub lacks_first : IsWriteError x e → length b < 2 ^ 64 → IsFailure (IsNowhere b (x ++ (y ++ z))) e

@@ -1,4 +1,3 @@
-pub mod Failures
 pub mod Signers
 pub mod Files
 pub mod Pieces

@@ -2,8 +2,9 @@
 use Rattle.std.specs.Prelude.{◌≡◌, ◌≢◌, ℕ, List, [], Option, None, Some}
 use Rattle.std.specs.declared.ops.Range.{Range}
 use Rattle.asn1_core.specs.Der.{Octets, OidOctets}
+use Rattle.input_ranges.specs.Ranges.{IsAt, IsNowhere}
 use Rattle.x509_base.specs.Names.{attribute}
-use Rattle.signer_ranges.specs.Signers.{SignerValue, algorithm_text, AreBroken, AreSignedAt, attributes_text, digest_algorithm_of, IsAt, IsNowhere, signature_algorithm_of, signed_of, Signs}
+use Rattle.signer_ranges.specs.Signers.{SignerValue, algorithm_text, AreBroken, AreSignedAt, attributes_text, digest_algorithm_of, signature_algorithm_of, signed_of, Signs}
 use Rattle.signer_ranges.specs.declared.ranges.AlgorithmRanges.{AlgorithmRanges}
 use Rattle.signer_ranges.specs.declared.ranges.SignedRanges.{SignedRanges}
 

@@ -1,10 +1,13 @@
 -- What a verification of a signer needs, as ranges of the file (RFC 5652, 5.3 to 5.6, 11.1 and 11.2).
-use Rattle.std.specs.Prelude.{◌≡◌, ◌≢◌, ◌≤◌, ◌⊎◌, ℕ, List, [], ◌∷◌, ◌++◌, length, take, drop, map, Option, None, Some, slice_range}
+use Rattle.std.specs.Prelude.{◌≡◌, ◌≢◌, ◌⊎◌, ℕ, List, [], ◌∷◌, ◌++◌, length, take, drop, map, Option, None, Some}
 use Rattle.std.specs.List.{Any}
 use Rattle.std.specs.declared.ops.Range.{Range}
 use Rattle.asn1_core.specs.Asn1.{SEQUENCE}
 use Rattle.asn1_core.specs.Der.{Format, object_identifier, octet_string, ElementOctets, Octets, OidOctets}
 use Rattle.asn1_core_format.specs.Whole.{IsValueOf}
+use Rattle.input_ranges.specs.Failures.{IsRefusalOf}
+use Rattle.input_ranges.specs.Ranges.{IsAt, IsAtOrNone, IsNowhere}
+use Rattle.input_ranges.specs.declared.ranges.Refusal.{Refusal}
 use Rattle.pkcs7_attributes.specs.Attributes.{attributes}
 use Rattle.pkcs7_attributes.specs.NamedAttributes.{content_type_oid, message_digest_oid}
 use Rattle.pkcs7_signed_crl.specs.SignerParts.{signer_identifier}
@@ -16,10 +19,8 @@ use Rattle.x509_pkcs7.specs.RawContents.{raw_encapsulated_content_info}
 use Rattle.x509_pkcs7.specs.RawHashed.{content_of, IsNoElement, IsRawHashed}
 use Rattle.x509_pkcs7.specs.RawSigned.{RawCertificateValue, raw_certificate}
 use Rattle.x509_pkcs7.specs.RawSigners.{raw_signer_info}
-use Rattle.signer_ranges.specs.Failures.{IsRefusalOf}
 use Rattle.signer_ranges.specs.declared.ranges.SignedRanges.{SignedRanges}
 use Rattle.signer_ranges.specs.declared.ranges.SignerRanges.{SignerRanges}
-use Rattle.signer_ranges.specs.declared.ranges.Refusal.{Refusal}
 
 abbrev pub SignerValue : Type 0
 SignerValue = raw_signer_info.Value
@@ -53,19 +54,6 @@ signature_algorithm_of s = s.1.1.1.1.0
 
 abbrev pub signature_of : SignerValue → Octets
 signature_of s = s.1.1.1.1.1.0
-
--- these octets are in the input from one place to the other
-pub record IsAt (b octets : List ℕ) (start end : ℕ) : Type 0 where
-  pub is : slice_range b start end ≡ octets
-  pub inside : end ≤ length b
-  pub ordered : start ≤ end
-
--- or there are none
-abbrev pub IsAtOrNone : List ℕ → Option (List ℕ) → Option (Range ℕ) → Type 0
-IsAtOrNone b None None = Unit {0}
-IsAtOrNone b None (Some r) = ⊥
-IsAtOrNone b (Some octets) None = ⊥
-IsAtOrNone b (Some octets) (Some r) = IsAt b octets r.start r.end
 
 -- there is one contentType, that of the content (RFC 5652, 11.1), and one messageDigest, which is this (11.2), each with one
 -- value
@@ -153,10 +141,6 @@ pub record AreFound (b : List ℕ) (first most count : ℕ) (found : List (Optio
   pub value : FileValue
   pub is_value : IsValueOf signed_file 64 b value
   pub part : IsPartOf b value first most count found
-
--- these octets are nowhere in the input
-abbrev pub IsNowhere : List ℕ → List ℕ → Type 0
-IsNowhere b octets = (start end : ℕ) → IsAt b octets start end → ⊥
 
 -- signed attributes as the file has them, under the tag [0]: nothing where there are none
 abbrev pub attributes_text : List attribute.Value → List ℕ

@@ -3,15 +3,16 @@
 ghost use Rattle.std.specs.Prelude.{◌≡◌, ◌↔◌, [], ◌++◌, IsTrue, MatchResult};
 ghost use Rattle.asn1_core_element.specs.declared.error.Error.TheVariants.{Memory};
 ghost use Rattle.asn1_core_format.specs.Whole.{Written};
+ghost use Rattle.input_ranges.specs.Failures.{IsFailure};
+ghost use Rattle.input_ranges.specs.Ranges.{IsNowhere};
 ghost use Rattle.pkcs7_attributes.specs.Attributes.{attributes_value};
-ghost use Rattle.signer_ranges.specs.Failures.{IsFailure};
 ghost use Rattle.signer_ranges.specs.Pieces.{AreAlgorithmsAt};
-ghost use Rattle.signer_ranges.specs.Signers.{algorithms_text, attributes_text, IsNowhere};
+ghost use Rattle.signer_ranges.specs.Signers.{algorithms_text, attributes_text};
 ghost use Rattle.x509_pkcs7.specs.RawSigners.{raw_signer_info_value};
 
 use crate::ranges::AlgorithmRanges;
-use crate::search::range_of;
 use asn1_core::{Error, to_vec};
+use input_ranges::range_of;
 use pkcs7_attributes::Attributes;
 use std::alloc::Global;
 use x509_pkcs7::RawSignerInfo;
@@ -46,7 +47,7 @@ fn joined(alloc: Global, first: &[u8], second: &[u8], third: &[u8]) -> Result<Ve
 
 /// Where the algorithms of a signer are, with the signed attributes between them: from there on, or else the first that
 /// are so.
-#[tactic(auto, using(crate::proofs::Pieces::lacks_first, crate::proofs::Pieces::lacks_second, crate::proofs::Pieces::lacks_third, crate::specs::Failures::memory_fails, crate::proofs::Pieces::lacks_all, crate::proofs::Pieces::are_split))]
+#[tactic(auto, using(crate::proofs::Pieces::lacks_first, crate::proofs::Pieces::lacks_second, crate::proofs::Pieces::lacks_third, input_ranges::specs::Failures::memory_fails, crate::proofs::Pieces::lacks_all, crate::proofs::Pieces::are_split))]
 pub(crate) fn algorithm_ranges(
     alloc: Global,
     input: &[u8],

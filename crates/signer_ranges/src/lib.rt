@@ -3,11 +3,11 @@
 #![tactic(auto)]
 
 mod algorithms;
-mod places;
+pub mod places;
 pub mod ranges;
-pub mod search;
 pub mod signers;
 
-pub use ranges::{Refusal, SignedRanges, SignerRanges, Signers, refusal_of};
-pub use search::{encoding_range, range_of};
+pub use input_ranges::Refusal;
+pub use places::{FilePlaces, SignerPlaces, file_places, signer_places};
+pub use ranges::{SignedRanges, SignerRanges, Signers};
 pub use signers::signer_ranges;

@@ -1,9 +1,5 @@
 //! What is found of signers.
 
-ghost use Rattle.std.specs.Prelude.{◌≡◌};
-ghost use Rattle.signer_ranges.specs.Failures.{refusal_of};
-
-use asn1_core::Error;
 use std::ops::Range;
 
 /// Signed attributes, with the digest among them.
@@ -43,33 +39,10 @@ pub struct Signers {
     pub found: Vec<Option<SignerRanges>>,
 }
 
-/// Why nothing is found.
-#[derive(Clone, Copy, Debug, PartialEq, Eq)]
-pub enum Refusal {
-    /// The input isn't signed data: why, and where, as `from_bytes_located` says. Or memory was refused.
-    Refused(Error, usize),
-    /// The input is signed data, and the octets of a part are nowhere in it.
-    NoRange,
-}
-
 /// Where the algorithms of a signer are, and its signed attributes, which are between them.
 #[derive(Drop)]
 pub(crate) struct AlgorithmRanges {
     pub digest: Range<usize>,
     pub attributes: Range<usize>,
     pub signature: Range<usize>,
-}
-
-/// What is answered where the parts of a file that was read aren't found.
-pub fn refusal_of(error: Error) -> Refusal
-    ensures { result ≡ refusal_of error }
-{
-    match error {
-        Error::Malformed => Refusal::NoRange,
-        Error::Missing => Refusal::NoRange,
-        Error::Invalid => Refusal::NoRange,
-        Error::TooDeep => Refusal::NoRange,
-        Error::TooLong => Refusal::NoRange,
-        Error::Memory => Refusal::Refused(Error::Memory, 0),
-    }
 }

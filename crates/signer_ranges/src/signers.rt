@@ -4,27 +4,27 @@ ghost use Rattle.std.specs.List.{Any};
 ghost use Rattle.std.specs.Prelude.{◌≡◌, ◌≢◌, ◌↔◌, IsTrue, Some, MatchResult, map, take, drop};
 ghost use Rattle.asn1_core.specs.Der.{object_identifier, octet_string, octets_of, option_value};
 ghost use Rattle.asn1_core_element.specs.declared.error.Error.TheVariants.{Memory};
+ghost use Rattle.input_ranges.specs.Failures.{IsFailure};
+ghost use Rattle.input_ranges.specs.Ranges.{IsAt, IsAtOrNone};
 ghost use Rattle.pkcs7_attributes.specs.Attributes.{attributes_value};
 ghost use Rattle.pkcs7_attributes.specs.NamedAttributes.{content_type_oid, message_digest_oid};
 ghost use Rattle.pkcs7_signed_crl.specs.SignerParts.{signer_identifier_value};
-ghost use Rattle.signer_ranges.specs.Failures.{IsFailure};
 ghost use Rattle.signer_ranges.specs.Files.{file_value};
 ghost use Rattle.signer_ranges.specs.Pieces.{AreSignedIn, IsDigestOrBroken, LacksDigest, LacksOctets};
-ghost use Rattle.signer_ranges.specs.Signers.{AreFound, AreRangesOfAll, AreRangesOrNone, attributes_text, certificates_of, HasEmptySet, HasNoRange, IsAt, IsAtOrNone, IsContentAt, IsPartOf, IsRefusal, LacksContent, LacksPart, LacksRange, OnlyOrNone, SignsOrNone};
+ghost use Rattle.signer_ranges.specs.Signers.{AreFound, AreRangesOfAll, AreRangesOrNone, attributes_text, certificates_of, HasEmptySet, HasNoRange, IsContentAt, IsPartOf, IsRefusal, LacksContent, LacksPart, LacksRange, OnlyOrNone, SignsOrNone};
 ghost use Rattle.x509_base.specs.AttributesByOid.{with_oid, IsOnlyOf};
 ghost use Rattle.x509_pkcs7.specs.AllSigners.{AreSigners};
 ghost use Rattle.x509_pkcs7.specs.Matches.{IsFirst, IsSigners};
 ghost use Rattle.x509_pkcs7.specs.RawSigners.{raw_signer_info_value};
 
 use crate::algorithms::{algorithm_ranges, is_none};
-use crate::places::{
-    Place, SignerPlaces, attribute_value_at, contents_of, file_places, places_from, signer_places,
-    start_of,
-};
-use crate::ranges::{AlgorithmRanges, Refusal, SignedRanges, SignerRanges, Signers, refusal_of};
-use crate::search::{is_there, range_of};
+use crate::places::{SignerPlaces, attribute_value_at, file_places, places_from, signer_places};
+use crate::ranges::{AlgorithmRanges, SignedRanges, SignerRanges, Signers};
 use asn1_core::{Error, ObjectIdentifierAsn1, OctetStringAsn1, from_bytes_located};
 use asn1_core_oid::is_oid_of;
+use input_ranges::{
+    Place, Refusal, contents_of, is_there, nth_from, range_of, refusal_of, start_of,
+};
 use pkcs7_attributes::Attributes;
 use pkcs7_signed_crl::SignerIdentifier;
 use std::alloc::Global;
@@ -138,7 +138,7 @@ fn digest_index(attributes: &[Attribute]) -> usize {
 #[tactic(auto, using(crate::proofs::Pieces::are_signed_in, crate::proofs::Pieces::lacks_digest))]
 fn signed_ranges(
     input: &[u8],
-    place: Place,
+    place: Option<Place>,
     attributes: &Attributes,
     content_type: &ObjectIdentifierAsn1,
     range: Range<usize>,
@@ -165,10 +165,10 @@ fn signed_ranges(
 
 /// Whether the element is an empty set of signed attributes, which is read as none.
 #[tactic(auto, using(crate::proofs::Attributes::is_empty_set))]
-fn is_empty_set(input: &[u8], place: Place) -> bool
+fn is_empty_set(input: &[u8], place: Option<Place>) -> bool
     ensures { IsTrue result → HasEmptySet input.now }
 {
-    is_there(input, place.start, &EMPTY_SET)
+    is_there(input, start_of(place), &EMPTY_SET)
 }
 
 /// The digest in signed attributes, where there are any. The outer `None` is said of those that aren't as they have to be.
@@ -176,7 +176,7 @@ fn is_empty_set(input: &[u8], place: Place) -> bool
 fn digest_or_none(
     alloc: Global,
     input: &[u8],
-    place: Place,
+    place: Option<Place>,
     attributes: &Attributes,
     content_type: &ObjectIdentifierAsn1,
 ) -> Result<Option<Option<OctetStringAsn1>>, Error>
@@ -260,7 +260,7 @@ struct Known<'a> {
 }
 
 /// The ranges of a signer, whose certificate is known. `None` where its signed attributes aren't as they have to be.
-#[tactic(auto, using(crate::specs::Failures::memory_fails, crate::proofs::Lacks::no_algorithms, crate::proofs::Lacks::no_digest, crate::proofs::Lacks::no_signature, crate::proofs::Lacks::no_certificate, crate::proofs::Lacks::are_ranges))]
+#[tactic(auto, using(input_ranges::specs::Failures::memory_fails, crate::proofs::Lacks::no_algorithms, crate::proofs::Lacks::no_digest, crate::proofs::Lacks::no_signature, crate::proofs::Lacks::no_certificate, crate::proofs::Lacks::are_ranges))]
 fn ranges_of(
     alloc: Global,
     known: &Known<'_>,
@@ -282,7 +282,7 @@ fn ranges_of(
         Some(digest) => digest,
         None => return Ok(None),
     };
-    let found = algorithm_ranges(alloc, input, places.digest_algorithm.start, signer)?;
+    let found = algorithm_ranges(alloc, input, start_of(places.digest_algorithm), signer)?;
     let AlgorithmRanges {
         digest: digest_algorithm,
         attributes: range,
@@ -290,7 +290,7 @@ fn ranges_of(
     } = found;
     let signed = signed_ranges(input, place, attributes, content_type, range, digest)?;
     let octets = signer.signature.0.0.as_slice();
-    let signature = range_of(input, places.signature.contents, octets)?;
+    let signature = range_of(input, contents_of(places.signature), octets)?;
     let certificate = certificate_range(input, &known.certificates, certificate)?;
     Ok(Some(SignerRanges {
         signed,
@@ -303,7 +303,7 @@ fn ranges_of(
 }
 
 /// The ranges of each of some signers that follow one another.
-#[tactic(auto, using(crate::specs::Failures::memory_fails, crate::proofs::Lacks::one_lacks, crate::proofs::Lacks::none_lacking))]
+#[tactic(auto, using(input_ranges::specs::Failures::memory_fails, crate::proofs::Lacks::one_lacks, crate::proofs::Lacks::none_lacking))]
 fn ranges_of_all(
     alloc: Global,
     known: &Known<'_>,
@@ -326,7 +326,7 @@ fn ranges_of_all(
         let places = signer_places(known.input, next);
         let ranges = ranges_of(alloc, known, signer, places, *certificate)?;
         found.push(ranges)?;
-        next = after(known.input, next);
+        next = nth_from(known.input, next, 1);
     }
     Ok(found)
 }
@@ -376,22 +376,8 @@ fn certificates_of_all<'a>(
     Ok(found)
 }
 
-/// The element that begins where this one ends.
-fn after(input: &[u8], place: Option<Place>) -> Option<Place> {
-    place?.after(input)
-}
-
-/// The element that so many others come before.
-fn nth(input: &[u8], first: Option<Place>, count: usize) -> Option<Place> {
-    let mut next = first;
-    for _ in 0..count {
-        next = after(input, next);
-    }
-    next
-}
-
 /// The ranges of some signers of a file that was read.
-#[tactic(auto, using(crate::specs::Failures::memory_fails, crate::proofs::Lacks::content_lacks, crate::proofs::Lacks::signer_lacks))]
+#[tactic(auto, using(input_ranges::specs::Failures::memory_fails, crate::proofs::Lacks::content_lacks, crate::proofs::Lacks::signer_lacks))]
 fn ranges_in(
     alloc: Global,
     input: &[u8],
@@ -414,7 +400,7 @@ fn ranges_in(
     };
     let all = signed.signers_infos.0.0.as_slice();
     let signers = asked(all, first, most);
-    let place = nth(input, places.signer, first.min(all.len()));
+    let place = nth_from(input, places.signer, first.min(all.len()));
     let certificates = certificates_of_all(alloc, file, signers)?;
     let found = ranges_of_all(alloc, &known, signers, place, &certificates)?;
     Ok(Signers {

@@ -1,15 +1,15 @@
 //! Whether octets are where they are looked for, or anywhere else in an input.
 
-ghost use Rattle.std.specs.Prelude.{◌≤◌, ◌+◌, ◌↔◌, length, IsTrue, MatchOption, MatchResult};
-ghost use Rattle.signer_ranges.specs.Failures.{IsFailure};
-ghost use Rattle.signer_ranges.specs.Signers.{IsAt, IsNowhere};
+ghost use Rattle.std.specs.Prelude.{◌≤◌, ◌+◌, ◌↔◌, length, IfOk, IfSome, IsTrue, MatchOption, MatchResult};
+ghost use Rattle.input_ranges.specs.Failures.{IsFailure};
+ghost use Rattle.input_ranges.specs.Ranges.{IsAt, IsNowhere, IsThere};
 
 use asn1_core::{DerSerialize, Error, to_vec};
 use std::alloc::Global;
 use std::ops::Range;
 
 /// Whether the input has these octets from there on.
-pub(crate) fn is_there(input: &[u8], start: usize, octets: &[u8]) -> bool
+pub fn is_there(input: &[u8], start: usize, octets: &[u8]) -> bool
     ensures { IsTrue result ↔ IsAt input.now octets.now start (start + length octets.now) }
 {
     if start > input.len() || octets.len() > input.len() - start {
@@ -37,8 +37,10 @@ fn searched(input: &[u8], octets: &[u8]) -> Option<usize>
 }
 
 /// That place, where the input has these octets there, and else the first one.
+#[tactic(auto, using(crate::proofs::Found::is_elsewhere))]
 fn place_of(input: &[u8], start: usize, octets: &[u8]) -> Option<usize>
-    ensures { MatchOption result (IsNowhere input.now octets.now) (λ start. IsAt input.now octets.now start (start + length octets.now)) }
+    ensures found { MatchOption result (IsNowhere input.now octets.now) (λ place. IsAt input.now octets.now place (place + length octets.now)) }
+    ensures there { IfSome result (λ place. IsThere input.now octets.now start place) }
 {
     if is_there(input, start, octets) {
         return Some(start);
@@ -49,9 +51,10 @@ fn place_of(input: &[u8], start: usize, octets: &[u8]) -> Option<usize>
 /// The range from there on, where the input has these octets there, and else the first that has them. Refuses by `Missing`
 /// octets that are nowhere in the input.
 pub fn range_of(input: &[u8], start: usize, octets: &[u8]) -> Result<Range<usize>, Error>
-    ensures { MatchResult result
+    ensures found { MatchResult result
         (λ r. IsAt input.now octets.now r.start r.end)
         (λ e. IsFailure (IsNowhere input.now octets.now) e) }
+    ensures there { IfOk result (λ r. IsThere input.now octets.now start r.start) }
 {
     match place_of(input, start, octets) {
         Some(start) => Ok(start..start + octets.len()),
@@ -60,16 +63,17 @@ pub fn range_of(input: &[u8], start: usize, octets: &[u8]) -> Result<Range<usize
 }
 
 /// The range of the encoding of a value, as of `range_of`.
-#[tactic(auto, using(crate::proofs::Pieces::lacks_encoding))]
+#[tactic(auto, using(crate::proofs::Texts::lacks_encoding))]
 pub fn encoding_range<T: DerSerialize>(
     alloc: Global,
     input: &[u8],
     start: usize,
     value: &T,
 ) -> Result<Range<usize>, Error>
-    ensures { MatchResult result
+    ensures found { MatchResult result
         (λ r. IsAt input.now (T.format.text (T.value value.now)) r.start r.end)
         (λ e. IsFailure (IsNowhere input.now (T.format.text (T.value value.now))) e) }
+    ensures there { IfOk result (λ r. IsThere input.now (T.format.text (T.value value.now)) start r.start) }
 {
     let octets = to_vec(alloc, value)?;
     range_of(input, start, octets.as_slice())

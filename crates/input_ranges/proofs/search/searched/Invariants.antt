@@ -1,6 +1,6 @@
 use Rattle.std.proofs.Common.{length, ◌-◌, ◌≤◌}
-use Rattle.signer_ranges.proofs.Found.{BeginNotBefore}
-use Rattle.signer_ranges.proofs.search.searched.Given as goal
+use Rattle.input_ranges.proofs.Found.{BeginNotBefore}
+use Rattle.input_ranges.proofs.search.searched.Given as goal
 
 abbrev pub invariant-loop-start : goal.invariant-loop-start
 invariant-loop-start l = (l.start ≤ length l.input) × BeginNotBefore l.input l.octets l.start

@@ -1,9 +1,9 @@
 -- Where octets are, and where they aren't.
-use Rattle.std.specs.Prelude.{◌≡◌, ◌↔◌, ℕ, ◌+◌, ◌-◌, ◌<◌, ◌≤◌, List, length, Bool, false, IsTrue, slice_range}
+use Rattle.std.specs.Prelude.{◌≡◌, ◌↔◌, ℕ, ◌+◌, ◌-◌, ◌<◌, ◌≤◌, List, length, Bool, false, IsTrue, IfSome, Option, None, Some, slice_range}
 use Rattle.std.proofs.Common.{sym, ap, subst, ◌∙◌, arith, ⊎_elim, true≢false}
 use Rattle.std.proofs.lemmas.Bool.{cases_lt}
 use Rattle.std.proofs.lemmas.List.Edits.{length-between}
-use Rattle.signer_ranges.specs.Signers.{IsAt, IsNowhere}
+use Rattle.input_ranges.specs.Ranges.{IsAt, IsNowhere, IsThere}
 
 module _ (b octets : List ℕ) where
   -- the octets don't begin before a place
@@ -18,6 +18,11 @@ module _ (b octets : List ℕ) where
 
   pub not_there : (n : ℕ) (t : Bool) → (IsTrue t ↔ IsAt b octets n (n + length octets)) → false ≡ t → IsAt b octets n (n + length octets) → ⊥
   not_there n t is f at = true≢false (sym (is.1 at) ∙ sym f)
+
+  -- any place will do where the octets aren't where they are looked for first
+  pub is_elsewhere : (n : ℕ) (t : Bool) → (IsTrue t ↔ IsAt b octets n (n + length octets)) → false ≡ t → (r : Option ℕ) → IfSome r (λ place. IsThere b octets n place)
+  is_elsewhere n t is f None = tt
+  is_elsewhere n t is f (Some place) = λ at. absurd (not_there n t is f at)
 
   pub none_more : (n : ℕ) → BeginNotBefore n → (IsAt b octets n (n + length octets) → ⊥) → BeginNotBefore (n + 1)
   none_more n before none s h at = ⊎_elim (λ less. before s less at) (λ more. (let same : s ≡ n = omega (arith, h, more) in none (subst (λ m. IsAt b octets m (m + length octets)) same at))) (cases_lt s n)

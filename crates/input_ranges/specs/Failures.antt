@@ -5,8 +5,8 @@ use Rattle.asn1_core.specs.Der.{Format}
 use Rattle.asn1_core_element.specs.declared.error.Error.{Error}
 use Rattle.asn1_core_element.specs.declared.error.Error.TheVariants.{Malformed, Missing, Invalid, TooDeep, TooLong, Memory}
 use Rattle.asn1_core_format.specs.Whole.{HasNoValue}
-use Rattle.signer_ranges.specs.declared.ranges.Refusal.{Refusal}
-use Rattle.signer_ranges.specs.declared.ranges.Refusal.TheVariants.{Refused, NoRange}
+use Rattle.input_ranges.specs.declared.ranges.Refusal.{Refusal}
+use Rattle.input_ranges.specs.declared.ranges.Refusal.TheVariants.{Refused, Part, NoRange}
 
 -- an error other than `Memory` says this
 pub record IsFailure (Says : Type 0) (e : Error) : Type 0 where
@@ -15,6 +15,7 @@ pub record IsFailure (Says : Type 0) (e : Error) : Type 0 where
 -- why there are no ranges: the input has no value, or memory was refused, or it has one that lacks a range
 abbrev pub IsRefusalOf : {V : Type 0} → Format V → List ℕ → Type 0 → Refusal → Type 0
 IsRefusalOf F b Lacks (Refused e place) = HasNoValue F 64 b e × (place ≤ length b)
+IsRefusalOf F b Lacks (Part e place) = ⊥
 IsRefusalOf F b Lacks NoRange = Lacks
 
 -- what is answered where the parts of a file that was read aren't found
