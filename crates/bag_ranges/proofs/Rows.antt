@@ -1,15 +1,20 @@
 -- Rows of values, along lists.
-use Rattle.std.specs.declared.ops.Range.{Range}
-use Rattle.std.specs.Prelude.{IfOk, Result, Ok, Err, ◌≡◌, ℕ, zero, suc, ◌+◌, ◌-◌, ◌<◌, ◌≤◌, List, [], ◌∷◌, ◌++◌, length, take, get_or, map, Option}
+use Rattle.std.specs.Prelude.{◌≡◌, ℕ, zero, suc, ◌+◌, ◌<◌, ◌≤◌, List, [], ◌∷◌, ◌++◌, length, take, get_or, map, Result, Err}
 use Rattle.std.proofs.Common.{refl, sym, ap, subst, ◌∙◌, arith}
-use Rattle.std.proofs.lemmas.List.{append-nil, append_assoc, map-append, take_more}
-use Rattle.asn1_core.specs.Asn1.{SEQUENCE}
-use Rattle.asn1_core.specs.Der.{Octets, ElementOctets}
-use Rattle.pkcs12_bags.specs.BagParts.{encrypted_key_bag}
-use Rattle.bag_ranges.specs.Bags.{AreBags, AreOfBag, BagValue, InOrder, IsAt, IsKeyAt}
-use Rattle.bag_ranges.specs.Stores.{AreOfStore, StoreValue}
+use Rattle.std.proofs.lemmas.List.{append-nil, append_assoc, map-append, take_all, take_more}
+use Rattle.input_ranges.specs.declared.ranges.Refusal.{Refusal}
+use Rattle.bag_ranges.proofs.Failures.{without}
+use Rattle.bag_ranges.specs.Bags.{InOrder}
+use Rattle.bag_ranges.specs.Failures.{Adds, HasNone, Pushes}
 use Rattle.bag_ranges.specs.declared.ranges.BagRanges.{BagRanges}
-use Rattle.bag_ranges.specs.declared.ranges.Refusal.{Refusal}
+
+-- rows that are of something else too
+pub also : {P Q : List BagRanges → Type 0} {old new : List BagRanges} → ((rows : List BagRanges) → P rows → Q rows) → Adds P old new → Adds Q old new
+also f a = record { added = a.added; is = a.is; all = f a.added a.all }
+
+-- an error, where there are no rows
+pub no_rows : {A : Type 0} (Q : List BagRanges → Type 0) (old new : List BagRanges) (r : Result A Refusal) (e : Refusal) → r ≡ Err e → HasNone Q e → Pushes Q old new r
+no_rows Q old new r e h n = subst (Pushes Q old new) (sym h) n
 
 module _ {V : Type 0} (Q : V → List BagRanges → Type 0) where
   -- one more value after others
@@ -18,24 +23,28 @@ module _ {V : Type 0} (Q : V → List BagRanges → Type 0) where
   more (u ∷ vs) rows v last (first, rest, e, p, others) q =
       (first, rest ++ last, ap (λ r. r ++ last) e ∙ append_assoc first rest last, p, more vs rest v last others q)
 
-  -- the items up to one, and that one
-  pub one_more : {X : Type 0} (f : X → V) (xs : List X) (i : ℕ) (x : X) → i < length xs → x ≡ get_or xs i x → (old new last : List BagRanges) → new ≡ old ++ last → InOrder Q (map f (take i xs)) old → Q (f x) last → InOrder Q (map f (take (i + 1) xs)) new
-  one_more f xs i x h e old new last w before q =
-      let up_to : map f (take (i + 1) xs) ≡ map f (take i xs) ++ f x ∷ [] = ap (map f) (take_more xs i x h ∙ ap (λ y. take i xs ++ y ∷ []) (sym e)) ∙ map-append f (take i xs) (x ∷ []) in
-      subst (InOrder Q (map f (take (i + 1) xs))) (sym w) (subst (λ vs. InOrder Q vs (old ++ last)) (sym up_to) (more (map f (take i xs)) old (f x) last before q))
+  pub none_yet : {X : Type 0} (f : X → V) (xs : List X) (start : List BagRanges) → Adds (InOrder Q (map f (take 0 xs))) start start
+  none_yet f xs start = record { added = []; is = sym (append-nil start); all = refl }
 
--- bags in a level
-pub one_level : (levels : ℕ) (b : List ℕ) (bags : List BagValue) (rows : List BagRanges) → 0 < levels → InOrder (AreOfBag (AreBags (levels - 1) b) (levels - 1) b) bags rows → AreBags levels b bags rows
-one_level zero b bags rows h q = absurd (omega (arith, h))
-one_level (suc below) b bags rows h q =
-    let same : suc below - 1 ≡ below = omega arith in
-    subst (λ n. InOrder (AreOfBag (AreBags n b) n b) bags rows) same q
+  module _ {X : Type 0} (f : X → V) (xs : List X) (i : ℕ) (start old : List BagRanges) where
+    -- the items up to one, and that one
+    pub one_more : (x : X) → i < length xs → x ≡ get_or xs i x → (new : List BagRanges) → Adds (InOrder Q (map f (take i xs))) start old → Adds (Q (f x)) old new → Adds (InOrder Q (map f (take (i + 1) xs))) start new
+    one_more x h e new before a =
+        let up_to : map f (take (i + 1) xs) ≡ map f (take i xs) ++ f x ∷ [] = ap (map f) (take_more xs i x h ∙ ap (λ y. take i xs ++ y ∷ []) (sym e)) ∙ map-append f (take i xs) (x ∷ []) in
+        record {
+          added = before.added ++ a.added;
+          is = a.is ∙ ap (λ r. r ++ a.added) before.is ∙ append_assoc start before.added a.added;
+          all = subst (λ vs. InOrder Q vs (before.added ++ a.added)) (sym up_to) (more (map f (take i xs)) before.added (f x) a.added before.all a.all);
+        }
 
--- a store, by the octets of its data
-pub by_octets : (b : List ℕ) (store : StoreValue) (rows : List BagRanges) {o p : Option Octets} → o ≡ p → AreOfStore b store o rows → AreOfStore b store p rows
-by_octets b store rows e q = subst (λ x. AreOfStore b store x rows) e q
+    pub all_of_them : length xs ≤ i → Adds (InOrder Q (map f (take i xs))) start old → Adds (InOrder Q (map f xs)) start old
+    all_of_them h a = also (λ rows q. subst (λ ys. InOrder Q (map f ys) rows) (take_all i xs h) q) a
 
--- an encrypted key that was read, where its octets are
-pub key_there : (b : List ℕ) (element : ElementOctets) (key : encrypted_key_bag.Value) → (SEQUENCE encrypted_key_bag).format.Reads 64 element key → (r : Result (Range ℕ) Refusal) → IfOk r (λ x. IsAt b element x.start x.end) → IfOk r (λ x. IsKeyAt b element x)
-key_there b element key s (Ok x) at = record { key = key; reads = s; is = at }
-key_there b element key s (Err e) at = at
+  -- where one of some values has no rows, all together have none
+  rows_of_one : {X : Type 0} (f : X → V) (xs : List X) (i : ℕ) (x : X) → i < length xs → x ≡ get_or xs i x → (rows : List BagRanges) → InOrder Q (map f xs) rows → (r : List BagRanges) × Q (f x) r
+  rows_of_one f [] i x h e rows q = absurd (omega (arith, h))
+  rows_of_one f (y ∷ xs) zero x h e rows q = (q.0, subst (λ z. Q (f z) q.0) (sym e) q.3)
+  rows_of_one f (y ∷ xs) (suc i) x h e rows q = rows_of_one f xs i x (omega (arith, h)) e q.1 q.4
+
+  pub none_of_one : {X : Type 0} (f : X → V) (xs : List X) (i : ℕ) (x : X) (e : Refusal) → i < length xs → x ≡ get_or xs i x → HasNone (Q (f x)) e → HasNone (InOrder Q (map f xs)) e
+  none_of_one f xs i x e h g n = without (rows_of_one f xs i x h g) n

@@ -1,10 +1,11 @@
 -- Bags as ranges of a file (RFC 7292, 4.2).
-use Rattle.std.specs.Prelude.{◌≡◌, ◌≢◌, ◌≤◌, ◌-◌, ℕ, zero, suc, List, [], ◌∷◌, ◌++◌, length, Option, None, Some, slice_range}
+use Rattle.std.specs.Prelude.{◌≡◌, ◌≢◌, ◌⊎◌, ◌-◌, ℕ, zero, suc, List, [], ◌∷◌, ◌++◌, Option}
 use Rattle.std.specs.declared.ops.Range.{Range}
 use Rattle.std.proofs.Common.{inl, inr}
 use Rattle.asn1_core.specs.Asn1.{SEQUENCE}
 use Rattle.asn1_core.specs.Der.{Format, octet_string, Octets, OidOctets, ElementOctets}
-use Rattle.pkcs12_bags.specs.BagParts.{OctetsOrAny, x509_bag, encrypted_key_bag}
+use Rattle.input_ranges.specs.Ranges.{IsAt, IsAtOrNone}
+use Rattle.pkcs12_bags.specs.BagParts.{x509_bag, encrypted_key_bag}
 use Rattle.pkcs12_bags.specs.Oids.{oid}
 use Rattle.pkcs12_bags.specs.declared.parts.oids.TheConstants.{KEY_BAG, SHROUDED_KEY_BAG, CERTIFICATE_BAG, CRL_BAG, SECRET_BAG, SAFE_CONTENTS_BAG, X509_CERTIFICATE, X509_CRL, FRIENDLY_NAME, LOCAL_KEY_ID}
 use Rattle.x509_base.specs.AttributesByOid.{with_oid, IsOnlyOf}
@@ -12,46 +13,38 @@ use Rattle.x509_base.specs.Names.{attribute}
 use Rattle.x509_pkcs12.specs.RawBags.{raw_safe_bag, raw_safe_contents, attributes_of}
 use Rattle.x509_pkcs12.specs.Utf16.{utf16_string}
 use Rattle.bag_ranges.specs.declared.ranges.BagKind.{BagKind}
-use Rattle.bag_ranges.specs.declared.ranges.BagKind.TheVariants.{Key, ShroudedKey, Certificate, Crl, Secret, SafeContents, Other, Unread}
+use Rattle.bag_ranges.specs.declared.ranges.BagKind.TheVariants.{Key, ShroudedKey, Certificate, Crl, Secret, SafeContents, Other, Unread, OtherCertificate, OtherCrl}
 use Rattle.bag_ranges.specs.declared.ranges.BagRanges.{BagRanges}
 
 abbrev pub BagValue : Type 0
 BagValue = raw_safe_bag.Value
-
--- these octets are in the input from one place to the other
-pub record IsAt (b octets : List ℕ) (start end : ℕ) : Type 0 where
-  pub is : slice_range b start end ≡ octets
-  pub inside : end ≤ length b
-  pub ordered : start ≤ end
-
--- or there are none
-abbrev pub IsAtOrNone : List ℕ → Option Octets → Option (Range ℕ) → Type 0
-IsAtOrNone b None None = Unit {0}
-IsAtOrNone b None (Some r) = ⊥
-IsAtOrNone b (Some octets) None = ⊥
-IsAtOrNone b (Some octets) (Some r) = IsAt b octets r.start r.end
 
 -- the kind that an object identifier says
 abbrev pub IsKind : BagKind → OidOctets → Type 0
 IsKind Key id = id ≡ oid KEY_BAG
 IsKind ShroudedKey id = id ≡ oid SHROUDED_KEY_BAG
 IsKind Certificate id = id ≡ oid CERTIFICATE_BAG
+IsKind OtherCertificate id = id ≡ oid CERTIFICATE_BAG
 IsKind Crl id = id ≡ oid CRL_BAG
+IsKind OtherCrl id = id ≡ oid CRL_BAG
 IsKind Secret id = id ≡ oid SECRET_BAG
 IsKind SafeContents id = id ≡ oid SAFE_CONTENTS_BAG
 IsKind Other id = (id ≢ oid KEY_BAG) × (id ≢ oid SHROUDED_KEY_BAG) × (id ≢ oid CERTIFICATE_BAG) × (id ≢ oid CRL_BAG) × (id ≢ oid SECRET_BAG) × (id ≢ oid SAFE_CONTENTS_BAG)
 IsKind Unread id = ⊥
 
--- the octets of a certificate or revocation list that a bag holds
-abbrev pub octets_held : OctetsOrAny → Octets
-octets_held (inl octets) = octets
-octets_held (inr other) = other.1
-
--- the element is a CertBag or CRLBag, by the number of the object identifier of an X.509 one, and what it holds is there
+-- the element is a CertBag or CRLBag of an X.509 one, of which the object identifier has that number, and its octets are
+-- there
 pub record IsX509At (known : ℕ) (b : List ℕ) (element : ElementOctets) (r : Range ℕ) : Type 0 where
-  pub held : OctetsOrAny
-  pub reads : (SEQUENCE (x509_bag known)).format.Reads 64 element held
-  pub is : IsAt b (octets_held held) r.start r.end
+  pub octets : Octets
+  pub reads : (SEQUENCE (x509_bag known)).format.Reads 64 element (inl octets)
+  pub is : IsAt b octets r.start r.end
+
+-- it is one of another type, and its element is there
+pub record IsOtherAt (known : ℕ) (b : List ℕ) (element : ElementOctets) (r : Range ℕ) : Type 0 where
+  pub type : OidOctets
+  pub other : ElementOctets
+  pub reads : (SEQUENCE (x509_bag known)).format.Reads 64 element (inr (type, other))
+  pub is : IsAt b other r.start r.end
 
 -- the element is a PKCS8ShroudedKeyBag, and it is there
 pub record IsKeyAt (b : List ℕ) (element : ElementOctets) (r : Range ℕ) : Type 0 where
@@ -62,7 +55,9 @@ pub record IsKeyAt (b : List ℕ) (element : ElementOctets) (r : Range ℕ) : Ty
 -- what a bag of a kind holds is there
 abbrev pub IsValueAt : List ℕ → BagKind → ElementOctets → Range ℕ → Type 0
 IsValueAt b Certificate element r = IsX509At X509_CERTIFICATE b element r
+IsValueAt b OtherCertificate element r = IsOtherAt X509_CERTIFICATE b element r
 IsValueAt b Crl element r = IsX509At X509_CRL b element r
+IsValueAt b OtherCrl element r = IsOtherAt X509_CRL b element r
 IsValueAt b ShroudedKey element r = IsKeyAt b element r
 IsValueAt b Key element r = IsAt b element r.start r.end
 IsValueAt b Secret element r = IsAt b element r.start r.end
@@ -79,7 +74,7 @@ pub record IsAttributeAt (b : List ℕ) (F : Format Octets) (found : List attrib
 -- the ranges of a bag, in which `below` further levels are allowed
 pub record IsBagAt (below : ℕ) (b : List ℕ) (bag : BagValue) (r : BagRanges) : Type 0 where
   pub kind : IsKind r.kind bag.0
-  pub level : r.level ≡ 63 - below
+  pub level : r.level ≡ 64 - below
   pub element : IsAt b ((SEQUENCE raw_safe_bag).format.text bag) r.element.start r.element.end
   pub value : IsValueAt b r.kind bag.1.0 r.value
   pub friendly_name : IsAttributeAt b utf16_string.format (with_oid (oid FRIENDLY_NAME) (attributes_of bag)) r.friendly_name
@@ -96,16 +91,9 @@ pub record AreInside (Rows : List BagValue → List BagRanges → Type 0) (eleme
   pub reads : (SEQUENCE raw_safe_contents).format.Reads 64 element bags
   pub all : Rows bags rows
 
--- the rows of the bags in a bag: none, unless its kind is SafeContents
-abbrev pub AreHeld : (List BagValue → List BagRanges → Type 0) → BagKind → ElementOctets → List BagRanges → Type 0
-AreHeld Rows SafeContents element rows = AreInside Rows element rows
-AreHeld Rows Key element rows = rows ≡ []
-AreHeld Rows ShroudedKey element rows = rows ≡ []
-AreHeld Rows Certificate element rows = rows ≡ []
-AreHeld Rows Crl element rows = rows ≡ []
-AreHeld Rows Secret element rows = rows ≡ []
-AreHeld Rows Other element rows = rows ≡ []
-AreHeld Rows Unread element rows = rows ≡ []
+-- the rows of the bags in a bag: none, unless it is a SafeContents
+abbrev pub AreHeld : (List BagValue → List BagRanges → Type 0) → BagValue → List BagRanges → Type 0
+AreHeld Rows bag rows = ((bag.0 ≡ oid SAFE_CONTENTS_BAG) × AreInside Rows bag.1.0 rows) ⊎ ((bag.0 ≢ oid SAFE_CONTENTS_BAG) × (rows ≡ []))
 
 -- the row of a bag, and then those of the bags in it
 pub record AreOfBag (Rows : List BagValue → List BagRanges → Type 0) (below : ℕ) (b : List ℕ) (bag : BagValue) (rows : List BagRanges) : Type 0 where
@@ -113,9 +101,9 @@ pub record AreOfBag (Rows : List BagValue → List BagRanges → Type 0) (below 
   pub others : List BagRanges
   pub are : rows ≡ own ∷ others
   pub is : IsBagAt below b bag own
-  pub held : AreHeld Rows own.kind bag.1.0 others
+  pub held : AreHeld Rows bag others
 
--- the rows of some bags, in at most so many levels
+-- the rows of some bags, in at most so many lists in one another
 abbrev pub AreBags : ℕ → List ℕ → List BagValue → List BagRanges → Type 0
 AreBags zero b bags rows = ⊥
 AreBags (suc below) b bags rows = InOrder (AreOfBag (AreBags below b) below b) bags rows

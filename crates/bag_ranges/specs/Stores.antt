@@ -8,12 +8,13 @@ use Rattle.x509_pkcs12.specs.AuthSafes.{auth_safe}
 use Rattle.x509_pkcs12.specs.MacOctets.{mac_octets}
 use Rattle.x509_pkcs12.specs.Pfxs.{PfxValue, pfx}
 use Rattle.x509_pkcs12.specs.RawBags.{raw_safe_contents}
-use Rattle.bag_ranges.specs.Bags.{AreBags, BagValue, InOrder, IsAt}
+use Rattle.input_ranges.specs.Ranges.{IsAt}
+use Rattle.input_ranges.specs.declared.ranges.Refusal.{Refusal}
+use Rattle.input_ranges.specs.declared.ranges.Refusal.TheVariants.{Refused, Part, NoRange}
+use Rattle.bag_ranges.specs.Bags.{AreBags, BagValue, InOrder}
 use Rattle.bag_ranges.specs.Contents.{raw_content_info}
 use Rattle.bag_ranges.specs.declared.ranges.BagKind.TheVariants.{Unread}
 use Rattle.bag_ranges.specs.declared.ranges.BagRanges.{BagRanges}
-use Rattle.bag_ranges.specs.declared.ranges.Refusal.{Refusal}
-use Rattle.bag_ranges.specs.declared.ranges.Refusal.TheVariants.{Refused, Part, NoRange}
 
 abbrev pub StoreValue : Type 0
 StoreValue = PfxValue Octets
@@ -36,7 +37,7 @@ pub record AreOfData (b : List ℕ) (content : Option ElementOctets) (rows : Lis
   pub is : content ≡ Some element
   pub bags : List BagValue
   pub reads : (within 0x04 (SEQUENCE raw_safe_contents).format).Reads 64 element bags
-  pub all : AreBags 64 b bags rows
+  pub all : AreBags 65 b bags rows
 
 -- the rows of a content, by its type
 abbrev pub AreOfContent : List ℕ → ContentValue → List BagRanges → Type 0
@@ -64,8 +65,12 @@ pub record IsStore (b : List ℕ) : Type 0 where
   pub store : StoreValue
   pub is_value : IsValueOf (pfx raw) 64 b store
 
--- why there are none
+-- there are no rows: a part doesn't read as it has to, or is nowhere in the input
+abbrev pub HasNoBags : List ℕ → Type 0
+HasNoBags b = (rows : List BagRanges) → AreBagsOf b rows → ⊥
+
+-- why there are none: the input is no store, or memory was refused, or it is a store that has none
 abbrev pub IsRefusal : List ℕ → Refusal → Type 0
 IsRefusal b (Refused e place) = HasNoValue (pfx raw) 64 b e × (place ≤ length b)
-IsRefusal b (Part e place) = IsStore b × (place ≤ length b)
-IsRefusal b NoRange = IsStore b
+IsRefusal b (Part e place) = IsStore b × HasNoBags b × (place ≤ length b)
+IsRefusal b NoRange = IsStore b × HasNoBags b

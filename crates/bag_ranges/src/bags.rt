@@ -1,21 +1,22 @@
 //! The ranges of bags, and of those in bags.
 
-ghost use Rattle.std.specs.Prelude.{◌≡◌, ◌∷◌, IfOk, map};
+ghost use Rattle.std.specs.Prelude.{◌≡◌, MatchResult, map};
 ghost use Rattle.asn1_core.specs.Der.{octet_string, octets_of};
-ghost use Rattle.bag_ranges.specs.Bags.{AreBags, AreHeld, AreOfBag, InOrder, IsAt, IsAttributeAt, IsBagAt, IsKeyAt, IsKind, IsValueAt, IsX509At};
+ghost use Rattle.bag_ranges.specs.Bags.{AreBags, AreHeld, AreOfBag, InOrder, IsAttributeAt, IsBagAt, IsKeyAt, IsKind};
+ghost use Rattle.bag_ranges.specs.Failures.{Adds, Finds, HasNone, Pushes};
+ghost use Rattle.bag_ranges.specs.Held.{IsEitherAt, IsHeldAt, IsPlain, named_kind};
+ghost use Rattle.bag_ranges.specs.declared.ranges.BagKind.TheVariants.{Certificate, Crl, ShroudedKey};
 ghost use Rattle.pkcs12_bags.specs.Oids.{oid};
-ghost use Rattle.pkcs12_bags.specs.declared.parts.oids.TheConstants.{FRIENDLY_NAME, LOCAL_KEY_ID};
+ghost use Rattle.pkcs12_bags.specs.declared.parts.oids.TheConstants.{FRIENDLY_NAME, LOCAL_KEY_ID, X509_CERTIFICATE, X509_CRL};
 ghost use Rattle.x509_base.specs.AttributesByOid.{with_oid};
 ghost use Rattle.x509_pkcs12.specs.RawBags.{attributes_of, raw_safe_bag_value};
 ghost use Rattle.x509_pkcs12.specs.Utf16.{utf16_string};
 
-use crate::places::{
-    Place, attribute_place, attributes_place, held_place, place_at, start_or, value_place,
-};
-use crate::ranges::{
-    BagKind, BagRanges, Refusal, encoding_range, range_of, read_at, refused, there,
-};
+use crate::parts::{encoded_range, octets_range, read_at, refused};
+use crate::places::{after, attribute_place, held_place, inside, start_or};
+use crate::ranges::{BagKind, BagRanges};
 use asn1_core::{Error, ObjectIdentifierAsn1};
+use input_ranges::{Place, Refusal, contents_of, place_at, start_of};
 use pkcs12_bags::parts::oids::{
     CERTIFICATE_BAG, CRL_BAG, FRIENDLY_NAME, KEY_BAG, LOCAL_KEY_ID, SAFE_CONTENTS_BAG, SECRET_BAG,
     SHROUDED_KEY_BAG, X509_CERTIFICATE, X509_CRL, is_oid_of, octets_of_known,
@@ -25,10 +26,10 @@ use std::alloc::Global;
 use std::ops::Range;
 use x509_pkcs12::{RawSafeBag, RawSafeContents};
 
-/// How many levels of bags are allowed.
-pub(crate) const LEVELS: u8 = 64;
+/// How many lists of bags may be in one another, so that a bag is in 64 others at most, as `from_bytes` has it of `Pfx`.
+pub(crate) const LEVELS: u8 = 65;
 
-/// The kind that an object identifier says.
+/// The kind that an object identifier says. Of certificates and revocation lists it is that of X.509 ones.
 fn kind_of(id: &ObjectIdentifierAsn1) -> BagKind
     ensures { IsKind result (octets_of id.now.0) }
 {
@@ -53,57 +54,127 @@ fn kind_of(id: &ObjectIdentifierAsn1) -> BagKind
     BagKind::Other
 }
 
-/// The range of what a bag of certificates or revocation lists holds.
+/// What a bag holds, and where.
+#[derive(Drop)]
+pub(crate) struct Held {
+    pub kind: BagKind,
+    pub range: Range<usize>,
+}
+
+/// Where what a bag of certificates or revocation lists holds is, and whether it is an X.509 one.
+#[tactic(auto, using(crate::proofs::Held::is_x509, crate::proofs::Held::is_other, crate::proofs::Held::not_either, crate::proofs::Held::no_x509, crate::proofs::Held::no_other))]
 fn x509_range<const KNOWN: usize>(
     alloc: Global,
     input: &[u8],
-    place: Place,
+    place: Option<Place>,
     element: &[u8],
-) -> Result<Range<usize>, Refusal>
-    ensures { IfOk result (λ r. IsX509At KNOWN input.now element.now r) }
+) -> Result<(bool, Range<usize>), Refusal>
+    ensures { Finds (IsEitherAt KNOWN input.now element.now) result }
 {
-    let held: X509Bag<KNOWN> = read_at(alloc, element, place.start)?;
-    let inside = there(held_place(input, place))?;
+    let held: X509Bag<KNOWN> = read_at(alloc, element, start_of(place))?;
+    let inner = held_place(input, place);
     match &held {
-        X509Bag::X509(der) => range_of(input, inside.contents, inside.end, der.0.as_slice()),
+        X509Bag::X509(der) => {
+            let range = octets_range(input, contents_of(inner), der.0.as_slice())?;
+            Ok((true, range))
+        }
         X509Bag::Unknown { value, .. } => {
-            range_of(input, inside.start, inside.end, value.0.as_slice())
+            let range = octets_range(input, start_of(inner), value.0.as_slice())?;
+            Ok((false, range))
         }
     }
 }
 
-/// The range of an encrypted key.
-fn key_range(
+/// What a bag of certificates holds.
+#[tactic(auto, using(crate::proofs::Held::no_certificate))]
+fn certificate_held(
     alloc: Global,
     input: &[u8],
-    place: Place,
+    place: Option<Place>,
     element: &[u8],
-) -> Result<Range<usize>, Refusal>
-    ensures { IfOk result (λ r. IsKeyAt input.now element.now r) }
+) -> Result<Held, Refusal>
+    ensures { Finds (IsHeldAt input.now Certificate element.now) result }
 {
-    let _key: EncryptedKeyBag = read_at(alloc, element, place.start)?;
-    range_of(input, place.start, place.end, element)
+    let (is_x509, range) = x509_range::<X509_CERTIFICATE>(alloc, input, place, element)?;
+    if is_x509 {
+        let kind = BagKind::Certificate;
+        return Ok(Held { kind, range });
+    }
+    let kind = BagKind::OtherCertificate;
+    Ok(Held { kind, range })
 }
 
-/// The range of what a bag of a kind holds.
-fn value_range(
+/// What a bag of revocation lists holds.
+#[tactic(auto, using(crate::proofs::Held::no_list))]
+fn list_held(
+    alloc: Global,
+    input: &[u8],
+    place: Option<Place>,
+    element: &[u8],
+) -> Result<Held, Refusal>
+    ensures { Finds (IsHeldAt input.now Crl element.now) result }
+{
+    let (is_x509, range) = x509_range::<X509_CRL>(alloc, input, place, element)?;
+    if is_x509 {
+        let kind = BagKind::Crl;
+        return Ok(Held { kind, range });
+    }
+    let kind = BagKind::OtherCrl;
+    Ok(Held { kind, range })
+}
+
+/// An encrypted key.
+#[tactic(auto, using(crate::proofs::Held::is_key, crate::proofs::Held::not_key, crate::proofs::Held::no_key))]
+fn key_held(
+    alloc: Global,
+    input: &[u8],
+    place: Option<Place>,
+    element: &[u8],
+) -> Result<Held, Refusal>
+    ensures { Finds (IsHeldAt input.now ShroudedKey element.now) result }
+{
+    let _key: EncryptedKeyBag = read_at(alloc, element, start_of(place))?;
+    let range = octets_range(input, start_of(place), element)?;
+    let kind = BagKind::ShroudedKey;
+    Ok(Held { kind, range })
+}
+
+/// What a bag of any other kind holds, which isn't read.
+#[tactic(auto, using(crate::proofs::Held::is_plain, crate::proofs::Held::no_plain))]
+fn plain_held(
+    input: &[u8],
+    kind: BagKind,
+    place: Option<Place>,
+    element: &[u8],
+) -> Result<Held, Refusal>
+    requires { IsPlain kind }
+    ensures { Finds (IsHeldAt input.now (named_kind kind) element.now) result }
+{
+    let range = octets_range(input, start_of(place), element)?;
+    Ok(Held { kind, range })
+}
+
+/// What a bag holds whose object identifier says that kind.
+fn held_of(
     alloc: Global,
     input: &[u8],
     kind: BagKind,
-    place: Place,
+    place: Option<Place>,
     element: &[u8],
-) -> Result<Range<usize>, Refusal>
-    ensures { IfOk result (λ r. IsValueAt input.now kind element.now r) }
+) -> Result<Held, Refusal>
+    ensures { Finds (IsHeldAt input.now (named_kind kind) element.now) result }
 {
     match kind {
-        BagKind::Certificate => x509_range::<X509_CERTIFICATE>(alloc, input, place, element),
-        BagKind::Crl => x509_range::<X509_CRL>(alloc, input, place, element),
-        BagKind::ShroudedKey => key_range(alloc, input, place, element),
-        BagKind::Key => range_of(input, place.start, place.end, element),
-        BagKind::Secret => range_of(input, place.start, place.end, element),
-        BagKind::SafeContents => range_of(input, place.start, place.end, element),
-        BagKind::Other => range_of(input, place.start, place.end, element),
-        BagKind::Unread => range_of(input, place.start, place.end, element),
+        BagKind::Certificate => certificate_held(alloc, input, place, element),
+        BagKind::OtherCertificate => certificate_held(alloc, input, place, element),
+        BagKind::Crl => list_held(alloc, input, place, element),
+        BagKind::OtherCrl => list_held(alloc, input, place, element),
+        BagKind::ShroudedKey => key_held(alloc, input, place, element),
+        BagKind::Key => plain_held(input, kind, place, element),
+        BagKind::Secret => plain_held(input, kind, place, element),
+        BagKind::SafeContents => plain_held(input, kind, place, element),
+        BagKind::Other => plain_held(input, kind, place, element),
+        BagKind::Unread => plain_held(input, kind, place, element),
     }
 }
 
@@ -118,181 +189,162 @@ fn index_of(bag: &RawSafeBag, oid: &[u8]) -> usize {
 }
 
 /// Where the first attribute of a bag with that number is.
-fn named_place(input: &[u8], bag: &RawSafeBag, place: Place, number: usize) -> Option<Place> {
-    let index = index_of(bag, octets_of_known(number));
-    attribute_place(input, attributes_place(input, place), index)
-}
-
-/// The range of the octets of an attribute's value.
-fn octets_range(
+fn named_place(
     input: &[u8],
-    attribute: Option<Place>,
-    octets: &[u8],
-) -> Result<Range<usize>, Refusal>
-    ensures { IfOk result (λ r. IsAt input.now octets.now r.start r.end) }
-{
-    let value = there(value_place(input, attribute))?;
-    range_of(input, value.contents, value.end, octets)
+    bag: &RawSafeBag,
+    place: Option<Place>,
+    number: usize,
+) -> Option<Place> {
+    attribute_place(input, place, index_of(bag, octets_of_known(number)))
 }
 
 /// The range of a bag's friendly name. Several are refused, as `RawSafeBag::friendly_name` does.
+#[tactic(auto, using(crate::proofs::Attributes::no_only, crate::proofs::Attributes::no_name_range))]
 fn name_range(
     alloc: Global,
     input: &[u8],
-    place: Place,
+    place: Option<Place>,
     bag: &RawSafeBag,
 ) -> Result<Option<Range<usize>>, Refusal>
-    ensures { IfOk result (λ r. IsAttributeAt input.now utf16_string.format (with_oid (oid FRIENDLY_NAME) (attributes_of (raw_safe_bag_value bag.now))) r) }
+    ensures { Finds (IsAttributeAt input.now utf16_string.format (with_oid (oid FRIENDLY_NAME) (attributes_of (raw_safe_bag_value bag.now)))) result }
 {
-    let attribute = named_place(input, bag, place, FRIENDLY_NAME);
+    let named = named_place(input, bag, place, FRIENDLY_NAME);
     match bag.friendly_name(alloc) {
-        Ok(Some(name)) => Ok(Some(octets_range(input, attribute, name.as_bytes())?)),
+        Ok(Some(name)) => {
+            let start = contents_of(held_place(input, named));
+            Ok(Some(octets_range(input, start, name.as_bytes())?))
+        }
         Ok(None) => Ok(None),
-        Err(error) => Err(refused(error, start_or(attribute, place.start), 0)),
+        Err(error) => Err(refused(error, start_or(named, start_of(place)), 0)),
     }
 }
 
 /// The range of a bag's local key identifier, alike.
+#[tactic(auto, using(crate::proofs::Attributes::no_only, crate::proofs::Attributes::no_key_id_range))]
 fn key_id_range(
     alloc: Global,
     input: &[u8],
-    place: Place,
+    place: Option<Place>,
     bag: &RawSafeBag,
 ) -> Result<Option<Range<usize>>, Refusal>
-    ensures { IfOk result (λ r. IsAttributeAt input.now octet_string (with_oid (oid LOCAL_KEY_ID) (attributes_of (raw_safe_bag_value bag.now))) r) }
+    ensures { Finds (IsAttributeAt input.now octet_string (with_oid (oid LOCAL_KEY_ID) (attributes_of (raw_safe_bag_value bag.now)))) result }
 {
     let attribute = named_place(input, bag, place, LOCAL_KEY_ID);
     match bag.local_key_id(alloc) {
-        Ok(Some(id)) => Ok(Some(octets_range(input, attribute, id.0.as_slice())?)),
+        Ok(Some(id)) => {
+            let start = contents_of(held_place(input, attribute));
+            Ok(Some(octets_range(input, start, id.0.as_slice())?))
+        }
         Ok(None) => Ok(None),
-        Err(error) => Err(refused(error, start_or(attribute, place.start), 0)),
+        Err(error) => Err(refused(error, start_or(attribute, start_of(place)), 0)),
     }
 }
 
 /// The ranges of a bag, in which so many further levels are allowed.
+#[tactic(auto, using(crate::proofs::InBags::is_kind, crate::proofs::InBags::no_element, crate::proofs::InBags::no_value, crate::proofs::InBags::no_name, crate::proofs::InBags::no_key_id))]
 fn ranges_of(
     alloc: Global,
     input: &[u8],
-    place: Place,
+    place: Option<Place>,
     bag: &RawSafeBag,
     below: u8,
 ) -> Result<BagRanges, Refusal>
-    ensures { IfOk result (λ r. IsBagAt below input.now (raw_safe_bag_value bag.now) r) }
+    ensures { Finds (IsBagAt below input.now (raw_safe_bag_value bag.now)) result }
 {
-    let kind = kind_of(&bag.bag_id);
-    let held = there(held_place(input, place))?;
-    let element = encoding_range(alloc, input, place, bag)?;
-    let value = value_range(alloc, input, kind, held, bag.value())?;
+    let named = kind_of(&bag.bag_id);
+    let element = encoded_range(alloc, input, start_of(place), bag)?;
+    let Held { kind, range } = held_of(alloc, input, named, held_place(input, place), bag.value())?;
     let friendly_name = name_range(alloc, input, place, bag)?;
     let local_key_id = key_id_range(alloc, input, place, bag)?;
     Ok(BagRanges {
         kind,
-        level: 63u8.saturating_sub(below),
+        level: 64u8.saturating_sub(below),
         element,
-        value,
+        value: range,
         friendly_name,
         local_key_id,
     })
 }
 
-/// A row, and then others.
-fn first_then(
-    alloc: Global,
-    row: BagRanges,
-    others: Vec<BagRanges>,
-) -> Result<Vec<BagRanges>, Refusal>
-    ensures { IfOk result (λ rows. rows.items ≡ row ∷ others.items) }
-{
-    let mut rows = Vec::new(alloc);
-    let mut others = others;
-    rows.push(row)?;
-    rows.append(&mut others)?;
-    Ok(rows)
-}
-
-/// The row of a bag, and those of the bags in it, of which so many levels are allowed.
+/// Adds the row of a bag, and those of the bags in it, of which so many levels are allowed.
 #[cycle(rows)]
-fn rows_of_bag(
+#[tactic(auto, using(crate::proofs::InBags::no_row, crate::proofs::InBags::no_row_inside, crate::proofs::InBags::are_of_bag))]
+fn push_bag(
     alloc: Global,
     input: &[u8],
-    place: Place,
+    place: Option<Place>,
     bag: &RawSafeBag,
     below: u8,
-) -> Result<Vec<BagRanges>, Refusal>
-    ensures { IfOk result (λ rows. AreOfBag (AreBags below input.now) below input.now (raw_safe_bag_value bag.now) rows.items) }
+    rows: &mut Vec<BagRanges>,
+) -> Result<(), Refusal>
+    ensures { Pushes (AreOfBag (AreBags below input.now) below input.now (raw_safe_bag_value bag.now)) rows.old.items rows.new.items result }
 {
     let own = ranges_of(alloc, input, place, bag, below)?;
-    let others = rows_inside(alloc, input, own.kind, own.value.start, bag.value(), below)?;
-    let rows = first_then(alloc, own, others)?;
-    Ok(rows)
+    let start = own.value.start;
+    rows.push(own)?;
+    push_inside(alloc, input, start, bag, below, rows)?;
+    Ok(())
 }
 
-/// The rows of the bags in the value of a bag of a kind, which begins there.
+/// Adds the rows of the bags in a bag, whose value begins there.
 #[cycle(rows)]
-fn rows_inside(
+#[tactic(auto, using(crate::proofs::InBags::none_inside, crate::proofs::InBags::are_inside, crate::proofs::InBags::not_inside, crate::proofs::InBags::no_rows_inside))]
+fn push_inside(
     alloc: Global,
     input: &[u8],
-    kind: BagKind,
     start: usize,
-    element: &[u8],
+    bag: &RawSafeBag,
     below: u8,
-) -> Result<Vec<BagRanges>, Refusal>
-    ensures { IfOk result (λ rows. AreHeld (AreBags below input.now) kind element.now rows.items) }
+    rows: &mut Vec<BagRanges>,
+) -> Result<(), Refusal>
+    ensures { Pushes (AreHeld (AreBags below input.now) (raw_safe_bag_value bag.now)) rows.old.items rows.new.items result }
 {
-    match kind {
-        BagKind::SafeContents => {
-            let held: RawSafeContents = read_at(alloc, element, start)?;
-            let rows = rows_of_bags(alloc, input, start, held.0.as_slice(), below)?;
-            Ok(rows)
-        }
-        BagKind::Key => Ok(Vec::new(alloc)),
-        BagKind::ShroudedKey => Ok(Vec::new(alloc)),
-        BagKind::Certificate => Ok(Vec::new(alloc)),
-        BagKind::Crl => Ok(Vec::new(alloc)),
-        BagKind::Secret => Ok(Vec::new(alloc)),
-        BagKind::Other => Ok(Vec::new(alloc)),
-        BagKind::Unread => Ok(Vec::new(alloc)),
+    if !is_oid_of(&bag.bag_id.0, octets_of_known(SAFE_CONTENTS_BAG)) {
+        return Ok(());
     }
+    let held: RawSafeContents = read_at(alloc, bag.value(), start)?;
+    push_bags(alloc, input, start, held.0.as_slice(), below, rows)?;
+    Ok(())
 }
 
-/// The rows of the bags of a `SafeContents` that begins there, in at most so many levels.
+/// Adds the rows of the bags of a `SafeContents` that begins there, in at most so many levels.
 #[cycle(rows)]
-#[tactic(auto, using(crate::proofs::Rows::one_level))]
-pub(crate) fn rows_of_bags(
+#[tactic(auto, using(crate::proofs::InBags::too_deep, crate::proofs::InBags::one_level, crate::proofs::InBags::no_level))]
+pub(crate) fn push_bags(
     alloc: Global,
     input: &[u8],
     start: usize,
     bags: &[RawSafeBag],
     levels: u8,
-) -> Result<Vec<BagRanges>, Refusal>
-    ensures { IfOk result (λ rows. AreBags levels input.now (map raw_safe_bag_value bags.now) rows.items) }
+    rows: &mut Vec<BagRanges>,
+) -> Result<(), Refusal>
+    ensures { Pushes (AreBags levels input.now (map raw_safe_bag_value bags.now)) rows.old.items rows.new.items result }
 {
     if levels == 0 {
         return Err(Refusal::Part(Error::TooDeep, start));
     }
-    let first = there(place_at(input, start))?.contents;
-    let rows = rows_from(alloc, input, first, bags, levels - 1)?;
-    Ok(rows)
+    let first = inside(input, place_at(input, start));
+    push_all(alloc, input, first, bags, levels - 1, rows)?;
+    Ok(())
 }
 
-/// The rows of bags that follow one another, the first of them from there on.
+/// Adds the rows of bags that follow one another, the first of them there.
 #[cycle(rows)]
-fn rows_from(
+#[tactic(auto, using(crate::proofs::Rows::none_yet, crate::proofs::Rows::one_more, crate::proofs::Rows::all_of_them, crate::proofs::Rows::none_of_one))]
+fn push_all(
     alloc: Global,
     input: &[u8],
-    start: usize,
+    first: Option<Place>,
     bags: &[RawSafeBag],
     below: u8,
-) -> Result<Vec<BagRanges>, Refusal>
-    ensures { IfOk result (λ rows. InOrder (AreOfBag (AreBags below input.now) below input.now) (map raw_safe_bag_value bags.now) rows.items) }
+    rows: &mut Vec<BagRanges>,
+) -> Result<(), Refusal>
+    ensures { Pushes (InOrder (AreOfBag (AreBags below input.now) below input.now) (map raw_safe_bag_value bags.now)) rows.old.items rows.new.items result }
 {
-    let mut rows = Vec::new(alloc);
-    let mut next = start;
+    let mut next = first;
     for bag in bags {
-        let place = there(place_at(input, next))?;
-        let mut found = rows_of_bag(alloc, input, place, bag, below)?;
-        rows.append(&mut found)?;
-        next = place.end;
+        push_bag(alloc, input, next, bag, below, rows)?;
+        next = after(input, next);
     }
-    Ok(rows)
+    Ok(())
 }

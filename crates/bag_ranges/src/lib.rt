@@ -3,10 +3,12 @@
 
 pub mod bags;
 pub mod contents;
+mod parts;
 mod places;
 pub mod ranges;
 pub mod stores;
 
 pub use contents::RawContentInfo;
-pub use ranges::{BagKind, BagRanges, Refusal};
+pub use input_ranges::Refusal;
+pub use ranges::{BagKind, BagRanges};
 pub use stores::bag_ranges;

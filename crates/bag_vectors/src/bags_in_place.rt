@@ -2,7 +2,8 @@
 //! shows, with the offsets of each OCTET STRING that it is given by -strparse.
 
 use crate::stores::{
-    half_name, no_bag, no_certificate, no_data, no_key, no_list, no_name, signed_store, store,
+    half_name, no_bag, no_certificate, no_contents, no_data, no_id, no_key, no_key_octets, no_list,
+    no_name, no_octets, no_other, no_safe, no_safe_contents, other_types, signed_store, store,
     two_ids, two_names,
 };
 use asn1_core::Error;
@@ -131,6 +132,34 @@ fn other_stores(rt: HostRuntime) -> Result<(), Fail> {
     expect(rows.is_empty(), "bags where there are none")
 }
 
+/// The SDSI certificate.
+fn sdsi_row() -> BagRanges {
+    BagRanges {
+        kind: BagKind::OtherCertificate,
+        level: 0,
+        element: 52..134,
+        value: 85..95,
+        friendly_name: Some(114..116),
+        local_key_id: Some(133..134),
+    }
+}
+
+/// Certificates and revocation lists of other types aren't X.509 ones. Their values are whole elements.
+#[test]
+fn types(rt: HostRuntime) -> Result<(), Fail> {
+    let rows = found_in(rt.alloc(), other_types())?;
+    let [sdsi, other, certificate, list] = rows.as_slice() else {
+        return Err(Fail::new("another number of bags"));
+    };
+    expect(*sdsi == sdsi_row(), "the SDSI certificate")?;
+    let wanted = plain(BagKind::OtherCrl, 0, 134..165, 160..165);
+    expect(*other == wanted, "the other list")?;
+    let wanted = plain(BagKind::Certificate, 0, 165..204, 200..204);
+    expect(*certificate == wanted, "the X.509 certificate")?;
+    let wanted = plain(BagKind::Crl, 0, 204..242, 239..242);
+    expect(*list == wanted, "the X.509 list")
+}
+
 /// A file is refused so.
 fn is_refused(alloc: Global, file: &[u8], wanted: Refusal) -> Result<(), Fail> {
     match bag_ranges(alloc, file) {
@@ -150,15 +179,27 @@ fn parts(rt: HostRuntime) -> Result<(), Fail> {
 }
 
 #[test]
+fn other_parts(rt: HostRuntime) -> Result<(), Fail> {
+    let alloc = rt.alloc();
+    is_refused(alloc, no_other(), Refusal::Part(Error::Invalid, 74))?;
+    is_refused(alloc, no_key_octets(), Refusal::Part(Error::Invalid, 88))?;
+    is_refused(alloc, no_safe_contents(), Refusal::Part(Error::Invalid, 41))?;
+    is_refused(alloc, no_octets(), Refusal::Part(Error::Invalid, 39))?;
+    is_refused(alloc, no_contents(), Refusal::Part(Error::Malformed, 37))?;
+    is_refused(alloc, no_safe(), Refusal::Part(Error::Invalid, 22))
+}
+
+#[test]
 fn names_and_identifiers(rt: HostRuntime) -> Result<(), Fail> {
     let alloc = rt.alloc();
     is_refused(alloc, two_names(), Refusal::Part(Error::Invalid, 84))?;
     is_refused(alloc, two_ids(), Refusal::Part(Error::Invalid, 86))?;
     is_refused(alloc, half_name(), Refusal::Part(Error::Invalid, 81))?;
-    is_refused(alloc, no_name(), Refusal::Part(Error::Invalid, 81))
+    is_refused(alloc, no_name(), Refusal::Part(Error::Invalid, 81))?;
+    is_refused(alloc, no_id(), Refusal::Part(Error::Invalid, 64))
 }
 
-/// The last octet is missing, and there is none.
+/// The last octet is missing, there is none, and the version is another.
 #[test]
 fn no_store(rt: HostRuntime) -> Result<(), Fail> {
     let alloc = rt.alloc();
@@ -166,7 +207,10 @@ fn no_store(rt: HostRuntime) -> Result<(), Fail> {
         return Err(Fail::new("the file is short"));
     };
     is_refused(alloc, cut, Refusal::Refused(Error::Malformed, 0))?;
-    is_refused(alloc, b"", Refusal::Refused(Error::Missing, 0))
+    is_refused(alloc, b"", Refusal::Refused(Error::Missing, 0))?;
+    let version: &[u8] =
+        b"\x30\x16\x02\x01\x04\x30\x11\x06\x09\x2A\x86\x48\x86\xF7\x0D\x01\x07\x01\xA0\x04\x04\x02\x30\x00";
+    is_refused(alloc, version, Refusal::Refused(Error::Invalid, 2))
 }
 
 /// One element around others.
@@ -216,24 +260,24 @@ fn nested(alloc: Global, bags: usize) -> Result<Vec<u8>, Error> {
     element(alloc, 0x30, b"\x02\x01\x03", &file)
 }
 
-/// 64 levels are allowed. The innermost SafeContents, which is the 65th, is the last 43 octets of the file.
+/// A bag may be in 64 others. The innermost SafeContents, with a key in 65, is the last 43 octets of the file.
 #[test]
 fn levels(rt: HostRuntime) -> Result<(), Fail> {
-    let file = nested(rt.alloc(), 63)?;
+    let file = nested(rt.alloc(), 64)?;
     let rows = found_in(rt.alloc(), &file)?;
-    expect(rows.len() == 64, "another number of bags")?;
+    expect(rows.len() == 65, "another number of bags")?;
     let len = file.len();
     let Some(last) = rows.last() else {
         return Err(Fail::new("no bags"));
     };
     let wanted = plain(
         BagKind::Key,
-        63,
+        64,
         len.saturating_sub(41)..len,
         len.saturating_sub(24)..len,
     );
     expect(*last == wanted, "the key")?;
-    let file = nested(rt.alloc(), 64)?;
+    let file = nested(rt.alloc(), 65)?;
     let place = file.len().saturating_sub(43);
     is_refused(rt.alloc(), &file, Refusal::Part(Error::TooDeep, place))
 }

@@ -4,4 +4,6 @@
 #[cfg(test)]
 mod bags_in_place;
 #[cfg(test)]
+mod contents;
+#[cfg(test)]
 mod stores;
