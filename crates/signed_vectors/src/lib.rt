@@ -18,4 +18,8 @@ mod parts;
 #[cfg(test)]
 mod recipients;
 #[cfg(test)]
+mod signed_parts;
+#[cfg(test)]
 mod signers;
+#[cfg(test)]
+mod store_parts;

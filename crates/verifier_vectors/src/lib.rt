@@ -1,6 +1,8 @@
-//! Tests of what a verifier asks of signed data by public calls, over files that openssl made.
+//! Tests of what a verifier asks of signed data, and of where parts are in files, by public calls, over files of openssl.
 #![tactic(auto)]
 
+#[cfg(test)]
+mod parts_in_place;
 #[cfg(test)]
 mod raw_signers;
 #[cfg(test)]

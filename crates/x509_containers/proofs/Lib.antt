@@ -1,3 +1,2 @@
 pub mod KindLists
-pub mod HeldMacs
 pub mod Asking

@@ -8,14 +8,6 @@ pub mod SignedPartKinds
 pub mod StoreKinds
 pub mod TrustListKinds
 pub mod Kinds
-pub mod Copies
-pub mod Inputs
-pub mod MacParts
-pub mod SignedParts
-pub mod SignedRows
-pub mod StoreParts
-pub mod StoreRows
-pub mod Parts
 pub mod Words
 pub mod Answers
 pub mod Program

@@ -3,7 +3,6 @@
 #![tactic(auto)]
 
 mod kinds;
-pub mod parts;
 pub mod program;
 
 pub use asn1_choices::AnyDefinedBy;
@@ -105,16 +104,6 @@ pub use kinds::loose_end;
 pub use kinds::rewrite;
 pub use kinds::rewrite_limited;
 pub use kinds::run;
-pub use parts::ContainerPart;
-pub use parts::MacPart;
-pub use parts::SignedPart;
-pub use parts::SignerPart;
-pub use parts::StorePart;
-pub use parts::container_part;
-pub use parts::mac_iterations;
-pub use parts::mac_part;
-pub use parts::signed_part;
-pub use parts::store_part;
 pub use pkcs7_attributes::Attributes;
 pub use pkcs7_attributes::AttributesAsSet;
 pub use pkcs7_attributes::set_has_the_same_contents;

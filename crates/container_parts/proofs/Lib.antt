@@ -1,0 +1,3 @@
+pub mod HeldMacs
+pub mod Ranges
+pub mod Rows

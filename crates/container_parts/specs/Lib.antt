@@ -1,0 +1,7 @@
+pub mod Copies
+pub mod Inputs
+pub mod Contents
+pub mod MacParts
+pub mod SignedParts
+pub mod StoreParts
+pub mod Parts
