@@ -4,18 +4,19 @@
  *
  * What is proved of its calls der_check_word_limited, der_rewrite_word_limited, der_kind_word, der_part_octets,
  * der_signer_rows, der_part_ranges, der_attribute_ranges, der_mac_range, der_mac, der_from_ber, der_mac_ber,
- * der_mac_part_ber, der_name_text, der_oid_text, der_oid_name, der_integer_text and der_bag_rows, for all inputs, and
- * what isn't:
+ * der_mac_part_ber, der_name_text, der_oid_text, der_oid_name, der_integer_text, der_utf16_text and der_bag_rows, for
+ * all inputs, and what isn't:
  *  - A call answers no status but those that are listed at it. What it writes into numbers and into out is as said
  *    below.
- *  - DER_NORMAL, DER_LOOSE, DER_UNKNOWN_KIND, DER_TOO_LONG, DER_NO_ROOM, DER_NO_RANGE and DER_NO_PART are true where
- *    they are answered. At DER_NO_RANGE of der_bag_rows the input is a store, and no more is proved; of its DER_TOO_LONG
- *    nothing is. DER_BAD_ATTRIBUTES is true where a row of der_signer_rows has it, but that an empty set of signed
- *    attributes is that signer's: proved is that the signer's value has none, and that A0 00 is in the input.
+ *  - DER_NORMAL, DER_LOOSE, DER_UNKNOWN_KIND, DER_NO_ROOM and DER_NO_PART are true where they are answered, and so are
+ *    DER_TOO_LONG and DER_NO_RANGE, but of bags. DER_BAD_ATTRIBUTES is true where a row of der_signer_rows has it, but
+ *    that an empty set of signed attributes is that signer's: proved is that the signer's value has none, and that the
+ *    input has the octets A0 00.
  *  - At DER_MALFORMED, DER_MISSING, DER_INVALID and DER_TOO_DEEP the input is no encoding of the kind, of der_from_ber
- *    it has no DER, of der_signer_rows and the calls for ranges it isn't what has the part, and of the calls that write
- *    text it has none, as said there. Which of the four it is isn't proved: tests tell them apart. Nothing is proved of
- *    them at der_bag_rows, which has them of a part of a store too, but that the place is in the input.
+ *    it has no DER, of the calls for parts, signers and ranges it isn't what has the part, and of those that write text
+ *    it has none, as said there. Which of the four it is isn't proved: tests tell them apart.
+ *  - Of the bags of a store, and of parts of these, the same is said at the four, at DER_TOO_LONG and at DER_NO_RANGE:
+ *    the input has no such rows as der_bag_rows writes at DER_NORMAL. At DER_NO_RANGE of der_bag_rows it is a store.
  *  - That memory was refused where a call answers DER_NO_MEMORY isn't proved. Tests show that calls with memory enough
  *    don't answer it, on inputs of up to 190 KB and of hundreds of parts, and that calls keep no memory.
  *  - The functions in this file, in C, are tested and not proved, nor are der_version and der_processor.
@@ -35,9 +36,9 @@
  *  - No call is made from a signal handler, nor from the child that a process with threads forked.
  *  - The stack has room for the nesting of the input: see DER_MAX_NESTING.
  *  - The system is Linux, and the processor is one that the library was built for, which der_processor says. Where that
- *    is x86-64, any of them is; where it is x86-64-v2, one that has SSE4.2 and POPCNT. On an older one the loader starts
- *    no program with an installed library, or an illegal instruction ends the program. scripts/install and .ci/library
- *    take x86-64 by default, and `rt lib` takes x86-64-v2.
+ *    is x86-64, any of them is; where it is x86-64-v2, one that has SSE4.2 and POPCNT. On an older one the loader
+ *    starts no program with an installed library, or an illegal instruction ends the program. scripts/install and
+ *    .ci/library take x86-64 by default, and `rt lib` takes x86-64-v2.
  * Calls share nothing, so threads may make them side by side, each with an out and numbers of its own. */
 #ifndef DER_H
 #define DER_H
@@ -75,14 +76,15 @@ typedef enum der_status {
   DER_TOO_LONG = 7,     /* its normal encoding, or that of the part, has 2^64 bytes or more */
   DER_NO_MEMORY = 8,    /* a request for memory was refused: nothing is said of the input */
   DER_NO_ROOM = 9,      /* out is too short: the number of bytes, or of ranges, that are needed is written */
-  DER_NO_RANGE = 10,    /* authSafe isn't data, so no octets are covered by a MAC; of ranges: a part isn't found */
+  DER_NO_RANGE = 10,    /* authSafe isn't data, so no octets are covered by a MAC; of others: a part isn't found */
   DER_NO_PART = 11,     /* the container has no such part, or not so many; the file has no MAC; no name is known */
   DER_BAD_ATTRIBUTES = 12 /* of a signer: its signed attributes break RFC 5652 */
 } der_status;
 
 /* The parts of containers. Each is of the type that the input is read as, which is said before it. */
 typedef enum der_part_number {
-  /* "pkcs7certificate": signed data with its content type (RFC 5652, 5) */
+  /* signed data with its content type, of any CMSVersion, with signers of version 1 or 3, and over content of any type
+   * (RawPkcs7Certificate; RFC 5652, 5) */
   DER_PART_HASHED_CONTENT = 0,      /* contents octets of the content, which are hashed; the index isn't looked at */
   DER_PART_CERTIFICATE = 1,         /* a certificate, or another choice, as it is in certificates */
   DER_PART_SIGNED_ATTRIBUTES = 2,   /* of a signer: signedAttrs under the tag of a SET OF, which the signature covers */
@@ -92,11 +94,12 @@ typedef enum der_part_number {
   DER_PART_DIGEST_ALGORITHM = 6,    /* of a signer: the contents octets of the object identifier */
   DER_PART_SIGNATURE_ALGORITHM = 7, /* of a signer: the encoding of signatureAlgorithm, with its parameters */
   DER_PART_SIGNATURE = 8,           /* of a signer: the octets of signature */
-  /* "pfx": a PKCS #12 file, without what is encrypted in it; bags in bags count too (RFC 7292, 4) */
-  DER_PART_STORE_CERTIFICATE = 9,    /* an X.509 certificate */
+  /* a PKCS #12 file, in the order of der_bag_rows and with its statuses: without what is encrypted, and with bags in
+   * bags (RFC 7292, 4) */
+  DER_PART_STORE_CERTIFICATE = 9,    /* an X.509 certificate, as it is */
   DER_PART_STORE_KEY = 10,           /* a key that isn't encrypted: a PrivateKeyInfo, as it is */
-  DER_PART_STORE_ENCRYPTED_KEY = 11, /* an encrypted key: the encoding of an EncryptedPrivateKeyInfo */
-  DER_PART_STORE_BAG = 12,           /* a bag, with all that it holds; a bag comes before the bags in it */
+  DER_PART_STORE_ENCRYPTED_KEY = 11, /* an encrypted key: an EncryptedPrivateKeyInfo, as it is */
+  DER_PART_STORE_BAG = 12,           /* a bag, as it is, with all that it holds; what is unread is no bag */
   /* "rawpfx": the MAC of a PKCS #12 file; the index isn't looked at */
   DER_PART_MAC_DIGEST_ALGORITHM = 13, /* the contents octets of the object identifier */
   DER_PART_MAC_DIGEST = 14,           /* what a verifier compares with the MAC that it makes */
@@ -115,7 +118,7 @@ uint32_t der_rewrite_word_limited(const uint8_t *word, size_t word_len, uint8_t 
                                   size_t input_len, uint8_t *out, size_t out_len, size_t *written);
 uint32_t der_kind_word(size_t index, uint8_t *out, size_t out_len, size_t *written);
 uint32_t der_part_octets(size_t number, size_t index, const uint8_t *input, size_t input_len, uint8_t *out,
-                         size_t out_len, size_t *written);
+                         size_t out_len, size_t *written, size_t *place);
 
 /* Octets of the input: len of them, from input + start on. All of them are inside of it. */
 typedef struct der_range {
@@ -123,9 +126,8 @@ typedef struct der_range {
 } der_range;
 
 /* Where the input has each item of a part, in one reading, where der_part_octets reads it anew for each. number is
- * DER_PART_CERTIFICATE: certificates of signed data, or other choices, of any CMSVersion, with signers of any version
- * and over content of any type (RawPkcs7Certificate), which der_part_octets takes of fewer. Or it is one of the three
- * parts of enveloped data.
+ * DER_PART_CERTIFICATE: certificates of signed data, or other choices. Or it is one of the three parts of enveloped
+ * data.
  *  - DER_NORMAL: *count ranges are at the front of out, in the order of the items, and the rest of out is as it was.
  *  - DER_NO_ROOM: there are *count items, and out_len is less.
  *  - DER_UNKNOWN_KIND: the items of the part with that number aren't listed, or no part has it.
@@ -140,10 +142,10 @@ typedef struct der_range {
 uint32_t der_part_ranges(size_t number, const uint8_t *input, size_t input_len, der_range *out, size_t out_len,
                          size_t *count, size_t *place);
 
-/* Where signed data, as of DER_PART_CERTIFICATE, have each attribute of the signer with that index, an Attribute with its
- * type and values (RFC 5652, 5.3): each signed one, or, where is_signed is 0, each unsigned one, as countersignatures and
- * time stamps. At DER_NO_PART there are fewer signers. Any other status is as of der_part_ranges, but never
- * DER_UNKNOWN_KIND. */
+/* Where signed data, as of DER_PART_CERTIFICATE, have each attribute of the signer with that index, an Attribute with
+ * its type and values (RFC 5652, 5.3): each signed one, or, where is_signed is 0, each unsigned one, as a
+ * countersignature or a time stamp. At DER_NO_PART there are fewer signers. Any other status is as of der_part_ranges,
+ * but never DER_UNKNOWN_KIND. */
 uint32_t der_attribute_ranges(size_t is_signed, size_t index, const uint8_t *input, size_t input_len, der_range *out,
                               size_t out_len, size_t *count, size_t *place);
 
@@ -183,40 +185,43 @@ typedef struct der_signer_parts {
 uint32_t der_signer_rows(const uint8_t *input, size_t input_len, size_t first, der_signer_parts *out, size_t out_len,
                          size_t *count, size_t *place);
 
-/* What a bag holds: the last number of its object identifier (RFC 7292, 4.2). */
+/* What a bag holds: up to DER_BAG_SAFE_CONTENTS the last number of its object identifier (RFC 7292, 4.2). */
 typedef enum der_bag_kind {
   DER_BAG_OTHER = 0,
   DER_BAG_KEY = 1,
   DER_BAG_SHROUDED_KEY = 2,
-  DER_BAG_CERTIFICATE = 3,
-  DER_BAG_CRL = 4,
+  DER_BAG_CERTIFICATE = 3,       /* of X.509 */
+  DER_BAG_CRL = 4,               /* of X.509 */
   DER_BAG_SECRET = 5,
-  DER_BAG_SAFE_CONTENTS = 6, /* bags, whose rows follow this one, one level down */
-  DER_BAG_UNREAD = 7         /* no bag, but a whole ContentInfo that isn't data: encrypted bags, say */
+  DER_BAG_SAFE_CONTENTS = 6,     /* bags, whose rows follow this one, one level down */
+  DER_BAG_UNREAD = 7,            /* no bag, but a whole ContentInfo that isn't data: encrypted bags, say */
+  DER_BAG_OTHER_CERTIFICATE = 8, /* a certificate of another type than X.509, as SDSI */
+  DER_BAG_OTHER_CRL = 9          /* a revocation list of another type than X.509 */
 } der_bag_kind;
 
 /* Where a bag is. A range that isn't there is 0 and 0. */
 typedef struct der_bag_parts {
   size_t kind;              /* a der_bag_kind */
-  size_t level;             /* in how many bags it is, at most 63 */
+  size_t level;             /* in how many bags it is, at most 64 */
   size_t has_friendly_name; /* 1: it has one */
   size_t has_local_key_id;  /* 1: it has one */
   der_range element;        /* the whole bag, or the ContentInfo */
-  der_range value;          /* DER of the X.509 certificate or revocation list, or the element of one of another type; of
+  der_range value;          /* DER of the X.509 certificate or revocation list; of one of another type its element; of
                                other kinds the element that the bag holds, without the [0] around it; of what is unread
                                the ContentInfo */
-  der_range friendly_name;  /* in UTF-16, two octets for each unit, the high one first; it may be empty */
+  der_range friendly_name;  /* in UTF-16, two octets for each unit, the high one first; it may be empty: see
+                               der_utf16_text */
   der_range local_key_id;   /* its octets; a key has those of its certificate */
 } der_bag_parts;
 
-/* Where a PKCS #12 file has each bag that isn't encrypted, in one reading: bags in bags after those that hold them, in at
- * most 64 levels. The MAC isn't looked at, and nothing is decrypted: see der_mac.
+/* Where a PKCS #12 file has each bag that isn't encrypted, in one reading: bags in bags after those that hold them, in
+ * at most 64 levels. The MAC isn't looked at, and nothing is decrypted: see der_mac.
  *  - DER_NORMAL: *count rows are at the front of out, in the order of the file, and the rest of out is as it was.
  *  - DER_NO_ROOM: there are *count rows, and out_len is less.
  *  - DER_MALFORMED to DER_TOO_DEEP: the input is no PFX, read as "rawpfx"; or a SafeContents, certificate, revocation
  *    list or encrypted key doesn't read as its type, or a friendlyName or localKeyId doesn't, or is there twice. *place
  *    says where: of an attribute, where the first of its type begins.
- *  - DER_TOO_LONG: as of der_part; no input that fits into memory has it.
+ *  - DER_TOO_LONG: no input is known where it is answered.
  *  - DER_NO_MEMORY: *place is an offset without use.
  *  - DER_NO_RANGE: the input is a PFX, and a part isn't in it as its value is written: where it is loose, say.
  * Unless at DER_NORMAL out is as it was, unless at DER_NORMAL and DER_NO_ROOM *count is 0, and but for the refusals and
@@ -317,6 +322,11 @@ uint32_t der_oid_name(const uint8_t *octets, size_t octets_len, uint8_t *out, si
  * that a text takes grows by the square of their count. */
 uint32_t der_integer_text(const uint8_t *octets, size_t octets_len, uint8_t *out, size_t out_len, size_t *written);
 
+/* Writes UTF-16, two octets for each unit, the high one first, as friendly_name of der_bag_parts has it, as UTF-8 to
+ * the front of out, without a zero byte after it. What it answers is as of der_name_text: DER_INVALID, and no other
+ * refusal, where the octets are no UTF-16: an odd number of them, or a surrogate without its other half. */
+uint32_t der_utf16_text(const uint8_t *octets, size_t octets_len, uint8_t *out, size_t out_len, size_t *written);
+
 /* A limit as the calls take it: one that a byte is too small for counts as DER_MAX_NESTING too. */
 static inline uint8_t der_levels(unsigned limit) {
   return (uint8_t)(limit < DER_MAX_NESTING ? limit : DER_MAX_NESTING);
@@ -347,8 +357,8 @@ static inline der_status der_check(const char *kind, const uint8_t *input, size_
 /* Checks as der_check does, and says where an input is refused, as an offset from its first byte.
  *  - DER_MALFORMED: *place is where an element should begin and none does, or where bytes begin that are left over.
  *  - DER_MISSING: the end of the contents in which an element is missing.
- *  - DER_INVALID: where the element begins whose tag or contents are refused. Of a set of one value that has two, as two
- *    friendly names of a bag, it is the first of them, which may be right itself.
+ *  - DER_INVALID: where the element begins whose tag or contents are refused. Of a set of one value that has two, as
+ *    two friendly names of a bag, it is the first of them, which may be right itself.
  *  - DER_TOO_DEEP: where the element begins that is nested too deep.
  * At any other status *place is 0. That it is at most input_len is proved; which place it is, is tested. */
 static inline der_status der_locate(const char *kind, const uint8_t *input, size_t input_len, size_t *place) {
@@ -389,22 +399,26 @@ static inline der_status der_rewrite(const char *kind, const uint8_t *input, siz
 }
 
 /* Writes a part of a container, with at most DER_MAX_NESTING levels, to the front of out. Parts that a container has
- * several of, certificates, signers, keys and bags, are counted by the index from 0 on. What is said to be an encoding,
- * and the content that is hashed, is written anew, and so normal where the input is loose.
+ * several of, certificates, signers, keys and bags, are counted by the index from 0 on. A signer's issuer, signature
+ * algorithm and signed attributes are written anew, and so normal where the input is loose; all else is octets of the
+ * input.
  *  - DER_NORMAL: *written bytes were written, and the rest of out is as it was.
  *  - DER_NO_ROOM: *written bytes are needed, and out_len is less.
  *  - DER_NO_PART: the container has none of that index; or signed data have no content, since the signature is
  *    detached; or a signer has no signed attributes, is named by its key and not by its issuer, or the other way round;
  *    or the file has no MAC.
- *  - DER_MALFORMED to DER_TOO_DEEP: the input is no encoding of the type that the part is of. der_locate says where.
- *  - DER_TOO_LONG: the part is too long, or the encoding of the content that is hashed.
+ *  - DER_MALFORMED to DER_TOO_DEEP: the input is no encoding of the type that the part is of, or, of a store, as of
+ *    der_bag_rows, whatever the part is. *place says where, as there and as of der_locate.
+ *  - DER_TOO_LONG: the part is too long.
+ *  - DER_NO_RANGE: of a store, as of der_bag_rows.
  *  - DER_UNKNOWN_KIND: no part has that number.
- *  - DER_NO_MEMORY.
- * Unless at DER_NORMAL out is as it was, and unless at DER_NORMAL and DER_NO_ROOM *written is 0. Each call reads the
- * input anew. */
+ *  - DER_NO_MEMORY: *place is an offset without use.
+ * Unless at DER_NORMAL out is as it was, unless at DER_NORMAL and DER_NO_ROOM *written is 0, and but for the refusals
+ * and DER_NO_MEMORY *place is 0. That *place is at most input_len is proved; which place it is, is tested. Each call
+ * reads the input anew. */
 static inline der_status der_part(der_part_number part, size_t index, const uint8_t *input, size_t input_len,
-                                  uint8_t *out, size_t out_len, size_t *written) {
-  return (der_status)der_part_octets((size_t)part, index, input, input_len, out, out_len, written);
+                                  uint8_t *out, size_t out_len, size_t *written, size_t *place) {
+  return (der_status)der_part_octets((size_t)part, index, input, input_len, out, out_len, written, place);
 }
 
 /* The same as der_part_ranges. */

@@ -9,8 +9,10 @@ DER, from Python.
     library.part(Part.SIGNATURE, signed, 0)   the octets of a part, or None
     library.ranges(Part.CERTIFICATE, signed)  [range(58, 912), ..], of all certificates
     library.certificates(signed)     each of them, as memoryviews of signed
-    library.signers(signed)         [Signer(is_over_attributes=True, covered=b'1..', ..), BadAttributes()]
+    library.signers(signed)          [Signer(is_over_attributes=True, covered=b'1..', ..), BadAttributes()]
+    library.signed(signed)           a SignedData: its content, certificates and signers
     library.bags(store)              all Bag(kind=BagKind.CERTIFICATE, friendly_name='me', ..) that aren't encrypted
+    library.store(store)             a Store: its bags, certificates and keys, the key of a certificate, its MAC
     library.from_ber(data)           the DER of an input in BER, as bytes
     library.mac_ber(der)             as mac, of a file that from_ber returned
     library.kinds()                  ["macdata", ..]
@@ -28,9 +30,15 @@ The shared library is made of the static ones, at the top of a clone, after `rt 
         "$(dirname "$(rt doc)")/c/liblibc_c.a"
 """
 import ctypes
+import dataclasses
+import datetime
 import enum
+import functools
+import hashlib
+import hmac
 import os
-from typing import Any, Callable, Iterator, List, NamedTuple, Optional, Tuple, Union
+import re
+from typing import Callable, Dict, Iterator, List, NamedTuple, Optional, Tuple, Union
 
 # The most levels of nesting that an input may have.
 MAX_NESTING = 64
@@ -43,6 +51,30 @@ FEW_SIGNERS = 64
 FEW_RANGES = 1024
 # How many bags there is room for at first, alike.
 FEW_BAGS = 64
+# Tags of elements; of a signer's signed attributes and of its unsigned ones, and of crls in signed data.
+SEQUENCE, UTC_TIME, GENERALIZED_TIME = 0x30, 0x17, 0x18
+SIGNED, UNSIGNED, CRLS = 0xA0, 0xA1, 0xA1
+# The attribute signingTime (RFC 5652, 11.3).
+SIGNING_TIME = "1.2.840.113549.1.9.5"
+# Digests by their object identifiers, as hashlib names them.
+DIGESTS = {
+    "1.2.840.113549.2.5": "md5",
+    "1.3.14.3.2.26": "sha1",
+    "2.16.840.1.101.3.4.2.1": "sha256",
+    "2.16.840.1.101.3.4.2.2": "sha384",
+    "2.16.840.1.101.3.4.2.3": "sha512",
+    "2.16.840.1.101.3.4.2.4": "sha224",
+    "2.16.840.1.101.3.4.2.5": "sha512_224",
+    "2.16.840.1.101.3.4.2.6": "sha512_256",
+    "2.16.840.1.101.3.4.2.7": "sha3_224",
+    "2.16.840.1.101.3.4.2.8": "sha3_256",
+    "2.16.840.1.101.3.4.2.9": "sha3_384",
+    "2.16.840.1.101.3.4.2.10": "sha3_512",
+}
+# The purpose of a key for a MAC (RFC 7292, B.3).
+FOR_MAC = 3
+# A count of iterations above this is refused: it would take minutes.
+MOST_ITERATIONS = 10_000_000
 
 Bytes = Union[bytes, bytearray, memoryview]
 # A call of the library, which returns a status.
@@ -54,7 +86,8 @@ class Refused(ValueError):
 
     reason is "malformed", "missing", "invalid" or "too deep", and place the offset at which the input is refused: where
     the element begins that is invalid, nested too deep or none, or the end of the contents in which one is missing; of
-    a set of one value that has two, where the first of them begins.
+    a set of one value that has two, where the first of them begins. Calls that look for parts say too which they can't
+    find: reason is "no range" then, and place 0.
     """
 
     def __init__(self, reason: str, place: int) -> None:
@@ -94,39 +127,39 @@ class Verdict(NamedTuple):
 
 
 class Part(enum.Enum):
-    """A part of a container: its number in der.h, and the kind that the input is read as."""
+    """A part of a container, by its number in der.h."""
 
     # of signed data, whatever the index is: the octets of its content that are hashed, none where that is detached
-    HASHED_CONTENT = 0, "pkcs7certificate"
+    HASHED_CONTENT = 0
     # certificate number index, or another choice, as it is
-    CERTIFICATE = 1, "pkcs7certificate"
+    CERTIFICATE = 1
     # of signer number index: what its signature covers where there are signed attributes, their encoding as a SET OF
-    SIGNED_ATTRIBUTES = 2, "pkcs7certificate"
+    SIGNED_ATTRIBUTES = 2
     # the encoding of its issuer's Name, and the contents octets of the serial number, an INTEGER
-    ISSUER = 3, "pkcs7certificate"
-    SERIAL_NUMBER = 4, "pkcs7certificate"
+    ISSUER = 3
+    SERIAL_NUMBER = 4
     # the octets of its key identifier, where it is named by that
-    KEY_IDENTIFIER = 5, "pkcs7certificate"
+    KEY_IDENTIFIER = 5
     # the contents octets of the object identifier (dotted makes text of them)
-    DIGEST_ALGORITHM = 6, "pkcs7certificate"
+    DIGEST_ALGORITHM = 6
     # the encoding of its signature algorithm, and the octets of its signature
-    SIGNATURE_ALGORITHM = 7, "pkcs7certificate"
-    SIGNATURE = 8, "pkcs7certificate"
+    SIGNATURE_ALGORITHM = 7
+    SIGNATURE = 8
     # of a PKCS #12 file, without what is encrypted: X.509 certificate number index
-    STORE_CERTIFICATE = 9, "pfx"
+    STORE_CERTIFICATE = 9
     # PrivateKeyInfo number index, and EncryptedPrivateKeyInfo number index
-    STORE_KEY = 10, "pfx"
-    STORE_ENCRYPTED_KEY = 11, "pfx"
-    # the encoding of bag number index, with all that it holds
-    STORE_BAG = 12, "pfx"
+    STORE_KEY = 10
+    STORE_ENCRYPTED_KEY = 11
+    # bag number index, with all that it holds
+    STORE_BAG = 12
     # of its MAC, whatever the index is
-    MAC_DIGEST_ALGORITHM = 13, "rawpfx"
-    MAC_DIGEST = 14, "rawpfx"
-    MAC_SALT = 15, "rawpfx"
-    @property
-    def kind(self) -> str:
-        """The kind that the input is read as."""
-        return self.value[1]
+    MAC_DIGEST_ALGORITHM = 13
+    MAC_DIGEST = 14
+    MAC_SALT = 15
+
+
+# The parts of a MAC.
+MAC_PARTS = (Part.MAC_DIGEST_ALGORITHM, Part.MAC_DIGEST, Part.MAC_SALT)
 
 
 class EnvelopePart(enum.Enum):
@@ -141,7 +174,7 @@ class EnvelopePart(enum.Enum):
 
 
 class Mac(NamedTuple):
-    """What a verifier of a PKCS #12 file's MAC needs beside the password. Nothing says that the MAC is right."""
+    """What a verifier of a PKCS #12 file's MAC needs beside the password. Only is_right says that the MAC is right."""
 
     # where the file has the octets that the MAC covers
     covered: range
@@ -152,9 +185,128 @@ class Mac(NamedTuple):
     salt: bytes
     # how often the key derivation hashes
     iterations: int
+    # the octets that the MAC covers
+    octets: memoryview
+
+    def is_right(self, password: str) -> bool:
+        """Whether the MAC is that of the octets under a password (RFC 7292, 4 and appendix B).
+
+        Raises ValueError where it can't be made: hashlib has no such digest, there are more than MOST_ITERATIONS, or
+        UTF-16 has no such password.
+        """
+        name = digest_name(self.digest_algorithm)
+        if name is None:
+            raise ValueError(f"the digest {self.digest_algorithm} is not known")
+        if not 0 < self.iterations <= MOST_ITERATIONS:
+            raise ValueError(f"{self.iterations} iterations")
+        for octets in password_octets(password):
+            key = derived(name, octets, self.salt, self.iterations, FOR_MAC, hashlib.new(name).digest_size)
+            if hmac.compare_digest(hmac.new(key, self.octets, name).digest(), self.digest):
+                return True
+        return False
 
 
-class Signer(NamedTuple):
+class _Element(NamedTuple):
+    """An element in what the library accepted."""
+
+    tag: int
+    # with its tag and length, and without
+    whole: memoryview
+    contents: memoryview
+
+
+class _SignedFile:
+    """The elements of signed data that the library accepted, found once they are asked for."""
+
+    def __init__(self, data: bytes) -> None:
+        self.octets = memoryview(data)
+
+    @functools.cached_property
+    def fields(self) -> List[_Element]:
+        """The components of SignedData (RFC 5652, 5.1)."""
+        _, explicit = _inside(self.octets)
+        return list(_inside(explicit.contents))
+
+    @functools.cached_property
+    def signers(self) -> List[memoryview]:
+        """Each SignerInfo."""
+        return [it.whole for it in _elements(self.fields[-1].contents)]
+
+    def items(self, tag: int) -> Iterator[memoryview]:
+        """The elements in a component that may be absent."""
+        return (it.whole for part in self.fields[3:] if part.tag == tag for it in _elements(part.contents))
+
+
+@dataclasses.dataclass(eq=False)
+class SignerInfo:
+    """A signer as signed data have it (RFC 5652, 5.3). Nothing of it is verified: whoever made the file chose it."""
+
+    _file: _SignedFile = dataclasses.field(repr=False, compare=False)
+    # which of the signers it is, from 0 on
+    index: int
+
+    @property
+    def element(self) -> memoryview:
+        """The whole SignerInfo."""
+        return self._file.signers[self.index]
+
+    @property
+    def issuer(self) -> Optional[memoryview]:
+        """The issuer's Name, which name_text takes. None where a key identifier names the certificate."""
+        named = self._parts[1]
+        return next(_inside(named.whole)).whole if named.tag == SEQUENCE else None
+
+    @property
+    def serial_number(self) -> Optional[int]:
+        """The serial number of the certificate, None where there is no issuer."""
+        named = self._parts[1]
+        if named.tag != SEQUENCE:
+            return None
+        _, number = _inside(named.whole)
+        return int.from_bytes(number.contents, "big", signed=True)
+
+    @property
+    def key_identifier(self) -> Optional[memoryview]:
+        """The octets of the key identifier that names the certificate. None where an issuer does."""
+        named = self._parts[1]
+        return None if named.tag == SEQUENCE else named.contents
+
+    @property
+    def attributes(self) -> Iterator[memoryview]:
+        """Each signed Attribute, in order: attribute_oid says its type, and attribute_values its values."""
+        return self._attributes(SIGNED)
+
+    @property
+    def unsigned_attributes(self) -> Iterator[memoryview]:
+        """Each unsigned Attribute, as countersignatures and time stamps are."""
+        return self._attributes(UNSIGNED)
+
+    @property
+    def signing_time(self) -> Optional[datetime.datetime]:
+        """When the signer says that it signed, in UTC; None where it doesn't say.
+
+        Raises ValueError where that is no time of RFC 5652, 11.3: in UTC, and in whole seconds.
+        """
+        found = [it for it in self.attributes if attribute_oid(it) == SIGNING_TIME]
+        if not found:
+            return None
+        values = [value for it in found for value in attribute_values(it)]
+        if len(values) != 1:
+            raise ValueError(f"signingTime has {len(values)} values")
+        return _time(*_elements(values[0]))
+
+    @property
+    def _parts(self) -> List[_Element]:
+        """The components of the SignerInfo."""
+        return list(_inside(self.element))
+
+    def _attributes(self, tag: int) -> Iterator[memoryview]:
+        """Each Attribute in the set with a tag, if there is one."""
+        return (it.whole for part in self._parts[3:] if part.tag == tag for it in _elements(part.contents))
+
+
+@dataclasses.dataclass
+class Signer(SignerInfo):
     """What a verification of one signer needs (RFC 5652, 5.3 to 5.6), as octets of the input. A verifier
 
     1. where is_over_attributes is true, hashes the content by digest_algorithm, and compares with digest;
@@ -163,6 +315,8 @@ class Signer(NamedTuple):
     Where content is None the signature is detached, and the content is the caller's. So is what the signature covers
     where covered is None. That the certificate is to be trusted, and may sign, isn't looked at. A part may be empty,
     and is false then: compare with None.
+
+    Beside that it has what each SignerInfo has, found in the octets that the library accepted.
     """
 
     # whether the signature covers signed attributes, and not the content itself
@@ -181,22 +335,30 @@ class Signer(NamedTuple):
     certificate: Optional[memoryview]
 
     @property
+    def message_digest(self) -> Optional[memoryview]:
+        """The same as digest."""
+        return self.digest
+
+    @property
     def digest_oid(self) -> str:
         """The object identifier of digest_algorithm, as "2.16.840.1.101.3.4.2.1"."""
-        return dotted(_first(self.digest_algorithm))
+        return _first_oid(self.digest_algorithm)
 
     @property
     def signature_oid(self) -> str:
         """The object identifier of signature_algorithm."""
-        return dotted(_first(self.signature_algorithm))
+        return _first_oid(self.signature_algorithm)
 
 
 class BagKind(enum.Enum):
-    """What a bag of a PKCS #12 store holds: the last number of its object identifier (RFC 7292, 4.2)."""
+    """What a bag of a PKCS #12 store holds: up to SAFE_CONTENTS the last number of its object identifier (RFC 7292,
+    4.2).
+    """
 
     OTHER = 0
     KEY = 1
     SHROUDED_KEY = 2
+    # of X.509
     CERTIFICATE = 3
     CRL = 4
     SECRET = 5
@@ -204,6 +366,13 @@ class BagKind(enum.Enum):
     SAFE_CONTENTS = 6
     # no bag, but a whole ContentInfo that isn't data: encrypted bags, say
     UNREAD = 7
+    # of another type than X.509, as SDSI
+    OTHER_CERTIFICATE = 8
+    OTHER_CRL = 9
+
+
+# What a local key identifier connects.
+KEYS, CERTIFICATE_BAGS = (BagKind.KEY, BagKind.SHROUDED_KEY), (BagKind.CERTIFICATE,)
 
 
 class Bag(NamedTuple):
@@ -216,12 +385,25 @@ class Bag(NamedTuple):
     level: int
     # the whole bag
     element: memoryview
-    # the DER of the X.509 certificate or revocation list; of other kinds the element that the bag holds
+    # the DER of the X.509 certificate or revocation list; else the element that the bag holds, or of a certificate or a
+    # list of another type that element
     value: memoryview
     # None where it has none
     friendly_name: Optional[str]
     # its octets, which a key and its certificate have in common; None where it has none
     local_key_id: Optional[memoryview]
+
+    @property
+    def name(self) -> str:
+        """The friendly name, or nothing where there is none."""
+        return self.friendly_name or ""
+
+    @property
+    def attributes(self) -> Iterator[memoryview]:
+        """Each Attribute of the bag: attribute_oid says its type, and attribute_values its values."""
+        if self.kind is BagKind.UNREAD:
+            return iter(())
+        return (it.whole for part in list(_inside(self.element))[2:] for it in _elements(part.contents))
 
 
 class _Octets(ctypes.Structure):
@@ -256,13 +438,16 @@ class _SignerParts(ctypes.Structure):
     signature: _Octets
     certificate: _Octets
 
-    def of(self, data: memoryview) -> Union[Signer, BadAttributes]:
+    def of(self, file: _SignedFile, index: int) -> Union[Signer, BadAttributes]:
         """The signer of the input that has these parts."""
         if self.status != NORMAL:
             return BadAttributes()
+        data = file.octets
         content = self.content.of(data) if self.has_content else None
         covered = b"\x31" + self.covered.of(data)[1:] if self.over_attributes else content
         return Signer(
+            file,
+            index,
             bool(self.over_attributes),
             covered,
             self.digest.of(data) if self.over_attributes else None,
@@ -303,6 +488,136 @@ class _BagParts(ctypes.Structure):
         )
 
 
+class Store:
+    """A PKCS #12 store, whose bags that aren't encrypted Library.store found in one reading.
+
+    Octets are memoryviews of the file, and of a copy where that isn't bytes. Nothing is decrypted: unread are contents
+    that would have to be. Whether the MAC is right only check_mac says.
+    """
+
+    def __init__(self, library: "Library", data: bytes, bags: List[Bag]) -> None:
+        self._library, self._data, self._bags = library, data, bags
+
+    @property
+    def bags(self) -> Iterator[Bag]:
+        """All bags, in the order of the file, those in a bag after it, and what isn't read, as BagKind.UNREAD."""
+        return iter(self._bags)
+
+    @property
+    def certificates(self) -> Iterator[memoryview]:
+        """The DER of each X.509 certificate."""
+        return self._values(BagKind.CERTIFICATE)
+
+    @property
+    def crls(self) -> Iterator[memoryview]:
+        """The DER of each X.509 revocation list."""
+        return self._values(BagKind.CRL)
+
+    @property
+    def keys(self) -> Iterator[memoryview]:
+        """Each key that isn't encrypted, a PrivateKeyInfo (RFC 5208)."""
+        return self._values(BagKind.KEY)
+
+    @property
+    def encrypted_keys(self) -> Iterator[memoryview]:
+        """Each encrypted key, an EncryptedPrivateKeyInfo."""
+        return self._values(BagKind.SHROUDED_KEY)
+
+    @property
+    def unread(self) -> Iterator[memoryview]:
+        """Each ContentInfo that isn't data, as encrypted bags are."""
+        return self._values(BagKind.UNREAD)
+
+    def _values(self, kind: BagKind) -> Iterator[memoryview]:
+        return (it.value for it in self._bags if it.kind is kind)
+
+    def named(self, name: str) -> Iterator[Bag]:
+        """The bags with a friendly name."""
+        return (it for it in self._bags if it.friendly_name == name)
+
+    def key_for(self, certificate: Bag) -> Optional[Bag]:
+        """The first key, encrypted or not, that has the local key identifier of a certificate's bag. None where there is
+        no such key, or the bag has no identifier.
+        """
+        return None if certificate.local_key_id is None else self._keys_by_id.get(bytes(certificate.local_key_id))
+
+    def certificate_for(self, key: Bag) -> Optional[Bag]:
+        """The first X.509 certificate that has the local key identifier of a key's bag, alike."""
+        return None if key.local_key_id is None else self._certificates_by_id.get(bytes(key.local_key_id))
+
+    @functools.cached_property
+    def _keys_by_id(self) -> Dict[bytes, Bag]:
+        return self._by_id(KEYS)
+
+    @functools.cached_property
+    def _certificates_by_id(self) -> Dict[bytes, Bag]:
+        return self._by_id(CERTIFICATE_BAGS)
+
+    def _by_id(self, kinds: Tuple[BagKind, ...]) -> Dict[bytes, Bag]:
+        """The first bag of some kinds with each local key identifier."""
+        found: Dict[bytes, Bag] = {}
+        for bag in self._bags:
+            if bag.kind in kinds and bag.local_key_id is not None:
+                found.setdefault(bytes(bag.local_key_id), bag)
+        return found
+
+    @functools.cached_property
+    def mac(self) -> Optional[Mac]:
+        """What a verifier of the MAC needs. None where there is no MAC."""
+        return self._library.mac(self._data)
+
+    def check_mac(self, password: str) -> bool:
+        """Whether the MAC is right under a password. Raises ValueError where there is none, and as Mac.is_right does."""
+        if self.mac is None:
+            raise ValueError("the store has no MAC")
+        return self.mac.is_right(password)
+
+
+class SignedData:
+    """Signed data of any CMSVersion and over content of any type (RFC 5652, 5.1), that Library.signed accepted.
+
+    Octets are memoryviews of the file, and of a copy where that isn't bytes. What a verification needs of signers and of
+    certificates the library says; the rest is found, element by element, in what it accepted.
+    """
+
+    def __init__(self, library: "Library", file: _SignedFile, data: bytes, rows: List[_SignerParts]) -> None:
+        self._library, self._file, self._data, self._rows = library, file, data, rows
+
+    @property
+    def content_type(self) -> str:
+        """The object identifier of the content's type, as "1.2.840.113549.1.7.1"."""
+        return _first_oid(self._file.fields[2].whole)
+
+    @property
+    def content(self) -> Optional[memoryview]:
+        """The contents octets of the content, which are hashed. None where the signature is detached."""
+        for row in self._rows:
+            if row.status == NORMAL:
+                return row.content.of(self._file.octets) if row.has_content else None
+        _, *explicit = _inside(self._file.fields[2].whole)
+        return next(_inside(explicit[0].whole)).contents if explicit else None
+
+    @property
+    def certificates(self) -> Iterator[memoryview]:
+        """All certificates, or other choices, in order."""
+        return self._library.certificates(self._data)
+
+    @property
+    def crls(self) -> Iterator[memoryview]:
+        """All revocation lists, or other revocation information, in order."""
+        return self._file.items(CRLS)
+
+    @property
+    def signers(self) -> Iterator[Union[Signer, BadAttributes]]:
+        """All signers, as Library.signers gives them."""
+        return (row.of(self._file, index) for index, row in enumerate(self._rows))
+
+    @property
+    def signer_infos(self) -> Iterator[SignerInfo]:
+        """All signers as they are, also those whose signed attributes break RFC 5652."""
+        return (SignerInfo(self._file, index) for index in range(len(self._rows)))
+
+
 class Library:
     """The calls of a shared library that der_c was made into."""
 
@@ -320,7 +635,7 @@ class Library:
             ("der_attribute_ranges", [size, size, octets, size, number, size, number, number]),
             ("der_kind_word", [size, octets, size, number]),
             ("der_mac", [octets, size, number, number, number]),
-            ("der_part_octets", [size, size, octets, size, octets, size, number]),
+            ("der_part_octets", [size, size, octets, size, octets, size, number, number]),
             ("der_from_ber", [octets, size, octets, size, number, number]),
             ("der_mac_ber", [octets, size, number, number, number]),
             ("der_mac_part_ber", [size, octets, size, octets, size, number]),
@@ -328,6 +643,7 @@ class Library:
             ("der_oid_text", [octets, size, octets, size, number]),
             ("der_oid_name", [octets, size, octets, size, number]),
             ("der_integer_text", [octets, size, octets, size, number]),
+            ("der_utf16_text", [octets, size, octets, size, number]),
         ):
             call = getattr(self._library, name)
             call.argtypes, call.restype = arguments, ctypes.c_uint32
@@ -345,19 +661,12 @@ class Library:
     def rewrite(self, kind: str, data: Bytes, limit: int = MAX_NESTING) -> bytes:
         """The normal encoding of an input of a kind."""
         data = _octets(data)
-        room, written = len(data) + 64, ctypes.c_size_t()
-        while True:
-            out = ctypes.create_string_buffer(room)
-            status = self._library.der_rewrite_word_limited(
-                *_input(kind, data, limit), out, room, ctypes.byref(written)
-            )
-            if status == NORMAL:
-                return out.raw[: written.value]
-            if status in REASONS:
-                self.check(kind, data, limit)
-            if status != NO_ROOM:
-                _raise_for(status, kind, 0)
-            room = written.value
+        call, given = self._library.der_rewrite_word_limited, _input(kind, data, limit)
+        status, octets = _written(call, given, len(data) + 64)
+        if status in REASONS:
+            self.check(kind, data, limit)
+        _raise_for(status, kind, 0)
+        return octets
 
     def mac_range(self, data: Bytes) -> Optional[range]:
         """Where a PKCS #12 file has the octets that its MAC covers. None where its authSafe isn't data."""
@@ -398,6 +707,7 @@ class Library:
             part(Part.MAC_DIGEST, data) or b"",
             part(Part.MAC_SALT, data) or b"",
             iterations.value,
+            memoryview(data)[start.value : start.value + length.value],
         )
 
     def from_ber(self, data: Bytes) -> bytes:
@@ -406,29 +716,31 @@ class Library:
         Raises Refused where there is none. der.h says what is refused, and which element has two readings.
         """
         data = _octets(data)
-        room, written, place = len(data) + 64, ctypes.c_size_t(), ctypes.c_size_t()
-        while True:
-            out = ctypes.create_string_buffer(room)
-            status = self._library.der_from_ber(
-                data, len(data), out, room, ctypes.byref(written), ctypes.byref(place)
-            )
-            if status == NORMAL:
-                return out.raw[: written.value]
-            if status != NO_ROOM:
-                _raise_for(status, "", place.value)
-            room = written.value
+        place = ctypes.c_size_t()
+        call, given = self._library.der_from_ber, (data, len(data))
+        status, octets = _written(call, given, len(data) + 64, ctypes.byref(place))
+        _raise_for(status, "", place.value)
+        return octets
 
     def part(self, part: Part, data: Bytes, index: int = 0) -> Optional[bytes]:
         """A part of a container, as octets: of certificates, signers, keys and bags that with the index, from 0 on.
 
-        None where the container has no such part, or not so many. Raises Refused where the input is no encoding of
-        part.kind.
+        None where the container has no such part, or not so many. Raises Refused where the input isn't such a container,
+        or something in a store doesn't read as its type; its reason is "no range" where the part isn't in the input as
+        its value is written.
         """
         if index < 0:
             raise ValueError(f"an index of {index}")
         if index >= 1 << 64:
             return None
-        return self._part(self._library.der_part_octets, (part.value[0], index), part, data)
+        data = _octets(data)
+        place = ctypes.c_size_t()
+        call, given = self._library.der_part_octets, (part.value, index, data, len(data))
+        status, octets = _written(call, given, len(data) + 64, ctypes.byref(place))
+        if status == NO_PART:
+            return None
+        _raise_for_range(status, place.value)
+        return octets
 
     def ranges(self, part: Union[Part, EnvelopePart], data: Bytes) -> List[range]:
         """Where the input has each item of a part, in order: of Part.CERTIFICATE, all certificates of signed data.
@@ -466,8 +778,7 @@ class Library:
 
     def _places(self, part: Union[Part, EnvelopePart], data: bytes) -> Iterator[Tuple[int, int]]:
         """The start and the length of each item of a part."""
-        number = part.value if isinstance(part, EnvelopePart) else part.value[0]
-        found = self._listed(self._library.der_part_ranges, (number,), data)
+        found = self._listed(self._library.der_part_ranges, (part.value,), data)
         if found is None:
             raise ValueError(f"the items of {part.name} aren't listed")
         return found
@@ -480,12 +791,9 @@ class Library:
             status = call(*which, data, len(data), out, room, ctypes.byref(count), ctypes.byref(place))
             if status == NORMAL:
                 return zip(out[0 : 2 * count.value : 2], out[1 : 2 * count.value : 2])
-            if status == NO_RANGE:
-                raise Refused("no range", 0)
             if status in (UNKNOWN_KIND, NO_PART):
                 return None
-            if status != NO_ROOM:
-                _raise_for(status, "", place.value)
+            _raise_for_range(status, place.value)
             room = count.value
 
     def bags(self, data: Bytes) -> Iterator[Bag]:
@@ -505,11 +813,21 @@ class Library:
             if status == NORMAL:
                 whole = memoryview(octets)
                 return (row.of(whole) for row in rows[: count.value])
-            if status == NO_RANGE:
-                raise Refused("no range", 0)
-            if status != NO_ROOM:
-                _raise_for(status, "", place.value)
+            _raise_for_range(status, place.value)
             room = count.value
+
+    def store(self, data: Bytes) -> Store:
+        """The bags of a PKCS #12 store, by what they hold. Raises Refused as bags does."""
+        octets = _octets(data)
+        return Store(self, octets, list(self.bags(octets)))
+
+    def signed(self, data: Bytes) -> SignedData:
+        """Signed data, with all that is in them. Raises Refused as signers does."""
+        octets = _octets(data)
+        rows, count = self._signer_rows(octets, 0, FEW_SIGNERS)
+        if count > FEW_SIGNERS:
+            rows += self._signer_rows(octets, FEW_SIGNERS, count - FEW_SIGNERS)[0]
+        return SignedData(self, _SignedFile(octets), octets, rows)
 
     def signers(self, data: Bytes) -> List[Union[Signer, BadAttributes]]:
         """All signers of signed data, of any CMSVersion and over content of any type, in one reading or two.
@@ -519,11 +837,7 @@ class Library:
         where data aren't bytes. Raises Refused where they are no signed data; its reason is "no range" where a part
         isn't in them as its value is written, of which no case is known.
         """
-        octets = _octets(data)
-        rows, count = self._signer_rows(octets, 0, FEW_SIGNERS)
-        if count > FEW_SIGNERS:
-            rows += self._signer_rows(octets, FEW_SIGNERS, count - FEW_SIGNERS)[0]
-        return rows
+        return list(self.signed(data).signers)
 
     def signer(self, data: Bytes, index: int) -> Optional[Signer]:
         """The signer with an index, from 0 on. None where there are fewer.
@@ -532,49 +846,39 @@ class Library:
         """
         if index < 0:
             raise ValueError(f"an index of {index}")
-        rows, _ = self._signer_rows(_octets(data), min(index, (1 << 64) - 1), 1)
-        found = rows[0] if rows else None
+        octets = _octets(data)
+        rows, _ = self._signer_rows(octets, min(index, (1 << 64) - 1), 1)
+        if not rows:
+            return None
+        found = rows[0].of(_SignedFile(octets), index)
         if isinstance(found, BadAttributes):
             raise found
         return found
 
-    def _signer_rows(self, data: bytes, first: int, room: int) -> Tuple[List[Union[Signer, BadAttributes]], int]:
-        """The signers from one on, at most so many, and how many there are in all."""
+    def _signer_rows(self, data: bytes, first: int, room: int) -> Tuple[List[_SignerParts], int]:
+        """The parts of signers from one on, at most so many, and how many signers there are in all."""
         rows, count, place = (_SignerParts * room)(), ctypes.c_size_t(), ctypes.c_size_t()
         status = self._library.der_signer_rows(
             data, len(data), first, rows, room, ctypes.byref(count), ctypes.byref(place)
         )
-        if status == NO_RANGE:
-            raise Refused("no range", 0)
-        _raise_for(status, "", place.value)
-        octets = memoryview(data)
-        return [row.of(octets) for row in rows[: min(room, max(count.value - first, 0))]], count.value
+        _raise_for_range(status, place.value)
+        return rows[: min(room, max(count.value - first, 0))], count.value
 
     def mac_part_ber(self, part: Part, data: Bytes) -> Optional[bytes]:
         """A part of the MAC of a PKCS #12 file that from_ber returned. None where it has no MAC.
 
         Raises Refused as mac_ber does.
         """
-        if part.kind != "rawpfx":
+        if part not in MAC_PARTS:
             raise ValueError(f"{part.name} is no part of a MAC")
-        return self._part(self._library.der_mac_part_ber, (part.value[0],), part, data)
-
-    def _part(self, call: Call, which: Tuple[int, ...], part: Part, data: Bytes) -> Optional[bytes]:
-        """What a call writes of a part, into as much room as it needs."""
         data = _octets(data)
-        room, written = len(data) + 64, ctypes.c_size_t()
-        while True:
-            out = ctypes.create_string_buffer(room)
-            status = call(*which, data, len(data), out, room, ctypes.byref(written))
-            if status == NORMAL:
-                return out.raw[: written.value]
-            if status == NO_PART:
-                return None
-            if status in REASONS:
-                self.check(part.kind, data)
-            if status != NO_ROOM:
-                _raise_for(status, part.kind, 0)
-            room = written.value
+        status, octets = _written(self._library.der_mac_part_ber, (part.value, data, len(data)), len(data) + 64)
+        if status == NO_PART:
+            return None
+        if status in REASONS:
+            self.check("rawpfx", data)
+        _raise_for(status, "rawpfx", 0)
+        return octets
 
     def name_text(self, encoding: Bytes) -> str:
         """A Name as text (RFC 4514), as "CN=A,O=B". Raises Refused where the encoding is none."""
@@ -590,13 +894,8 @@ class Library:
         None where the library knows none.
         """
         data = _octets(contents)
-        room, written = 64, ctypes.c_size_t()
-        while True:
-            out = ctypes.create_string_buffer(room)
-            status = self._library.der_oid_name(data, len(data), out, room, ctypes.byref(written))
-            if status != NO_ROOM:
-                return out.raw[: written.value].decode() if status == NORMAL else None
-            room = written.value
+        status, name = _written(self._library.der_oid_name, (data, len(data)), 64)
+        return name.decode() if status == NORMAL else None
 
     def integer_text(self, contents: Bytes) -> str:
         """The number that the contents octets of an INTEGER hold, in decimal. Raises Refused where there are none, or
@@ -604,17 +903,19 @@ class Library:
         """
         return self._text(self._library.der_integer_text, contents)
 
-    def _text(self, call: Any, data: Bytes) -> str:
+    def utf16_text(self, octets: Bytes) -> str:
+        """The text of UTF-16, two octets for each unit, the high one first, as a bag has its friendly name.
+
+        Raises Refused where the octets are none: an odd number of them, or a surrogate without its other half.
+        """
+        return self._text(self._library.der_utf16_text, octets)
+
+    def _text(self, call: Call, data: Bytes) -> str:
+        """What a call writes as text of some octets."""
         data = _octets(data)
-        room, written = 4 * len(data) + 16, ctypes.c_size_t()
-        while True:
-            out = ctypes.create_string_buffer(room)
-            status = call(data, len(data), out, room, ctypes.byref(written))
-            if status == NORMAL:
-                return out.raw[: written.value].decode()
-            if status != NO_ROOM:
-                _raise_for(status, "", 0)
-            room = written.value
+        status, text = _written(call, (data, len(data)), 4 * len(data) + 16)
+        _raise_for(status, "", 0)
+        return text.decode()
 
     def kinds(self) -> List[str]:
         """The words of all kinds."""
@@ -637,20 +938,101 @@ def dotted(contents: bytes) -> str:
     return ".".join(map(str, arcs))
 
 
-def _first(sequence: memoryview) -> bytes:
-    """The contents octets of the first element in a SEQUENCE; both have lengths as DER writes them."""
-    for _ in range(2):
-        size, start = sequence[1], 2
+def attribute_oid(attribute: memoryview) -> str:
+    """The type of an Attribute of a signer or of a bag, as "1.2.840.113549.1.9.5"."""
+    return _first_oid(attribute)
+
+
+def attribute_values(attribute: memoryview) -> Iterator[memoryview]:
+    """The values of an Attribute of a signer or of a bag, each an element."""
+    _, values = _inside(attribute)
+    return (it.whole for it in _elements(values.contents))
+
+
+def digest_name(oid: str) -> Optional[str]:
+    """The name in hashlib of a digest, where it has that digest."""
+    name = DIGESTS.get(oid)
+    return name if name in hashlib.algorithms_available else None
+
+
+def password_octets(password: str) -> Iterator[bytes]:
+    """The octets of a password: a BMPString with a zero at its end (RFC 7292, B.1). No password may also be no octets at
+    all.
+    """
+    yield password.encode("utf-16-be") + b"\0\0"
+    if not password:
+        yield b""
+
+
+def derived(digest: str, password: bytes, salt: bytes, iterations: int, purpose: int, length: int) -> bytes:
+    """A key of a password's octets (RFC 7292, B.2)."""
+    block = hashlib.new(digest).block_size
+    mixed, made = _filled(salt, block) + _filled(password, block), b""
+    while True:
+        octets = bytes([purpose]) * block + mixed
+        for _ in range(iterations):
+            octets = hashlib.new(digest, octets).digest()
+        made += octets
+        if len(made) >= length:
+            return made[:length]
+        add, bound = int.from_bytes(_filled(octets, block)[:block], "big") + 1, 1 << 8 * block
+        pieces = (mixed[at : at + block] for at in range(0, len(mixed), block))
+        mixed = b"".join(((int.from_bytes(it, "big") + add) % bound).to_bytes(block, "big") for it in pieces)
+
+
+def _filled(octets: bytes, block: int) -> bytes:
+    """The octets again and again, up to a whole number of blocks."""
+    size = -(-len(octets) // block) * block
+    return (octets * (size // len(octets) + 1))[:size] if octets else b""
+
+
+def _elements(octets: memoryview) -> Iterator[_Element]:
+    """The elements that octets are, in what the library accepted: their lengths are as DER writes them."""
+    at = 0
+    while at < len(octets):
+        size, start = octets[at + 1], at + 2
         if size > 0x7F:
             start += size - 0x80
-            size = int.from_bytes(sequence[2:start], "big")
-        sequence = sequence[start : start + size]
-    return bytes(sequence)
+            size = int.from_bytes(octets[at + 2 : start], "big")
+        end = start + size
+        yield _Element(octets[at], octets[at:end], octets[start:end])
+        at = end
+
+
+def _inside(octets: memoryview) -> Iterator[_Element]:
+    """The elements in an element."""
+    return _elements(next(_elements(octets)).contents)
+
+
+def _first_oid(octets: memoryview) -> str:
+    """The object identifier that is the first element in an element."""
+    return dotted(bytes(next(_inside(octets)).contents))
+
+
+def _time(element: _Element) -> datetime.datetime:
+    """The time that an element is. Raises ValueError where it isn't one in UTC and in whole seconds."""
+    text = bytes(element.contents).decode("ascii", "replace")
+    if element.tag == UTC_TIME:
+        text = ("20" if text < "50" else "19") + text
+    if element.tag not in (UTC_TIME, GENERALIZED_TIME) or not re.fullmatch(r"\d{14}Z", text, re.ASCII):
+        raise ValueError("signingTime isn't a time in UTC and in whole seconds")
+    return datetime.datetime.strptime(text, "%Y%m%d%H%M%SZ").replace(tzinfo=datetime.timezone.utc)
 
 
 def _octets(data: Bytes) -> bytes:
     """The octets of an input, whatever its items are; TypeError where it has none."""
     return data if isinstance(data, bytes) else bytes(memoryview(data))
+
+
+def _written(call: Call, given: Tuple[object, ...], room: int, *place: object) -> Tuple[int, bytes]:
+    """What a call answers that writes octets, and these, in so much room or in as much as it asks for."""
+    written = ctypes.c_size_t()
+    while True:
+        out = ctypes.create_string_buffer(room)
+        status = call(*given, out, room, ctypes.byref(written), *place)
+        if status != NO_ROOM:
+            return status, ctypes.string_at(out, written.value)
+        room = written.value
 
 
 def _input(kind: str, data: bytes, limit: int) -> Tuple[bytes, int, int, bytes, int]:
@@ -659,6 +1041,13 @@ def _input(kind: str, data: bytes, limit: int) -> Tuple[bytes, int, int, bytes, 
         raise ValueError(f"a limit of {limit} levels")
     word = kind.encode()
     return word, len(word), min(limit, MAX_NESTING), data, len(data)
+
+
+def _raise_for_range(status: int, place: int) -> None:
+    """The same of a call that looks for parts in the input."""
+    if status == NO_RANGE:
+        raise Refused("no range", 0)
+    _raise_for(status, "", place)
 
 
 def _raise_for(status: int, kind: str, place: int) -> None:

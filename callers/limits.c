@@ -16,12 +16,12 @@ enum { LONGEST_INTEGER = 24 };
 /* The calls, by the word that begins their lines. */
 typedef enum {
   CHECK, LOCATE, LOOSE_END, REWRITE, MAC, MAC_NUMBERS, FROM_BER, MAC_BER, MAC_PART_BER, NAME, OID, OID_NAME, PART, KIND,
-  SIGNERS, SIGNER, RANGES, BAGS, INTEGER
+  SIGNERS, SIGNER, RANGES, BAGS, INTEGER, UTF16
 } call;
 static const char *const calls[] = {
     "check",     "locate",   "loose_end", "rewrite", "mac",  "mac_numbers", "from_ber", "mac_ber", "mac_part_ber",
     "name_text", "oid_text", "oid_name",  "part",    "kind", "signers",     "signer",   "ranges",
-    "bags",      "integer_text"};
+    "bags",      "integer_text", "utf16_text"};
 
 /* What a call is given: the index of a kind or of a signer, or the number of a part, where it takes one, and a limit if
  * there is one. */
@@ -79,15 +79,14 @@ static int is_marked(const number *it) { return it->before == MARKS && it->behin
 
 /* How many numbers a call writes. */
 static int numbers_of(call it) {
-  const int two = it == MAC || it == FROM_BER || it == SIGNERS || it == RANGES || it == BAGS;
+  const int two = it == MAC || it == FROM_BER || it == PART || it == SIGNERS || it == RANGES || it == BAGS;
   return it == MAC_NUMBERS || it == MAC_BER ? 3 : two ? 2 : 1;
 }
 
 /* Whether a call writes so many bytes as its first number says. */
 static int says_written(call it) {
   return it == REWRITE || it == FROM_BER || it == MAC_PART_BER || it == NAME || it == OID || it == OID_NAME ||
-         it == INTEGER ||
-         it == PART || it == KIND;
+         it == INTEGER || it == UTF16 || it == PART || it == KIND;
 }
 
 /* How many bytes a call writes of signers, of which there are so many from that index on. */
@@ -158,8 +157,12 @@ static answer made(call it, const given *its, uint8_t *room, size_t out_len) {
   case INTEGER:
     said.status = (der_status)der_integer_text(its->input, its->len, out, out_len, &first.it);
     break;
+  case UTF16:
+    said.status = (der_status)der_utf16_text(its->input, its->len, out, out_len, &first.it);
+    break;
   case PART:
-    said.status = der_part((der_part_number)its->index, 0, its->input, its->len, out, out_len, &first.it);
+    said.status =
+        der_part((der_part_number)its->index, 0, its->input, its->len, out, out_len, &first.it, &second.it);
     break;
   case KIND:
     said.status = der_kind(its->index, (char *)out, out_len, &first.it);
@@ -204,7 +207,7 @@ static answer made(call it, const given *its, uint8_t *room, size_t out_len) {
 
 /* Whether the numbers are 0, but for a place, which has no use where memory is refused. */
 static int is_without_use(call it, const answer *said) {
-  const int has_place = it == FROM_BER || it == SIGNERS || it == RANGES || it == BAGS;
+  const int has_place = it == FROM_BER || it == PART || it == SIGNERS || it == RANGES || it == BAGS;
   return (!said->first || it == SIGNER) && (!said->second || has_place) && !said->third;
 }
 
@@ -356,6 +359,7 @@ int main(int count, char **words) {
   text(NAME, &its, room);
   text(OID, &its, room);
   text(OID_NAME, &its, room);
+  text(UTF16, &its, room);
   signers(&its, room);
   ranges(&its, room);
   bags(&its, room);

@@ -5,6 +5,8 @@ command `vuyhanip` over files, which is `python -m vuyhanip` too.
 
     library = vuyhanip.library()
     library.check("pfx", data)      Verdict(is_normal=True, length=1010, loose_end=None)
+    library.store(data)             a Store: bags, certificates, keys, names, and a check of the MAC
+    library.signed(data)            a SignedData: content, certificates, and signers with their attributes
 
 help(vuyhanip.der) says what each call does. Where the package is installed, callers/der.py is in it as der, beside
 version and the library for C. In a clone, callers/der.py is taken, and the library of the environment's
@@ -19,7 +21,26 @@ from typing import TYPE_CHECKING
 
 if TYPE_CHECKING:
     from . import der as der
-    from .der import MAX_NESTING, BadAttributes, Library, Mac, Part, Refused, Signer, UnknownKind, Verdict, dotted
+    from .der import (
+        MAX_NESTING,
+        BadAttributes,
+        Bag,
+        BagKind,
+        EnvelopePart,
+        Library,
+        Mac,
+        Part,
+        Refused,
+        SignedData,
+        Signer,
+        SignerInfo,
+        Store,
+        UnknownKind,
+        Verdict,
+        attribute_oid,
+        attribute_values,
+        dotted,
+    )
 else:
     try:
         from . import der
@@ -31,10 +52,13 @@ else:
         _spec.loader.exec_module(der)
     MAX_NESTING, Library, Mac, Part = der.MAX_NESTING, der.Library, der.Mac, der.Part
     Refused, UnknownKind, Verdict, dotted = der.Refused, der.UnknownKind, der.Verdict, der.dotted
-    BadAttributes, Signer = der.BadAttributes, der.Signer
+    BadAttributes, SignedData, Signer, SignerInfo = der.BadAttributes, der.SignedData, der.Signer, der.SignerInfo
+    Bag, BagKind, EnvelopePart, Store = der.Bag, der.BagKind, der.EnvelopePart, der.Store
+    attribute_oid, attribute_values = der.attribute_oid, der.attribute_values
 
-__all__ = ["MAX_NESTING", "BadAttributes", "Library", "Mac", "Part", "Refused", "Signer", "UnknownKind", "Verdict"]
-__all__ += ["dotted", "library"]
+__all__ = ["MAX_NESTING", "BadAttributes", "Bag", "BagKind", "EnvelopePart", "Library", "Mac", "Part", "Refused"]
+__all__ += ["SignedData", "Signer", "SignerInfo", "Store", "UnknownKind", "Verdict", "attribute_oid"]
+__all__ += ["attribute_values", "dotted", "library"]
 
 _HERE = os.path.dirname(os.path.realpath(__file__))
 

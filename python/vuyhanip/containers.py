@@ -3,7 +3,7 @@
 What a verification of signers needs, the library for C says of all of them in one reading. The rest is found in what it
 accepted, element by element.
 """
-from typing import Iterator, List, NamedTuple, Optional, Union
+from typing import Iterator, List, NamedTuple, Optional, Tuple, Union
 
 from . import der, library
 from .elements import (
@@ -28,7 +28,7 @@ NESTED_SIGNATURE = "1.3.6.1.4.1.311.2.4.1"
 SUBJECT_KEY_IDENTIFIER = "2.5.29.14"
 KEY_BAG, SHROUDED_KEY_BAG, CERT_BAG = (f"1.2.840.113549.1.12.10.1.{it}" for it in (1, 2, 3))
 CRL_BAG, SAFE_CONTENTS_BAG = (f"1.2.840.113549.1.12.10.1.{it}" for it in (4, 6))
-X509_CERTIFICATE = "1.2.840.113549.1.9.22.1"
+X509_CERTIFICATE, X509_CRL = "1.2.840.113549.1.9.22.1", "1.2.840.113549.1.9.23.1"
 
 
 class Attribute(NamedTuple):
@@ -90,34 +90,44 @@ def _key_identifier(extensions: Element) -> Optional[bytes]:
     return None
 
 
-def bags(store: bytes) -> Iterator[Element]:
-    """The bags of a PKCS #12 file that was accepted as pfx (RFC 7292, 4), each before the bags in it."""
+def bags_refused(store: bytes, kind: str) -> Optional[str]:
+    """Why the bags of a PKCS #12 file aren't read that was accepted as pfx, which asks this of them, or as rawpfx."""
+    try:
+        if kind != "pfx":
+            library().bags(store)
+    except der.Refused as refused:
+        return _refusal(store, refused)
+    return None
+
+
+def bags(store: bytes) -> Iterator[Tuple[int, Element]]:
+    """The bags of a PKCS #12 file that are read (RFC 7292, 4), each before those in it, and in how many bags it is."""
     kind, *content = whole(store).children()[1].children()
     if oid(kind) != DATA or not content:
         return
     for safe in whole(content[0].inside().contents).children():
         parts = safe.children()
         if oid(parts[0]) == DATA and len(parts) > 1:
-            yield from _bags_in(whole(parts[1].inside().contents))
+            yield from _bags_in(whole(parts[1].inside().contents), 0)
 
 
-def _bags_in(contents: Element) -> Iterator[Element]:
+def _bags_in(contents: Element, level: int) -> Iterator[Tuple[int, Element]]:
     """The bags of SafeContents, each before the bags in it."""
     for bag in contents.children():
-        yield bag
+        yield level, bag
         if oid(bag.inside()) == SAFE_CONTENTS_BAG:
-            yield from _bags_in(child(bag, 1).inside())
+            yield from _bags_in(child(bag, 1).inside(), level + 1)
 
 
 def bag_values(store: bytes, which: str) -> Iterator[Element]:
     """The values of the bags of one kind."""
-    return (child(bag, 1).inside() for bag in bags(store) if oid(bag.inside()) == which)
+    return (child(bag, 1).inside() for _, bag in bags(store) if oid(bag.inside()) == which)
 
 
-def store_certificates(store: bytes) -> Iterator[bytes]:
-    """The X.509 certificates of a PKCS #12 file."""
-    for value in bag_values(store, CERT_BAG):
-        if oid(value.inside()) == X509_CERTIFICATE:
+def x509_values(store: bytes, which: str, kind: str) -> Iterator[bytes]:
+    """The X.509 certificates or revocation lists of a PKCS #12 file."""
+    for value in bag_values(store, which):
+        if oid(value.inside()) == kind:
             yield child(value, 1).inside().contents
 
 
@@ -179,29 +189,16 @@ def _signer(parts: Union[der.Signer, der.BadAttributes], element: Element) -> Si
     )
 
 
-def _content(info: Element, signers: List[Union[der.Signer, der.BadAttributes]]) -> Optional[bytes]:
-    """The octets of content that are hashed: those that the library says, where it says so of a signer."""
-    said = next((it for it in signers if isinstance(it, der.Signer)), None)
-    if said is not None:
-        return None if said.content is None else bytes(said.content)
-    parts = info.children()
-    return parts[1].inside().contents if len(parts) > 1 else None
-
-
 def signed(octets: bytes) -> Signed:
     """Reads signed data. Raises der.Refused where they are none."""
-    found = library().signers(octets)
-    fields = child(whole(octets), 1).inside().children()
-    signers = fields[-1].children()
-    if len(signers) != len(found):
-        raise NotThere(f"{len(signers)} elements of {len(found)} signers")
-    certificates, crls = ([it for part in fields if part.tag == tag for it in part.children()] for tag in (0xA0, 0xA1))
+    it = library().signed(octets)
+    elements = (whole(bytes(info.element)) for info in it.signer_infos)
     return Signed(
-        oid(fields[2].inside()),
-        _content(fields[2], found),
-        [it.encoding for it in certificates],
-        [it.encoding for it in crls],
-        list(map(_signer, found, signers)),
+        it.content_type,
+        None if it.content is None else bytes(it.content),
+        list(map(bytes, it.certificates)),
+        list(map(bytes, it.crls)),
+        list(map(_signer, it.signers, elements)),
     )
 
 
@@ -210,10 +207,15 @@ def is_signed(octets: bytes) -> bool:
     return oid(whole(octets).inside()) == SIGNED_DATA
 
 
+def _refusal(octets: bytes, refused: der.Refused) -> str:
+    """Why octets are refused, and where."""
+    path = path_to(octets, refused.place, refused.reason)
+    return f"refused: {refused}{f' ({path})' if path else ''}"
+
+
 def refused_as_signed(octets: bytes, refused: der.Refused) -> str:
     """Why octets are refused as signed data, and where."""
-    path = path_to(octets, refused.place, refused.reason)
-    return f"refused: {refused}{f' ({path})' if path else ''}, as signed data"
+    return f"{_refusal(octets, refused)}, as signed data"
 
 
 def time_stamp_token(octets: bytes) -> Optional[bytes]:

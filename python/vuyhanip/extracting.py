@@ -5,14 +5,19 @@ from typing import Iterable, Iterator, List, NamedTuple, Union
 from . import der
 from .checking import SIGNED_KINDS, Accepted, NoKind, judge
 from .containers import (
+    CERT_BAG,
+    CRL_BAG,
     KEY_BAG,
     SHROUDED_KEY_BAG,
+    X509_CERTIFICATE,
+    X509_CRL,
     bag_values,
+    bags_refused,
     is_signed,
     refused_as_signed,
     signed,
-    store_certificates,
     time_stamp_token,
+    x509_values,
 )
 
 # Who may read a file: certificates as the umask says, keys only their owner.
@@ -45,16 +50,25 @@ def pieces(said: Union[Accepted, NoKind]) -> List[Piece]:
         if token is None:
             raise Nothing(f"{said.furthest.kind} {said}")
         return pieces(judge(token, None, True))
-    if said.kind == "pfx":
-        keys, encrypted = ([it.encoding for it in bag_values(data, which)] for which in (KEY_BAG, SHROUDED_KEY_BAG))
-        return [
-            *_numbered("certificate", store_certificates(data)),
-            *_numbered("key", keys, SECRET),
-            *_numbered("encrypted-key", encrypted, SECRET),
-        ]
+    if said.kind in ("pfx", "rawpfx"):
+        return _store_pieces(data, said.kind)
     if said.kind not in SIGNED_KINDS or not is_signed(data):
         raise Nothing(f"{said.kind}: nothing is taken out of it")
     return _signed_pieces(data)
+
+
+def _store_pieces(data: bytes, kind: str) -> List[Piece]:
+    """What is in a store. Raises Nothing."""
+    refused = bags_refused(data, kind)
+    if refused is not None:
+        raise Nothing(f"{kind}, whose bags are {refused}")
+    keys, encrypted = ([it.encoding for it in bag_values(data, which)] for which in (KEY_BAG, SHROUDED_KEY_BAG))
+    return [
+        *_numbered("certificate", x509_values(data, CERT_BAG, X509_CERTIFICATE)),
+        *_numbered("revocation-list", x509_values(data, CRL_BAG, X509_CRL)),
+        *_numbered("key", keys, SECRET),
+        *_numbered("encrypted-key", encrypted, SECRET),
+    ]
 
 
 def _signed_pieces(data: bytes) -> List[Piece]:

@@ -6,9 +6,9 @@ import subprocess
 import tempfile
 from typing import Any, List, NamedTuple, Optional
 
+from . import der
 from .algorithms import PSS, RSA, algorithm_oid, parameters, pss
 from .elements import Element
-from .macs import digest_name
 from .names import name_of
 
 ED25519, ED448 = "1.3.101.112", "1.3.101.113"
@@ -80,7 +80,7 @@ def scheme_of(algorithm: Element, digest_algorithm: str) -> Scheme:
 
 def _digest(oid: str) -> str:
     """The name of a digest. Raises NotChecked."""
-    found = digest_name(oid)
+    found = der.digest_name(oid)
     if found is None:
         raise NotChecked(f"the digest {name_of(oid)} is not known")
     return found

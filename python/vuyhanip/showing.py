@@ -17,11 +17,13 @@ from .containers import (
     TIME_STAMPS,
     TST_INFO,
     X509_CERTIFICATE,
+    X509_CRL,
     Attribute,
     Certificate,
     Signer,
     attributes,
     bags,
+    bags_refused,
     certificate,
     is_signed,
     refused_as_signed,
@@ -53,9 +55,9 @@ class Row(NamedTuple):
 Rows = Iterator[Row]
 
 
-def deeper(rows: Rows) -> Rows:
-    """The rows a level further in."""
-    return (Row(it.level + 1, it.label, it.text) for it in rows)
+def deeper(rows: Rows, levels: int = 1) -> Rows:
+    """The rows a level further in, or some levels."""
+    return (Row(it.level + levels, it.label, it.text) for it in rows)
 
 
 def octets(count: int) -> str:
@@ -75,13 +77,23 @@ def certificate_rows(it: Certificate) -> Rows:
         yield Row(0, "key identifier", hexadecimal(it.key_identifier))
 
 
-def any_certificate_rows(encoding: bytes) -> Rows:
-    """The rows of what is in the place of a certificate."""
+def _any_rows(rows_of: Callable[[bytes], Rows], encoding: bytes) -> Rows:
+    """The rows of what is in the place of a certificate or of a revocation list."""
     try:
-        rows = list(certificate_rows(certificate(encoding)))
+        rows = list(rows_of(encoding))
     except (ValueError, IndexError, RecursionError) as fault:
         rows = [Row(0, "not read", f"{octets(len(encoding))}: {fault}")]
     yield from rows
+
+
+def any_certificate_rows(encoding: bytes) -> Rows:
+    """The rows of what is in the place of a certificate."""
+    return _any_rows(lambda it: certificate_rows(certificate(it)), encoding)
+
+
+def any_crl_rows(encoding: bytes) -> Rows:
+    """The rows of what is in the place of a revocation list."""
+    return _any_rows(crl_rows, encoding)
 
 
 def _attribute_text(it: Attribute) -> str:
@@ -121,11 +133,12 @@ def store_rows(it: Given, kind: str) -> Rows:
         yield Row(0, "MAC", f"{name_of(mac.digest_algorithm)}, iterations {count}, salt of {salt}")
         place = "of BER" if it.store is not None else f"from {mac.covered.start} on"
         yield Row(0, "MAC covers", f"{octets(len(mac.covered))} {place}")
-    if kind != "pfx":
-        yield Row(0, "bags", "not read, since the file is read as rawpfx: `check --kind pfx` says why")
+    refused = bags_refused(data, kind)
+    if refused is not None:
+        yield Row(0, "bags", refused)
         return
-    for bag in bags(data):
-        yield from bag_rows(bag)
+    for level, bag in bags(data):
+        yield from deeper(bag_rows(bag), level)
     yield from encrypted_rows(data)
 
 
@@ -142,8 +155,8 @@ def bag_rows(bag: Element) -> Rows:
         return
     yield Row(0, *_bag_words(which, inside))
     yield from deeper(attribute_rows(those))
-    if which == CRL_BAG:
-        yield from deeper(crl_rows(inside.children()[1].inside().contents))
+    if which == CRL_BAG and oid(inside.inside()) == X509_CRL:
+        yield from deeper(any_crl_rows(inside.children()[1].inside().contents))
 
 
 def _bag_words(which: str, inside: Element) -> Tuple[str, str]:
@@ -157,7 +170,7 @@ def _bag_words(which: str, inside: Element) -> Tuple[str, str]:
     if which == SAFE_CONTENTS_BAG:
         return "bags in a bag", str(len(inside.children()))
     if which == CRL_BAG:
-        return "revocation list", ""
+        return "revocation list", "" if oid(inside.inside()) == X509_CRL else name_of(oid(inside.inside()))
     return name_of(which).replace("secretBag", "secret"), octets(len(inside.encoding))
 
 
@@ -196,7 +209,7 @@ def signed_rows(data: bytes, level: int = 0) -> Rows:
         yield from deeper(any_certificate_rows(encoding))
     for encoding in it.crls:
         yield Row(0, "revocation list", "")
-        yield from deeper(crl_rows(encoding))
+        yield from deeper(any_crl_rows(encoding))
     for number, signer in enumerate(it.signers, 1):
         yield Row(0, f"signer {number}", "")
         yield from deeper(signer_rows(signer, level))

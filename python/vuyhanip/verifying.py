@@ -26,7 +26,6 @@ from .containers import (
 from .elements import OBJECT_IDENTIFIER, OCTET_STRING, Element, NotThere, whole
 from .files import Given
 from .keys import NotChecked, scheme_of, verifies
-from .macs import digest_name, is_right
 from .names import name_of
 from .showing import MOST_LEVELS
 from .values import name, oid
@@ -97,7 +96,7 @@ class Content:
 
     def digest(self, algorithm: str) -> bytes:
         """Its digest, by the object identifier of an algorithm. Raises Wrong."""
-        octets, hashed = self.octets, digest_name(algorithm)
+        octets, hashed = self.octets, der.digest_name(algorithm)
         if hashed is None:
             raise Wrong(f"not checked: the digest {name_of(algorithm)} is not known")
         if hashed not in self._digests:
@@ -178,7 +177,7 @@ def _imprint(token: bytes, stamped: bytes, before: str) -> List[Finding]:
     if it.content_type != TST_INFO or it.content is None:
         return [Finding(before.rstrip(", "), "no TSTInfo", False)]
     said = stamp(it.content)
-    digest = digest_name(algorithm_oid(said.digest_algorithm))
+    digest = der.digest_name(algorithm_oid(said.digest_algorithm))
     if digest is None:
         return [Finding(before.rstrip(", "), "not checked: its digest is not known", False)]
     if not hmac.compare_digest(hashlib.new(digest, stamped).digest(), said.digest):
@@ -194,8 +193,8 @@ def mac_finding(it: Given, password: Optional[str]) -> Finding:
     if password is None:
         return Finding("MAC", "not checked: no password, which --password-file gives", False)
     try:
-        is_so = is_right(mac, it.own[mac.covered.start : mac.covered.stop], password)
-    except (ValueError, UnicodeEncodeError) as fault:
+        is_so = mac.is_right(password)
+    except ValueError as fault:
         return Finding("MAC", f"not checked: {fault}", False)
     return Finding("MAC", "right" if is_so else "wrong", is_so)
 

@@ -10,10 +10,14 @@ pub enum BagKind {
     Key,
     /// An encrypted key.
     ShroudedKey,
-    /// A certificate.
+    /// An X.509 certificate.
     Certificate,
-    /// A revocation list.
+    /// An X.509 revocation list.
     Crl,
+    /// A certificate of another type, as SDSI.
+    OtherCertificate,
+    /// A revocation list of another type.
+    OtherCrl,
     /// A secret of any type.
     Secret,
     /// Bags, which follow it one level down.
@@ -43,7 +47,7 @@ pub struct Bag<'a> {
 }
 
 impl Bag<'_> {
-    /// The friendly name as text.
+    /// The friendly name as text, which is that of [`utf16_text`](crate::utf16_text).
     pub fn name(&self) -> Option<String> {
         let units = self.friendly_name?.chunks_exact(2).map(|it| u16::from_be_bytes([it[0], it[1]]));
         Some(char::decode_utf16(units).map(|it| it.unwrap_or(char::REPLACEMENT_CHARACTER)).collect())
@@ -84,6 +88,8 @@ fn bag<'a>(input: &'a [u8], row: &BagParts) -> Bag<'a> {
             5 => BagKind::Secret,
             6 => BagKind::SafeContents,
             7 => BagKind::Unread,
+            8 => BagKind::OtherCertificate,
+            9 => BagKind::OtherCrl,
             _ => BagKind::Other,
         },
         level: row.level,

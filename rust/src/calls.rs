@@ -69,6 +69,7 @@ extern "C" {
         out: *mut u8,
         out_len: usize,
         written: *mut usize,
+        place: *mut usize,
     ) -> u32;
     pub fn der_mac_range(input: *const u8, input_len: usize, start: *mut usize, len: *mut usize) -> u32;
     pub fn der_mac(
@@ -159,6 +160,13 @@ extern "C" {
         written: *mut usize,
     ) -> u32;
     pub fn der_integer_text(
+        octets: *const u8,
+        octets_len: usize,
+        out: *mut u8,
+        out_len: usize,
+        written: *mut usize,
+    ) -> u32;
+    pub fn der_utf16_text(
         octets: *const u8,
         octets_len: usize,
         out: *mut u8,

@@ -68,7 +68,7 @@ pub enum Error {
     /// The library's request for memory was refused, which says nothing of the input.
     NoMemory,
     /// Of [`signers`] and [`certificates`]: a part isn't found in the input. No input is known where that is returned. Of
-    /// [`bags`]: a part isn't in the input as its value is written.
+    /// [`bags`], and of [`part`] of a store: a part isn't in the input as its value is written.
     NoRange,
     /// A status that a library of another version may return.
     Unknown(u32),
@@ -187,7 +187,8 @@ pub fn from_ber(input: &[u8]) -> Result<Vec<u8>, Error> {
     if status == NORMAL { Ok(out) } else { Err(error(status, place)) }
 }
 
-/// A part of a container. What each is, `der.h` says, and the kind that the input is read as is [`Part::kind`].
+/// A part of a container. What each is, `der.h` says: up to [`Part::Signature`] of signed data, of any CMSVersion and over
+/// content of any type, and then of a PKCS #12 store, and of its MAC.
 #[derive(Debug, Clone, Copy, PartialEq, Eq)]
 #[allow(missing_docs)]
 pub enum Part {
@@ -209,45 +210,47 @@ pub enum Part {
     MacSalt,
 }
 
-impl Part {
-    /// The kind that the input is read as.
-    pub fn kind(self) -> &'static str {
-        match self as usize {
-            0..=8 => "pkcs7certificate",
-            9..=12 => "pfx",
-            _ => "rawpfx",
-        }
-    }
-}
-
 /// A part of a container, as octets: of certificates, signers, keys and bags that with the index, from 0 on. `None`
-/// where the container has no such part, or not so many.
+/// where the container has no such part, or not so many. Each call reads the input anew: [`certificates`], [`bags`] and
+/// [`signers`] borrow all of them from it.
+///
+/// ```
+/// use vuyhanip::{part, Error, Part, Reason};
+/// let file = std::fs::read("tests/by_key.p7m")?;
+/// assert_eq!(part(Part::HashedContent, 0, &file)?.as_deref(), Some(&b"hello, world"[..]));
+/// // the signer is named by its key
+/// assert_eq!(part(Part::Issuer, 0, &file)?, None);
+/// // what isn't a store is refused, and where
+/// let refused = Error::Refused { reason: Reason::Invalid, place: 4 };
+/// assert_eq!(part(Part::StoreKey, 0, &file), Err(refused));
+/// # Ok::<(), Box<dyn std::error::Error>>(())
+/// ```
 pub fn part(part: Part, index: usize, input: &[u8]) -> Result<Option<Vec<u8>>, Error> {
-    part_written(part, input, |out, out_len, written| {
+    let mut place = 0;
+    let (status, out) = written(input.len() + 64, |out, out_len, written| {
+        let number = part as usize;
         // SAFETY: as above
-        unsafe { calls::der_part_octets(part as usize, index, input.as_ptr(), input.len(), out, out_len, written) }
-    })
+        unsafe {
+            calls::der_part_octets(number, index, input.as_ptr(), input.len(), out, out_len, written, &mut place)
+        }
+    });
+    match status {
+        NORMAL => Ok(Some(out)),
+        NO_PART => Ok(None),
+        _ => Err(error(status, place)),
+    }
 }
 
 /// A part of the MAC of a file that [`from_ber`] returned. `None` where it has none.
 fn mac_part_ber(part: Part, input: &[u8]) -> Result<Option<Vec<u8>>, Error> {
-    part_written(part, input, |out, out_len, written| {
+    let (status, out) = written(input.len() + 64, |out, out_len, written| {
         // SAFETY: as above
         unsafe { calls::der_mac_part_ber(part as usize, input.as_ptr(), input.len(), out, out_len, written) }
-    })
-}
-
-/// What a call writes of a part.
-fn part_written(
-    part: Part,
-    input: &[u8],
-    call: impl FnMut(*mut u8, usize, &mut usize) -> u32,
-) -> Result<Option<Vec<u8>>, Error> {
-    let (status, out) = written(input.len() + 64, call);
+    });
     match status {
         NORMAL => Ok(Some(out)),
         NO_PART => Ok(None),
-        _ => Err(located(status, part.kind(), input)),
+        _ => Err(located(status, "rawpfx", input)),
     }
 }
 
@@ -343,6 +346,12 @@ pub fn oid_name(octets: &[u8]) -> Option<String> {
 /// 1,024, they are refused, and the place is 0.
 pub fn integer_text(contents: &[u8]) -> Result<String, Error> {
     text_written(contents, calls::der_integer_text)
+}
+
+/// The text of UTF-16, two octets for each unit, the high one first, as [`Bag::friendly_name`] is. Where the octets are
+/// none, an odd number of them or half a surrogate, they are refused, and the place is 0.
+pub fn utf16_text(octets: &[u8]) -> Result<String, Error> {
+    text_written(octets, calls::der_utf16_text)
 }
 
 /// What a call writes as text in UTF-8.

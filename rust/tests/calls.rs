@@ -24,8 +24,47 @@ const SHA256: &[u8] = &[0x60, 0x86, 0x48, 1, 0x65, 3, 4, 2, 1];
 const LOOSE: &[u8] = &[0x30, 0x1F, 0x30, 7, 6, 5, 0x2B, 0x0E, 3, 2, 0x1A, 4, 0x14];
 const NORMAL: &[u8] = &[0x30, 0x21, 0x30, 9, 6, 5, 0x2B, 0x0E, 3, 2, 0x1A, 5, 0, 4, 0x14];
 
+/// Object identifiers: data, bags that hold an encrypted key, a certificate or bags, and a friendly name.
+const DATA: &[u8] = &[6, 9, 0x2A, 0x86, 0x48, 0x86, 0xF7, 0x0D, 1, 7, 1];
+const SHROUDED_KEY_BAG: &[u8] = &[6, 11, 0x2A, 0x86, 0x48, 0x86, 0xF7, 0x0D, 1, 12, 10, 1, 2];
+const CERTIFICATE_BAG: &[u8] = &[6, 11, 0x2A, 0x86, 0x48, 0x86, 0xF7, 0x0D, 1, 12, 10, 1, 3];
+const CRL_BAG: &[u8] = &[6, 11, 0x2A, 0x86, 0x48, 0x86, 0xF7, 0x0D, 1, 12, 10, 1, 4];
+const SAFE_CONTENTS_BAG: &[u8] = &[6, 11, 0x2A, 0x86, 0x48, 0x86, 0xF7, 0x0D, 1, 12, 10, 1, 6];
+const X509_CERTIFICATE: &[u8] = &[6, 10, 0x2A, 0x86, 0x48, 0x86, 0xF7, 0x0D, 1, 9, 22, 1];
+const SDSI_CERTIFICATE: &[u8] = &[6, 10, 0x2A, 0x86, 0x48, 0x86, 0xF7, 0x0D, 1, 9, 22, 2];
+const FRIENDLY_NAME: &[u8] = &[6, 9, 0x2A, 0x86, 0x48, 0x86, 0xF7, 0x0D, 1, 9, 20];
+
 fn with_digest(front: &[u8]) -> Vec<u8> {
     [front, &[7; 20]].concat()
+}
+
+/// An element of a tag around others.
+fn element(tag: u8, parts: &[&[u8]]) -> Vec<u8> {
+    let inside = parts.concat();
+    let size = (inside.len() as u32).to_be_bytes();
+    let zeros = size.iter().take_while(|octet| **octet == 0).count();
+    if inside.len() < 0x80 {
+        return [&[tag, inside.len() as u8], &inside[..]].concat();
+    }
+    [&[tag, 0x80 + 4 - zeros as u8], &size[zeros..], &inside].concat()
+}
+
+/// A bag that holds an element, with attributes.
+fn bag(oid: &[u8], held: &[u8], attributes: &[u8]) -> Vec<u8> {
+    element(0x30, &[oid, &element(0xA0, &[held]), attributes])
+}
+
+/// A PKCS #12 file with these bags.
+fn store(bags: &[&[u8]]) -> Vec<u8> {
+    let held = element(0xA0, &[&element(4, &[&element(0x30, bags)])]);
+    let contents = element(0x30, &[&element(0x30, &[DATA, &held])]);
+    let safe = element(0x30, &[DATA, &element(0xA0, &[&element(4, &[&contents])])]);
+    element(0x30, &[&[2, 1, 3], &safe])
+}
+
+/// Where octets begin in others.
+fn place(whole: &[u8], part: &[u8]) -> usize {
+    whole.windows(part.len()).position(|octets| octets == part).unwrap()
 }
 
 #[test]
@@ -100,6 +139,34 @@ fn parts_of_signed_data() {
     assert_eq!(part(Part::Signature, 1), None);
 }
 
+/// Of a signer that is named by its key.
+#[test]
+fn parts_of_a_signer_of_version_3() {
+    let part = |part, index| vuyhanip::part(part, index, BY_KEY).unwrap();
+    assert_eq!(part(Part::HashedContent, 7).as_deref(), Some(&b"hello, world"[..]));
+    assert_eq!(part(Part::Certificate, 0).as_deref(), Some(&BY_KEY[74..447]));
+    assert_eq!(part(Part::SignedAttributes, 0), Some([&[0x31], &BY_KEY[492..598]].concat()));
+    assert_eq!((part(Part::Issuer, 0), part(Part::SerialNumber, 0)), (None, None));
+    assert_eq!(part(Part::KeyIdentifier, 0).as_deref(), Some(&BY_KEY[458..478]));
+    assert_eq!(part(Part::DigestAlgorithm, 0).as_deref(), Some(SHA256));
+    assert_eq!(part(Part::SignatureAlgorithm, 0).as_deref(), Some(&BY_KEY[598..610]));
+    assert_eq!(part(Part::Signature, 0).as_deref(), Some(&BY_KEY[612..683]));
+    assert_eq!((part(Part::Signature, 1), part(Part::KeyIdentifier, 1)), (None, None));
+}
+
+/// Content of a type that no standard has, a SEQUENCE, and none.
+#[test]
+fn parts_of_signed_data_over_any_content() {
+    let content = [&[6, 3, 0x2A, 3, 4][..], &element(0xA0, &[&element(0x30, &[&[5, 0]])])].concat();
+    let data = element(0x30, &[&DETACHED[17..22], &element(0x30, &[&content]), &DETACHED[29..]]);
+    let file = element(0x30, &[&DETACHED[2..13], &element(0xA0, &[&data])]);
+    let part = |part, input| vuyhanip::part(part, 0, input).unwrap();
+    assert_eq!(part(Part::HashedContent, &file).as_deref(), Some(&[5, 0][..]));
+    assert_eq!(part(Part::SignatureAlgorithm, &file).as_deref(), Some(&DETACHED[45..52]));
+    assert_eq!((part(Part::HashedContent, DETACHED), part(Part::SignedAttributes, DETACHED)), (None, None));
+    assert_eq!((part(Part::KeyIdentifier, DETACHED), part(Part::Signature, DETACHED)), (Some(vec![]), Some(vec![])));
+}
+
 #[test]
 fn signers_of_versions_1_and_3() {
     for (file, certificate, digest_algorithm, attributes, digest, signature) in [
@@ -142,15 +209,8 @@ fn bad_attributes_leave_nothing_to_verify() {
 fn many_signers_are_all_there() {
     let (data, sid) = (&DETACHED[15..31], &DETACHED[31..]);
     for count in [0, 1, 15, 16, 17, 400] {
-        let signers = sid.repeat(count);
-        let element = |tag: u8, inside: Vec<u8>| {
-            let size = (inside.len() as u32).to_be_bytes();
-            let zeros = size.iter().take_while(|octet| **octet == 0).count();
-            let long = [&[tag, 0x80 + 4 - zeros as u8], &size[zeros..], &inside].concat();
-            if inside.len() < 0x80 { [&[tag, inside.len() as u8], &inside[..]].concat() } else { long }
-        };
-        let sets = [&data[2..14], &element(0x31, signers)].concat();
-        let file = element(0x30, [&DETACHED[2..13], &element(0xA0, element(0x30, sets))].concat());
+        let sets = element(0x30, &[&data[2..14], &element(0x31, &[&sid.repeat(count)])]);
+        let file = element(0x30, &[&DETACHED[2..13], &element(0xA0, &[&sets])]);
         assert_eq!(vuyhanip::signers(&file).unwrap().len(), count);
     }
 }
@@ -197,6 +257,63 @@ fn parts_of_a_store() {
     assert_eq!((part(Part::StoreKey, 0), part(Part::StoreCertificate, 0)), (None, None));
 }
 
+/// Bags in a bag, a certificate of another type, which isn't one of X.509, and a name past U+FFFF.
+#[test]
+fn parts_of_a_store_are_those_that_its_bags_borrow() {
+    let octets = element(0xA0, &[&element(4, &[b"any octets"])]);
+    let x509 = element(0x30, &[X509_CERTIFICATE, &octets]);
+    let sdsi = element(0x30, &[SDSI_CERTIFICATE, &element(0xA0, &[&element(0x16, &[b"AAAA"])])]);
+    let units: Vec<u8> = "smile 😀".encode_utf16().flat_map(u16::to_be_bytes).collect();
+    let name = element(0x30, &[FRIENDLY_NAME, &element(0x31, &[&element(0x1E, &[&units])])]);
+    let named = bag(CERTIFICATE_BAG, &x509, &element(0x31, &[&name]));
+    let inner = element(0x30, &[&named, &bag(CERTIFICATE_BAG, &sdsi, &[])]);
+    let file = store(&[&bag(SAFE_CONTENTS_BAG, &inner, &[]), &bag(CRL_BAG, &sdsi, &[])]);
+    let bags = vuyhanip::bags(&file).unwrap();
+    let kinds: Vec<_> = bags.iter().map(|it| (it.kind, it.level)).collect();
+    let (certificate, other) = (BagKind::Certificate, BagKind::OtherCertificate);
+    assert_eq!(kinds, [(BagKind::SafeContents, 0), (certificate, 1), (other, 1), (BagKind::OtherCrl, 0)]);
+    for (index, bag) in bags.iter().enumerate() {
+        assert_eq!(vuyhanip::part(Part::StoreBag, index, &file).unwrap().as_deref(), Some(bag.element));
+    }
+    assert_eq!(vuyhanip::part(Part::StoreBag, bags.len(), &file), Ok(None));
+    assert_eq!(vuyhanip::part(Part::StoreCertificate, 0, &file).unwrap().as_deref(), Some(bags[1].value));
+    assert_eq!(vuyhanip::part(Part::StoreCertificate, 1, &file), Ok(None));
+    assert_eq!((bags[1].value, bags[2].value), (&b"any octets"[..], &element(0x16, &[b"AAAA"])[..]));
+    assert_eq!(bags[1].name().as_deref(), Some("smile 😀"));
+    assert_eq!(bags[1].friendly_name.map(vuyhanip::utf16_text), Some(Ok("smile 😀".to_owned())));
+}
+
+/// RFC 7292, 4.2.3: the DER of an X.509 certificate is in an OCTET STRING. An encrypted key begins with a SEQUENCE.
+#[test]
+fn what_is_no_part_of_a_store_is_refused_where_it_is() {
+    let no_octets = element(0x30, &[X509_CERTIFICATE, &[0xA0, 2, 5, 0]]);
+    let no_key = element(0x30, &[&[2, 1, 7], &element(4, &[b"encrypted"])]);
+    for (oid, held, part) in [(CERTIFICATE_BAG, no_octets, &[5, 0][..]), (SHROUDED_KEY_BAG, no_key, &[2, 1, 7])] {
+        let file = store(&[&bag(oid, &held, &[])]);
+        let refused = Error::Refused { reason: Reason::Invalid, place: place(&file, part) };
+        for number in [Part::StoreCertificate, Part::StoreKey, Part::StoreEncryptedKey, Part::StoreBag] {
+            assert_eq!(vuyhanip::part(number, 0, &file), Err(refused));
+        }
+        assert_eq!(vuyhanip::bags(&file), Err(refused));
+        assert!(vuyhanip::check("rawpfx", &file).is_ok());
+    }
+}
+
+/// RFC 2781, 2.2, and Unicode's table 3-7 of well-formed UTF-8, at their ends.
+#[test]
+fn utf_16_is_text() {
+    let ends = ["\u{7F}", "\u{80}", "\u{7FF}", "\u{800}", "\u{D7FF}\u{E000}", "\u{FFFF}", "\u{10000}", "\u{10FFFF}"];
+    for text in ends.into_iter().chain(["", "a\0b", "\u{FEFF}ß", "日本 😀"]) {
+        let octets: Vec<u8> = text.encode_utf16().flat_map(u16::to_be_bytes).collect();
+        assert_eq!(vuyhanip::utf16_text(&octets).as_deref(), Ok(text));
+    }
+    let refused = Err(Error::Refused { reason: Reason::Invalid, place: 0 });
+    let halves = [&[0xD8, 0][..], &[0xDC, 0], &[0xDC, 0, 0xD8, 0], &[0xD8, 0, 0, 97], &[0xDB, 0xFF, 0xDB, 0xFF]];
+    for octets in halves.into_iter().chain([&[0][..], &[0, 97, 0], &[0xD8, 0, 0xDC]]) {
+        assert_eq!(vuyhanip::utf16_text(octets), refused);
+    }
+}
+
 /// X.690, 8.1.3.6 and 8.7.3: an OCTET STRING of indefinite length in two segments.
 #[test]
 fn ber_has_its_der() {
@@ -239,7 +356,6 @@ fn certificates_are_parts_of_the_file() {
         assert!(SIGNED.as_ptr_range().contains(&certificate.as_ptr()));
     }
     assert_eq!((found.len(), vuyhanip::part(Part::Certificate, found.len(), SIGNED)), (2, Ok(None)));
-    // signers of version 3, which `part` refuses
     assert_eq!(vuyhanip::certificates(BY_KEY).map(|it| it.len()), Ok(1));
     assert_eq!(vuyhanip::certificates(DETACHED), Ok(vec![]));
     let refused = Error::Refused { reason: Reason::Invalid, place: 4 };

@@ -2,11 +2,11 @@
 use Rattle.std.proofs.Common.{◌≡◌, ◌≤◌, ℕ, sym, ◌∙◌, arith}
 use Rattle.std.specs.Prelude.{length}
 use Rattle.std.proofs.lemmas.List.{get_or_default}
-use Rattle.x509_containers.specs.Parts.{parts}
-use Rattle.x509_containers.specs.declared.parts.ContainerPart.{ContainerPart}
-use Rattle.x509_containers.specs.declared.parts.ContainerPart.TheVariants.{Signed, Store, Mac}
-use Rattle.x509_containers.specs.declared.parts.signed.SignedPart.{SignedPart}
-use Rattle.x509_containers.specs.declared.parts.stores.StorePart.{StorePart}
+use Rattle.container_parts.specs.Parts.{parts}
+use Rattle.container_parts.specs.declared.ContainerPart.{ContainerPart}
+use Rattle.container_parts.specs.declared.ContainerPart.TheVariants.{Signed, Store, Mac}
+use Rattle.container_parts.specs.declared.signed.SignedPart.{SignedPart}
+use Rattle.container_parts.specs.declared.stores.StorePart.{StorePart}
 use Rattle.der_c.specs.Calls.{IsPartAt}
 use Rattle.der_c.specs.Macs.{NoMacPartAt}
 

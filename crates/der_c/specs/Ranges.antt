@@ -1,6 +1,5 @@
--- What the call from C says, by its status, of where an input has all items of a part.
-use Rattle.std.specs.Prelude.{◌≡◌, ◌≢◌, ◌≤◌, ◌<◌, ◌⊎◌, ◌-◌, ℕ, List, ◌++◌, length, drop, map, zero, suc, Option, None, Some, Result, Ok, Err}
-use Rattle.std.proofs.Common.{Vec, Global}
+-- What the calls from C say, by their status, of where an input has all items of a part, or a signer's attributes.
+use Rattle.std.specs.Prelude.{◌≡◌, ◌≢◌, ◌⊎◌, ◌-◌, ℕ, List, map, zero, suc, Option, None, Some}
 use Rattle.std.specs.declared.ops.Range.{Range}
 use Rattle.part_ranges.specs.Enveloped.{AreEnvelopedAt, enveloped_file, EnvelopedFileValue, LacksEnveloped}
 use Rattle.part_ranges.specs.Ranges.{AreCertificatesAt, LacksCertificate}
@@ -10,33 +9,28 @@ use Rattle.part_ranges.specs.declared.attributes.AttributeSet.TheVariants.{Signe
 use Rattle.part_ranges.specs.declared.envelope_parts.EnvelopePart.{EnvelopePart}
 use Rattle.part_ranges.specs.declared.envelope_parts.EnvelopePart.TheVariants.{Recipients, EncryptionAlgorithm, EncryptedContent}
 use Rattle.signer_ranges.specs.Signers.{FileValue, signed_file}
-use Rattle.signer_ranges.specs.declared.ranges.Refusal.{Refusal}
-use Rattle.der_c.specs.Signers.{place_of, status_of_refusal}
-use Rattle.der_c.specs.declared.lists.Item.{Item}
+use Rattle.der_c.specs.Statuses.{Reasons, WritesAt}
+use Rattle.der_c.specs.declared.ranges.Octets.{Octets}
 
 -- a range by its start and its length
-abbrev pub item_of : Range ℕ → Item
-item_of r = record { start = r.start; len = r.end - r.start }
+abbrev pub octets_of : Range ℕ → Octets
+octets_of r = record { start = r.start; len = r.end - r.start }
 
--- ranges that were found were written to the front of an array, or need more room than it has
-pub record PutsFound (ranges : List (Range ℕ)) (old new : List Item) (count place status : ℕ) : Type 0 where
-  pub no_place : place ≡ 0
-  pub size : count ≡ length ranges
-  pub put : status ≡ 0 → new ≡ map item_of ranges ++ drop count old
-  pub no_room : status ≡ 9 → (length old < count) × (new ≡ old)
-  pub range : (status ≡ 0) ⊎ (status ≡ 9)
+abbrev pub nothing : Octets
+nothing = record { start = 0; len = 0 }
 
--- nothing was written, and the status says why
-pub record PutsNoRange (e : Refusal) (old new : List Item) (count place status : ℕ) : Type 0 where
-  pub is : status ≡ status_of_refusal e
-  pub place_is : place ≡ place_of e
-  pub no_count : count ≡ 0
-  pub kept : new ≡ old
+abbrev pub octets_or_none : Option (Range ℕ) → Octets
+octets_or_none None = nothing
+octets_or_none (Some r) = octets_of r
 
--- what is written of ranges, as they were found
-abbrev pub PutsRanges : Result (Vec (Range ℕ) Global) Refusal → List Item → List Item → ℕ → ℕ → ℕ → Type 0
-PutsRanges (Ok ranges) old new count place status = PutsFound ranges.items old new count place status
-PutsRanges (Err e) old new count place status = PutsNoRange e old new count place status
+-- whether it is there, as a number
+abbrev pub is_there : {X : Type 0} → Option X → ℕ
+is_there None = 0
+is_there (Some x) = 1
+
+-- rows are those of ranges of which Are holds
+abbrev pub AreRowsOf : (List (Range ℕ) → Type 0) → List Octets → Type 0
+AreRowsOf Are rows = (ranges : List (Range ℕ)) × Are ranges × (rows ≡ map octets_of ranges)
 
 -- DER_PART_CERTIFICATE
 abbrev pub certificates : ℕ
@@ -52,9 +46,16 @@ number_of EncryptedContent = 18
 abbrev pub AreItemsAt : ℕ → List ℕ → List (Range ℕ) → Type 0
 AreItemsAt number b ranges = ((number ≡ certificates) × AreCertificatesAt b ranges) ⊎ ((part : EnvelopePart) × (number ≡ number_of part) × AreEnvelopedAt part b ranges)
 
+-- the input isn't signed data, or no enveloped data
+abbrev pub IsNotSigned : List ℕ → Type 0
+IsNotSigned b = (v : FileValue) → signed_file.Reads 64 b v → ⊥
+
+abbrev pub IsNotEnveloped : List ℕ → Type 0
+IsNotEnveloped b = (v : EnvelopedFileValue) → enveloped_file.Reads 64 b v → ⊥
+
 -- the input isn't what has the part with that number
 abbrev pub HasNoItems : ℕ → List ℕ → Type 0
-HasNoItems number b = ((number ≡ certificates) × ((v : FileValue) → signed_file.Reads 64 b v → ⊥)) ⊎ ((part : EnvelopePart) × (number ≡ number_of part) × ((v : EnvelopedFileValue) → enveloped_file.Reads 64 b v → ⊥))
+HasNoItems number b = ((number ≡ certificates) × IsNotSigned b) ⊎ ((part : EnvelopePart) × (number ≡ number_of part) × IsNotEnveloped b)
 
 -- an item of the part with that number is nowhere in the input
 abbrev pub LacksItems : ℕ → List ℕ → Type 0
@@ -65,51 +66,22 @@ pub record IsNotListed (number : ℕ) : Type 0 where
   pub certificate : number ≢ certificates
   pub envelope : (part : EnvelopePart) → number ≢ number_of part
 
--- what a call answers of the input b and an array that writes ranges: of which Are, HasNone, Lacks, Absent and Unknown say
--- what they are, that the input isn't what has them, that one is nowhere in it, that there is no such part, and that it
--- can't be asked for
-pub record ListsOf (Are : List (Range ℕ) → Type 0) (HasNone Lacks Absent Unknown : Type 0) (b : List ℕ) (old new : List Item) (count place status : ℕ) : Type 0 where
-  -- DER_NORMAL: the ranges are at the front of the array, and the rest of it is as it was
-  pub listed : status ≡ 0 → (ranges : List (Range ℕ)) × Are ranges × (count ≡ length ranges) × (new ≡ map item_of ranges ++ drop count old)
-  -- DER_NO_ROOM: there are so many items
-  pub no_room : status ≡ 9 → (ranges : List (Range ℕ)) × Are ranges × (count ≡ length ranges) × (length old < count)
-  -- DER_UNKNOWN_KIND
-  pub unknown : status ≡ 2 → Unknown
-  -- DER_MALFORMED, DER_MISSING, DER_INVALID, DER_TOO_DEEP
-  pub refused : 3 ≤ status → status ≤ 6 → HasNone
-  -- DER_NO_RANGE
-  pub no_range : status ≡ 10 → Lacks
-  -- DER_NO_PART
-  pub absent : status ≡ 11 → Absent
-  pub no_count : status ≢ 0 → status ≢ 9 → count ≡ 0
-  pub kept : status ≢ 0 → new ≡ old
-  pub inside : place ≤ length b
-  pub no_place : (status ≤ 2) ⊎ (9 ≤ status) → place ≡ 0
-  -- and never DER_LOOSE or DER_TOO_LONG
-  pub range : (status ≢ 1) × ((status ≢ 7) × (status ≤ 11))
+abbrev pub without_items : ℕ → List ℕ → Reasons
+without_items number b = record { IsUnknown = IsNotListed number; HasNone = HasNoItems number b; IsLong = ⊥; TakesMemory = Unit {0}; LacksRange = LacksItems number b; IsAbsent = ⊥ }
 
 -- what der_part_ranges answers of the input b and an array
-abbrev pub ListsRanges : ℕ → List ℕ → List Item → List Item → ℕ → ℕ → ℕ → Type 0
-ListsRanges number b = ListsOf (AreItemsAt number b) (HasNoItems number b) (LacksItems number b) ⊥ (IsNotListed number) b
+abbrev pub ListsRanges : ℕ → List ℕ → List Octets → List Octets → ℕ → ℕ → ℕ → Type 0
+ListsRanges number b = WritesAt (AreRowsOf (AreItemsAt number b)) (without_items number b) b
 
 -- the attributes that a number asks for: unsigned ones, or, unless it is 0, signed ones
 abbrev pub set_of : ℕ → AttributeSet
 set_of zero = Unsigned
 set_of (suc n) = Signed
 
--- what der_attribute_ranges answers of the input b and an array: at DER_NO_PART there are fewer signers
-abbrev pub ListsAttributes : ℕ → ℕ → List ℕ → List Item → List Item → ℕ → ℕ → ℕ → Type 0
-ListsAttributes signed index b = ListsOf (λ ranges. AreAttributesAt (set_of signed) index b (Some ranges)) ((v : FileValue) → signed_file.Reads 64 b v → ⊥) (LacksAttribute (set_of signed) index b) (AreAttributesAt (set_of signed) index b None) ⊥ b
+-- at DER_NO_PART there are fewer signers
+abbrev pub without_attributes : AttributeSet → ℕ → List ℕ → Reasons
+without_attributes set index b = record { IsUnknown = ⊥; HasNone = IsNotSigned b; IsLong = ⊥; TakesMemory = Unit {0}; LacksRange = LacksAttribute set index b; IsAbsent = AreAttributesAt set index b None }
 
--- there was none
-pub record PutsNone (old new : List Item) (count place status : ℕ) : Type 0 where
-  pub is : status ≡ 11
-  pub no_place : place ≡ 0
-  pub no_count : count ≡ 0
-  pub kept : new ≡ old
-
--- what is written of ranges, or of none, as they were found
-abbrev pub PutsSome : Result (Option (Vec (Range ℕ) Global)) Refusal → List Item → List Item → ℕ → ℕ → ℕ → Type 0
-PutsSome (Ok (Some ranges)) old new count place status = PutsFound ranges.items old new count place status
-PutsSome (Ok None) old new count place status = PutsNone old new count place status
-PutsSome (Err e) old new count place status = PutsNoRange e old new count place status
+-- what der_attribute_ranges answers of the input b and an array
+abbrev pub ListsAttributes : ℕ → ℕ → List ℕ → List Octets → List Octets → ℕ → ℕ → ℕ → Type 0
+ListsAttributes signed index b = WritesAt (AreRowsOf (λ ranges. AreAttributesAt (set_of signed) index b (Some ranges))) (without_attributes (set_of signed) index b) b

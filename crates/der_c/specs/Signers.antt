@@ -1,30 +1,14 @@
 -- What the call from C says of the signers of signed data, by its status.
-use Rattle.std.specs.Prelude.{◌≡◌, ◌≢◌, ◌≤◌, ◌⊎◌, ◌-◌, ℕ, List, ◌++◌, length, drop, map, Option, None, Some}
+use Rattle.std.specs.Prelude.{◌≡◌, ◌≢◌, ◌≤◌, ℕ, List, ◌++◌, length, drop, map, Option, None, Some}
 use Rattle.std.specs.declared.ops.Range.{Range}
-use Rattle.signer_ranges.specs.Signers.{AreFound, FileValue, HasNoRange, signed_file}
+use Rattle.signer_ranges.specs.Signers.{AreFound, HasNoRange}
 use Rattle.signer_ranges.specs.declared.ranges.SignedRanges.{SignedRanges}
 use Rattle.signer_ranges.specs.declared.ranges.SignerRanges.{SignerRanges}
-use Rattle.signer_ranges.specs.declared.ranges.Refusal.{Refusal}
-use Rattle.signer_ranges.specs.declared.ranges.Refusal.TheVariants.{Refused, NoRange}
-use Rattle.der_c.specs.Calls.{status_of}
-use Rattle.der_c.specs.declared.signers.Octets.{Octets}
+use Rattle.der_c.specs.Ranges.{is_there, IsNotSigned, nothing, octets_of, octets_or_none}
+use Rattle.der_c.specs.Statuses.{IsPlace, Reasons, SaysWhy}
+use Rattle.der_c.specs.declared.ranges.Octets.{Octets}
 use Rattle.der_c.specs.declared.signers.Signer.{Signer}
-
--- a range by its start and its length
-abbrev pub octets_of : Range ℕ → Octets
-octets_of r = record { start = r.start; len = r.end - r.start }
-
-abbrev pub nothing : Octets
-nothing = record { start = 0; len = 0 }
-
-abbrev pub octets_or_none : Option (Range ℕ) → Octets
-octets_or_none None = nothing
-octets_or_none (Some r) = octets_of r
-
--- whether it is there, as a number
-abbrev pub is_there : {X : Type 0} → Option X → ℕ
-is_there None = 0
-is_there (Some x) = 1
+use Rattle.der_c.specs.declared.status.TheConstants.{NORMAL, LOOSE, NO_ROOM, NO_PART, BAD_ATTRIBUTES}
 
 -- what a signature covers: signed attributes, or the content where there are none
 abbrev pub covered_by : Option SignedRanges → Option (Range ℕ) → Octets
@@ -37,9 +21,9 @@ digest_in None = nothing
 digest_in (Some r) = octets_of r.message_digest
 
 -- DER_BAD_ATTRIBUTES, and all else 0, or the ranges of a signer
-abbrev pub row_of : Option SignerRanges → Signer
-row_of None = record {
-  status = 12;
+abbrev pub signer_row : Option SignerRanges → Signer
+signer_row None = record {
+  status = BAD_ATTRIBUTES;
   over_attributes = 0;
   has_content = 0;
   has_certificate = 0;
@@ -51,8 +35,8 @@ row_of None = record {
   signature = nothing;
   certificate = nothing;
 }
-row_of (Some r) = record {
-  status = 0;
+signer_row (Some r) = record {
+  status = NORMAL;
   over_attributes = is_there r.signed;
   has_content = is_there r.content;
   has_certificate = is_there r.certificate;
@@ -65,25 +49,15 @@ row_of (Some r) = record {
   certificate = octets_or_none r.certificate;
 }
 
--- the status of a refusal, and its place
-abbrev pub status_of_refusal : Refusal → ℕ
-status_of_refusal (Refused e place) = status_of e
-status_of_refusal NoRange = 10
-
-abbrev pub place_of : Refusal → ℕ
-place_of (Refused e place) = place
-place_of NoRange = 0
+-- the input is no signed data, or, at DER_NO_RANGE, signed data of which a part is nowhere in the input
+abbrev pub without_signers : List ℕ → ℕ → ℕ → Reasons
+without_signers b first most = record { IsUnknown = ⊥; HasNone = IsNotSigned b; IsLong = ⊥; TakesMemory = Unit {0}; LacksRange = HasNoRange b first most; IsAbsent = ⊥ }
 
 -- what der_signer_rows answers of the input b and an array
 pub record FindsSigners (b : List ℕ) (first : ℕ) (old new : List Signer) (count place status : ℕ) : Type 0 where
   -- DER_NORMAL: the rows of as many signers as there is room for are at the front of the array, and the rest of it is as it was
-  pub found : status ≡ 0 → (found : List (Option SignerRanges)) × AreFound b first (length old) count found × (new ≡ map row_of found ++ drop (length found) old)
-  -- DER_MALFORMED, DER_MISSING, DER_INVALID, DER_TOO_DEEP: the input is no signed data
-  pub refused : 3 ≤ status → status ≤ 6 → (v : FileValue) → signed_file.Reads 64 b v → ⊥
-  -- DER_NO_RANGE: a part is nowhere in the input
-  pub no_range : status ≡ 10 → HasNoRange b first (length old)
-  pub kept : status ≢ 0 → (new ≡ old) × (count ≡ 0)
-  pub inside : place ≤ length b
-  pub no_place : (status ≡ 0) ⊎ (status ≡ 10) → place ≡ 0
-  -- and never DER_TOO_LONG
-  pub range : (status ≡ 0) ⊎ ((status ≡ 10) ⊎ ((3 ≤ status) × ((status ≤ 8) × (status ≢ 7))))
+  pub found : status ≡ NORMAL → (found : List (Option SignerRanges)) × AreFound b first (length old) count found × (new ≡ map signer_row found ++ drop (length found) old)
+  pub why : SaysWhy (without_signers b first (length old)) status
+  pub kept : status ≢ NORMAL → (new ≡ old) × (count ≡ 0)
+  pub at : IsPlace b place status
+  pub range : (status ≢ LOOSE) × ((status ≢ NO_ROOM) × (status ≤ NO_PART))

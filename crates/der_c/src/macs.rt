@@ -1,21 +1,25 @@
 //! What a verifier of a PKCS #12 file's MAC needs: of files in DER, and of those that `der_from_ber` wrote.
 
-ghost use Rattle.std.specs.Prelude.{◌≡◌, MatchOption, MatchResult, Ok, Err, None, Some};
+ghost use Rattle.std.specs.Prelude.{◌≡◌, MatchOption, MatchResult, None, Some};
 ghost use Rattle.asn1_core.specs.Der.{Format, Octets, option_value, raw, HasNoValue};
-ghost use Rattle.der_c.specs.Macs.{ber_file, CopiesMacPart, FindsMac, FindsMacIn, FindsRange, FindsRangeIn, IsMacPartAt, NoMacPartAt};
-ghost use Rattle.x509_containers.specs.Inputs.{GivesPart};
-ghost use Rattle.x509_containers.specs.MacParts.{mac_part_in, HasCountIn};
-ghost use Rattle.x509_containers.specs.declared.parts.ContainerPart.TheVariants.{Mac};
+ghost use Rattle.container_parts.specs.MacParts.{mac_part_in, HasCountIn};
+ghost use Rattle.der_c.specs.Macs.{ber_file, CopiesMacPart, FindsMac, FindsMacIn, FindsRange, FindsRangeIn, GivesMacPart, IsMacPartAt, NoMacPartAt};
+ghost use Rattle.input_ranges.specs.Failures.{IsRefusalOf};
 ghost use Rattle.x509_pkcs12.specs.MacRanges.{IsMacRangeIn};
 ghost use Rattle.x509_pkcs12.specs.Pfxs.{PfxValue, pfx};
 
-use crate::{part_at, put_part, status_of};
+use crate::outputs::{put_octets, status_of_refusal};
+use crate::parts::part_at;
+use crate::status;
+use crate::status::status_of;
 use asn1_core::from_bytes;
+use container_parts::copies::read_file;
+use container_parts::{ContainerPart, MacPart, mac_iterations, part_of_mac};
+use input_ranges::Refusal;
 use pkcs12_ber::{BerPfx, ber_mac_range};
 use std::alloc::Global;
 use std::ops::Range;
-use x509_containers::parts::part_of_mac;
-use x509_containers::{ContainerPart, Error, MacPart, mac_iterations, mac_range};
+use x509_containers::{Error, mac_range};
 
 /// A type as which PKCS #12 files are read.
 trait File {
@@ -28,8 +32,8 @@ trait File {
             (λ e. HasNoValue format 64 input.now e) };
 
     /// How often the key derivation of its MAC hashes.
-    fn iterations(alloc: Global, input: &[u8]) -> Result<Option<u32>, Error>
-        ensures { MatchResult result (λ count. HasCountIn format input.now count) (λ e. HasNoValue format 64 input.now e) };
+    fn iterations(alloc: Global, input: &[u8]) -> Result<Option<u32>, Refusal>
+        ensures { MatchResult result (λ count. HasCountIn format input.now count) (λ e. IsRefusalOf format input.now ⊥ e) };
 }
 
 /// Files as `RawPfx`, of which the MAC covers DER.
@@ -43,7 +47,7 @@ impl File for OverDer {
         mac_range(alloc, input)
     }
 
-    fn iterations(alloc: Global, input: &[u8]) -> Result<Option<u32>, Error> {
+    fn iterations(alloc: Global, input: &[u8]) -> Result<Option<u32>, Refusal> {
         mac_iterations(alloc, input)
     }
 }
@@ -59,16 +63,16 @@ impl File for OverBer {
         ber_mac_range(alloc, input)
     }
 
-    fn iterations(alloc: Global, input: &[u8]) -> Result<Option<u32>, Error> {
+    fn iterations(alloc: Global, input: &[u8]) -> Result<Option<u32>, Refusal> {
         ber_mac_iterations(alloc, input)
     }
 }
 
 /// How often the key derivation of a MAC hashes, 1 where the count is left out, as `mac_iterations` says of a `RawPfx`.
-fn ber_mac_iterations(alloc: Global, input: &[u8]) -> Result<Option<u32>, Error>
-    ensures { MatchResult result (λ count. HasCountIn ber_file input.now count) (λ e. HasNoValue ber_file 64 input.now e) }
+fn ber_mac_iterations(alloc: Global, input: &[u8]) -> Result<Option<u32>, Refusal>
+    ensures { MatchResult result (λ count. HasCountIn ber_file input.now count) (λ e. IsRefusalOf ber_file input.now ⊥ e) }
 {
-    let file: BerPfx = from_bytes(alloc, input)?;
+    let file: BerPfx = read_file(alloc, input)?;
     match &file.mac_data {
         Some(mac) => Ok(Some(mac.effective_iterations())),
         None => Ok(None),
@@ -84,14 +88,14 @@ fn find_range<T: File>(alloc: Global, input: &[u8], start: &mut usize, len: &mut
         Ok(Some(range)) => {
             *start = range.start;
             *len = range.end - range.start;
-            0
+            status::NORMAL
         }
-        Ok(None) => 10,
+        Ok(None) => status::NO_RANGE,
         Err(error) => status_of(error),
     }
 }
 
-#[tactic(auto, using(crate::proofs::Ranges::no_range_no_mac, crate::proofs::Ranges::mac_found, crate::proofs::Ranges::no_mac_there, crate::proofs::Ranges::mac_not_found))]
+#[tactic(auto, using(crate::proofs::MacRanges::no_range_no_mac, crate::proofs::MacRanges::mac_found, crate::proofs::MacRanges::no_mac_there, crate::proofs::MacRanges::mac_not_found))]
 fn find_mac<T: File>(
     alloc: Global,
     input: &[u8],
@@ -103,30 +107,30 @@ fn find_mac<T: File>(
 {
     *iterations = 0;
     let status = find_range::<T>(alloc, input, start, len);
-    if status != 0 {
+    if status != status::NORMAL {
         return status;
     }
     match T::iterations(alloc, input) {
         Ok(Some(count)) => {
             *iterations = count as usize;
-            0
+            status::NORMAL
         }
         Ok(None) => {
             *start = 0;
             *len = 0;
-            11
+            status::NO_PART
         }
-        Err(error) => {
+        Err(refusal) => {
             *start = 0;
             *len = 0;
-            status_of(error)
+            status_of_refusal(refusal)
         }
     }
 }
 
-/// Which octets of a PKCS #12 file its MAC covers: at 0 `len` octets from `start` on. At 10 it has none, since its
-/// authSafe isn't data. Any other status is as of `der_check_word_limited` for the word `rawpfx` and 64 levels, 7
-/// never. Unless at 0 both numbers are 0.
+/// Which octets of a PKCS #12 file its MAC covers: at `NORMAL` `len` octets from `start` on. At `NO_RANGE` it has none,
+/// since its authSafe isn't data. Any other status is as of `der_check_word_limited` for the word `rawpfx` and 64
+/// levels, `TOO_LONG` never. Unless at `NORMAL` both numbers are 0.
 #[unsafe(no_mangle)]
 pub extern "C" fn der_mac_range(
     alloc: Global,
@@ -139,9 +143,9 @@ pub extern "C" fn der_mac_range(
     find_range::<OverDer>(alloc, input, start, len)
 }
 
-/// What a verifier of a PKCS #12 file's MAC needs beside octets: at 0 the MAC covers `len` octets from `start` on, and
-/// its key derivation hashes `iterations` times. At 10 the file has no range, at 11 it has one and no MAC. Any other
-/// status is as of `der_mac_range`. Unless at 0 the numbers are 0.
+/// What a verifier of a PKCS #12 file's MAC needs beside octets: at `NORMAL` the MAC covers `len` octets from `start`
+/// on, and its key derivation hashes `iterations` times. At `NO_RANGE` the file has no range, at `NO_PART` it has one
+/// and no MAC. Any other status is as of `der_mac_range`. Unless at `NORMAL` the numbers are 0.
 #[unsafe(no_mangle)]
 pub extern "C" fn der_mac(
     alloc: Global,
@@ -183,21 +187,18 @@ fn mac_part_at(number: usize) -> Option<MacPart>
 }
 
 /// A part of the MAC of a file in DER whose MAC may cover BER. `None` where it has no MAC.
-#[tactic(auto, using(x509_containers::specs::Inputs::refused, x509_containers::specs::Inputs::gives))]
+#[tactic(auto, using(crate::proofs::BerMacs::refused, crate::proofs::BerMacs::given))]
 fn ber_mac_part(alloc: Global, part: MacPart, input: &[u8]) -> Result<Option<Vec<u8>>, Error>
-    ensures { GivesPart (mac_part_in ber_file part) input.now result }
+    ensures { GivesMacPart (mac_part_in ber_file part) input.now result }
 {
     let file: BerPfx = from_bytes(alloc, input)?;
     let BerPfx { mac_data, .. } = file;
-    match mac_data {
-        Some(mac) => part_of_mac(alloc, part, mac),
-        None => Ok(None),
-    }
+    part_of_mac(alloc, part, mac_data)
 }
 
 /// Writes the part of a MAC with that number to the front of `out`, as `der_part_octets` does, of a file whose MAC may
-/// cover BER: an input is what `der_from_ber` wrote of it. The statuses are as there, 2 for the number of any other
-/// part.
+/// cover BER: an input is what `der_from_ber` wrote of it. The statuses are as there, `UNKNOWN_KIND` for the number of
+/// any other part, and `NO_RANGE` never.
 #[unsafe(no_mangle)]
 pub extern "C" fn der_mac_part_ber(
     alloc: Global,
@@ -210,7 +211,11 @@ pub extern "C" fn der_mac_part_ber(
 {
     *written = 0;
     let Some(part) = mac_part_at(number) else {
-        return 2;
+        return status::UNKNOWN_KIND;
     };
-    put_part(ber_mac_part(alloc, part, input), out, written)
+    match ber_mac_part(alloc, part, input) {
+        Ok(Some(octets)) => put_octets(&octets, out, written),
+        Ok(None) => status::NO_PART,
+        Err(error) => status_of(error),
+    }
 }

@@ -1,7 +1,5 @@
-use Rattle.x509_containers.specs.MacParts.{mac_part_in}
-use Rattle.der_c.specs.Macs.{ber_file, OfMacPart}
-use Rattle.der_c.proofs.Parts.{part_put}
+use Rattle.der_c.proofs.BerMacs.{not_copied}
 use Rattle.der_c.proofs.macs.der_mac_part_ber.Goals as goal
 
-pub returns : goal.returns
-returns c = part_put (OfMacPart c.args.number) _ (mac_part_in ber_file c.in-Some.part) (λ Q q. (c.in-Some.part, c.in-Some.ensures, q)) c.args.input.now _ _ _ _ _ c.ber_mac_part.ensures c.put_part.ensures
+pub returns-in-Err : goal.returns-in-Err
+returns-in-Err c = not_copied c.in-Some.part c.args.input.now c.args.number c.in-Some.ensures c.args.out.now c.in-Err.error c.status_of.result c.status_of.ensures c.in-Err.ensures

@@ -1,4 +1,4 @@
-use Rattle.der_c.proofs.Ranges.{found, not_found}
+use Rattle.der_c.proofs.MacRanges.{found, not_found}
 use Rattle.der_c.proofs.macs.find_range.Goals as goal
 
 pub returns-in-Ok-Some : goal.returns-in-Ok-Some

@@ -1,4 +1,4 @@
-use Rattle.der_c.proofs.Rows.{signers_refused}
+use Rattle.der_c.proofs.SignerRows.{signers_refused}
 use Rattle.der_c.proofs.signers.der_signer_rows.Goals as goal
 
 pub returns-in-Err : goal.returns-in-Err
