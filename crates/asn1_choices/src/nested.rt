@@ -32,9 +32,9 @@ pub fn read_nested_or<
 {
     let oid = contents_of(r, 0x06)?;
     if is_named::<N>(oid) {
-        let held = read_below_within(r, nest, tag, by)?;
+        let nested = read_below_within(r, nest, tag, by)?;
         let rest = R::read_components(alloc, r, nest)?;
-        return Ok(Either::First((held, rest)));
+        return Ok(Either::First((nested, rest)));
     }
     let other = C::read_after(oid, alloc, r, nest)?;
     Ok(Either::Second(other))

@@ -21,7 +21,7 @@ pub use Rattle.asn1_core.specs.Raw.{element_of, lawful_element_of, raw, lawful_r
 pub use Rattle.asn1_core.specs.Tagged.{perhaps_last, sequence_of, lawful_sequence_of, explicit, lawful_explicit, implicit_set, lawful_implicit_set, lawful_implicit_octets, only_oid, lawful_only_oid}
 pub use Rattle.asn1_core.specs.Versions.{version, lawful_version_0, lawful_version_1, lawful_version_3}
 pub use Rattle.asn1_core.specs.Words.{Octets, OidOctets, IntegerOctets, BitStringOctets, StringOctets, ElementOctets}
-pub use Rattle.asn1_core.specs.Equal.{der_equal, octets_equal, raw_equal, same_first, same_second, with_end}
+pub use Rattle.asn1_core.specs.ViewsEqual.{der_equal, octets_equal, raw_equal, same_first, same_second, with_end}
 pub use Rattle.asn1_core_element.specs.Element.{IsElement, IsTagByte, element, head, length_octets}
 pub use Rattle.asn1_core_element.specs.ElementLaws.{element_cut, element_long, element_same, octets_long, octets_short}
 pub use Rattle.asn1_core_element.specs.Numbers.{integer_octets}
@@ -32,14 +32,14 @@ pub use Rattle.asn1_core_format.specs.Calls.{GivesBelow, MayBelow}
 pub use Rattle.asn1_core_format.specs.Choices.{Choice, Heads, IsLawfulChoice, heads_begin, known, lawful_known, lawful_otherwise, otherwise, same_head}
 pub use Rattle.asn1_core_format.specs.Eithers.{OneOf, either, from_one, lawful_either, map_one, or_else}
 pub use Rattle.asn1_core_format.specs.EmptySets.{empty_left_out, is_nil, lawful_set_or_none, set_or_none}
-pub use Rattle.asn1_core_format.specs.Gated.{gated, lawful_gated}
+pub use Rattle.asn1_core_format.specs.NeedsLevel.{needs_level, lawful_needs_level}
 pub use Rattle.asn1_core_format.specs.Laws.{NextIs, begins_next, element_some, next_distinct}
-pub use Rattle.asn1_core_format.specs.Leaf.{IsLawfulSpelling, Spelling, kept, leaf}
+pub use Rattle.asn1_core_format.specs.Leaf.{IsLawfulSpelling, Spelling, verbatim, leaf}
 pub use Rattle.asn1_core_format.specs.LeafLaws.{lawful_leaf}
 pub use Rattle.asn1_core_format.specs.LevelLaws.{IsStep, lawful_less, lawful_levels, unroll_formed, unroll_text}
 pub use Rattle.asn1_core_format.specs.Levels.{Grammar, Still, always, by_levels, less, levels, no_grammar}
 pub use Rattle.asn1_core_format.specs.Loosened.{IsLoosening, Loosening, lawful_loosened, lawful_loosened_components, loosened}
-pub use Rattle.asn1_core_format.specs.Rolled.{lawful_rolled, rolled}
+pub use Rattle.asn1_core_format.specs.Mapped.{lawful_mapped, mapped}
 pub use Rattle.asn1_core_format.specs.Same.{all_same, least_same, texts_same}
 pub use Rattle.asn1_core_format.specs.Views.{Clones, SeesEqual, list_equal, option_equal, two_equal}
 pub use Rattle.asn1_core_format.specs.Whole.{AnswersInput, HasNoValue, IsValueOf}

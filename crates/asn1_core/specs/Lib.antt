@@ -4,7 +4,7 @@ pub mod Octets
 pub mod Raw
 pub mod Nulls
 pub mod Objects
-pub mod Equal
+pub mod ViewsEqual
 pub mod Versions
 pub mod Der
 pub mod Tagged

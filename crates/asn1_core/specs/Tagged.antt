@@ -3,8 +3,8 @@ use Rattle.std.specs.Prelude.{◌≡◌, ℕ, ◌+◌, List}
 use Rattle.std.proofs.Common.{arith, refl}
 use Rattle.asn1_core_element.specs.Element.{IsTagByte}
 use Rattle.asn1_core_format.specs.Format.{Format, IsLawful, IsLawfulComponents}
-use Rattle.asn1_core_format.specs.Leaf.{leaf, kept}
-use Rattle.asn1_core_format.specs.LeafLaws.{lawful_leaf, lawful_kept}
+use Rattle.asn1_core_format.specs.Leaf.{leaf, verbatim}
+use Rattle.asn1_core_format.specs.LeafLaws.{lawful_leaf, lawful_verbatim}
 use Rattle.asn1_core_format.specs.Lists.{each}
 use Rattle.asn1_core_format.specs.ListLaws.{lawful_each}
 use Rattle.asn1_core_format.specs.Components.{within, optional, nothing}
@@ -46,7 +46,7 @@ lawful_implicit_octets {tag} h = lawful_implicit tag 0x04 octet_string lawful_oc
 
 -- an object identifier and no other
 abbrev pub only_oid : List ℕ → Format (List ℕ)
-only_oid o = leaf 0x06 (kept (λ c. c ≡ o))
+only_oid o = leaf 0x06 (verbatim (λ c. c ≡ o))
 
 pub lawful_only_oid : (o : List ℕ) → IsLawful (only_oid o)
-lawful_only_oid o = lawful_leaf 0x06 (omega arith) (kept (λ c. c ≡ o)) (lawful_kept (λ c. c ≡ o))
+lawful_only_oid o = lawful_leaf 0x06 (omega arith) (verbatim (λ c. c ≡ o)) (lawful_verbatim (λ c. c ≡ o))

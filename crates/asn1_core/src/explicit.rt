@@ -219,7 +219,7 @@ impl<const N: u8, T: HasDefault> HasDefault for Explicit<N, T> {
         self.0.is_default()
     }
 
-    #[tactic(auto, using(asn1_core_format::specs::TaggedDefaults::explicit_stands, asn1_core_format::specs::TaggedDefaults::explicit_too_high))]
+    #[tactic(auto, using(asn1_core_format::specs::TaggedDefaults::explicit_absent_value, asn1_core_format::specs::TaggedDefaults::explicit_too_high))]
     fn absent(alloc: Global) -> Result<Self, Error> {
         if N > 30 {
             return Err(Error::Invalid);

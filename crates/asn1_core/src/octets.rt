@@ -1,7 +1,7 @@
 //! OCTET STRING (X.690, 8.7).
 
 ghost use Rattle.std.specs.Prelude.{ℕ, List};
-ghost use Rattle.asn1_core.specs.Equal.{octets_equal};
+ghost use Rattle.asn1_core.specs.ViewsEqual.{octets_equal};
 ghost use Rattle.asn1_core.specs.Asn1.{OCTET_STRING};
 ghost use Rattle.asn1_core.specs.Octets.{any_octets};
 

@@ -1,7 +1,7 @@
 //! One element, whatever it is.
 
 ghost use Rattle.std.specs.Prelude.{ℕ, List};
-ghost use Rattle.asn1_core.specs.Equal.{raw_equal};
+ghost use Rattle.asn1_core.specs.ViewsEqual.{raw_equal};
 ghost use Rattle.asn1_core.specs.Raw.{raw, lawful_raw};
 
 use asn1_core_element::front::front;

@@ -7,7 +7,7 @@ use Rattle.asn1_core_element.specs.Position.{Position}
 use Rattle.asn1_core_element.specs.declared.error.Error.{Error}
 use Rattle.asn1_core_element.specs.declared.error.Error.TheVariants.{TooLong, Memory}
 use Rattle.asn1_core_format.specs.Format.{Format, HasRead, HasRefused}
-use Rattle.asn1_core_format.specs.Leaf.{leaf, kept}
+use Rattle.asn1_core_format.specs.Leaf.{leaf, verbatim}
 use Rattle.asn1_core_format.specs.Components.{HasReadComponents, HasRefusedComponents}
 use Rattle.asn1_core_format.specs.Choices.{Choice, otherwise, known, IsLawfulChoice, same_head}
 
@@ -25,15 +25,15 @@ pub record HasRefusedAlternative {V : Type 0} (C : Choice V) (k : ℕ) (key : Li
 
 module _ (IsOid : List ℕ → Type 0) where
   -- what was left began with the object identifier
-  key_left : {k : ℕ} {old mid : Position} {key : List ℕ} → HasRead (leaf 0x06 (kept IsOid)) k old mid key → old.left ≡ element 0x06 key ++ mid.left
+  key_left : {k : ℕ} {old mid : Position} {key : List ℕ} → HasRead (leaf 0x06 (verbatim IsOid)) k old mid key → old.left ≡ element 0x06 key ++ mid.left
   key_left {k} {old} {mid} t = t.split ∙ ap (λ a. a ++ mid.left) t.reads.0
 
-  after : {k : ℕ} {old mid : Position} {key : List ℕ} (o c : List ℕ) → HasRead (leaf 0x06 (kept IsOid)) k old mid key → old.left ≡ element 0x06 o ++ c → mid.left ≡ c
+  after : {k : ℕ} {old mid : Position} {key : List ℕ} (o c : List ℕ) → HasRead (leaf 0x06 (verbatim IsOid)) k old mid key → old.left ≡ element 0x06 o ++ c → mid.left ≡ c
   after {k} {old} {mid} {key} o c t e = (element_cut 0x06 0x06 key o mid.left c (sym (key_left t) ∙ e)).2
 
   -- the alternative whose object identifier was read
   module _ {V W : Type 0} (o : List ℕ) (R : Format V) (C : Choice W) where
-    pub here : {k : ℕ} {old mid new : Position} {key : List ℕ} {v : V} → HasRead (leaf 0x06 (kept IsOid)) k old mid key → key ≡ o → HasReadComponents R k mid new v → HasReadAlternative (known o R C) k key old new (inl v)
+    pub here : {k : ℕ} {old mid new : Position} {key : List ℕ} {v : V} → HasRead (leaf 0x06 (verbatim IsOid)) k old mid key → key ≡ o → HasReadComponents R k mid new v → HasReadAlternative (known o R C) k key old new (inl v)
     here {k} {old} {mid} {new} {key} {v} t h g = record {
       components = record {
         reads = (mid.left, key_left t ∙ ap (λ a. element 0x06 a ++ mid.left) h, g.reads);
@@ -47,11 +47,11 @@ module _ (IsOid : List ℕ → Type 0) where
       oid = sym h;
     }
 
-    none_here : {k : ℕ} {old mid : Position} {key : List ℕ} {e : Error} → HasRead (leaf 0x06 (kept IsOid)) k old mid key → key ≡ o → (e ≢ Memory → (v : V) → R.Reads k mid.left v → ⊥) → e ≢ Memory → (v : V ⊎ W) → (known o R C).components.Reads k old.left v → (known o R C).oid_of v ≡ key → ⊥
+    none_here : {k : ℕ} {old mid : Position} {key : List ℕ} {e : Error} → HasRead (leaf 0x06 (verbatim IsOid)) k old mid key → key ≡ o → (e ≢ Memory → (v : V) → R.Reads k mid.left v → ⊥) → e ≢ Memory → (v : V ⊎ W) → (known o R C).components.Reads k old.left v → (known o R C).oid_of v ≡ key → ⊥
     none_here {k} t h g m (inl v) s i = g m v (subst (λ c. R.Reads k c v) (sym (after o s.0 t s.1)) s.2)
     none_here t h g m (inr w) s i = s.1 (i ∙ h)
 
-    pub here_refused : {k : ℕ} {old mid new : Position} {key : List ℕ} {e : Error} → HasRead (leaf 0x06 (kept IsOid)) k old mid key → key ≡ o → HasRefusedComponents R k mid new e → HasRefusedAlternative (known o R C) k key old new e
+    pub here_refused : {k : ℕ} {old mid new : Position} {key : List ℕ} {e : Error} → HasRead (leaf 0x06 (verbatim IsOid)) k old mid key → key ≡ o → HasRefusedComponents R k mid new e → HasRefusedAlternative (known o R C) k key old new e
     here_refused {k} {old} {mid} {new} {key} {e} t h g = record {
       kind = g.kind;
       none = none_here {e = e} t h g.none;
@@ -61,7 +61,7 @@ module _ (IsOid : List ℕ → Type 0) where
 
   -- any object identifier, at the chain's end
   module _ {V : Type 0} (R : Format V) where
-    pub other : {k : ℕ} {old mid new : Position} {key : List ℕ} {v : V} → HasRead (leaf 0x06 (kept IsOid)) k old mid key → HasReadComponents R k mid new v → HasReadAlternative (otherwise IsOid R) k key old new (key, v)
+    pub other : {k : ℕ} {old mid new : Position} {key : List ℕ} {v : V} → HasRead (leaf 0x06 (verbatim IsOid)) k old mid key → HasReadComponents R k mid new v → HasReadAlternative (otherwise IsOid R) k key old new (key, v)
     other {k} {old} {mid} {new} {key} {v} t g = record {
       components = record {
         reads = (t.taken, mid.left, t.split, t.reads, g.reads);
@@ -75,7 +75,7 @@ module _ (IsOid : List ℕ → Type 0) where
       oid = refl;
     }
 
-    pub other_refused : {k : ℕ} {old mid new : Position} {key : List ℕ} {e : Error} → HasRead (leaf 0x06 (kept IsOid)) k old mid key → HasRefusedComponents R k mid new e → HasRefusedAlternative (otherwise IsOid R) k key old new e
+    pub other_refused : {k : ℕ} {old mid new : Position} {key : List ℕ} {e : Error} → HasRead (leaf 0x06 (verbatim IsOid)) k old mid key → HasRefusedComponents R k mid new e → HasRefusedAlternative (otherwise IsOid R) k key old new e
     other_refused {k} {old} {mid} {new} {key} t g = record {
       kind = g.kind;
       none = λ m v s i. g.none m v.1 (subst (λ c. R.Reads k c v.1) (sym (after v.0 s.1 t (s.2 ∙ ap (λ a. a ++ s.1) s.3.0))) s.4);
@@ -112,7 +112,7 @@ pub record HasOids {V : Type 0} (IsOid : List ℕ → Type 0) (C : Choice V) : T
 
 -- the whole choice, of which no object identifier was read, or an alternative was refused
 module _ {V : Type 0} (IsOid : List ℕ → Type 0) (C : Choice V) (c : IsLawfulChoice C) where
-  pub oid_refused : {k : ℕ} {old new : Position} {e : Error} → HasOids IsOid C → HasRefused (leaf 0x06 (kept IsOid)) k old new e → HasRefusedComponents C.components k old new e
+  pub oid_refused : {k : ℕ} {old new : Position} {e : Error} → HasOids IsOid C → HasRefused (leaf 0x06 (verbatim IsOid)) k old new e → HasRefusedComponents C.components k old new e
   oid_refused {k} {old} i g = record {
     kind = g.kind;
     none = λ m v s.
@@ -122,7 +122,7 @@ module _ {V : Type 0} (IsOid : List ℕ → Type 0) (C : Choice V) (c : IsLawful
     at_most = g.at_most;
   }
 
-  pub alternative_refused : {k : ℕ} {old mid new : Position} {key : List ℕ} {e : Error} → HasRead (leaf 0x06 (kept IsOid)) k old mid key → HasRefusedAlternative C k key old new e → HasRefusedComponents C.components k old new e
+  pub alternative_refused : {k : ℕ} {old mid new : Position} {key : List ℕ} {e : Error} → HasRead (leaf 0x06 (verbatim IsOid)) k old mid key → HasRefusedAlternative C k key old new e → HasRefusedComponents C.components k old new e
   alternative_refused {k} {old} {mid} {new} {key} t g = record {
     kind = g.kind;
     none = λ m v s. g.none m v s (same_head (C.oid_of v) key old.left (c.heads k old.left v s) (mid.left, key_left IsOid t));

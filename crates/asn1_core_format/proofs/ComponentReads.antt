@@ -66,22 +66,22 @@ module _ {V W : Type 0} (o : V → Bool) (d : List ℕ) (F : Format V) (R : Form
   left_out x g m p (inl s) = no_rest F R f r distinct k x p.1 s.1
   left_out x g m p (inr s) = g m p s
 
-  stands : {l : List ℕ} {e : Error} → (NextIs F.IsTag l → ⊥) → (e ≢ Memory → (w : W) → R.Reads k l w → ⊥) → e ≢ Memory → (p : V × W) → (omitted o d F R).Reads k l p → ⊥
-  stands x g m p (inl s) = g m p.1 s.1
-  stands x g m p (inr s) = no_part F R f r distinct k x p s
+  default_then : {l : List ℕ} {e : Error} → (NextIs F.IsTag l → ⊥) → (e ≢ Memory → (w : W) → R.Reads k l w → ⊥) → e ≢ Memory → (p : V × W) → (omitted o d F R).Reads k l p → ⊥
+  default_then x g m p (inl s) = g m p.1 s.1
+  default_then x g m p (inr s) = no_part F R f r distinct k x p s
 
-  stands_for_none : {l : List ℕ} {e : Error} → (NextIs F.IsTag l → ⊥) → (e ≢ Memory → (k : ℕ) (v : V) → F.Reads k d v → ⊥) → e ≢ Memory → (p : V × W) → (omitted o d F R).Reads k l p → ⊥
-  stands_for_none x g m p (inl s) = g m k p.0 s.0
-  stands_for_none x g m p (inr s) = no_part F R f r distinct k x p s
+  no_default_value : {l : List ℕ} {e : Error} → (NextIs F.IsTag l → ⊥) → (e ≢ Memory → (k : ℕ) (v : V) → F.Reads k d v → ⊥) → e ≢ Memory → (p : V × W) → (omitted o d F R).Reads k l p → ⊥
+  no_default_value x g m p (inl s) = g m k p.0 s.0
+  no_default_value x g m p (inr s) = no_part F R f r distinct k x p s
 
   pub there_refused : {old new : Position} {e : Error} → NextIs F.IsTag old.left → HasRefusedComponents (part F R) k old new e → HasRefusedComponents (omitted o d F R) k old new e
   there_refused {old} {new} {e} x g = record { kind = g.kind; none = left_out {e = e} x g.none; counts = g.counts; at_most = g.at_most }
 
   pub omitted_refused : {old new : Position} {e : Error} → (NextIs F.IsTag old.left → ⊥) → HasRefusedComponents R k old new e → HasRefusedComponents (omitted o d F R) k old new e
-  omitted_refused {old} {new} {e} x g = record { kind = g.kind; none = stands {e = e} x g.none; counts = g.counts; at_most = g.at_most }
+  omitted_refused {old} {new} {e} x g = record { kind = g.kind; none = default_then {e = e} x g.none; counts = g.counts; at_most = g.at_most }
 
   pub no_default : (p : Position) {e : Error} → (NextIs F.IsTag p.left → ⊥) → HasNoDefault F d e → HasRefusedComponents (omitted o d F R) k p p e
-  no_default p {e} x g = record { kind = g.kind; none = stands_for_none {e = e} x g.none; counts = omega arith; at_most = omega arith }
+  no_default p {e} x g = record { kind = g.kind; none = no_default_value {e = e} x g.none; counts = omega arith; at_most = omega arith }
 
   pub has_read_default : {old new : Position} {v : V} {w : W} → F.Reads k d v → HasReadComponents R k old new w → HasReadComponents (omitted o d F R) k old new (v, w)
   has_read_default {old} {new} {v} {w} s t = record {

@@ -9,7 +9,7 @@ use Rattle.asn1_core_format.specs.Format.{Format, HasRead, HasRefused, Gives}
 use Rattle.asn1_core_format.specs.Components.{within, HasReadComponents, HasRefusedComponents, GivesComponents}
 use Rattle.asn1_core_format.specs.Levels.{less, Still, levels}
 use Rattle.asn1_core_format.specs.LevelLaws.{IsStep, unroll, unroll_least}
-use Rattle.asn1_core_format.specs.Rolled.{rolled}
+use Rattle.asn1_core_format.specs.Mapped.{mapped}
 
 -- no level is left
 pub none_left : {V : Type 0} (F : Format V) {k : ℕ} → k ≡ zero → (p : Position) → HasRefused (less F) k p p TooDeep
@@ -42,11 +42,11 @@ module _ {I : Type 0} {V : I → Type 0} (s : (i : I) → Still (V i)) (step : (
   }
 
 module _ {V W : Type 0} (out : V → W) (into : W → V) (F : Format W) (k : ℕ) where
-  pub has_read_rolled : {old new : Position} (v : V) → HasRead F k old new (out v) → HasRead (rolled out into F) k old new v
-  has_read_rolled v t = record { taken = t.taken; split = t.split; reads = t.reads; beyond = t.beyond; end = t.end; refused = t.refused; at_least = t.at_least; at_most = t.at_most }
+  pub has_read_mapped : {old new : Position} (v : V) → HasRead F k old new (out v) → HasRead (mapped out into F) k old new v
+  has_read_mapped v t = record { taken = t.taken; split = t.split; reads = t.reads; beyond = t.beyond; end = t.end; refused = t.refused; at_least = t.at_least; at_most = t.at_most }
 
-  pub refused_rolled : {old new : Position} {e : Error} → HasRefused F k old new e → HasRefused (rolled out into F) k old new e
-  refused_rolled g = record { kind = g.kind; none = λ m taken rest v q r. g.none m taken rest (out v) q r; counts = g.counts; at_most = g.at_most }
+  pub refused_mapped : {old new : Position} {e : Error} → HasRefused F k old new e → HasRefused (mapped out into F) k old new e
+  refused_mapped g = record { kind = g.kind; none = λ m taken rest v q r. g.none m taken rest (out v) q r; counts = g.counts; at_most = g.at_most }
 
 -- no element with the tag begins what is left
 pub unopened : {V : Type 0} (R : Format V) (k tag : ℕ) {old new : Position} {e : Error} → RefusedElement tag old new e → HasRefused (within tag R) k old new e

@@ -10,4 +10,4 @@ pub mod EitherReads
 pub mod ChoiceReads
 pub mod LevelReads
 pub mod SetReads
-pub mod GateReads
+pub mod NeedsLevelReads

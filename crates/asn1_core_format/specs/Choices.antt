@@ -7,8 +7,8 @@ use Rattle.asn1_core_element.specs.ElementLaws.{element_cut}
 use Rattle.asn1_core_format.specs.Format.{Format, BeginsBy, IsLawfulComponents}
 use Rattle.asn1_core_format.specs.Components.{part}
 use Rattle.asn1_core_format.specs.ComponentLaws.{lawful_part}
-use Rattle.asn1_core_format.specs.Leaf.{leaf, kept}
-use Rattle.asn1_core_format.specs.LeafLaws.{lawful_leaf, lawful_kept}
+use Rattle.asn1_core_format.specs.Leaf.{leaf, verbatim}
+use Rattle.asn1_core_format.specs.LeafLaws.{lawful_leaf, lawful_verbatim}
 use Rattle.asn1_core_format.specs.Eithers.{OneOf, from_one, map_one}
 use Rattle.asn1_core_format.specs.FirstTags.{one_tag}
 
@@ -23,7 +23,7 @@ Heads o b = (c : List ℕ) × (b ≡ element 0x06 o ++ c)
 
 -- the last alternative: every object identifier that has no alternative before
 abbrev pub otherwise : {V : Type 0} → (List ℕ → Type 0) → Format V → Choice (List ℕ × V)
-otherwise IsOid R = record { components = part (leaf 0x06 (kept IsOid)) R; oid_of = λ v. v.0 }
+otherwise IsOid R = record { components = part (leaf 0x06 (verbatim IsOid)) R; oid_of = λ v. v.0 }
 
 -- the alternative of one object identifier, and the alternatives of the others
 abbrev pub known : {V W : Type 0} → List ℕ → Format V → Choice W → Choice (V ⊎ W)
@@ -54,7 +54,7 @@ heads_begin o b h = inr (element 0x06 o, h.0, h.1, record { tag = 0x06; contents
 
 pub lawful_otherwise : {V : Type 0} (IsOid : List ℕ → Type 0) (R : Format V) → IsLawfulComponents R → IsLawfulChoice (otherwise IsOid R)
 lawful_otherwise IsOid R r = record {
-  components = lawful_part (leaf 0x06 (kept IsOid)) R (lawful_leaf 0x06 (omega arith) (kept IsOid) (lawful_kept IsOid)) r;
+  components = lawful_part (leaf 0x06 (verbatim IsOid)) R (lawful_leaf 0x06 (omega arith) (verbatim IsOid) (lawful_verbatim IsOid)) r;
   heads = λ k b v s. (s.1, s.2 ∙ ap (λ a. a ++ s.1) s.3.0);
   same_oid = λ v. refl;
 }

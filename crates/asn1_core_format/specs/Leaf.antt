@@ -32,8 +32,8 @@ leaf {V} tag S = record {
 }
 
 -- the contents are the value
-abbrev pub kept : (List ℕ → Type 0) → Spelling (List ℕ)
-kept IsContents = record { spell = λ v. v; IsValid = IsContents; IsContents = IsContents }
+abbrev pub verbatim : (List ℕ → Type 0) → Spelling (List ℕ)
+verbatim IsContents = record { spell = λ v. v; IsValid = IsContents; IsContents = IsContents }
 
 -- the contents spell the value
 pub record IsSpelled {V : Type 0} (S : Spelling V) (c : List ℕ) (v : V) : Type 0 where

@@ -5,7 +5,7 @@ use Rattle.asn1_core_element.specs.Element.{element, IsElement, IsTagByte}
 use Rattle.asn1_core_element.specs.ElementLaws.{element_same}
 use Rattle.asn1_core_format.specs.Format.{IsLawful}
 use Rattle.asn1_core_format.specs.Laws.{begins_alone}
-use Rattle.asn1_core_format.specs.Leaf.{Spelling, IsLawfulSpelling, leaf, kept}
+use Rattle.asn1_core_format.specs.Leaf.{Spelling, IsLawfulSpelling, leaf, verbatim}
 
 module _ {V : Type 0} (tag : ℕ) (is_tag : IsTagByte tag) (S : Spelling V) (s : IsLawfulSpelling S) where
   leaf_element : (b c : List ℕ) → b ≡ element tag c → IsElement (λ t. t ≡ tag) b
@@ -26,8 +26,8 @@ module _ {V : Type 0} (tag : ℕ) (is_tag : IsTagByte tag) (S : Spelling V) (s :
     element = λ k b v r. leaf_element b (S.spell v) r.0;
   }
 
-pub lawful_kept : (IsContents : List ℕ → Type 0) → IsLawfulSpelling (kept IsContents)
-lawful_kept IsContents = record {
+pub lawful_verbatim : (IsContents : List ℕ → Type 0) → IsLawfulSpelling (verbatim IsContents)
+lawful_verbatim IsContents = record {
   one_value = λ v w h i e. e;
   spelled = λ v h. h;
   has_value = λ c h. (c, refl, h);

@@ -20,9 +20,9 @@ pub mod Sequences
 pub mod Levels
 pub mod LevelLaws
 pub mod Calls
-pub mod Gated
+pub mod NeedsLevel
 pub mod EmptySets
-pub mod Rolled
+pub mod Mapped
 pub mod Same
 pub mod Views
 pub mod Numbers

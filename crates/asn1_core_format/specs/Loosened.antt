@@ -16,7 +16,7 @@ pub record Loosening (A V : Type 0) : Type 1 where
 
 pub record IsLoosening {A V : Type 0} (P : Format A) (L : Loosening A V) : Type 0 where
   pub proper : (a : A) → L.IsProper (L.read a)
-  pub kept : (k : ℕ) (a : A) → P.IsWellFormed k a → P.IsWellFormed k (L.written (L.read a))
+  pub preserved : (k : ℕ) (a : A) → P.IsWellFormed k a → P.IsWellFormed k (L.written (L.read a))
   pub chosen : (k : ℕ) (b : List ℕ) (a : A) → P.Reads k b a → (L.IsWritten b ↔ (L.written (L.read a) ≡ a))
   pub settled : (k : ℕ) (v : V) → P.IsWellFormed k (L.written v) → L.IsProper v → L.written (L.read (P.normal (L.written v))) ≡ P.normal (L.written v)
   pub reread : (k : ℕ) (v : V) → P.IsWellFormed k (L.written v) → L.IsProper v → L.read (P.normal (L.written v)) ≡ L.normal v
@@ -39,7 +39,7 @@ loosened {A} {V} P L = record {
 module _ {A V : Type 0} (P : Format A) (p : IsLawfulComponents P) (L : Loosening A V) (l : IsLoosening P L) where
   -- what is read is well-formed as it is written
   rewritten : (k : ℕ) (b : List ℕ) (v : V) → (loosened P L).Reads k b v → P.IsWellFormed k (L.written v)
-  rewritten k b v h = subst (λ x. P.IsWellFormed k (L.written x)) h.2 (l.kept k h.0 (p.well_formed k b h.0 h.1))
+  rewritten k b v h = subst (λ x. P.IsWellFormed k (L.written x)) h.2 (l.preserved k h.0 (p.well_formed k b h.0 h.1))
 
   is_proper : (k : ℕ) (b : List ℕ) (v : V) → (loosened P L).Reads k b v → L.IsProper v
   is_proper k b v h = subst L.IsProper h.2 (l.proper h.0)

@@ -159,5 +159,5 @@ pub record HasNoDefault {V : Type 0} (F : Format V) (d : List ℕ) (e : Error) :
   pub none : e ≢ Memory → (k : ℕ) (v : V) → F.Reads k d v → ⊥
 
 -- absence reads as the value, whatever the nesting
-abbrev pub StandsFor : {T V : Type 0} → (T → V) → Format V → List ℕ → Result T Error → Type 0
-StandsFor value F d r = MatchResult r (λ x. (k : ℕ) → F.Reads k d (value x)) (λ e. HasNoDefault F d e)
+abbrev pub IsAbsentValue : {T V : Type 0} → (T → V) → Format V → List ℕ → Result T Error → Type 0
+IsAbsentValue value F d r = MatchResult r (λ x. (k : ℕ) → F.Reads k d (value x)) (λ e. HasNoDefault F d e)

@@ -53,14 +53,14 @@ lawful_only false F f = record {
 pub lawful_numbered : {V : Type 0} (n : ℕ) (F : Format V) → IsLawful F → IsLawful (numbered n F)
 lawful_numbered n F f = lawful_only (ltb n 31) F f
 
-low : {P : Type 0} (n : ℕ) → n < 31 → P → only_if (ltb n 31) P
+pub low : {P : Type 0} (n : ℕ) → n < 31 → P → only_if (ltb n 31) P
 low n l p = rw (lt-ltb n 31 l) p
 
-not_high : {P : Type 0} (b : Bool) → only_if b P → P
+pub not_high : {P : Type 0} (b : Bool) → only_if b P → P
 not_high true p = p
 not_high false p = absurd p
 
-high : (P : Type 0) (n : ℕ) → 31 ≤ n → only_if (ltb n 31) P → ⊥
+pub high : (P : Type 0) (n : ℕ) → 31 ≤ n → only_if (ltb n 31) P → ⊥
 high P n h p = rw (le-ltb n 31 h) at p
 
 formed : {P : Type 0} (t b : Bool) → IsTrue b ↔ P → IsTrue (t && b) ↔ only_if t P

@@ -2,7 +2,7 @@
 use Rattle.std.specs.Prelude.{◌≡◌, ℕ, ◌+◌, ◌%◌, ◌<◌, ◌≤◌, leb, ltb, ◌&&◌, Bool, true, false, List}
 use Rattle.std.specs.Str.{bytes_eq}
 use Rattle.std.proofs.Common.{refl, sym, ap, ◌∙◌, subst, arith}
-use Rattle.std.proofs.lemmas.Bool.{and_parts, leb-true, le-leb, lt-ltb, le-ltb}
+use Rattle.std.proofs.lemmas.Bool.{and_parts, leb-true, le-leb}
 use Rattle.std.proofs.lemmas.Slice.Eq.{bytes_eq-Decides}
 use Rattle.asn1_core_element.specs.Element.{element, retag}
 use Rattle.asn1_core_element.specs.ElementLaws.{element_same, retag_element}
@@ -12,7 +12,7 @@ use Rattle.asn1_core_format.specs.Format.{Format}
 use Rattle.asn1_core_format.specs.Components.{within}
 use Rattle.asn1_core_format.specs.Omitted.{is_default_with, IsDefault, HasNoDefault}
 use Rattle.asn1_core_format.specs.Tagged.{IsTagged, implicit, context_tag}
-use Rattle.asn1_core_format.specs.TagNumbers.{numbered, only, only_if, explicit_tag, explicit_context, implicit_context}
+use Rattle.asn1_core_format.specs.TagNumbers.{numbered, only, low, high, not_high, explicit_tag, explicit_context, implicit_context}
 
 same_bool : (a b : Bool) → (a ≡ true → b ≡ true) → (b ≡ true → a ≡ true) → a ≡ b
 same_bool true b f g = sym (f refl)
@@ -119,46 +119,36 @@ implicit_left_out n inner i F d g l =
     numbered_left_out n (is_default_with i (implicit tag inner F) (retag tag d)) (retag tag d) (implicit tag inner F) (retagged_left_out tag inner i F g d c.0 c.1 l)
 
 -- the value that absence means, under a tag: where the number is below 31, and where it isn't
-at_low : {P : Type 0} (n : ℕ) → n < 31 → P → only_if (ltb n 31) P
-at_low n l p = rw (lt-ltb n 31 l) p
+pub explicit_absent_value : {V : Type 0} (n : ℕ) (F : Format V) (d : List ℕ) (v : V) → n < 31 → ((k : ℕ) → F.Reads k d v) → (k : ℕ) → (explicit_context n F).Reads k (element (explicit_tag n) d) v
+explicit_absent_value n F d v l s k = low n l (d, refl, s k)
 
-not_at_high : (P : Type 0) (n : ℕ) → 31 ≤ n → only_if (ltb n 31) P → ⊥
-not_at_high P n h p = rw (le-ltb n 31 h) at p
-
-under_number : {P : Type 0} (b : Bool) → only_if b P → P
-under_number true p = p
-under_number false p = absurd p
-
-pub explicit_stands : {V : Type 0} (n : ℕ) (F : Format V) (d : List ℕ) (v : V) → n < 31 → ((k : ℕ) → F.Reads k d v) → (k : ℕ) → (explicit_context n F).Reads k (element (explicit_tag n) d) v
-explicit_stands n F d v l s k = at_low n l (d, refl, s k)
-
-pub explicit_stands_not : {V : Type 0} (n : ℕ) (F : Format V) (d : List ℕ) {e : Error} → HasNoDefault F d e → HasNoDefault (explicit_context n F) (element (explicit_tag n) d) e
-explicit_stands_not n F d g = record {
+pub explicit_no_default : {V : Type 0} (n : ℕ) (F : Format V) (d : List ℕ) {e : Error} → HasNoDefault F d e → HasNoDefault (explicit_context n F) (element (explicit_tag n) d) e
+explicit_no_default n F d g = record {
   kind = g.kind;
   none = λ m k v s.
-      let r = under_number (ltb n 31) s in
+      let r = not_high (ltb n 31) s in
       g.none m k v (subst (λ c. F.Reads k c v) (sym (element_same (explicit_tag n) (explicit_tag n) d r.0 r.1).1) r.2);
 }
 
 pub explicit_too_high : {V : Type 0} (n : ℕ) (F : Format V) (d : List ℕ) → 31 ≤ n → HasNoDefault (explicit_context n F) d Invalid
-explicit_too_high n F d h = record { kind = λ e. cc; none = λ m k v s. not_at_high _ n h s }
+explicit_too_high n F d h = record { kind = λ e. cc; none = λ m k v s. high _ n h s }
 
-pub implicit_stands : {V : Type 0} (n inner i : ℕ) (F : Format V) (d : List ℕ) (v : V) → IsTagged inner F → IsDefault (is_default_with i F d) d F → n < 31 → ((k : ℕ) → F.Reads k d v) → (k : ℕ) → (implicit_context n inner F).Reads k (retag (context_tag (n % 31) inner) d) v
-implicit_stands n inner i F d v g l low s k =
+pub implicit_absent_value : {V : Type 0} (n inner i : ℕ) (F : Format V) (d : List ℕ) (v : V) → IsTagged inner F → IsDefault (is_default_with i F d) d F → n < 31 → ((k : ℕ) → F.Reads k d v) → (k : ℕ) → (implicit_context n inner F).Reads k (retag (context_tag (n % 31) inner) d) v
+implicit_absent_value n inner i F d v g l h s k =
     let c = default_contents inner g l in
-    at_low n low (c.0, ap (retag (context_tag (n % 31) inner)) c.1 ∙ retag_element (context_tag (n % 31) inner) inner c.0, subst (λ x. F.Reads k x v) c.1 (s k))
+    low n h (c.0, ap (retag (context_tag (n % 31) inner)) c.1 ∙ retag_element (context_tag (n % 31) inner) inner c.0, subst (λ x. F.Reads k x v) c.1 (s k))
 
-pub implicit_stands_not : {V : Type 0} (n inner i : ℕ) (F : Format V) (d : List ℕ) {e : Error} → IsTagged inner F → IsDefault (is_default_with i F d) d F → HasNoDefault F d e → HasNoDefault (implicit_context n inner F) (retag (context_tag (n % 31) inner) d) e
-implicit_stands_not n inner i F d g l x =
+pub implicit_no_default : {V : Type 0} (n inner i : ℕ) (F : Format V) (d : List ℕ) {e : Error} → IsTagged inner F → IsDefault (is_default_with i F d) d F → HasNoDefault F d e → HasNoDefault (implicit_context n inner F) (retag (context_tag (n % 31) inner) d) e
+implicit_no_default n inner i F d g l x =
     let tag = context_tag (n % 31) inner in
     let c = default_contents inner g l in
     record {
       kind = x.kind;
       none = λ m k v s.
-          let r = under_number (ltb n 31) s in
+          let r = not_high (ltb n 31) s in
           let h : r.0 ≡ c.0 = (element_same tag tag r.0 c.0 (sym r.1 ∙ ap (retag tag) c.1 ∙ retag_element tag inner c.0)).1 in
           x.none m k v (subst (λ y. F.Reads k y v) (ap (element inner) h ∙ sym c.1) r.2);
     }
 
 pub implicit_too_high : {V : Type 0} (n inner : ℕ) (F : Format V) (d : List ℕ) → 31 ≤ n → HasNoDefault (implicit_context n inner F) d Invalid
-implicit_too_high n inner F d h = record { kind = λ e. cc; none = λ m k v s. not_at_high _ n h s }
+implicit_too_high n inner F d h = record { kind = λ e. cc; none = λ m k v s. high _ n h s }

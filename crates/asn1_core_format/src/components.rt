@@ -3,7 +3,7 @@
 ghost use Rattle.std.specs.Prelude.{◌≡◌, ◌↔◌, ◌++◌, ◌&&◌, ℕ, List, Option, Bool, IsTrue, true, false};
 ghost use Rattle.asn1_core_format.specs.Format.{Format, IsLawfulComponents, are_distinct};
 ghost use Rattle.asn1_core_format.specs.Laws.{NextIs};
-ghost use Rattle.asn1_core_format.specs.Omitted.{omitted, omitted_if_distinct, is_default_with, IsDefault, StandsFor};
+ghost use Rattle.asn1_core_format.specs.Omitted.{omitted, omitted_if_distinct, is_default_with, IsDefault, IsAbsentValue};
 ghost use Rattle.asn1_core_format.specs.Components.{nothing, part, optional, option_value, GivesComponents};
 ghost use Rattle.asn1_core_format.specs.ComponentLaws.{lawful_nothing, lawful_part, optional_if_distinct};
 
@@ -191,7 +191,7 @@ pub trait HasDefault: DerDeserialize {
 
     /// The value that absence means. Without a refusal of memory there is one, unless the type has no such value.
     fn absent(alloc: Global) -> Result<Self, Error>
-        ensures { StandsFor Self.value Self.format DEFAULT result };
+        ensures { IsAbsentValue Self.value Self.format DEFAULT result };
 
     ghost left_out: { IsDefault (is_default_with INSIDE Self.DerSerialize.format DEFAULT) DEFAULT Self.DerSerialize.format };
 }

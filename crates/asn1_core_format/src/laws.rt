@@ -4,7 +4,7 @@ ghost use Rattle.std.specs.Prelude.{◌≡◌, ◌↔◌, ◌+◌, ◌≤◌, �
 ghost use Rattle.asn1_core_element.specs.Element.{IsTagByte};
 ghost use Rattle.asn1_core_format.specs.EmptySets.{set_or_none};
 ghost use Rattle.asn1_core_format.specs.Format.{IsLawful, IsLawfulComponents};
-ghost use Rattle.asn1_core_format.specs.Gated.{gated};
+ghost use Rattle.asn1_core_format.specs.NeedsLevel.{needs_level};
 ghost use Rattle.asn1_core_format.specs.Laws.{IsSameAt};
 
 use crate::traits::DerDeserialize;
@@ -39,8 +39,8 @@ pub fn limits_agree<T: DerDeserialize>()
 {}
 
 /// A type that needs a nesting level to be left is lawful, as the type that it is made of is.
-pub fn gated_types_are_lawful<T: DerDeserialize>()
-    ensures { IsLawful (gated T.format) }
+pub fn types_that_need_a_level_are_lawful<T: DerDeserialize>()
+    ensures { IsLawful (needs_level T.format) }
 {}
 
 /// A set at the end of contents, left out where it is empty, is lawful, under each tag.

@@ -29,7 +29,7 @@ pub trait DerTagged: DerDeserialize {
     #[tactic(auto, using(asn1_core_element::specs::ElementLaws::length_retag))]
     final fn emit_as<S: Sink>(&self, tag: u8, sink: &mut S) -> Result<(), WriteError>
         requires { S.failed sink.old < u64.MAX }
-        ensures { Emits (retag tag (Self.format.text (Self.value self.now))) sink.old sink.new (S.held sink.old) (S.held sink.new) (S.failed sink.old) (S.failed sink.new) result }
+        ensures { Emits (retag tag (Self.format.text (Self.value self.now))) sink.old sink.new (S.received sink.old) (S.received sink.new) (S.failed sink.old) (S.failed sink.new) result }
     {
         if self.encoded_len().is_err() {
             return Err(WriteError::TooLong);

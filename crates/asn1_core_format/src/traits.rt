@@ -76,7 +76,7 @@ pub trait DerSerialize {
     /// value takes many times as long as `to_vec`, which measures all once.
     final fn emit<S: Sink>(&self, sink: &mut S) -> Result<(), WriteError>
         requires { S.failed sink.old < u64.MAX }
-        ensures { Emits (format.text (value self.now)) sink.old sink.new (S.held sink.old) (S.held sink.new) (S.failed sink.old) (S.failed sink.new) result }
+        ensures { Emits (format.text (value self.now)) sink.old sink.new (S.received sink.old) (S.received sink.new) (S.failed sink.old) (S.failed sink.new) result }
     {
         let Ok(size) = self.encoded_len() else {
             return Err(WriteError::TooLong);
@@ -94,7 +94,7 @@ pub trait DerSerialize {
 fn send_short<T: DerSerialize, S: Sink>(value: &T, sink: &mut S) -> Result<(), WriteError>
     requires may { S.failed sink.old < u64.MAX }
     requires short { length (T.format.text (T.value value.now)) ≤ 16384 }
-    ensures { Sends (T.format.text (T.value value.now)) (S.held sink.old) (S.held sink.new) (S.failed sink.old) (S.failed sink.new) result }
+    ensures { Sends (T.format.text (T.value value.now)) (S.received sink.old) (S.received sink.new) (S.failed sink.old) (S.failed sink.new) result }
 {
     let mut w = Short::new();
     match value.put(&mut w) {

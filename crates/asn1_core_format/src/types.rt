@@ -6,7 +6,7 @@ ghost use Rattle.asn1_core_element.specs.Element.{retag};
 ghost use Rattle.asn1_core_format.specs.Asn1.{Asn1};
 ghost use Rattle.asn1_core_format.specs.Components.{GivesComponents};
 ghost use Rattle.asn1_core_format.specs.Format.{Gives};
-ghost use Rattle.asn1_core_format.specs.Omitted.{is_default_with, IsDefault, StandsFor};
+ghost use Rattle.asn1_core_format.specs.Omitted.{is_default_with, IsDefault, IsAbsentValue};
 ghost use Rattle.asn1_core_format.specs.Tagged.{IsTagged, inside};
 ghost use Rattle.asn1_core_format.specs.Views.{SeesEqual, Clones};
 
@@ -194,7 +194,7 @@ pub trait DefaultType: Asn1Type {
 
     /// The value that absence means, as `HasDefault::absent` has it.
     fn when_absent(alloc: Global) -> Result<Self, Error>
-        ensures { StandsFor Self.value Self.asn1.format ABSENT result };
+        ensures { IsAbsentValue Self.value Self.asn1.format ABSENT result };
 
     ghost absent_law: { IsDefault (is_default_with 0 Self.Asn1Type.asn1.format ABSENT) ABSENT Self.Asn1Type.asn1.format };
 }

@@ -119,7 +119,7 @@ pub fn to_vec<T: DerSerialize>(alloc: Global, value: &T) -> Result<Vec<u8>, Erro
 /// Sends the encoding of a value to a sink, of an ill-formed one too. Takes no memory. One that is too long is not begun.
 pub fn write_to<T: DerSerialize, W: Sink>(value: &T, w: &mut W) -> Result<(), WriteError>
     requires { W.failed w.old < u64.MAX }
-    ensures { Emits (T.format.text (T.value value.now)) w.old w.new (W.held w.old) (W.held w.new) (W.failed w.old) (W.failed w.new) result }
+    ensures { Emits (T.format.text (T.value value.now)) w.old w.new (W.received w.old) (W.received w.new) (W.failed w.old) (W.failed w.new) result }
 {
     value.emit(w)
 }

@@ -6,7 +6,7 @@ ghost use Rattle.asn1_core_oid.specs.OidLaws.{IsOid-prop};
 ghost use Rattle.asn1_core_oid.specs.OidText.{IsTextOf, HasLongGroup};
 ghost use Rattle.asn1_core_oid.specs.Refusal.{IsRefusal};
 
-use crate::contents::{is_oid, read_groups, write_group, write_groups};
+use crate::oid_contents::{is_oid, read_groups, write_group, write_groups};
 use crate::text::{first_arcs, first_group, read_arcs, write_arcs};
 use asn1_core_element::Error;
 use std::alloc::Global;

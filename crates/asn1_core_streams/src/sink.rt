@@ -12,7 +12,7 @@ use thiserror::Error;
 /// What takes bytes, and counts the writes that failed.
 pub trait Sink {
     /// The bytes that were taken, where they are known.
-    ghost held: { Self → Option (List ℕ) };
+    ghost received: { Self → Option (List ℕ) };
 
     /// How many writes failed.
     ghost failed: { Self → ℕ };
@@ -22,7 +22,7 @@ pub trait Sink {
     fn write(&mut self, buf: &[u8]) -> io::Result<usize>
         requires { failed self.old < u64.MAX }
         ensures bound { WritesAtMost result buf.now }
-        ensures bytes { WriteAppends (held self.old) (held self.new) result buf.now }
+        ensures bytes { WriteAppends (received self.old) (received self.new) result buf.now }
         ensures count { CountsFailedWrites (failed self.old) (failed self.new) result buf.now };
 
     /// How many writes failed.
@@ -60,7 +60,7 @@ impl<W> StdSink<W> {
 }
 
 impl<W: Write> Sink for StdSink<W> {
-    ghost held = { λ s. W.contents s.inner };
+    ghost received = { λ s. W.contents s.inner };
 
     ghost failed = { λ s. s.failed };
 
@@ -90,8 +90,8 @@ pub struct WriteFailed;
 /// Writes all the bytes, in as many writes as it takes. The first write that fails ends it.
 pub fn send<S: Sink>(sink: &mut S, bytes: &[u8]) -> Result<(), WriteFailed>
     requires { S.failed sink.old < u64.MAX }
-    ensures all { OnOk result (Appends (S.held sink.old) (S.held sink.new) bytes.now) }
-    ensures part { OnErr result (AppendsBeginning (S.held sink.old) (S.held sink.new) bytes.now) }
+    ensures all { OnOk result (Appends (S.received sink.old) (S.received sink.new) bytes.now) }
+    ensures part { OnErr result (AppendsBeginning (S.received sink.old) (S.received sink.new) bytes.now) }
     ensures count { CountsErrors (S.failed sink.old) (S.failed sink.new) result }
 {
     let mut rest = bytes;

@@ -40,17 +40,17 @@ emits_sent text a e o p f g (Err x) fits s = record {
 }
 
 -- a sink a is borrowed, as b with no bytes waiting; it is c after the encoding, d once what waits was sent, e at last
-pub emits_buffered : {S N : Type 0} (held : S → Option (List ℕ)) (failed : S → ℕ) (text before rest : List ℕ) (a b c d e : S) (entered first second third : N) (r : Result (Unit {0}) WriteError)
+pub emits_buffered : {S N : Type 0} (received : S → Option (List ℕ)) (failed : S → ℕ) (text before rest : List ℕ) (a b c d e : S) (entered first second third : N) (r : Result (Unit {0}) WriteError)
     → (2 ^ 64 ≤ length text → ⊥) → first ≡ entered → b ≡ a → before ≡ []
-    → (second ≡ first) × Passed text before rest (held b) (held c) (failed b) (failed c)
-    → third ≡ second → Sends rest (held c) (held d) (failed c) (failed d) r
-    → (entered ≡ third → e ≡ d) → Emits text a e (held a) (held e) (failed a) (failed e) r
-emits_buffered held failed text before rest a b c d e entered first second third r fits n begun none k m s back =
-    let passed = subst (λ l. Passed text l rest (held b) (held c) (failed b) (failed c)) none k.1 in
-    let sent = buffers_ended text rest (held b) (held c) (held d) (failed b) (failed c) (failed d) r passed s in
-    let from = subst (λ x. Sends text (held x) (held d) (failed x) (failed d) r) begun sent in
-    let at_last = subst (λ x. Sends text (held a) (held x) (failed a) (failed x) r) (sym (back (sym (m ∙ k.0 ∙ n)))) from in
-    emits_sent text a e (held a) (held e) (failed a) (failed e) r fits at_last
+    → (second ≡ first) × Passed text before rest (received b) (received c) (failed b) (failed c)
+    → third ≡ second → Sends rest (received c) (received d) (failed c) (failed d) r
+    → (entered ≡ third → e ≡ d) → Emits text a e (received a) (received e) (failed a) (failed e) r
+emits_buffered received failed text before rest a b c d e entered first second third r fits n begun none k m s back =
+    let passed = subst (λ l. Passed text l rest (received b) (received c) (failed b) (failed c)) none k.1 in
+    let sent = buffers_ended text rest (received b) (received c) (received d) (failed b) (failed c) (failed d) r passed s in
+    let from = subst (λ x. Sends text (received x) (received d) (failed x) (failed d) r) begun sent in
+    let at_last = subst (λ x. Sends text (received a) (received x) (failed a) (failed x) r) (sym (back (sym (m ∙ k.0 ∙ n)))) from in
+    emits_sent text a e (received a) (received e) (failed a) (failed e) r fits at_last
 
 passed_more : (a b : List ℕ) (w x y : List ℕ) (o p q : Option (List ℕ)) (f g h : ℕ) → Passed a w x o p f g → Passed b x y p q g h → Passed (a ++ b) w y o q f h
 passed_more a b w x y o p q f g h k s = record {
@@ -67,11 +67,11 @@ buffers_more a b w x y o p q f g h (Err e) k s = subst (λ t. Stopped t o q f h 
     (sends_more k.sent (x ++ b) o p q f g h (Err e) k.appended k.failed s)
 
 -- two references with one name are the same borrow
-pub buffer_forward : {W N : Type 0} (name : W → N) (waiting : W → List ℕ) (held : W → Option (List ℕ)) (failed : W → ℕ) → IsForward (λ t w x r. (name x ≡ name w) × Buffers t (waiting w) (waiting x) (held w) (held x) (failed w) (failed x) r)
-buffer_forward name waiting held failed = record {
-  stops = λ a b w x e s. (s.0, subst (λ t. Stopped t (held w) (held x) (failed w) (failed x) e) (append_assoc (waiting w) a b) (stopped_first (waiting w ++ a) b (held w) (held x) (failed w) (failed x) e s.1));
-  goes_on = λ a b w x y u r h s. (s.0 ∙ h.0, buffers_more a b (waiting w) (waiting x) (waiting y) (held w) (held x) (held y) (failed w) (failed x) (failed y) r h.1 s.1);
-  too_long = λ a w l. (refl, stopped_long (waiting w ++ a) (held w) (failed w) (omega (arith, length-append (waiting w) a, l)));
+pub buffer_forward : {W N : Type 0} (name : W → N) (waiting : W → List ℕ) (received : W → Option (List ℕ)) (failed : W → ℕ) → IsForward (λ t w x r. (name x ≡ name w) × Buffers t (waiting w) (waiting x) (received w) (received x) (failed w) (failed x) r)
+buffer_forward name waiting received failed = record {
+  stops = λ a b w x e s. (s.0, subst (λ t. Stopped t (received w) (received x) (failed w) (failed x) e) (append_assoc (waiting w) a b) (stopped_first (waiting w ++ a) b (received w) (received x) (failed w) (failed x) e s.1));
+  goes_on = λ a b w x y u r h s. (s.0 ∙ h.0, buffers_more a b (waiting w) (waiting x) (waiting y) (received w) (received x) (received y) (failed w) (failed x) (failed y) r h.1 s.1);
+  too_long = λ a w l. (refl, stopped_long (waiting w ++ a) (received w) (failed w) (omega (arith, length-append (waiting w) a, l)));
 }
 
 pub buffered_nothing : (before : List ℕ) (o : Option (List ℕ)) (f : ℕ) → Passed [] before before o o f f

@@ -73,9 +73,9 @@ stopped_long a o f l = record {
   too_long = λ _. (refl, l);
 }
 
-pub sink_forward : {S : Type 0} (held : S → Option (List ℕ)) (failed : S → ℕ) → IsForward (λ t w x r. Sends t (held w) (held x) (failed w) (failed x) r)
-sink_forward held failed = record {
-  stops = λ a b w x e s. stopped_first a b (held w) (held x) (failed w) (failed x) e s;
-  goes_on = λ a b w x y u r h s. sends_more a b (held w) (held x) (held y) (failed w) (failed x) (failed y) r h.0 h.1 s;
-  too_long = λ a w l. stopped_long a (held w) (failed w) l;
+pub sink_forward : {S : Type 0} (received : S → Option (List ℕ)) (failed : S → ℕ) → IsForward (λ t w x r. Sends t (received w) (received x) (failed w) (failed x) r)
+sink_forward received failed = record {
+  stops = λ a b w x e s. stopped_first a b (received w) (received x) (failed w) (failed x) e s;
+  goes_on = λ a b w x y u r h s. sends_more a b (received w) (received x) (received y) (failed w) (failed x) (failed y) r h.0 h.1 s;
+  too_long = λ a w l. stopped_long a (received w) (failed w) l;
 }

@@ -103,7 +103,7 @@ impl<'a, S: Sink> Buffered<'a, S> {
     pub fn flush(&mut self) -> Result<(), WriteError>
         requires { S.failed self.old.sink.now < 2 ^ 64 - 1 }
         ensures same_sink { self.new.sink.ghost_name ≡ self.old.sink.ghost_name }
-        ensures sent { Sends self.old.waiting (S.held self.old.sink.now) (S.held self.new.sink.now) (S.failed self.old.sink.now) (S.failed self.new.sink.now) result }
+        ensures sent { Sends self.old.waiting (S.received self.old.sink.now) (S.received self.new.sink.now) (S.failed self.old.sink.now) (S.failed self.new.sink.now) result }
         ensures none { OnOk result (self.new.waiting ≡ []) }
         ensures kept { OnErr result (self.new.waiting ≡ self.old.waiting) }
     {
@@ -116,7 +116,7 @@ impl<'a, S: Sink> Buffered<'a, S> {
     fn pass(&mut self, bytes: &[u8]) -> Result<(), WriteError>
         requires { S.failed self.old.sink.now < 2 ^ 64 - 1 }
         ensures same_sink { self.new.sink.ghost_name ≡ self.old.sink.ghost_name }
-        ensures taken { Buffers bytes.now self.old.waiting self.new.waiting (S.held self.old.sink.now) (S.held self.new.sink.now) (S.failed self.old.sink.now) (S.failed self.new.sink.now) result }
+        ensures taken { Buffers bytes.now self.old.waiting self.new.waiting (S.received self.old.sink.now) (S.received self.new.sink.now) (S.failed self.old.sink.now) (S.failed self.new.sink.now) result }
     {
         self.flush()?;
         if bytes.len() > ROOM {
@@ -129,7 +129,7 @@ impl<'a, S: Sink> Buffered<'a, S> {
 
 impl<'a, S: Sink> Writer for Buffered<'a, S> {
     ghost Takes = { λ text w x r. (x.sink.ghost_name ≡ w.sink.ghost_name)
-        × Buffers text w.waiting x.waiting (S.held w.sink.now) (S.held x.sink.now) (S.failed w.sink.now) (S.failed x.sink.now) r };
+        × Buffers text w.waiting x.waiting (S.received w.sink.now) (S.received x.sink.now) (S.failed w.sink.now) (S.failed x.sink.now) r };
 
     ghost MayTake = { λ w. S.failed w.sink.now < 2 ^ 64 - 1 };
 
@@ -155,11 +155,11 @@ impl<'a, S: Sink> Writer for Buffered<'a, S> {
         0
     }
 
-    ghost nothing = { λ w _. (refl, buffered_nothing w.waiting (S.held w.sink.now) (S.failed w.sink.now)) };
+    ghost nothing = { λ w _. (refl, buffered_nothing w.waiting (S.received w.sink.now) (S.failed w.sink.now)) };
 
     ghost goes_on = { λ a w x u h m. Prim.search rules };
 
-    ghost forward = { λ _. buffer_forward (λ w. w.sink.ghost_name) (λ w. w.waiting) (λ w. S.held w.sink.now) (λ w. S.failed w.sink.now) };
+    ghost forward = { λ _. buffer_forward (λ w. w.sink.ghost_name) (λ w. w.waiting) (λ w. S.received w.sink.now) (λ w. S.failed w.sink.now) };
 
     ghost backward = { Prim.search rules };
 }

@@ -8,7 +8,7 @@ use crate::writer::{WriteError, Writer};
 use asn1_core_streams::{Sink, send};
 
 impl<S: Sink> Writer for S {
-    ghost Takes = { λ text w x r. Sends text (S.held w) (S.held x) (S.failed w) (S.failed x) r };
+    ghost Takes = { λ text w x r. Sends text (S.received w) (S.received x) (S.failed w) (S.failed x) r };
 
     ghost MayTake = { λ w. S.failed w < 2 ^ 64 - 1 };
 
@@ -31,11 +31,11 @@ impl<S: Sink> Writer for S {
         0
     }
 
-    ghost nothing = { λ w _. sends_none (S.held w) (S.failed w) };
+    ghost nothing = { λ w _. sends_none (S.received w) (S.failed w) };
 
     ghost goes_on = { λ a w x u h m. Prim.search rules };
 
-    ghost forward = { λ _. sink_forward S.held S.failed };
+    ghost forward = { λ _. sink_forward S.received S.failed };
 
     ghost backward = { Prim.search rules };
 }

@@ -3,32 +3,32 @@ use Rattle.std.specs.Prelude.{ℕ, List}
 use Rattle.std.specs.Str.{IsUtf8}
 use Rattle.std.proofs.Common.{arith}
 use Rattle.asn1_core_format.specs.Format.{Format, IsLawful}
-use Rattle.asn1_core_format.specs.Leaf.{leaf, kept}
-use Rattle.asn1_core_format.specs.LeafLaws.{lawful_leaf, lawful_kept}
+use Rattle.asn1_core_format.specs.Leaf.{leaf, verbatim}
+use Rattle.asn1_core_format.specs.LeafLaws.{lawful_leaf, lawful_verbatim}
 use Rattle.asn1_leaves_strings.specs.Bits.{IsBits}
 use Rattle.asn1_leaves_strings.specs.Bmp.{IsBmp}
 use Rattle.asn1_leaves_strings.specs.Ia5.{IsIa5}
 
 abbrev pub bit_string : Format (List ℕ)
-bit_string = leaf 0x03 (kept IsBits)
+bit_string = leaf 0x03 (verbatim IsBits)
 
 abbrev pub bmp_string : Format (List ℕ)
-bmp_string = leaf 0x1E (kept IsBmp)
+bmp_string = leaf 0x1E (verbatim IsBmp)
 
 abbrev pub ia5_string : Format (List ℕ)
-ia5_string = leaf 0x16 (kept IsIa5)
+ia5_string = leaf 0x16 (verbatim IsIa5)
 
 abbrev pub utf8_string : Format (List ℕ)
-utf8_string = leaf 0x0C (kept IsUtf8)
+utf8_string = leaf 0x0C (verbatim IsUtf8)
 
 pub lawful_bit_string : IsLawful bit_string
-lawful_bit_string = lawful_leaf 0x03 (omega arith) (kept IsBits) (lawful_kept IsBits)
+lawful_bit_string = lawful_leaf 0x03 (omega arith) (verbatim IsBits) (lawful_verbatim IsBits)
 
 pub lawful_bmp_string : IsLawful bmp_string
-lawful_bmp_string = lawful_leaf 0x1E (omega arith) (kept IsBmp) (lawful_kept IsBmp)
+lawful_bmp_string = lawful_leaf 0x1E (omega arith) (verbatim IsBmp) (lawful_verbatim IsBmp)
 
 pub lawful_ia5_string : IsLawful ia5_string
-lawful_ia5_string = lawful_leaf 0x16 (omega arith) (kept IsIa5) (lawful_kept IsIa5)
+lawful_ia5_string = lawful_leaf 0x16 (omega arith) (verbatim IsIa5) (lawful_verbatim IsIa5)
 
 pub lawful_utf8_string : IsLawful utf8_string
-lawful_utf8_string = lawful_leaf 0x0C (omega arith) (kept IsUtf8) (lawful_kept IsUtf8)
+lawful_utf8_string = lawful_leaf 0x0C (omega arith) (verbatim IsUtf8) (lawful_verbatim IsUtf8)

@@ -3,8 +3,8 @@ use Rattle.std.proofs.Common.{arith}
 use Rattle.asn1_core_format.specs.Format.{Format, IsLawful}
 use Rattle.asn1_core_format.specs.Leaf.{Spelling, IsLawfulSpelling, leaf}
 use Rattle.asn1_core_format.specs.LeafLaws.{lawful_leaf}
-use Rattle.asn1_leaves_times.specs.Contents.{IsUtc, utc_contents, IsGeneralized, generalized_contents}
-use Rattle.asn1_leaves_times.specs.ContentsLaws.{utc_contents_same, generalized_contents_same}
+use Rattle.asn1_leaves_times.specs.TimeContents.{IsUtc, utc_contents, IsGeneralized, generalized_contents}
+use Rattle.asn1_leaves_times.specs.TimeContentsLaws.{utc_contents_same, generalized_contents_same}
 use Rattle.asn1_leaves_times.specs.Grammar.{IsUtcContents, IsGeneralizedContents}
 use Rattle.asn1_leaves_times.specs.GrammarLaws.{utc_spelled, utc_read, generalized_spelled, generalized_read}
 use Rattle.asn1_leaves_times.specs.declared.calendar.Moment.{Moment}

@@ -3,7 +3,7 @@
 ghost use Rattle.std.specs.Prelude.{◌≡◌, ℕ, List, ◌++◌};
 ghost use Rattle.std.proofs.Common.{rules};
 ghost use Rattle.asn1_core_element.specs.Element.{element, retag};
-ghost use Rattle.asn1_core_format.specs.Leaf.{kept};
+ghost use Rattle.asn1_core_format.specs.Leaf.{verbatim};
 ghost use Rattle.asn1_leaves.specs.Asn1.{BIT_STRING};
 ghost use Rattle.asn1_leaves.specs.Strings.{bit_string};
 ghost use Rattle.asn1_leaves_strings.specs.Bits.{IsBits};
@@ -24,7 +24,7 @@ impl Leaf for BitStringAsn1 {
 
     ghost value = { λ b. contents_of b.0 };
 
-    ghost spelling = { kept IsBits };
+    ghost spelling = { verbatim IsBits };
 
     fn from_contents(alloc: Global, contents: &[u8]) -> Result<Self, Error> {
         let Some((unused, bytes)) = contents.split_first() else {

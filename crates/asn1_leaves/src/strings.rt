@@ -3,7 +3,7 @@
 ghost use Rattle.std.specs.Prelude.{ℕ, List};
 ghost use Rattle.std.specs.Str.{IsUtf8};
 ghost use Rattle.std.proofs.Common.{rules};
-ghost use Rattle.asn1_core_format.specs.Leaf.{kept};
+ghost use Rattle.asn1_core_format.specs.Leaf.{verbatim};
 ghost use Rattle.asn1_leaves.specs.Asn1.{BMP_STRING, IA5_STRING, UTF8_STRING};
 ghost use Rattle.asn1_leaves_strings.specs.Bmp.{IsBmp};
 ghost use Rattle.asn1_leaves_strings.specs.Ia5.{IsIa5};
@@ -27,7 +27,7 @@ impl Leaf for BmpStringAsn1 {
 
     ghost value = { λ s. octets_of_bmp s.0 };
 
-    ghost spelling = { kept IsBmp };
+    ghost spelling = { verbatim IsBmp };
 
     fn from_contents(alloc: Global, contents: &[u8]) -> Result<Self, Error> {
         let octets = Vec::from_slice(alloc, contents)?;
@@ -78,7 +78,7 @@ impl Leaf for IA5StringAsn1 {
 
     ghost value = { λ s. octets_of_ia5 s.0 };
 
-    ghost spelling = { kept IsIa5 };
+    ghost spelling = { verbatim IsIa5 };
 
     fn from_contents(alloc: Global, contents: &[u8]) -> Result<Self, Error> {
         let octets = Vec::from_slice(alloc, contents)?;
@@ -128,7 +128,7 @@ impl Leaf for Utf8StringAsn1 {
 
     ghost value = { λ s. octets_of_utf8 s.0 };
 
-    ghost spelling = { kept IsUtf8 };
+    ghost spelling = { verbatim IsUtf8 };
 
     fn from_contents(alloc: Global, contents: &[u8]) -> Result<Self, Error> {
         let octets = Vec::from_slice(alloc, contents)?;

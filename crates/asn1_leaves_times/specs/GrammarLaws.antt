@@ -5,8 +5,8 @@ use Rattle.std.proofs.lemmas.Bool.Decides.{nat_tests}
 use Rattle.std.specs.Char.{IsAsciiDigit}
 use Rattle.asn1_leaves_times.specs.Calendar.{IsMoment}
 use Rattle.asn1_leaves_times.specs.CalendarLaws.{month_lt, day_lt, hour_lt, minute_lt, second_lt}
-use Rattle.asn1_leaves_times.specs.Contents.{two_digits, contents_after_year, utc_contents, generalized_contents, IsUtc, IsGeneralized}
-use Rattle.asn1_leaves_times.specs.ContentsLaws.{moment_same}
+use Rattle.asn1_leaves_times.specs.TimeContents.{two_digits, contents_after_year, utc_contents, generalized_contents, IsUtc, IsGeneralized}
+use Rattle.asn1_leaves_times.specs.TimeContentsLaws.{moment_same}
 use Rattle.asn1_leaves_times.specs.Grammar.{IsDigitsAndZone, number_at, utc_year, moment_from, utc_moment, generalized_moment, IsUtcContents, IsGeneralizedContents}
 use Rattle.asn1_leaves_times.specs.declared.calendar.Moment.{Moment}
 

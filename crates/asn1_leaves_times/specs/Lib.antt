@@ -1,7 +1,7 @@
 pub mod Calendar
 pub mod CalendarLaws
-pub mod Contents
-pub mod ContentsLaws
+pub mod TimeContents
+pub mod TimeContentsLaws
 pub mod Grammar
 pub mod GrammarLaws
 pub mod Reading

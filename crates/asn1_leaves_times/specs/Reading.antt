@@ -1,7 +1,7 @@
 -- Bytes that spell no number, and no time.
 use Rattle.std.specs.Prelude.{◌≡◌, ℕ, ◌<◌, List, ◌++◌}
 use Rattle.asn1_leaves_times.specs.Calendar.{IsMoment}
-use Rattle.asn1_leaves_times.specs.Contents.{two_digits, contents_after_year, IsUtc, utc_contents, IsGeneralized, generalized_contents}
+use Rattle.asn1_leaves_times.specs.TimeContents.{two_digits, contents_after_year, IsUtc, utc_contents, IsGeneralized, generalized_contents}
 use Rattle.asn1_leaves_times.specs.declared.calendar.Moment.{Moment}
 
 -- no two digits begin the bytes

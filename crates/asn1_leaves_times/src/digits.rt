@@ -1,7 +1,7 @@
 //! Numbers below a hundred, as two decimal digits.
 
 ghost use Rattle.std.specs.Prelude.{◌≡◌, ◌<◌, ◌++◌, MatchOption};
-ghost use Rattle.asn1_leaves_times.specs.Contents.{two_digits};
+ghost use Rattle.asn1_leaves_times.specs.TimeContents.{two_digits};
 ghost use Rattle.asn1_leaves_times.specs.Reading.{HasNoNumber};
 
 pub fn two_digits(n: u8) -> [u8; 2]

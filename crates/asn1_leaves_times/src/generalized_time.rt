@@ -1,12 +1,12 @@
 //! GeneralizedTime.
 
 ghost use Rattle.std.specs.Prelude.{◌≡◌, MatchOption};
-ghost use Rattle.asn1_leaves_times.specs.Contents.{IsGeneralized, generalized_contents};
+ghost use Rattle.asn1_leaves_times.specs.TimeContents.{IsGeneralized, generalized_contents};
 ghost use Rattle.asn1_leaves_times.specs.declared.calendar.Moment.{Moment};
 ghost use Rattle.asn1_leaves_times.specs.Reading.{SpellsNoGeneralized};
 
+use crate::after_year::{read_after_year, spelled_after_year};
 use crate::calendar::Moment;
-use crate::contents::{read_after_year, spelled_after_year};
 use crate::digits::{split_number, two_digits};
 
 /// A second of the years 0 to 9999 of the Gregorian calendar, carried back over the years before it was in use

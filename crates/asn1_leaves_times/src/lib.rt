@@ -2,8 +2,8 @@
 //! GeneralizedTime, both in whole seconds of Greenwich Mean Time, and the contents that spell them.
 #![tactic(auto)]
 
+mod after_year;
 mod calendar;
-mod contents;
 mod digits;
 mod generalized_time;
 mod utc_time;

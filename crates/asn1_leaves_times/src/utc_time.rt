@@ -1,12 +1,12 @@
 //! UTCTime.
 
 ghost use Rattle.std.specs.Prelude.{◌≡◌, MatchOption};
-ghost use Rattle.asn1_leaves_times.specs.Contents.{IsUtc, utc_contents};
+ghost use Rattle.asn1_leaves_times.specs.TimeContents.{IsUtc, utc_contents};
 ghost use Rattle.asn1_leaves_times.specs.declared.calendar.Moment.{Moment};
 ghost use Rattle.asn1_leaves_times.specs.Reading.{SpellsNoUtc};
 
+use crate::after_year::{read_after_year, spelled_after_year};
 use crate::calendar::Moment;
-use crate::contents::{read_after_year, spelled_after_year};
 use crate::digits::{split_number, two_digits};
 
 /// A second of the years 1950 to 2049, whose contents give the last two digits of the year (X.690, 11.8; RFC 5280,

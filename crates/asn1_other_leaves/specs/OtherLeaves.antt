@@ -3,7 +3,7 @@ use Rattle.std.specs.Prelude.{ℕ, ◌^◌, ◌%◌}
 use Rattle.std.proofs.Common.{arith}
 use Rattle.asn1_core_element.specs.NumberLaws.{one_number, is_numeral, has_number}
 use Rattle.asn1_core.specs.Der.{Format, IsLawful, leaf, lawful_leaf, numbers_below, any_octets, Octets}
-use Rattle.asn1_core_format.specs.LeafLaws.{lawful_kept}
+use Rattle.asn1_core_format.specs.LeafLaws.{lawful_verbatim}
 
 abbrev pub enumerated : Format ℕ
 enumerated = leaf 0x0A (numbers_below (2 ^ 8))
@@ -20,4 +20,4 @@ abbrev pub kept_octets : ℕ → Format Octets
 kept_octets n = leaf (n % 31) any_octets
 
 pub lawful_kept_octets : (n : ℕ) → IsLawful (kept_octets n)
-lawful_kept_octets n = lawful_leaf (n % 31) (omega arith) any_octets (lawful_kept (λ _. Unit {0}))
+lawful_kept_octets n = lawful_leaf (n % 31) (omega arith) any_octets (lawful_verbatim (λ _. Unit {0}))

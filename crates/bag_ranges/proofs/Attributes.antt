@@ -13,7 +13,7 @@ use Rattle.x509_base.specs.AttributesByOid.{HasNoOnly, IsOnlyOf}
 use Rattle.x509_base.specs.Names.{attribute}
 use Rattle.x509_pkcs12.specs.Utf16.{utf16_string}
 use Rattle.bag_ranges.proofs.Failures.{without}
-use Rattle.bag_ranges.proofs.Held.{Place}
+use Rattle.bag_ranges.proofs.Contained.{Place}
 use Rattle.bag_ranges.specs.Bags.{IsAttributeAt}
 use Rattle.bag_ranges.specs.Failures.{HasNone}
 

@@ -13,10 +13,10 @@ use Rattle.x509_pkcs12.specs.MacOctets.{mac_octets}
 use Rattle.x509_pkcs12.specs.Pfxs.{pfx}
 use Rattle.x509_pkcs12.specs.RawBags.{raw_safe_contents}
 use Rattle.bag_ranges.proofs.Failures.{without}
-use Rattle.bag_ranges.proofs.Held.{Place}
+use Rattle.bag_ranges.proofs.Contained.{Place}
 use Rattle.bag_ranges.proofs.Rows.{also}
 use Rattle.bag_ranges.specs.Bags.{AreBags, BagValue, InOrder}
-use Rattle.bag_ranges.specs.Contents.{raw_content_info}
+use Rattle.bag_ranges.specs.RawContentInfos.{raw_content_info}
 use Rattle.bag_ranges.specs.Failures.{Adds, HasNone, in_input}
 use Rattle.bag_ranges.specs.Stores.{AreBagsOf, AreOfContent, AreOfData, AreOfSafe, AreOfStore, AreUnread, ContentValue, IsRefusal, IsStore, StoreValue, unread_row}
 use Rattle.bag_ranges.specs.declared.ranges.BagRanges.{BagRanges}

@@ -3,7 +3,7 @@ use Rattle.std.specs.Prelude.{◌≡◌, ◌⊎◌, ℕ, zero, suc, List, [], �
 use Rattle.std.proofs.Common.{refl, sym, ap, subst, ◌∙◌, inl, inr, ⊎_elim}
 use Rattle.asn1_core.specs.Der.{OidOctets}
 use Rattle.bag_ranges.specs.Bags.{IsKind}
-use Rattle.bag_ranges.specs.Held.{IsPlain, named_kind}
+use Rattle.bag_ranges.specs.Contained.{IsPlain, named_kind}
 use Rattle.bag_ranges.specs.declared.ranges.BagKind.{BagKind}
 use Rattle.bag_ranges.specs.declared.ranges.BagKind.TheVariants.{Key, ShroudedKey, Certificate, Crl, Secret, SafeContents, Other, Unread, OtherCertificate, OtherCrl}
 

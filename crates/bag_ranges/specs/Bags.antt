@@ -92,8 +92,8 @@ pub record AreInside (Rows : List BagValue → List BagRanges → Type 0) (eleme
   pub all : Rows bags rows
 
 -- the rows of the bags in a bag: none, unless it is a SafeContents
-abbrev pub AreHeld : (List BagValue → List BagRanges → Type 0) → BagValue → List BagRanges → Type 0
-AreHeld Rows bag rows = ((bag.0 ≡ oid SAFE_CONTENTS_BAG) × AreInside Rows bag.1.0 rows) ⊎ ((bag.0 ≢ oid SAFE_CONTENTS_BAG) × (rows ≡ []))
+abbrev pub AreInBag : (List BagValue → List BagRanges → Type 0) → BagValue → List BagRanges → Type 0
+AreInBag Rows bag rows = ((bag.0 ≡ oid SAFE_CONTENTS_BAG) × AreInside Rows bag.1.0 rows) ⊎ ((bag.0 ≢ oid SAFE_CONTENTS_BAG) × (rows ≡ []))
 
 -- the row of a bag, and then those of the bags in it
 pub record AreOfBag (Rows : List BagValue → List BagRanges → Type 0) (below : ℕ) (b : List ℕ) (bag : BagValue) (rows : List BagRanges) : Type 0 where
@@ -101,7 +101,7 @@ pub record AreOfBag (Rows : List BagValue → List BagRanges → Type 0) (below 
   pub others : List BagRanges
   pub are : rows ≡ own ∷ others
   pub is : IsBagAt below b bag own
-  pub held : AreHeld Rows bag others
+  pub inside : AreInBag Rows bag others
 
 -- the rows of some bags, in at most so many lists in one another
 abbrev pub AreBags : ℕ → List ℕ → List BagValue → List BagRanges → Type 0

@@ -1,5 +1,5 @@
-pub mod Contents
+pub mod RawContentInfos
 pub mod Bags
 pub mod Failures
-pub mod Held
+pub mod Contained
 pub mod Stores

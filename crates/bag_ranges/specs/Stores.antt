@@ -12,7 +12,7 @@ use Rattle.input_ranges.specs.Ranges.{IsAt}
 use Rattle.input_ranges.specs.declared.ranges.Refusal.{Refusal}
 use Rattle.input_ranges.specs.declared.ranges.Refusal.TheVariants.{Refused, Part, NoRange}
 use Rattle.bag_ranges.specs.Bags.{AreBags, BagValue, InOrder}
-use Rattle.bag_ranges.specs.Contents.{raw_content_info}
+use Rattle.bag_ranges.specs.RawContentInfos.{raw_content_info}
 use Rattle.bag_ranges.specs.declared.ranges.BagKind.TheVariants.{Unread}
 use Rattle.bag_ranges.specs.declared.ranges.BagRanges.{BagRanges}
 

@@ -2,9 +2,9 @@
 
 ghost use Rattle.std.specs.Prelude.{◌≡◌, MatchResult, map};
 ghost use Rattle.asn1_core.specs.Der.{octet_string, octets_of};
-ghost use Rattle.bag_ranges.specs.Bags.{AreBags, AreHeld, AreOfBag, InOrder, IsAttributeAt, IsBagAt, IsKeyAt, IsKind};
+ghost use Rattle.bag_ranges.specs.Bags.{AreBags, AreInBag, AreOfBag, InOrder, IsAttributeAt, IsBagAt, IsKeyAt, IsKind};
 ghost use Rattle.bag_ranges.specs.Failures.{Adds, Finds, HasNone, Pushes};
-ghost use Rattle.bag_ranges.specs.Held.{IsEitherAt, IsHeldAt, IsPlain, named_kind};
+ghost use Rattle.bag_ranges.specs.Contained.{IsEitherAt, IsContainedAt, IsPlain, named_kind};
 ghost use Rattle.bag_ranges.specs.declared.ranges.BagKind.TheVariants.{Certificate, Crl, ShroudedKey};
 ghost use Rattle.pkcs12_bags.specs.Oids.{oid};
 ghost use Rattle.pkcs12_bags.specs.declared.parts.oids.TheConstants.{FRIENDLY_NAME, LOCAL_KEY_ID, X509_CERTIFICATE, X509_CRL};
@@ -13,7 +13,7 @@ ghost use Rattle.x509_pkcs12.specs.RawBags.{attributes_of, raw_safe_bag_value};
 ghost use Rattle.x509_pkcs12.specs.Utf16.{utf16_string};
 
 use crate::parts::{encoded_range, octets_range, read_at, refused};
-use crate::places::{after, attribute_place, held_place, inside, start_or};
+use crate::places::{after, attribute_place, inner_place, inside, start_or};
 use crate::ranges::{BagKind, BagRanges};
 use asn1_core::{Error, ObjectIdentifierAsn1};
 use input_ranges::{Place, Refusal, contents_of, place_at, start_of};
@@ -56,13 +56,13 @@ fn kind_of(id: &ObjectIdentifierAsn1) -> BagKind
 
 /// What a bag holds, and where.
 #[derive(Drop)]
-pub(crate) struct Held {
+pub(crate) struct Contained {
     pub kind: BagKind,
     pub range: Range<usize>,
 }
 
 /// Where what a bag of certificates or revocation lists holds is, and whether it is an X.509 one.
-#[tactic(auto, using(crate::proofs::Held::is_x509, crate::proofs::Held::is_other, crate::proofs::Held::not_either, crate::proofs::Held::no_x509, crate::proofs::Held::no_other))]
+#[tactic(auto, using(crate::proofs::Contained::is_x509, crate::proofs::Contained::is_other, crate::proofs::Contained::not_either, crate::proofs::Contained::no_x509, crate::proofs::Contained::no_other))]
 fn x509_range<const KNOWN: usize>(
     alloc: Global,
     input: &[u8],
@@ -71,9 +71,9 @@ fn x509_range<const KNOWN: usize>(
 ) -> Result<(bool, Range<usize>), Refusal>
     ensures { Finds (IsEitherAt KNOWN input.now element.now) result }
 {
-    let held: X509Bag<KNOWN> = read_at(alloc, element, start_of(place))?;
-    let inner = held_place(input, place);
-    match &held {
+    let contained: X509Bag<KNOWN> = read_at(alloc, element, start_of(place))?;
+    let inner = inner_place(input, place);
+    match &contained {
         X509Bag::X509(der) => {
             let range = octets_range(input, contents_of(inner), der.0.as_slice())?;
             Ok((true, range))
@@ -86,95 +86,95 @@ fn x509_range<const KNOWN: usize>(
 }
 
 /// What a bag of certificates holds.
-#[tactic(auto, using(crate::proofs::Held::no_certificate))]
-fn certificate_held(
+#[tactic(auto, using(crate::proofs::Contained::no_certificate))]
+fn certificate_inside(
     alloc: Global,
     input: &[u8],
     place: Option<Place>,
     element: &[u8],
-) -> Result<Held, Refusal>
-    ensures { Finds (IsHeldAt input.now Certificate element.now) result }
+) -> Result<Contained, Refusal>
+    ensures { Finds (IsContainedAt input.now Certificate element.now) result }
 {
     let (is_x509, range) = x509_range::<X509_CERTIFICATE>(alloc, input, place, element)?;
     if is_x509 {
         let kind = BagKind::Certificate;
-        return Ok(Held { kind, range });
+        return Ok(Contained { kind, range });
     }
     let kind = BagKind::OtherCertificate;
-    Ok(Held { kind, range })
+    Ok(Contained { kind, range })
 }
 
 /// What a bag of revocation lists holds.
-#[tactic(auto, using(crate::proofs::Held::no_list))]
-fn list_held(
+#[tactic(auto, using(crate::proofs::Contained::no_list))]
+fn list_inside(
     alloc: Global,
     input: &[u8],
     place: Option<Place>,
     element: &[u8],
-) -> Result<Held, Refusal>
-    ensures { Finds (IsHeldAt input.now Crl element.now) result }
+) -> Result<Contained, Refusal>
+    ensures { Finds (IsContainedAt input.now Crl element.now) result }
 {
     let (is_x509, range) = x509_range::<X509_CRL>(alloc, input, place, element)?;
     if is_x509 {
         let kind = BagKind::Crl;
-        return Ok(Held { kind, range });
+        return Ok(Contained { kind, range });
     }
     let kind = BagKind::OtherCrl;
-    Ok(Held { kind, range })
+    Ok(Contained { kind, range })
 }
 
 /// An encrypted key.
-#[tactic(auto, using(crate::proofs::Held::is_key, crate::proofs::Held::not_key, crate::proofs::Held::no_key))]
-fn key_held(
+#[tactic(auto, using(crate::proofs::Contained::is_key, crate::proofs::Contained::not_key, crate::proofs::Contained::no_key))]
+fn key_inside(
     alloc: Global,
     input: &[u8],
     place: Option<Place>,
     element: &[u8],
-) -> Result<Held, Refusal>
-    ensures { Finds (IsHeldAt input.now ShroudedKey element.now) result }
+) -> Result<Contained, Refusal>
+    ensures { Finds (IsContainedAt input.now ShroudedKey element.now) result }
 {
     let _key: EncryptedKeyBag = read_at(alloc, element, start_of(place))?;
     let range = octets_range(input, start_of(place), element)?;
     let kind = BagKind::ShroudedKey;
-    Ok(Held { kind, range })
+    Ok(Contained { kind, range })
 }
 
 /// What a bag of any other kind holds, which isn't read.
-#[tactic(auto, using(crate::proofs::Held::is_plain, crate::proofs::Held::no_plain))]
-fn plain_held(
+#[tactic(auto, using(crate::proofs::Contained::is_plain, crate::proofs::Contained::no_plain))]
+fn plain_inside(
     input: &[u8],
     kind: BagKind,
     place: Option<Place>,
     element: &[u8],
-) -> Result<Held, Refusal>
+) -> Result<Contained, Refusal>
     requires { IsPlain kind }
-    ensures { Finds (IsHeldAt input.now (named_kind kind) element.now) result }
+    ensures { Finds (IsContainedAt input.now (named_kind kind) element.now) result }
 {
     let range = octets_range(input, start_of(place), element)?;
-    Ok(Held { kind, range })
+    Ok(Contained { kind, range })
 }
 
 /// What a bag holds whose object identifier says that kind.
-fn held_of(
+fn inside_of(
     alloc: Global,
     input: &[u8],
     kind: BagKind,
     place: Option<Place>,
     element: &[u8],
-) -> Result<Held, Refusal>
-    ensures { Finds (IsHeldAt input.now (named_kind kind) element.now) result }
+) -> Result<Contained, Refusal>
+    ensures { Finds (IsContainedAt input.now (named_kind kind) element.now) result }
 {
     match kind {
-        BagKind::Certificate => certificate_held(alloc, input, place, element),
-        BagKind::OtherCertificate => certificate_held(alloc, input, place, element),
-        BagKind::Crl => list_held(alloc, input, place, element),
-        BagKind::OtherCrl => list_held(alloc, input, place, element),
-        BagKind::ShroudedKey => key_held(alloc, input, place, element),
-        BagKind::Key => plain_held(input, kind, place, element),
-        BagKind::Secret => plain_held(input, kind, place, element),
-        BagKind::SafeContents => plain_held(input, kind, place, element),
-        BagKind::Other => plain_held(input, kind, place, element),
-        BagKind::Unread => plain_held(input, kind, place, element),
+        BagKind::Certificate => certificate_inside(alloc, input, place, element),
+        BagKind::OtherCertificate => certificate_inside(alloc, input, place, element),
+        BagKind::Crl => list_inside(alloc, input, place, element),
+        BagKind::OtherCrl => list_inside(alloc, input, place, element),
+        BagKind::ShroudedKey => key_inside(alloc, input, place, element),
+        BagKind::Key => plain_inside(input, kind, place, element),
+        BagKind::Secret => plain_inside(input, kind, place, element),
+        BagKind::SafeContents => plain_inside(input, kind, place, element),
+        BagKind::Other => plain_inside(input, kind, place, element),
+        BagKind::Unread => plain_inside(input, kind, place, element),
     }
 }
 
@@ -211,7 +211,7 @@ fn name_range(
     let named = named_place(input, bag, place, FRIENDLY_NAME);
     match bag.friendly_name(alloc) {
         Ok(Some(name)) => {
-            let start = contents_of(held_place(input, named));
+            let start = contents_of(inner_place(input, named));
             Ok(Some(octets_range(input, start, name.as_bytes())?))
         }
         Ok(None) => Ok(None),
@@ -232,7 +232,7 @@ fn key_id_range(
     let attribute = named_place(input, bag, place, LOCAL_KEY_ID);
     match bag.local_key_id(alloc) {
         Ok(Some(id)) => {
-            let start = contents_of(held_place(input, attribute));
+            let start = contents_of(inner_place(input, attribute));
             Ok(Some(octets_range(input, start, id.0.as_slice())?))
         }
         Ok(None) => Ok(None),
@@ -253,7 +253,13 @@ fn ranges_of(
 {
     let named = kind_of(&bag.bag_id);
     let element = encoded_range(alloc, input, start_of(place), bag)?;
-    let Held { kind, range } = held_of(alloc, input, named, held_place(input, place), bag.value())?;
+    let Contained { kind, range } = inside_of(
+        alloc,
+        input,
+        named,
+        inner_place(input, place),
+        bag.value(),
+    )?;
     let friendly_name = name_range(alloc, input, place, bag)?;
     let local_key_id = key_id_range(alloc, input, place, bag)?;
     Ok(BagRanges {
@@ -297,13 +303,13 @@ fn push_inside(
     below: u8,
     rows: &mut Vec<BagRanges>,
 ) -> Result<(), Refusal>
-    ensures { Pushes (AreHeld (AreBags below input.now) (raw_safe_bag_value bag.now)) rows.old.items rows.new.items result }
+    ensures { Pushes (AreInBag (AreBags below input.now) (raw_safe_bag_value bag.now)) rows.old.items rows.new.items result }
 {
     if !is_oid_of(&bag.bag_id.0, octets_of_known(SAFE_CONTENTS_BAG)) {
         return Ok(());
     }
-    let held: RawSafeContents = read_at(alloc, bag.value(), start)?;
-    push_bags(alloc, input, start, held.0.as_slice(), below, rows)?;
+    let contained: RawSafeContents = read_at(alloc, bag.value(), start)?;
+    push_bags(alloc, input, start, contained.0.as_slice(), below, rows)?;
     Ok(())
 }
 

@@ -2,13 +2,13 @@
 #![tactic(auto)]
 
 pub mod bags;
-pub mod contents;
 mod parts;
 mod places;
 pub mod ranges;
+pub mod raw_content_infos;
 pub mod stores;
 
-pub use contents::RawContentInfo;
 pub use input_ranges::Refusal;
 pub use ranges::{BagKind, BagRanges};
+pub use raw_content_infos::RawContentInfo;
 pub use stores::bag_ranges;

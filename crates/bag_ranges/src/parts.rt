@@ -12,7 +12,7 @@ use input_ranges::{Refusal, encoding_range, range_of, refusal_of};
 use std::alloc::Global;
 use std::ops::Range;
 
-/// The refusal of a part that was read from one place on, and refused so far behind it.
+/// The refusal of a part that was read from `start` on, and refused `place` octets later.
 pub(crate) fn refused(error: Error, start: usize, place: usize) -> Refusal
     ensures { (result ≢ Refused Memory 0) → error ≢ Memory }
 {

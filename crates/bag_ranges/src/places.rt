@@ -19,7 +19,7 @@ pub(crate) fn safe_place(input: &[u8]) -> Option<Place> {
 
 /// What follows the object identifier at the front of an element, without the tag around it: the content of a
 /// `ContentInfo`, what a bag holds, or the first value of an attribute.
-pub(crate) fn held_place(input: &[u8], element: Option<Place>) -> Option<Place> {
+pub(crate) fn inner_place(input: &[u8], element: Option<Place>) -> Option<Place> {
     inside(input, after(input, inside(input, element)))
 }
 

@@ -3,16 +3,16 @@
 ghost use Rattle.std.specs.Prelude.{◌≡◌, length, MatchResult, map};
 ghost use Rattle.asn1_core.specs.Der.{IsValueOf, option_value, raw};
 ghost use Rattle.bag_ranges.specs.Bags.{InOrder};
-ghost use Rattle.bag_ranges.specs.Contents.{raw_content_info_value};
+ghost use Rattle.bag_ranges.specs.RawContentInfos.{raw_content_info_value};
 ghost use Rattle.bag_ranges.specs.Failures.{Adds, HasNone, in_input, Pushes};
 ghost use Rattle.bag_ranges.specs.Stores.{AreBagsOf, AreOfContent, AreOfData, AreOfSafe, AreOfStore, AreUnread, IsRefusal};
 ghost use Rattle.x509_pkcs12.specs.Pfxs.{pfx};
 
 use crate::bags::{LEVELS, push_bags};
-use crate::contents::RawContentInfo;
 use crate::parts::{encoded_range, read_at};
-use crate::places::{after, end_of, held_place, inside, safe_place};
+use crate::places::{after, end_of, inner_place, inside, safe_place};
 use crate::ranges::{BagKind, BagRanges};
+use crate::raw_content_infos::RawContentInfo;
 use asn1_core::{
     Asn1RawDer, Asn1SequenceOf, DerSerialize, Error, ExplicitContextTag0, OctetStringAsn1Container,
     from_bytes_located,
@@ -58,17 +58,17 @@ fn push_data(
 {
     match content {
         Some(data) => {
-            let held = held_place(input, place);
+            let inner = inner_place(input, place);
             let octets = data.0.0.as_slice();
             let bags: OctetStringAsn1Container<RawSafeContents> = read_at(
                 alloc,
                 octets,
-                start_of(held),
+                start_of(inner),
             )?;
             push_bags(
                 alloc,
                 input,
-                contents_of(held),
+                contents_of(inner),
                 bags.0.0.as_slice(),
                 LEVELS,
                 rows,
@@ -148,7 +148,7 @@ fn push_by_octets(
     let place = safe_place(input);
     match octets {
         Some(octets) => {
-            push_safe(alloc, input, held_place(input, place), octets, rows)?;
+            push_safe(alloc, input, inner_place(input, place), octets, rows)?;
             Ok(())
         }
         None => {

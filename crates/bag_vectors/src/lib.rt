@@ -4,6 +4,6 @@
 #[cfg(test)]
 mod bags_in_place;
 #[cfg(test)]
-mod contents;
+mod content_infos;
 #[cfg(test)]
 mod stores;

@@ -98,28 +98,28 @@ module _ (k : ℕ) (bytes body contents rest : List ℕ) (tag n size : ℕ) (f :
   pub not_held : (tag / 32 % 2 ≡ 0 → ⊥) → (AreDer (IsDer (k - 1)) contents → ⊥) → BeginsNoDer k bytes
   not_held form fails = unless form (λ s m n h. fails h)
 
-pub none_held : (k : ℕ) → AreDer (IsDer k) []
-none_held k = record { parts = []; each = tt; is = refl }
+pub none_inside : (k : ℕ) → AreDer (IsDer k) []
+none_inside k = record { parts = []; each = tt; is = refl }
 
-held_rest : (k : ℕ) (bytes rest a : List ℕ) (parts : List (List ℕ)) → IsDer k a → bytes ≡ a ++ rest → AllByRecursion (IsDer k) parts → bytes ≡ joined parts → AreDer (IsDer k) rest
-held_rest k bytes rest a [] p e h i = absurd (omega (arith, der_long k a p, ap length (sym e ∙ i), length-append a rest))
-held_rest k bytes rest a (d ∷ ds) p e h i =
+inside_rest : (k : ℕ) (bytes rest a : List ℕ) (parts : List (List ℕ)) → IsDer k a → bytes ≡ a ++ rest → AllByRecursion (IsDer k) parts → bytes ≡ joined parts → AreDer (IsDer k) rest
+inside_rest k bytes rest a [] p e h i = absurd (omega (arith, der_long k a p, ap length (sym e ∙ i), length-append a rest))
+inside_rest k bytes rest a (d ∷ ds) p e h i =
     let r = der_cut k a d rest (joined ds) p h.0 (sym e ∙ i) in
     record { parts = ds; each = h.1; is = r.1 }
 
 -- the contents are elements exactly where what follows the first is
-pub held_after : (k : ℕ) (bytes rest : List ℕ) → BeginsDer k bytes rest → AreDer (IsDer k) bytes ↔ AreDer (IsDer k) rest
-held_after k bytes rest b = (
-  λ h. held_rest k bytes rest b.der h.parts b.is b.split h.each h.is,
+pub inside_after : (k : ℕ) (bytes rest : List ℕ) → BeginsDer k bytes rest → AreDer (IsDer k) bytes ↔ AreDer (IsDer k) rest
+inside_after k bytes rest b = (
+  λ h. inside_rest k bytes rest b.der h.parts b.is b.split h.each h.is,
   λ h. record { parts = b.der ∷ h.parts; each = (b.is, h.each); is = b.split ∙ ap (λ w. b.der ++ w) h.is },
 )
 
-not_held_parts : (k : ℕ) (bytes : List ℕ) (parts : List (List ℕ)) → 1 ≤ length bytes → BeginsNoDer k bytes → AllByRecursion (IsDer k) parts → bytes ≡ joined parts → ⊥
-not_held_parts k bytes [] l none h i = omega (arith, l, ap length i)
-not_held_parts k bytes (d ∷ ds) l none h i = none d (joined ds) h.0 i
+not_inside_parts : (k : ℕ) (bytes : List ℕ) (parts : List (List ℕ)) → 1 ≤ length bytes → BeginsNoDer k bytes → AllByRecursion (IsDer k) parts → bytes ≡ joined parts → ⊥
+not_inside_parts k bytes [] l none h i = omega (arith, l, ap length i)
+not_inside_parts k bytes (d ∷ ds) l none h i = none d (joined ds) h.0 i
 
-pub nothing_held : (k : ℕ) (bytes : List ℕ) → 1 ≤ length bytes → BeginsNoDer k bytes → AreDer (IsDer k) bytes → ⊥
-nothing_held k bytes l none h = not_held_parts k bytes h.parts l none h.each h.is
+pub nothing_inside : (k : ℕ) (bytes : List ℕ) → 1 ≤ length bytes → BeginsNoDer k bytes → AreDer (IsDer k) bytes → ⊥
+nothing_inside k bytes l none h = not_inside_parts k bytes h.parts l none h.each h.is
 
 pub whole_der : (k : ℕ) (bytes rest : List ℕ) → BeginsDer k bytes rest → IsDer k bytes ↔ (rest ≡ [])
 whole_der k bytes rest b = (

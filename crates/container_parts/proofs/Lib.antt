@@ -1,3 +1,3 @@
-pub mod HeldMacs
+pub mod MacCounts
 pub mod Ranges
 pub mod Rows

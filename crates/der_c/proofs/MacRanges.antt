@@ -16,7 +16,7 @@ use Rattle.der_c.specs.declared.status.TheConstants.{NORMAL, NO_PART}
 module _ (F : Format (PfxValue Octets)) (b : List ℕ) where
   pub found : (start end : ℕ) → IsMacRangeIn F b (Some (start, end)) → FindsRangeIn F b start (end - start) NORMAL
   found start end is =
-      let inside : start ≤ end = is.stands.inside.0 in
+      let inside : start ≤ end = is.place.inside.0 in
       let sum : start + (end - start) ≡ end = omega (arith, inside) in
       let same : IsMacRangeIn F b (Some (start, start + (end - start))) = subst (λ (e : ℕ). IsMacRangeIn F b (Some (start, e))) (sym sum) is in
       search rules

@@ -10,24 +10,24 @@ use Rattle.der_engine.specs.declared.outcome.Mode.{Mode}
 use Rattle.der_engine.specs.declared.outcome.Outcome.{Outcome}
 use Rattle.der_engine.specs.declared.outcome.Outcome.TheVariants.{Refused}
 
-module _ {S : Type 0} (K : Rewriting) (b : List ℕ) (e : Error) (mode : Mode) (held : S → Option (List ℕ)) (old new : S) (failed failed_now : ℕ) (result : Outcome) where
-  whole : IsRefusal K b e → Delivered (Refused e) (refusal_line mode e) (held old) (held new) failed failed_now result → Tells K b mode held old new failed failed_now result
+module _ {S : Type 0} (K : Rewriting) (b : List ℕ) (e : Error) (mode : Mode) (received : S → Option (List ℕ)) (old new : S) (failed failed_now : ℕ) (result : Outcome) where
+  whole : IsRefusal K b e → Delivered (Refused e) (refusal_line mode e) (received old) (received new) failed failed_now result → Tells K b mode received old new failed failed_now result
   whole r w =
-      subst (λ o. Tells K b mode held old new failed failed_now o) (sym w.same) (record {
+      subst (λ o. Tells K b mode received old new failed failed_now o) (sym w.same) (record {
         leaves = record { written = _; says = record { refusal = r; line = refl }; appended = w.appended };
         reads = refl;
         writes = omega (arith, w.count);
       })
 
-  part : IsRefusal K b e → CutOff (refusal_line mode e) (held old) (held new) failed failed_now result → Tells K b mode held old new failed failed_now result
+  part : IsRefusal K b e → CutOff (refusal_line mode e) (received old) (received new) failed failed_now result → Tells K b mode received old new failed failed_now result
   part r w =
-      subst (λ o. Tells K b mode held old new failed failed_now o) (sym w.is_failure) (record {
+      subst (λ o. Tells K b mode received old new failed failed_now o) (sym w.is_failure) (record {
         leaves = record { outcome = Refused e; written = _; unwritten = w.part.unwritten; says = record { refusal = r; line = sym w.part.split }; appended = w.part.appended };
         reads = refl;
         writes = w.count;
       })
 
-  pub refused : IsRefusal K b e → Delivers (Refused e) (refusal_line mode e) (held old) (held new) failed failed_now result → Tells K b mode held old new failed failed_now result
+  pub refused : IsRefusal K b e → Delivers (Refused e) (refusal_line mode e) (received old) (received new) failed failed_now result → Tells K b mode received old new failed failed_now result
   refused r d = ⊎_elim (whole r) (part r) d
 
 -- a refusal for memory says nothing of b

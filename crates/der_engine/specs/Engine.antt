@@ -77,16 +77,16 @@ pub record CutShort (K : Rewriting) (b : List ℕ) (mode : Mode) (old new : Opti
 
 -- what is left in a sink, where b is the input
 abbrev pub Leaves : {S : Type 0} → Rewriting → List ℕ → Outcome → Mode → (S → Option (List ℕ)) → S → S → Type 0
-Leaves K b ReadFailed mode held old new = new ≡ old
-Leaves K b WriteFailed mode held old new = CutShort K b mode (held old) (held new)
-Leaves K b outcome mode held old new = Distinct K b outcome mode (held old) (held new)
+Leaves K b ReadFailed mode received old new = new ≡ old
+Leaves K b WriteFailed mode received old new = CutShort K b mode (received old) (received new)
+Leaves K b outcome mode received old new = Distinct K b outcome mode (received old) (received new)
 
 -- what a run leaves in a sink
-pub record Runs {S : Type 0} (K : Rewriting) (mode : Mode) (coming : Option (List ℕ)) (held : S → Option (List ℕ)) (old new : S) (outcome : Outcome) : Type 0 where
+pub record Runs {S : Type 0} (K : Rewriting) (mode : Mode) (coming : Option (List ℕ)) (received : S → Option (List ℕ)) (old new : S) (outcome : Outcome) : Type 0 where
   pub input : List ℕ
   -- the input is all that the source gives, where that is known
   pub is_all : IfSome coming (λ all. input ≡ all)
-  pub leaves : Leaves K input outcome mode held old new
+  pub leaves : Leaves K input outcome mode received old new
 
 -- how many reads failed
 abbrev pub read_failures : Outcome → ℕ

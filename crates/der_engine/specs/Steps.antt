@@ -50,7 +50,7 @@ abbrev pub Delivers : Outcome → List ℕ → Option (List ℕ) → Option (Lis
 Delivers outcome line old new failed failed_now result = Delivered outcome line old new failed failed_now result ⊎ CutOff line old new failed failed_now result
 
 -- what is left in a sink, and how often writing failed
-pub record Tells {S : Type 0} (K : Rewriting) (b : List ℕ) (mode : Mode) (held : S → Option (List ℕ)) (old new : S) (failed failed_now : ℕ) (result : Outcome) : Type 0 where
-  pub leaves : Leaves K b result mode held old new
+pub record Tells {S : Type 0} (K : Rewriting) (b : List ℕ) (mode : Mode) (received : S → Option (List ℕ)) (old new : S) (failed failed_now : ℕ) (result : Outcome) : Type 0 where
+  pub leaves : Leaves K b result mode received old new
   pub reads : read_failures result ≡ 0
   pub writes : failed_now ≡ failed + write_failures result

@@ -40,7 +40,7 @@ fn answer<K: KindOfInput>(
 fn deliver<W: Sink>(sink: &mut W, outcome: Outcome, text: &[u8]) -> Outcome
     requires { W.failed sink.old < u64.MAX }
     ensures { Delivers outcome text.now
-        (W.held sink.old) (W.held sink.new) (W.failed sink.old) (W.failed sink.new) result }
+        (W.received sink.old) (W.received sink.new) (W.failed sink.old) (W.failed sink.new) result }
 {
     match send(sink, text) {
         Ok(()) => outcome,
@@ -52,7 +52,7 @@ fn deliver<W: Sink>(sink: &mut W, outcome: Outcome, text: &[u8]) -> Outcome
 fn refuse<W: Sink>(sink: &mut W, mode: Mode, error: Error) -> Outcome
     requires { W.failed sink.old < u64.MAX }
     ensures { Delivers (Refused error) (refusal_line mode error)
-        (W.held sink.old) (W.held sink.new) (W.failed sink.old) (W.failed sink.new) result }
+        (W.received sink.old) (W.received sink.new) (W.failed sink.old) (W.failed sink.new) result }
 {
     deliver(
         sink,
@@ -71,7 +71,7 @@ fn tell<K: KindOfInput, W: Sink>(
 ) -> Outcome
     requires { W.failed sink.old < u64.MAX }
     ensures { Tells (K.rewriting_at kind 64) bytes.now mode
-        W.held sink.old sink.new (W.failed sink.old) (W.failed sink.new) result }
+        W.received sink.old sink.new (W.failed sink.old) (W.failed sink.new) result }
 {
     match answer(alloc, bytes, mode, kind) {
         Ok((outcome, text)) => deliver(sink, outcome, text.as_slice()),
@@ -92,7 +92,7 @@ pub fn run<R: Source, W: Sink, K: KindOfInput>(
     requires reads { R.failed source.old < u64.MAX }
     requires writes { W.failed sink.old < u64.MAX }
     ensures answer { Runs (K.rewriting_at kind 64) mode (R.coming source.old)
-        W.held sink.old sink.new result }
+        W.received sink.old sink.new result }
     ensures reads { R.failed source.new ≡ R.failed source.old + read_failures result }
     ensures writes { W.failed sink.new ≡ W.failed sink.old + write_failures result }
 {

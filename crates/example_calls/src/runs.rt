@@ -9,14 +9,14 @@ use x509_containers::{Error, Kind, Mode, Outcome, Sink, StdSource, run};
 
 /// Holds the first 96 bytes of what it gets, without memory.
 #[derive(Drop)]
-pub struct Held {
+pub struct InMemory {
     bytes: [u8; 96],
     len: usize,
 }
 
-impl Held {
-    pub fn new() -> Held {
-        Held {
+impl InMemory {
+    pub fn new() -> InMemory {
+        InMemory {
             bytes: [0; 96],
             len: 0,
         }
@@ -27,8 +27,8 @@ impl Held {
     }
 }
 
-impl Sink for Held {
-    ghost held = { λ _. None };
+impl Sink for InMemory {
+    ghost received = { λ _. None };
 
     ghost failed = { λ _. 0 };
 
@@ -56,7 +56,7 @@ fn is_run(
     line: &[u8],
 ) -> Result<(), Stop> {
     let mut source = StdSource::new(texts::LOOSE_STORE);
-    let mut sink = Held::new();
+    let mut sink = InMemory::new();
     let Some(kind) = Kind::from_word("pfx") else {
         return Err(Stop::Other("a kind has no word"));
     };

@@ -103,7 +103,7 @@ struct Counter {
 }
 
 impl Sink for Counter {
-    ghost held = { λ _. None };
+    ghost received = { λ _. None };
 
     ghost failed = { λ _. 0 };
 
@@ -280,9 +280,9 @@ fn pfx(alloc: Global, data: &[u8]) -> Result<Vec<u8>, Error> {
 }
 
 /// A PFX with so many bags of that type, each around an element and with a local key identifier.
-fn store(alloc: Global, kind: &[u8], held: &[u8], count: usize) -> Result<Vec<u8>, Error> {
+fn store(alloc: Global, kind: &[u8], received: &[u8], count: usize) -> Result<Vec<u8>, Error> {
     let mut parts = Vec::from_slice(alloc, kind)?;
-    parts.extend_from_slice(&element(alloc, 0xA0, held, &[])?)?;
+    parts.extend_from_slice(&element(alloc, 0xA0, received, &[])?)?;
     let bag = element(alloc, 0x30, &parts, ATTRIBUTES)?;
     let bags = element(alloc, 0x30, &repeated(alloc, &bag, count)?, &[])?;
     pfx(alloc, &element(alloc, 0x30, &content(alloc, &bags)?, &[])?)

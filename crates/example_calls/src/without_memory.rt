@@ -2,7 +2,7 @@
 //! asks that no request is made after such a line, up to the next one, and that nothing changes where one is refused.
 
 use crate::rounds::{Stop, expect, has_text, names};
-use crate::runs::Held;
+use crate::runs::InMemory;
 use crate::texts;
 use x509_containers::{
     AlgorithmIdentifier, Attributes, AuthenticatedSafeDataRepr, BitString, BmpString,
@@ -159,7 +159,7 @@ fn is_repr<R: AuthenticatedSafeDataRepr>(
     expect(R::repr_well_formed_at(&repr, 64), "an ill-formed value")?;
     expect(R::repr_len(&repr)? == text.len(), "another length")?;
     names_free(rt, "emit_repr")?;
-    let mut sink = Held::new();
+    let mut sink = InMemory::new();
     expect(R::emit_repr(&repr, &mut sink).is_ok(), "a refusal")?;
     expect(sink.bytes() == text, "other bytes")?;
     names_free(rt, "from_repr")?;
@@ -325,11 +325,11 @@ fn is_sent<T: EqualByText>(rt: &HostRuntime, value: &T, text: &[u8]) -> Result<(
     names_free(rt, "encoded_len")?;
     expect(value.encoded_len()? == text.len(), "another length")?;
     names_free(rt, "write_to")?;
-    let mut sink = Held::new();
+    let mut sink = InMemory::new();
     expect(write_to(value, &mut sink).is_ok(), "a refusal")?;
     expect(sink.bytes() == text, "other bytes")?;
     names_free(rt, "emit")?;
-    let mut sink = Held::new();
+    let mut sink = InMemory::new();
     expect(value.emit(&mut sink).is_ok(), "a refusal")?;
     expect(sink.bytes() == text, "other bytes")
 }
@@ -359,7 +359,7 @@ pub fn values(rt: &HostRuntime) -> Result<(), Stop> {
 pub fn tags(rt: &HostRuntime) -> Result<(), Stop> {
     let value = OctetStringAsn1(octets(rt, b"AB")?);
     names_free(rt, "emit_as")?;
-    let mut sink = Held::new();
+    let mut sink = InMemory::new();
     expect(value.emit_as(0x80, &mut sink).is_ok(), "a refusal")?;
     expect(sink.bytes() == b"\x80\x02AB".as_slice(), "another tag")
 }

@@ -3,7 +3,7 @@
 #![tactic(auto)]
 
 ghost use Rattle.std.specs.Prelude.{◌≡◌, ℕ, ◌+◌, List, [], ◌++◌, Some};
-ghost use Rattle.asn1_core.specs.Der.{raw, element, IsTagByte, set_or_none, gated, within};
+ghost use Rattle.asn1_core.specs.Der.{raw, element, IsTagByte, set_or_none, needs_level, within};
 ghost use Rattle.asn1_choices.specs.DefinedBy.{any_defined_by};
 ghost use Rattle.x509_pkcs12.specs.MacOctets.{mac_octets, auth_safe_of, Covers};
 ghost use Rattle.x509_pkcs12.specs.Pfxs.{PfxValue, pfx};
@@ -11,9 +11,9 @@ ghost use Rattle.x509_pkcs12.specs.Pfxs.{PfxValue, pfx};
 use asn1_choices::{AnyDefinedBy, sequences_defined_by_are_lawful};
 use asn1_core::DerDeserialize;
 use asn1_core_format::laws::{
-    gated_types_are_lawful, limits_agree, no_accepted_input_begins_another,
-    normal_texts_stay_normal, rewriting_reaches_an_end, sets_left_out_are_lawful,
-    texts_tell_normal_values,
+    limits_agree, no_accepted_input_begins_another, normal_texts_stay_normal,
+    rewriting_reaches_an_end, sets_left_out_are_lawful, texts_tell_normal_values,
+    types_that_need_a_level_are_lawful,
 };
 use x509_pkcs12::{
     AuthenticatedSafeDataRepr, mac_octets_stand_in_the_input, mac_octets_stand_in_the_text,
@@ -58,10 +58,10 @@ pub fn limits_give_one_value<T: DerDeserialize>()
 }
 
 /// A type that needs a remaining nesting level has one value for an input.
-pub fn gated_types_have_one_value<T: DerDeserialize>()
-    ensures { (k : ℕ) (b : List ℕ) (u v : T.Value) → (gated T.format).Reads k b u → (gated T.format).Reads k b v → u ≡ v }
+pub fn types_that_need_a_level_have_one_value<T: DerDeserialize>()
+    ensures { (k : ℕ) (b : List ℕ) (u v : T.Value) → (needs_level T.format).Reads k b u → (needs_level T.format).Reads k b v → u ≡ v }
 {
-    gated_types_are_lawful::<T>();
+    types_that_need_a_level_are_lawful::<T>();
 }
 
 /// A body with a set that is left out where it is empty has one value for contents.

@@ -3,8 +3,8 @@
 //! revocation list (`revoked`).
 #![tactic(auto)]
 
-mod contents;
 mod revoked;
+mod signed_contents;
 mod stamps;
 
 use std::env::args;
@@ -46,8 +46,8 @@ pub fn print_digest(rt: &HostRuntime, info: &DigestInfo) -> Result<(), PartsErro
 fn list(rt: &HostRuntime, word: &str, file: &[u8]) -> Result<(), PartsError> {
     match word {
         "stamps" => stamps::list_stamps(rt, file),
-        "program" => contents::list_program(rt, file),
-        "trusted" => contents::list_trusted(rt, file),
+        "program" => signed_contents::list_program(rt, file),
+        "trusted" => signed_contents::list_trusted(rt, file),
         "revoked" => revoked::list_revoked(rt, file),
         _ => Err(PartsError::Usage),
     }

@@ -7,7 +7,7 @@ pub mod Curves
 pub mod Keys
 pub mod Ciphers
 pub mod FurtherCiphers
-pub mod Contents
+pub mod ContentTypes
 pub mod Attributes
 pub mod SmimeAttributes
 pub mod Stores

@@ -5,7 +5,7 @@ ghost use Rattle.oid_names.specs.Names.{IsObjectName};
 
 mod attributes;
 mod ciphers;
-mod contents;
+mod content_types;
 mod curves;
 mod digests;
 mod extensions;
@@ -52,7 +52,7 @@ pub fn object_name(octets: &[u8]) -> Option<&'static str>
     if let Some(name) = further_ciphers::name(octets) {
         return Some(name);
     }
-    if let Some(name) = contents::name(octets) {
+    if let Some(name) = content_types::name(octets) {
         return Some(name);
     }
     if let Some(name) = attributes::name(octets) {

@@ -1,7 +1,7 @@
 //! Enveloped data under its content type (RFC 5652, 3 and 6.1), with recipients of every kind, each kept as it is.
 
 ghost use Rattle.std.specs.Prelude.{◌≡◌, ℕ, List, map};
-ghost use Rattle.asn1_core.specs.Der.{kept, lawful_only_oid, list_equal, only_oid, option_equal, two_equal, with_end};
+ghost use Rattle.asn1_core.specs.Der.{verbatim, lawful_only_oid, list_equal, only_oid, option_equal, two_equal, with_end};
 ghost use Rattle.part_ranges.specs.Enveloped.{enveloped_data_oid, envelope, EnvelopeValue, envelope_value, lawful_envelope};
 ghost use Rattle.x509_base.specs.Names.{attribute_equal, attribute_value};
 ghost use Rattle.x509_pkcs7.specs.Enveloped.{encrypted_content_equal, originator_equal, originator_info_value};
@@ -24,7 +24,7 @@ impl Leaf for EnvelopedDataType {
 
     ghost value = { λ _. enveloped_data_oid };
 
-    ghost spelling = { kept (λ c. c ≡ enveloped_data_oid) };
+    ghost spelling = { verbatim (λ c. c ≡ enveloped_data_oid) };
 
     ghost MayLackMemory = { ⊥ };
 

@@ -1,6 +1,6 @@
 -- SafeContents ::= SEQUENCE OF SafeBag, where a bag of kind SafeContents holds further bags, one level down.
 use Rattle.std.specs.Prelude.{◌≡◌, ◌⊎◌, ℕ, ◌+◌, List, [], ◌∷◌, ◌++◌, map}
-use Rattle.asn1_core.specs.Der.{no_tag, one_tag, Format, sequence, sequence_of, element, Choice, known, Still, no_grammar, always, less, levels, least_all, rolled}
+use Rattle.asn1_core.specs.Der.{no_tag, one_tag, Format, sequence, sequence_of, element, Choice, known, Still, no_grammar, always, less, levels, least_all, mapped}
 use Rattle.std.specs.List.{flat_map}
 use Rattle.std.proofs.Common.{inl, inr}
 use Rattle.pkcs12_bags.specs.Attributes.{AttributesValue, attributes}
@@ -45,7 +45,7 @@ bag_into (inl p) = holder (bags_of p.0) p.1
 bag_into (inr p) = plain p
 
 abbrev pub bag_with : Format (List Bag) → Format Bag
-bag_with F = rolled bag_out bag_into (bag_components F)
+bag_with F = mapped bag_out bag_into (bag_components F)
 
 abbrev pub bags_with : Format (List Bag) → Format (List Bag)
 bags_with F = sequence_of (bag_with F)
@@ -103,5 +103,5 @@ safe_contents = levels {I = Unit {0}} {V = λ _. List Bag} still step tt
 abbrev pub safe_bag : Format Bag
 safe_bag = bag_with (less safe_contents)
 
-abbrev pub held_choice : Choice (BagComponents (List Bag))
-held_choice = bag_choice (less safe_contents)
+abbrev pub nested_choice : Choice (BagComponents (List Bag))
+nested_choice = bag_choice (less safe_contents)

@@ -1,6 +1,6 @@
 -- The laws of bags.
 use Rattle.std.specs.Prelude.{◌≡◌, ℕ, ◌+◌, List, [], ◌∷◌, ◌++◌, map}
-use Rattle.asn1_core.specs.Der.{Format, IsLawful, each, lawful_each, lawful_within, element, IsLawfulChoice, lawful_known, Grammar, by_levels, less, IsStep, lawful_levels, lawful_less, least_all, lawful_rolled, texts_same, all_same, least_same}
+use Rattle.asn1_core.specs.Der.{Format, IsLawful, each, lawful_each, lawful_within, element, IsLawfulChoice, lawful_known, Grammar, by_levels, less, IsStep, lawful_levels, lawful_less, least_all, lawful_mapped, texts_same, all_same, least_same}
 use Rattle.std.specs.List.{flat_map}
 use Rattle.std.proofs.Common.{refl, ap, inl, inr, arith}
 use Rattle.pkcs12_bags.specs.Attributes.{attributes}
@@ -32,7 +32,7 @@ into_out (plain p) = refl
 pub lawful_bag_with : (F : Format (List Bag)) → IsLawful F → IsLawful (bag_with F)
 lawful_bag_with F f =
     let c : IsLawfulChoice (bag_choice F) = lawful_bag_choice F f in
-    lawful_rolled bag_out bag_into out_into into_out (bag_components F) (lawful_within (bag_choice F).components c.components 0x30 (omega arith))
+    lawful_mapped bag_out bag_into out_into into_out (bag_components F) (lawful_within (bag_choice F).components c.components 0x30 (omega arith))
 
 -- what is the same at all levels
 bags_text_is : (bs : Bags) → flat_map bag_text (list_bags bs) ≡ bags_text bs

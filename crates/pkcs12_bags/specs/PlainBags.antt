@@ -17,18 +17,18 @@ bag_alternative F = part (explicit 0 F) attributes.format
 pub lawful_bag_alternative : {V : Type 0} (F : Format V) → IsLawful F → IsLawfulComponents (bag_alternative F)
 lawful_bag_alternative F f = followed_by (lawful_explicit (omega arith) f) attributes.law
 
-abbrev held : Asn1 → Contents
-held a = record { Value = a.Value × AttributesValue; format = bag_alternative a.format; law = lawful_bag_alternative a.format a.law }
+abbrev plain_bag : Asn1 → Contents
+plain_bag a = record { Value = a.Value × AttributesValue; format = bag_alternative a.format; law = lawful_bag_alternative a.format a.law }
 
 -- a key, an encrypted key, a certificate, a revocation list, a secret, or an OID and any element; each with attributes
 abbrev pub plain_bags : ByOid
 plain_bags =
-    if_oid (oid KEY_BAG) (held ANY)
-    (if_oid (oid SHROUDED_KEY_BAG) (held (SEQUENCE encrypted_key_bag))
-    (if_oid (oid CERTIFICATE_BAG) (held (SEQUENCE (x509_bag X509_CERTIFICATE)))
-    (if_oid (oid CRL_BAG) (held (SEQUENCE (x509_bag X509_CRL)))
-    (if_oid (oid SECRET_BAG) (held (SEQUENCE secret_bag))
-    (any_oid (held ANY))))))
+    if_oid (oid KEY_BAG) (plain_bag ANY)
+    (if_oid (oid SHROUDED_KEY_BAG) (plain_bag (SEQUENCE encrypted_key_bag))
+    (if_oid (oid CERTIFICATE_BAG) (plain_bag (SEQUENCE (x509_bag X509_CERTIFICATE)))
+    (if_oid (oid CRL_BAG) (plain_bag (SEQUENCE (x509_bag X509_CRL)))
+    (if_oid (oid SECRET_BAG) (plain_bag (SEQUENCE secret_bag))
+    (any_oid (plain_bag ANY))))))
 
 abbrev pub PlainComponents : Type 0
 PlainComponents = plain_bags.Value

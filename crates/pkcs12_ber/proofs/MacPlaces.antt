@@ -5,13 +5,13 @@ use Rattle.pkcs12_bags.specs.Oids.{data_oid}
 use Rattle.x509_pkcs12.specs.AuthSafes.{AuthSafeValue, auth_safe}
 use Rattle.x509_pkcs12.specs.MacOctets.{mac_octets, auth_safe_of, same_some}
 use Rattle.x509_pkcs12.specs.Pfxs.{PfxValue}
-use Rattle.x509_pkcs12.proofs.MacPlaces.{Stands, three}
+use Rattle.x509_pkcs12.proofs.MacPlaces.{IsMacInput, three}
 use Rattle.pkcs12_ber.specs.InDer.{info}
 use Rattle.pkcs12_ber.specs.Pfxs.{ber_pfx}
 
 -- as x509_pkcs12 says it of a raw PFX
-pub stands_in : (b o : List ℕ) (w : PfxValue Octets) → (sequence ber_pfx.format).Reads 64 b w → mac_octets w ≡ Some o → Stands b o w
-stands_in b o (n, (inl d, x)) s e =
+pub mac_input_in : (b o : List ℕ) (w : PfxValue Octets) → (sequence ber_pfx.format).Reads 64 b w → mac_octets w ≡ Some o → IsMacInput b o w
+mac_input_in b o (n, (inl d, x)) s e =
     let t = s.2.4 in
     let a = t.3.2 in
     let same : d ≡ o = same_some d o e in
@@ -26,7 +26,7 @@ stands_in b o (n, (inl d, x)) s e =
       version = ap (λ v. length (element 0x02 (integer_octets v))) s.2.3.1 ∙ three;
       text = ap auth_safe_of same;
     }
-stands_in b o (n, (inr p, x)) s e = absurd (let f : None ≡ Some o = e in cc)
+mac_input_in b o (n, (inr p, x)) s e = absurd (let f : None ≡ Some o = e in cc)
 
 -- an authSafe is written as that of a raw PFX
 pub same_text : (a : AuthSafeValue Octets) → info.text a ≡ (auth_safe raw).text a

@@ -11,7 +11,7 @@ use Rattle.x509_pkcs12.specs.Agree.{DataReadsAs, ReadsAs, pfx_agrees}
 use Rattle.x509_pkcs12.specs.AuthSafes.{AuthSafeValue, auth_safe_choice}
 use Rattle.x509_pkcs12.specs.MacOctets.{mac_octets}
 use Rattle.x509_pkcs12.specs.Pfxs.{PfxValue, pfx, lawful_pfx}
-use Rattle.pkcs12_ber.specs.Contents.{content_info}
+use Rattle.pkcs12_ber.specs.ContentInfos.{content_info}
 use Rattle.pkcs12_ber.specs.Files.{ReadsInDer, IsBerFile, HasNoReading, HasNoContents}
 use Rattle.pkcs12_ber.specs.InDer.{IsSafeInDer}
 use Rattle.pkcs12_ber.specs.Pfxs.{ber_pfx}

@@ -7,7 +7,7 @@ use Rattle.ber_der.specs.Ber.{IsBer, HasNoDer}
 use Rattle.ber_der.specs.BerLaws.{one_der}
 use Rattle.ber_der.specs.declared.contexts.Role.TheVariants.{Whole}
 use Rattle.x509_pkcs12.specs.AuthSafes.{AuthSafeValue}
-use Rattle.pkcs12_ber.specs.Contents.{content_info}
+use Rattle.pkcs12_ber.specs.ContentInfos.{content_info}
 use Rattle.pkcs12_ber.specs.InDer.{safe, IsInfoInDer, AreInDer, IsSafeInDer, HasNoSafe, HasAppended, HaveNoDer}
 
 abbrev Info : Type 0

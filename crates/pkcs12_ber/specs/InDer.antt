@@ -7,7 +7,7 @@ use Rattle.asn1_core.specs.Der.{Format, Octets, sequence, sequence_of}
 use Rattle.ber_der.specs.Ber.{IsBer}
 use Rattle.ber_der.specs.declared.contexts.Role.TheVariants.{Whole}
 use Rattle.x509_pkcs12.specs.AuthSafes.{AuthSafeValue}
-use Rattle.pkcs12_ber.specs.Contents.{content_info}
+use Rattle.pkcs12_ber.specs.ContentInfos.{content_info}
 
 abbrev pub info : Format (AuthSafeValue Octets)
 info = sequence content_info.format

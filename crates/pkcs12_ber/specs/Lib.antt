@@ -1,5 +1,5 @@
-pub mod Contents
-pub mod ContentsEqual
+pub mod ContentInfos
+pub mod ContentInfosEqual
 pub mod Pfxs
 pub mod PfxsEqual
 pub mod InDer

@@ -4,7 +4,7 @@ use Rattle.asn1_core.specs.Asn1.{Contents, contents, asn1, ◌then◌, ◌OPTION
 use Rattle.asn1_core.specs.Der.{lawful_version_3, option_value, Octets}
 use Rattle.pkcs12_algs.specs.Digests.{mac_data_value, mac_data}
 use Rattle.x509_pkcs12.specs.Pfxs.{PfxValue}
-use Rattle.pkcs12_ber.specs.Contents.{content_info, content_info_value}
+use Rattle.pkcs12_ber.specs.ContentInfos.{content_info, content_info_value}
 use Rattle.pkcs12_ber.specs.declared.pfxs.BerPfx.{BerPfx}
 
 abbrev pub ber_pfx : Contents

@@ -3,7 +3,7 @@ use Rattle.std.proofs.lemmas.Bool.Decides.{Decides-eqb}
 use Rattle.asn1_core.specs.Der.{SeesEqual, two_equal, with_end, option_equal}
 use Rattle.pkcs12_algs.specs.Digests.{mac_data_value}
 use Rattle.pkcs12_algs.specs.AlgorithmsEqual.{mac_data_equal}
-use Rattle.pkcs12_ber.specs.ContentsEqual.{content_info_equal}
+use Rattle.pkcs12_ber.specs.ContentInfosEqual.{content_info_equal}
 use Rattle.pkcs12_ber.specs.Pfxs.{ber_pfx_value}
 use Rattle.pkcs12_ber.specs.contracts.pfxs.BerPfxPartialEq.TheImpl as Pfx
 

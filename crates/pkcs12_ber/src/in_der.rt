@@ -4,12 +4,12 @@ ghost use Rattle.std.specs.Prelude.{◌≡◌, ◌≢◌, ◌≤◌, [], ◌∷�
 ghost use Rattle.std.proofs.Common.{inl};
 ghost use Rattle.asn1_core.specs.Der.{element};
 ghost use Rattle.asn1_core_element.specs.declared.error.Error.TheVariants.{Memory};
-ghost use Rattle.pkcs12_ber.specs.Contents.{content_info_value};
+ghost use Rattle.pkcs12_ber.specs.ContentInfos.{content_info_value};
 ghost use Rattle.pkcs12_ber.specs.InDer.{info, IsInfoInDer, IsSafeInDer, HasNoSafe, HasAppended, HaveNoDer};
 ghost use Rattle.pkcs12_ber.specs.Places.{InData, InOctets};
 ghost use Rattle.pkcs12_ber.specs.declared.reading.Place.TheVariants.{Data};
 
-use crate::contents::BerContentInfo;
+use crate::content_infos::BerContentInfo;
 use crate::reading::Place;
 use asn1_core::from_bytes_located;
 use asn1_core::prelude::*;

@@ -8,7 +8,7 @@ ghost use Rattle.x509_pkcs12.specs.MacOctets.{mac_octets};
 ghost use Rattle.pkcs12_ber.specs.Pfxs.{ber_pfx, ber_pfx_value};
 ghost use Rattle.pkcs12_ber.specs.PfxsEqual.{ber_pfx_equal};
 
-use crate::contents::BerContentInfo;
+use crate::content_infos::BerContentInfo;
 use asn1_core::prelude::*;
 use pkcs12_algs::MacData;
 use std::alloc::Global;

@@ -6,12 +6,12 @@ ghost use Rattle.asn1_core.specs.Der.{octets_of, option_value};
 ghost use Rattle.asn1_core_element.specs.declared.error.Error.TheVariants.{Memory};
 ghost use Rattle.ber_der.specs.Typed.{IsBerValueOf, HasNoBerValue};
 ghost use Rattle.x509_pkcs12.specs.Agree.{DataReadsAs};
-ghost use Rattle.pkcs12_ber.specs.Contents.{content_info_value};
+ghost use Rattle.pkcs12_ber.specs.ContentInfos.{content_info_value};
 ghost use Rattle.pkcs12_ber.specs.Files.{ReadsInDer, IsBerFile, HasNoReading, HasNoContents};
 ghost use Rattle.pkcs12_ber.specs.Pfxs.{ber_pfx, ber_pfx_value};
 ghost use Rattle.pkcs12_ber.specs.Places.{InAuthSafe, InFile, LiesIn};
 
-use crate::contents::BerContentInfo;
+use crate::content_infos::BerContentInfo;
 use crate::in_der::safe_in_der;
 use crate::pfxs::BerPfx;
 use asn1_core::from_bytes_located;

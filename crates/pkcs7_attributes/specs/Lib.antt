@@ -1,4 +1,4 @@
 pub mod Attributes
 pub mod NamedAttributes
 pub mod SignedSets
-pub mod Equal
+pub mod AttributesEqual

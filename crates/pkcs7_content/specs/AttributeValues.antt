@@ -108,14 +108,14 @@ values_components Raws n = alternative attribute_values (by_itself (λ v. inr (i
 abbrev pub values_defined_by : DefinedBy AttributeValues
 values_defined_by = record { text = attribute_values.text; components = λ o. values_components (shape_of (property_of o)) (property_of o) }
 
-lawful_held : {V : Type 0} (F : Format V) → IsLawful F → IsLawful (within 0x04 F)
-lawful_held F f = lawful_within F f.components 0x04 (omega arith)
+lawful_in_octets : {V : Type 0} (F : Format V) → IsLawful F → IsLawful (within 0x04 F)
+lawful_in_octets F f = lawful_within F f.components 0x04 (omega arith)
 
 lawful_values_components : (s : Shape) (n : ℕ) → IsLawfulComponents (values_components s n)
 lawful_values_components Octets n = lawful_alternative attribute_values _ octets_set (itself (λ a. refl) (λ a. refl) (λ a. refl)) (lawful_set _ lawful_octet_string).components
-lawful_values_components Usages n = lawful_alternative attribute_values _ usages_set (itself (λ a. refl) (λ a. refl) (λ a. refl)) (lawful_set _ (lawful_held _ (lawful_sequence (lawful_each _ lawful_object_identifier)))).components
-lawful_values_components ChainPolicies n = lawful_alternative attribute_values _ chain_policies_set (itself (λ a. refl) (λ a. refl) (λ a. refl)) (lawful_set _ (lawful_held _ (SEQUENCE root_program_chain_policy).law)).components
-lawful_values_components CertPolicies n = lawful_alternative attribute_values _ cert_policies_set (itself (λ a. refl) (λ a. refl) (λ a. refl)) (lawful_set _ (lawful_held _ (lawful_sequence (lawful_each _ (SEQUENCE cert_policy).law)))).components
+lawful_values_components Usages n = lawful_alternative attribute_values _ usages_set (itself (λ a. refl) (λ a. refl) (λ a. refl)) (lawful_set _ (lawful_in_octets _ (lawful_sequence (lawful_each _ lawful_object_identifier)))).components
+lawful_values_components ChainPolicies n = lawful_alternative attribute_values _ chain_policies_set (itself (λ a. refl) (λ a. refl) (λ a. refl)) (lawful_set _ (lawful_in_octets _ (SEQUENCE root_program_chain_policy).law)).components
+lawful_values_components CertPolicies n = lawful_alternative attribute_values _ cert_policies_set (itself (λ a. refl) (λ a. refl) (λ a. refl)) (lawful_set _ (lawful_in_octets _ (lawful_sequence (lawful_each _ (SEQUENCE cert_policy).law)))).components
 lawful_values_components Raws n = lawful_alternative attribute_values _ raws_set (itself (λ a. refl) (λ a. refl) (λ a. refl)) (lawful_set _ lawful_raw).components
 
 written_alike : (s : Shape) (n : ℕ) (v : AttributeValues) → (values_components s n).text v ≡ attribute_values.text v

@@ -6,7 +6,7 @@ pub mod SipInfos
 pub mod IndirectData
 pub mod Contents
 pub mod ContentLaws
-pub mod Equal
+pub mod ContentsEqual
 pub mod Policies
 pub mod Properties
 pub mod AttributeValues

@@ -19,9 +19,9 @@ lawful_pe_image_spelled = lawful_sequence (perhaps lawful_bit_string refl lawful
 pub default_is_bits : IsBits default_flags
 default_is_bits = (omega arith, λ e. cc)
 
-flags_kept : (k : ℕ) (a : Option (List ℕ) × (spc_link.Value × Unit {0})) → pe_image_spelled.IsWellFormed k a → pe_image_spelled.IsWellFormed k (flags_written.written (flags_written.read a))
-flags_kept k (Some f, l) h = h
-flags_kept k (None, l) h = (default_is_bits, h.1)
+flags_preserved : (k : ℕ) (a : Option (List ℕ) × (spc_link.Value × Unit {0})) → pe_image_spelled.IsWellFormed k a → pe_image_spelled.IsWellFormed k (flags_written.written (flags_written.read a))
+flags_preserved k (Some f, l) h = h
+flags_preserved k (None, l) h = (default_is_bits, h.1)
 
 flags_chosen : (k : ℕ) (b : List ℕ) (a : Option (List ℕ) × (spc_link.Value × Unit {0})) → pe_image_spelled.Reads k b a → (HasFlags b ↔ (flags_written.written (flags_written.read a) ≡ a))
 flags_chosen k b (Some f, l) s = (
@@ -56,7 +56,7 @@ flags_reached false k v e h = (flags_written.written v, h, refl, ap (λ t. 1 + (
 pub flags_loosening : IsLoosening pe_image_spelled flags_written
 flags_loosening = record {
   proper = λ a. tt;
-  kept = flags_kept;
+  preserved = flags_preserved;
   chosen = flags_chosen;
   settled = λ k v h i. refl;
   reread = λ k v h i. refl;

@@ -4,7 +4,7 @@ use Rattle.asn1_core.specs.Der.{octets_of, Format, Position, HasRead, HasRefused
 use Rattle.asn1_core.specs.declared.objects.ObjectIdentifierAsn1.{ObjectIdentifierAsn1}
 use Rattle.asn1_core_element.specs.declared.error.Error.{Error}
 use Rattle.asn1_core_element.specs.declared.error.Error.TheVariants.{Memory}
-use Rattle.asn1_core_format.proofs.LevelReads.{has_read_level, refused_level, has_read_rolled, refused_rolled}
+use Rattle.asn1_core_format.proofs.LevelReads.{has_read_level, refused_level, has_read_mapped, refused_mapped}
 use Rattle.pkcs7_content.specs.declared.versions.CmsVersion.{CmsVersion}
 use Rattle.pkcs7_signed_crl.specs.declared.algorithms.DigestAlgorithmIdentifier.{DigestAlgorithmIdentifier}
 use Rattle.pkcs7_signed_crl.specs.declared.algorithms.SignatureAlgorithmIdentifier.{SignatureAlgorithmIdentifier}
@@ -26,22 +26,22 @@ use Rattle.pkcs7_signed.specs.declared.signers.UnsignedAttributeValue.TheFolds.{
 
 module _ (k : ℕ) {old new : Position} where
   pub signer_has_read : (v : Value signers) → HasRead (signer_components attribute) k old new (signer_out v) → HasRead signer k old new v
-  signer_has_read v t = has_read_level {I = Unit {0}} {V = λ _. Value signers} still step signer_step tt k (has_read_rolled signer_out signer_into (signer_components attribute) k v t)
+  signer_has_read v t = has_read_level {I = Unit {0}} {V = λ _. Value signers} still step signer_step tt k (has_read_mapped signer_out signer_into (signer_components attribute) k v t)
 
   pub signer_refused : {e : Error} → HasRefused (signer_components attribute) k old new e → HasRefused signer k old new e
-  signer_refused g = refused_level {I = Unit {0}} {V = λ _. Value signers} still step signer_step tt k (refused_rolled signer_out signer_into (signer_components attribute) k g)
+  signer_refused g = refused_level {I = Unit {0}} {V = λ _. Value signers} still step signer_step tt k (refused_mapped signer_out signer_into (signer_components attribute) k g)
 
   pub attribute_has_read : (v : Value attributes) → HasRead (attribute_components certificate (less signer)) k old new (attribute_out v) → HasRead attribute k old new v
-  attribute_has_read v t = has_read_rolled attribute_out attribute_into (attribute_components certificate (less signer)) k v t
+  attribute_has_read v t = has_read_mapped attribute_out attribute_into (attribute_components certificate (less signer)) k v t
 
   pub attribute_refused : {e : Error} → HasRefused (attribute_components certificate (less signer)) k old new e → HasRefused attribute k old new e
-  attribute_refused g = refused_rolled attribute_out attribute_into (attribute_components certificate (less signer)) k g
+  attribute_refused g = refused_mapped attribute_out attribute_into (attribute_components certificate (less signer)) k g
 
   pub certificate_has_read : (v : Value certificates) → HasRead (certificate_components (less signer)) k old new (certificate_out v) → HasRead certificate k old new v
-  certificate_has_read v t = has_read_rolled certificate_out certificate_into (certificate_components (less signer)) k v t
+  certificate_has_read v t = has_read_mapped certificate_out certificate_into (certificate_components (less signer)) k v t
 
   pub certificate_refused : {e : Error} → HasRefused (certificate_components (less signer)) k old new e → HasRefused certificate k old new e
-  certificate_refused g = refused_rolled certificate_out certificate_into (certificate_components (less signer)) k g
+  certificate_refused g = refused_mapped certificate_out certificate_into (certificate_components (less signer)) k g
 
 -- what was read
 pub made_signer : (v : CmsVersion) (s : SignerIdentifier) (d : DigestAlgorithmIdentifier) (a : Attributes) (g : SignatureAlgorithmIdentifier) (o : SignatureValue) (us : Vec UnsignedAttribute Global) → signer_out (signer_value (roll-SignerInfo record { version = v; sid = s; digest_algorithm = d; signed_attrs = record { 0 = a }; signature_algorithm = g; signature = o; unsigned_attrs = record { 0 = roll-UnsignedAttributes record { 0 = us } } })) ≡ signer_parts_value v s d a g o (map attribute_value us.items, tt)

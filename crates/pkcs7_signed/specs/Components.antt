@@ -8,7 +8,7 @@
 use Rattle.std.specs.Prelude.{◌⊎◌, ℕ, List, if◌then◌else◌}
 use Rattle.std.specs.Str.{bytes_eq}
 use Rattle.std.proofs.Common.{refl, inl, inr, arith}
-use Rattle.asn1_core.specs.Der.{Format, IsLawful, IsLawfulComponents, sequence, lawful_sequence, part, raw, lawful_raw, OidOctets, ElementOctets, set_of, lawful_set, explicit, only_oid, either, set_or_none, lawful_set_or_none, gated, lawful_gated, followed_by, lawful_only_oid, lawful_explicit}
+use Rattle.asn1_core.specs.Der.{Format, IsLawful, IsLawfulComponents, sequence, lawful_sequence, part, raw, lawful_raw, OidOctets, ElementOctets, set_of, lawful_set, explicit, only_oid, either, set_or_none, lawful_set_or_none, needs_level, lawful_needs_level, followed_by, lawful_only_oid, lawful_explicit}
 use Rattle.asn1_choices.specs.DefinedBy.{DefinedBy, any_defined_by, alternative, by_itself, only_written}
 use Rattle.asn1_choices.specs.DefinedByLaws.{IsDefinedBy, itself, lawful_alternative, lawful_any_defined_by}
 use Rattle.pkcs7_signed.specs.Oids.{signed_data_oid, countersignature_oid, ms_counter_sign_oid}
@@ -28,7 +28,7 @@ abbrev pub SignedComponents : Type 0 → Type 0
 SignedComponents S = SignedParts (List S)
 
 abbrev pub signed_components : {S : Type 0} → Format S → Format (SignedComponents S)
-signed_components F = gated (sequence (signed_parts (set_of F)))
+signed_components F = needs_level (sequence (signed_parts (set_of F)))
 
 abbrev pub CertificateComponents : Type 0 → Type 0
 CertificateComponents S = OidOctets × SignedComponents S
@@ -98,7 +98,7 @@ pub lawful_signer_components : {A : Type 0} (F : Format A) → IsLawful F → Is
 lawful_signer_components F f = lawful_sequence (lawful_signer_parts (lawful_set_or_none 0xA1 (omega arith) F f))
 
 pub lawful_signed_components : {S : Type 0} (F : Format S) → IsLawful F → IsLawful (signed_components F)
-lawful_signed_components F f = lawful_gated (sequence (signed_parts (set_of F))) (lawful_sequence (lawful_signed_parts (lawful_set F f).components refl refl))
+lawful_signed_components F f = lawful_needs_level (sequence (signed_parts (set_of F))) (lawful_sequence (lawful_signed_parts (lawful_set F f).components refl refl))
 
 pub lawful_certificate_components : {S : Type 0} (F : Format S) → IsLawful F → IsLawful (certificate_components F)
 lawful_certificate_components F f = lawful_sequence (followed_by (lawful_only_oid signed_data_oid) (lawful_explicit (omega arith) (lawful_signed_components F f)).components)

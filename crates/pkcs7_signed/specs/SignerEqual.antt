@@ -4,10 +4,10 @@ use Rattle.std.specs.List.{AllByRecursion}
 use lib.Pointwise.{pointwise}
 use Rattle.asn1_core.specs.Der.{octets_equal, raw_equal, with_end, same_first, same_second, SeesEqual, two_equal, option_equal, list_equal, equal_octets}
 use Rattle.x509_base.specs.AlgorithmParts.{algorithm_identifier_equal}
-use Rattle.pkcs7_content.specs.Equal.{encapsulated_content_info_equal}
+use Rattle.pkcs7_content.specs.ContentsEqual.{encapsulated_content_info_equal}
 use Rattle.pkcs7_content.specs.Versions.{number_of}
 use Rattle.pkcs7_content.specs.contracts.versions.CmsVersionPartialEq.TheImpl as Version
-use Rattle.pkcs7_attributes.specs.Equal.{attributes_equal as signed_attributes_equal}
+use Rattle.pkcs7_attributes.specs.AttributesEqual.{attributes_equal as signed_attributes_equal}
 use Rattle.pkcs7_signed_crl.specs.PartsEqual.{digest_algorithm_identifiers_equal, certificate_set_equal, revocation_info_choices_equal, signer_identifier_equal}
 use Rattle.pkcs7_signed.specs.Heads.{elements}
 use Rattle.pkcs7_signed.specs.Components.{UnsignedValues}

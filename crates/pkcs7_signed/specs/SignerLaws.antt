@@ -1,7 +1,7 @@
 -- The laws of signers and what they hold.
 use Rattle.std.specs.Prelude.{◌≡◌, ℕ, ◌+◌, List, [], ◌++◌}
 use Rattle.std.proofs.Common.{refl, ap, ap₂, inl, inr, arith}
-use Rattle.asn1_core.specs.Der.{Format, IsLawful, sequence, part, nothing, explicit, only_oid, element, Grammar, by_levels, less, IsStep, lawful_levels, lawful_less, text_unless, least_unless, lawful_rolled, lawful_set, lawful_implicit_set}
+use Rattle.asn1_core.specs.Der.{Format, IsLawful, sequence, part, nothing, explicit, only_oid, element, Grammar, by_levels, less, IsStep, lawful_levels, lawful_less, text_unless, least_unless, lawful_mapped, lawful_set, lawful_implicit_set}
 use Rattle.pkcs7_signed.specs.Forest.{Forest, none, nodes_forest, forest_nodes, fold_node, same_all, same_node, nil_same, same_list, texts_fold, least_fold}
 use Rattle.pkcs7_signed.specs.Oids.{signed_data_oid}
 use Rattle.pkcs7_signed.specs.Parts.{signer_end, after_signer, signer_parts, signed_end, after_signed, signed_parts, ending}
@@ -43,13 +43,13 @@ attribute_back (Foreign, p, f) = ap (λ g. (Foreign, p, g)) (none_inside f)
 
 module _ (F : Format (Value signers)) (f : IsLawful F) where
   pub lawful_certificate_with : IsLawful (certificate_with F)
-  lawful_certificate_with = lawful_rolled certificate_out certificate_into certificate_there certificate_back (certificate_components F) (lawful_certificate_components F f)
+  lawful_certificate_with = lawful_mapped certificate_out certificate_into certificate_there certificate_back (certificate_components F) (lawful_certificate_components F f)
 
   pub lawful_attribute_with : IsLawful (attribute_with F)
-  lawful_attribute_with = lawful_rolled attribute_out attribute_into attribute_there attribute_back (attribute_components (certificate_with F) F) (lawful_attribute_components (certificate_with F) F lawful_certificate_with f)
+  lawful_attribute_with = lawful_mapped attribute_out attribute_into attribute_there attribute_back (attribute_components (certificate_with F) F) (lawful_attribute_components (certificate_with F) F lawful_certificate_with f)
 
   pub lawful_signer_with : IsLawful (signer_with F)
-  lawful_signer_with = lawful_rolled signer_out signer_into signer_there signer_back (signer_components (attribute_with F)) (lawful_signer_components (attribute_with F) lawful_attribute_with)
+  lawful_signer_with = lawful_mapped signer_out signer_into signer_there signer_back (signer_components (attribute_with F)) (lawful_signer_components (attribute_with F) lawful_attribute_with)
 
 -- what is the same at all levels
 module _ (g : ℕ → Grammar (Value signers)) where

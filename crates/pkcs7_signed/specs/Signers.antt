@@ -2,7 +2,7 @@
 -- signed data, which take a level themselves.
 use Rattle.std.specs.Prelude.{◌≡◌, ℕ, List, [], map}
 use Rattle.std.proofs.Common.{inl, inr}
-use Rattle.asn1_core.specs.Der.{no_tag, one_tag, Format, nothing, raw, OidOctets, ElementOctets, set_of, implicit_set, Still, no_grammar, always, less, levels, rolled}
+use Rattle.asn1_core.specs.Der.{no_tag, one_tag, Format, nothing, raw, OidOctets, ElementOctets, set_of, implicit_set, Still, no_grammar, always, less, levels, mapped}
 use Rattle.pkcs7_signed.specs.Forest.{Forest, none, Node, nodes, forest, fold_node, same_node}
 use Rattle.pkcs7_signed.specs.Parts.{SignerParts, signer_end, after_signer, signer_parts, SignedParts, signed_end, after_signed, signed_parts}
 use Rattle.pkcs7_signed.specs.Components.{SignerComponents, signer_components, SignedComponents, signed_components, CertificateComponents, certificate_components, UnsignedValues, attribute_values, AttributeComponents, attribute_components}
@@ -80,13 +80,13 @@ attribute_into (o, inr (inr xs)) = (Foreign, (o, xs), none)
 
 -- the formats, over that of a signer a level down
 abbrev pub certificate_with : Format (Value signers) → Format (Value certificates)
-certificate_with F = rolled certificate_out certificate_into (certificate_components F)
+certificate_with F = mapped certificate_out certificate_into (certificate_components F)
 
 abbrev pub attribute_with : Format (Value signers) → Format (Value attributes)
-attribute_with F = rolled attribute_out attribute_into (attribute_components (certificate_with F) F)
+attribute_with F = mapped attribute_out attribute_into (attribute_components (certificate_with F) F)
 
 abbrev pub signer_with : Format (Value signers) → Format (Value signers)
-signer_with F = rolled signer_out signer_into (signer_components (attribute_with F))
+signer_with F = mapped signer_out signer_into (signer_components (attribute_with F))
 
 -- what is made of a node, from what was made of those inside: an encoding, a count
 abbrev pub as_text : Format (List ℕ)

@@ -13,7 +13,7 @@ use Rattle.asn1_leaves_strings.specs.Octets.{contents_of, octets_of_utf8}
 use Rattle.x509_base.specs.Extensions.{extensions, extensions_equal, extensions_value}
 use Rattle.rfc5280.specs.Pkix1Implicit88.{general_name, general_name_equal, general_name_value}
 use Rattle.std.specs.Prelude.{map, ◌^◌}
-use Rattle.asn1_core.specs.Equal.{oid_equal}
+use Rattle.asn1_core.specs.ViewsEqual.{oid_equal}
 use Rattle.std.proofs.Common.{refl}
 use Rattle.rfc3161.specs.declared.pkixtsp.MessageImprint.{MessageImprint}
 use Rattle.rfc3161.specs.contracts.pkixtsp.MessageImprintPartialEq.TheImpl as MessageImprintEq

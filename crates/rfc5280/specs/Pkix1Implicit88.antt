@@ -16,7 +16,7 @@ use Rattle.asn1_other_leaves.specs.Differ.{differ}
 use Rattle.asn1_leaves_times.specs.TimesLaws.{equal_generalized}
 use Rattle.std.proofs.Common.{inl, inr, refl, rules}
 use Rattle.asn1_leaves_times.specs.Times.{moment_of_generalized}
-use Rattle.asn1_core.specs.Equal.{oid_equal}
+use Rattle.asn1_core.specs.ViewsEqual.{oid_equal}
 use Rattle.rfc5280.specs.declared.pkix1_implicit88.AnotherName.{AnotherName}
 use Rattle.rfc5280.specs.contracts.pkix1_implicit88.AnotherNamePartialEq.TheImpl as AnotherNameEq
 use Rattle.rfc5280.specs.declared.pkix1_implicit88.EdiPartyName.{EdiPartyName}

@@ -19,7 +19,7 @@ use Rattle.x509_base.specs.Extensions.{extensions, extensions_equal, extensions_
 use Rattle.std.proofs.Common.{inl, inr, refl, rules}
 use Rattle.asn1_leaves_times.specs.Times.{moment_of_generalized}
 use Rattle.x509_base.specs.Names.{name, name_equal, name_parts}
-use Rattle.asn1_core.specs.Equal.{oid_equal}
+use Rattle.asn1_core.specs.ViewsEqual.{oid_equal}
 use Rattle.rfc6960.specs.declared.ocsp_2013_88.CertId.{CertId}
 use Rattle.rfc6960.specs.contracts.ocsp_2013_88.CertIdPartialEq.TheImpl as CertIdEq
 use Rattle.rfc6960.specs.declared.ocsp_2013_88.Request.{Request}

@@ -82,7 +82,7 @@ impl Narrow {
 }
 
 impl Sink for Narrow {
-    ghost held = { λ _. None };
+    ghost received = { λ _. None };
 
     ghost failed = { λ s. s.failed };
 

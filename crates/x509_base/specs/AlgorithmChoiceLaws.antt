@@ -21,9 +21,9 @@ module _ {A : Type 0} (T : Table A) (t : IsTable T) where
   proper_at (Some a) v e = tt
   proper_at None v e = e
 
-  kept_at : (k : ℕ) (r : Option A) (v : algorithm_identifier.Value) → T.alternative_of v.0 ≡ r → algorithm_identifier.format.IsWellFormed k v → algorithm_identifier.format.IsWellFormed k ((alternative_written T).written (alternative_read r v))
-  kept_at k (Some a) v e h = (subst IsOid (sym (t.back v.0 a e)) h.0, (null_is_element, tt))
-  kept_at k None v e h = (h.0, (or_null_formed k v.1.0).0 h.1)
+  preserved_at : (k : ℕ) (r : Option A) (v : algorithm_identifier.Value) → T.alternative_of v.0 ≡ r → algorithm_identifier.format.IsWellFormed k v → algorithm_identifier.format.IsWellFormed k ((alternative_written T).written (alternative_read r v))
+  preserved_at k (Some a) v e h = (subst IsOid (sym (t.back v.0 a e)) h.0, (null_is_element, tt))
+  preserved_at k None v e h = (h.0, (or_null_formed k v.1.0).0 h.1)
 
   fewer_at : (r : Option A) (v : algorithm_identifier.Value) → (alternative_written T).least (alternative_read r v) ≤ algorithm_identifier.format.least v
   fewer_at (Some a) v = omega arith
@@ -83,7 +83,7 @@ module _ {A : Type 0} (T : Table A) (t : IsTable T) where
   pub alternative_loosening : IsLoosening algorithm_identifier.format (alternative_written T)
   alternative_loosening = record {
     proper = λ v. proper_at (T.alternative_of v.0) v refl;
-    kept = λ k v h. kept_at k (T.alternative_of v.0) v refl h;
+    preserved = λ k v h. preserved_at k (T.alternative_of v.0) v refl h;
     chosen = λ k b v s. chosen_at k b (T.alternative_of v.0) v refl s;
     settled = λ k v h i. settled v i;
     reread = λ k v h i. reread_at v i;

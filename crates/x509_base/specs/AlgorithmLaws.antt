@@ -54,7 +54,7 @@ null_reread o (Some x) = refl
 pub null_loosening : IsLoosening algorithm_identifier.format null_written
 null_loosening = record {
   proper = λ a. tt;
-  kept = λ k a h. (h.0, (or_null_formed k a.1.0).0 h.1);
+  preserved = λ k a h. (h.0, (or_null_formed k a.1.0).0 h.1);
   chosen = null_chosen;
   settled = λ k v h i. null_settled v.0 v.1.0;
   reread = λ k v h i. null_reread v.0 v.1.0;

@@ -18,7 +18,7 @@ use Rattle.x509_containers.specs.StoreKinds
 use Rattle.x509_containers.specs.TrustListKinds
 use Rattle.x509_containers.specs.declared.kinds.algorithms.AlgorithmKind.{AlgorithmKind}
 use Rattle.x509_containers.specs.declared.kinds.authenticode.AuthenticodeKind.{AuthenticodeKind}
-use Rattle.x509_containers.specs.declared.kinds.contents.ContentKind.{ContentKind}
+use Rattle.x509_containers.specs.declared.kinds.content_infos.ContentKind.{ContentKind}
 use Rattle.x509_containers.specs.declared.kinds.enveloped.EnvelopedKind.{EnvelopedKind}
 use Rattle.x509_containers.specs.declared.kinds.signed_data.SignedDataKind.{SignedDataKind}
 use Rattle.x509_containers.specs.declared.kinds.signed_parts.SignedPartKind.{SignedPartKind}

@@ -4,8 +4,8 @@ use Rattle.asn1_core.specs.Asn1.{SEQUENCE}
 use Rattle.asn1_core.specs.Der.{number_below}
 use Rattle.pkcs7_content.specs.ContentLaws.{encapsulated_content_info}
 use Rattle.x509_containers.specs.Entries.{Entry, entry}
-use Rattle.x509_containers.specs.declared.kinds.contents.ContentKind.{ContentKind}
-use Rattle.x509_containers.specs.declared.kinds.contents.ContentKind.TheVariants as Kind
+use Rattle.x509_containers.specs.declared.kinds.content_infos.ContentKind.{ContentKind}
+use Rattle.x509_containers.specs.declared.kinds.content_infos.ContentKind.TheVariants as Kind
 
 abbrev pub entry_of : ContentKind → Entry
 entry_of Kind.CmsVersion = entry (codes "cmsversion") (number_below 6)

@@ -8,7 +8,7 @@ ghost use Rattle.x509_containers.specs.Kinds.{rewriting_as, rewriting_at, word_o
 
 mod algorithms;
 mod authenticode;
-mod contents;
+mod content_infos;
 mod enveloped;
 mod signed_data;
 mod signed_parts;
@@ -25,7 +25,7 @@ pub use algorithms::AlgorithmKind;
 use asn1_core::{Error, MAX_NESTING};
 use asn1_core_streams::{Sink, Source};
 pub use authenticode::AuthenticodeKind;
-pub use contents::ContentKind;
+pub use content_infos::ContentKind;
 use der_engine::{KindOfInput, Mode, Outcome, Verdict, check_by_kind, loose_end_by_kind};
 pub use enveloped::EnvelopedKind;
 pub use signed_data::SignedDataKind;
@@ -219,7 +219,7 @@ pub fn run<R: Source, W: Sink>(
     requires reads { R.failed source.old < u64.MAX }
     requires writes { W.failed sink.old < u64.MAX }
     ensures answer { Runs (rewriting_as kind) mode (R.coming source.old)
-        W.held sink.old sink.new result }
+        W.received sink.old sink.new result }
     ensures reads { R.failed source.new ≡ R.failed source.old + read_failures result }
     ensures writes { W.failed sink.new ≡ W.failed sink.old + write_failures result }
 {

@@ -24,7 +24,7 @@ fn run_asked<R: Source, W: Sink>(
     requires reads { R.failed source.old < u64.MAX }
     requires writes { W.failed output.old < u64.MAX }
     ensures asked { IsAsked result (map string_bytes words.now) }
-    ensures did { Did result R.coming R.failed W.held W.failed source.old source.new output.old output.new }
+    ensures did { Did result R.coming R.failed W.received W.failed source.old source.new output.old output.new }
 {
     match asked(words) {
         Some((mode, kind)) => {
@@ -49,7 +49,7 @@ fn run_known<R: Source, W: Sink>(
     requires reads { R.failed source.old < u64.MAX }
     requires writes { W.failed output.old < u64.MAX }
     ensures fits { Fits (λ v. map string_bytes v.items) words result }
-    ensures did { Did result R.coming R.failed W.held W.failed source.old source.new output.old output.new }
+    ensures did { Did result R.coming R.failed W.received W.failed source.old source.new output.old output.new }
 {
     match words {
         Ok(words) => run_asked(alloc, words.as_slice(), source, output),
@@ -61,7 +61,7 @@ fn run_known<R: Source, W: Sink>(
 /// Says a line, or nothing. A failure of the sink is ignored.
 fn complain<C: Sink>(complaints: &mut C, line: &str)
     requires { C.failed complaints.old < u64.MAX }
-    ensures { Complains line.now C.held C.failed complaints.old complaints.new }
+    ensures { Complains line.now C.received C.failed complaints.old complaints.new }
 {
     if !line.is_empty() {
         let _ = send(complaints, line.as_bytes());
@@ -81,7 +81,7 @@ pub fn answer_words<R: Source, W: Sink, C: Sink>(
     requires reads { R.failed source.old < u64.MAX }
     requires writes { W.failed output.old < u64.MAX }
     requires complaints { C.failed complaints.old < u64.MAX }
-    ensures { Answers (λ v. map string_bytes v.items) words R.coming R.failed W.held W.failed C.held C.failed
+    ensures { Answers (λ v. map string_bytes v.items) words R.coming R.failed W.received W.failed C.received C.failed
         source.old source.new output.old output.new complaints.old complaints.new result }
 {
     let answer = run_known(alloc, words, source, output);

@@ -45,13 +45,13 @@ header_length tag n size c short long =
     (cases_lt n 128)
 
 -- the octets are in the input, after a version of three bytes, and end the encoding of authSafe
-pub record Stands (b o : List ℕ) (w : PfxValue (List ℕ)) : Type 0 where
+pub record IsMacInput (b o : List ℕ) (w : PfxValue (List ℕ)) : Type 0 where
   pub covers : Covers b o
   pub version : length (element 0x02 covers.version_octets) ≡ 3
   pub text : (auth_safe raw).text w.1.0 ≡ auth_safe_of o
 
-pub stands_in : (b o : List ℕ) (w : PfxValue (List ℕ)) → (pfx raw).Reads 64 b w → mac_octets w ≡ Some o → Stands b o w
-stands_in b o (n, (inl d, x)) s e = record {
+pub mac_input_in : (b o : List ℕ) (w : PfxValue (List ℕ)) → (pfx raw).Reads 64 b w → mac_octets w ≡ Some o → IsMacInput b o w
+mac_input_in b o (n, (inl d, x)) s e = record {
   covers = record {
     version_octets = integer_octets n;
     mac = s.2.4.1;
@@ -60,9 +60,9 @@ stands_in b o (n, (inl d, x)) s e = record {
   version = ap (λ v. length (element 0x02 (integer_octets v))) s.2.3.1 ∙ three;
   text = ap auth_safe_of (same_some d o e);
 }
-stands_in b o (n, (inr p, x)) s e = absurd (let f : None ≡ Some o = e in cc)
+mac_input_in b o (n, (inr p, x)) s e = absurd (let f : None ≡ Some o = e in cc)
 
-module _ {b o : List ℕ} {w : PfxValue (List ℕ)} (p : Stands b o w) where
+module _ {b o : List ℕ} {w : PfxValue (List ℕ)} (p : IsMacInput b o w) where
   ends : EndsBy b (o ++ p.covers.mac)
   ends =
       let a = auth_safe_ends o in
@@ -101,7 +101,7 @@ module _ {b o : List ℕ} {w : PfxValue (List ℕ)} (p : Stands b o w) where
         value = w;
         is_value = v;
         octets = ap Some is ∙ sym e;
-        stands = record {
+        place = record {
           covers = record {
             version_octets = p.covers.version_octets;
             mac = p.covers.mac;

@@ -6,7 +6,7 @@ use Rattle.x509_pkcs12.specs.Pfxs.{PfxValue, pfx}
 
 -- the contents octets of authSafe's OCTET STRING are in the input between these two places, and after them comes what
 -- follows authSafe
-pub record StandsAt (b : List ℕ) (start end : ℕ) : Type 0 where
+pub record IsMacPlace (b : List ℕ) (start end : ℕ) : Type 0 where
   pub covers : Covers b (slice_range b start end)
   pub after : drop end b ≡ covers.mac
   pub inside : (start ≤ end) × (end ≤ length b)
@@ -17,7 +17,7 @@ pub record IsMacRangeIn (F : Format (PfxValue Octets)) (b : List ℕ) (range : O
   pub value : PfxValue Octets
   pub is_value : IsValueOf F 64 b value
   pub octets : option_value (λ (r : ℕ × ℕ). slice_range b r.0 r.1) range ≡ mac_octets value
-  pub stands : IfSome range (λ r. StandsAt b r.0 r.1)
+  pub place : IfSome range (λ r. IsMacPlace b r.0 r.1)
 
 abbrev pub IsMacRange : List ℕ → Option (ℕ × ℕ) → Type 0
 IsMacRange = IsMacRangeIn (pfx raw)

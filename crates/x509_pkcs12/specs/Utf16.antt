@@ -5,8 +5,8 @@ use Rattle.std.specs.Char.Utf16.{has_unpaired_surrogate}
 use Rattle.asn1_core_element.specs.declared.error.Error.{Error}
 use Rattle.asn1_core_element.specs.declared.error.Error.TheVariants.{Memory, Invalid}
 use Rattle.asn1_core_format.specs.Asn1.{Asn1, asn1_tagged}
-use Rattle.asn1_core_format.specs.Leaf.{kept}
-use Rattle.asn1_core_format.specs.LeafLaws.{lawful_leaf, lawful_kept}
+use Rattle.asn1_core_format.specs.Leaf.{verbatim}
+use Rattle.asn1_core_format.specs.LeafLaws.{lawful_leaf, lawful_verbatim}
 use Rattle.asn1_core_format.specs.TaggedLaws.{leaf_tagged}
 use Rattle.std.proofs.Common.{refl, arith}
 
@@ -21,7 +21,7 @@ abbrev pub IsUtf16 : List ℕ → Type 0
 IsUtf16 octets = (length octets % 2 ≡ 0) × (has_unpaired_surrogate (units_of octets) ≡ false)
 
 abbrev pub utf16_string : Asn1
-utf16_string = asn1_tagged (lawful_leaf 0x1E (omega arith) (kept IsUtf16) (lawful_kept IsUtf16)) 0x1E (leaf_tagged 0x1E (omega arith) (kept IsUtf16))
+utf16_string = asn1_tagged (lawful_leaf 0x1E (omega arith) (verbatim IsUtf16) (lawful_verbatim IsUtf16)) 0x1E (leaf_tagged 0x1E (omega arith) (verbatim IsUtf16))
 
 -- why octets give no text: they aren't UTF-16, or memory was refused
 abbrev pub NoText : List ℕ → Error → Type 0

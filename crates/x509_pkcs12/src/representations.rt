@@ -51,7 +51,7 @@ pub trait AuthenticatedSafeDataRepr: DerDeserialize + Sized {
     /// Sends the encoding of `from_repr(repr)`. Takes no memory. An encoding that is too long is not begun.
     final fn emit_repr<S: Sink>(repr: &Self::Repr, sink: &mut S) -> Result<(), WriteError>
         requires { S.failed sink.old < u64.MAX }
-        ensures { Emits (Self.format.text (Self.value (from repr.now))) sink.old sink.new (S.held sink.old) (S.held sink.new) (S.failed sink.old) (S.failed sink.new) result }
+        ensures { Emits (Self.format.text (Self.value (from repr.now))) sink.old sink.new (S.received sink.old) (S.received sink.new) (S.failed sink.old) (S.failed sink.new) result }
     {
         ReprRef::<Self>(repr).emit(sink)
     }

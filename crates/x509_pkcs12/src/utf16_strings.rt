@@ -4,7 +4,7 @@ ghost use Rattle.std.specs.Prelude.{◌≡◌, ℕ, List, MatchResult, string_by
 ghost use Rattle.std.specs.String.{IsUtf16Of};
 ghost use Rattle.std.proofs.Common.{rules};
 ghost use Rattle.asn1_core_element.specs.declared.error.Error.TheVariants.{Memory};
-ghost use Rattle.asn1_core_format.specs.Leaf.{kept};
+ghost use Rattle.asn1_core_format.specs.Leaf.{verbatim};
 ghost use Rattle.x509_pkcs12.specs.Utf16.{units_of, IsUtf16, NoText, utf16_string};
 
 use asn1_core::prelude::*;
@@ -73,7 +73,7 @@ impl Leaf for Utf16String {
 
     ghost value = { octets_of_utf16 };
 
-    ghost spelling = { kept IsUtf16 };
+    ghost spelling = { verbatim IsUtf16 };
 
     fn from_contents(alloc: Global, contents: &[u8]) -> Result<Self, Error> {
         let _text = text_of(alloc, contents)?;

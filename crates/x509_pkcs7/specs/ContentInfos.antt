@@ -2,8 +2,8 @@
 use Rattle.std.proofs.Common.{refl}
 use Rattle.asn1_core.specs.Asn1.{Contents, contents, ◌then◌, end, OBJECT_IDENTIFIER, ANY, EXPLICIT}
 use Rattle.asn1_core.specs.Der.{Format, sequence, octets_of, SeesEqual, der_equal}
-use Rattle.x509_pkcs7.specs.declared.contents.ContentInfo.{ContentInfo}
-use Rattle.x509_pkcs7.specs.contracts.contents.ContentInfoPartialEq.TheImpl as Content
+use Rattle.x509_pkcs7.specs.declared.content_infos.ContentInfo.{ContentInfo}
+use Rattle.x509_pkcs7.specs.contracts.content_infos.ContentInfoPartialEq.TheImpl as Content
 
 abbrev pub content_info : Contents
 content_info = contents (OBJECT_IDENTIFIER then EXPLICIT 0 ANY then end) refl

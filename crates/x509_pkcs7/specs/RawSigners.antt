@@ -11,7 +11,7 @@ use Rattle.x509_base.specs.AlgorithmParts.{algorithm_identifier_value, algorithm
 use Rattle.x509_base.specs.Names.{attribute, attribute_value, attribute_equal}
 use Rattle.x509_pkcs7.specs.declared.raw_signers.RawSignerInfo.{RawSignerInfo}
 use Rattle.x509_pkcs7.specs.declared.raw_signers.RawUnsignedAttributes.{RawUnsignedAttributes}
-use Rattle.pkcs7_attributes.specs.Equal.{attributes_equal}
+use Rattle.pkcs7_attributes.specs.AttributesEqual.{attributes_equal}
 use Rattle.pkcs7_signed_crl.specs.PartsEqual.{signer_identifier_equal}
 use Rattle.x509_pkcs7.specs.Versions.{version_equal}
 use Rattle.x509_pkcs7.specs.contracts.raw_signers.RawUnsignedAttributesPartialEq.TheImpl as Unsigned

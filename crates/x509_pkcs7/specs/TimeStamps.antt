@@ -7,8 +7,8 @@ use Rattle.std.proofs.Common.{arith, rules, ap, refl}
 use Rattle.asn1_core.specs.Asn1.{Asn1, asn1_tagged, Contents, contents, ◌then◌, ◌OPTIONAL◌, ◌DEFAULT◌, end, VERSION, OBJECT_IDENTIFIER, ANY, BOOLEAN_or_FALSE, list_of, SEQUENCE, SEQUENCE_OF, EXPLICIT, IMPLICIT}
 use Rattle.asn1_core.specs.Der.{octets_of, option_value, any_octets, lawful_leaf, der_equal, SeesEqual, two_equal, option_equal, list_equal, with_end, raw_equal}
 use Rattle.std.specs.Cmp.{booleans_Decides}
-use Rattle.asn1_core.specs.Equal.{oid_equal}
-use Rattle.asn1_core_format.specs.LeafLaws.{lawful_kept}
+use Rattle.asn1_core.specs.ViewsEqual.{oid_equal}
+use Rattle.asn1_core_format.specs.LeafLaws.{lawful_verbatim}
 use Rattle.asn1_core_format.specs.TaggedLaws.{leaf_tagged}
 use Rattle.asn1_leaves.specs.Asn1.{INTEGER}
 use Rattle.x509_base.specs.Digests.{digest_info_value, digest_info}
@@ -22,7 +22,7 @@ use Rattle.x509_pkcs7.specs.contracts.verifier.time_stamps.AccuracyPartialEq.The
 use Rattle.x509_pkcs7.specs.contracts.verifier.time_stamps.GenTimePartialEq.TheImpl as GenTimes
 
 abbrev pub gen_time : Asn1
-gen_time = asn1_tagged (lawful_leaf 0x18 (omega arith) any_octets (lawful_kept (λ _. Unit {0}))) 0x18 (leaf_tagged 0x18 (omega arith) any_octets)
+gen_time = asn1_tagged (lawful_leaf 0x18 (omega arith) any_octets (lawful_verbatim (λ _. Unit {0}))) 0x18 (leaf_tagged 0x18 (omega arith) any_octets)
 
 abbrev pub accuracy : Contents
 accuracy = list_of ANY

@@ -6,7 +6,7 @@ ghost use Rattle.x509_base.specs.Names.{attribute_equal, attribute_value};
 ghost use Rattle.x509_pkcs7.specs.Enveloped.{encrypted_content_info, encrypted_content_info_value, originator_info, originator_info_value, EnvelopedValue, enveloped_value, enveloped, lawful_enveloped, encrypted_content_equal, originator_equal};
 ghost use Rattle.x509_pkcs7.specs.Versions.{version_equal};
 
-use crate::contents::ContentType;
+use crate::content_infos::ContentType;
 use crate::recipients::RecipientInfo;
 use asn1_core::prelude::*;
 use pkcs7_content::CmsVersion;

@@ -3,7 +3,7 @@
 //! all of the contents and signed data of PKCS #7.
 #![tactic(auto)]
 
-pub mod contents;
+pub mod content_infos;
 pub mod descriptors;
 pub mod enveloped;
 pub mod raw_contents;
@@ -13,7 +13,7 @@ pub mod raw_signers;
 pub mod recipients;
 pub mod verifier;
 
-pub use contents::{ContentInfo, ContentType};
+pub use content_infos::{ContentInfo, ContentType};
 pub use descriptors::{GeneralProtectionDescriptor, ProtectionDescriptor};
 pub use enveloped::{
     ContentEncryptionAlgorithmIdentifier, EncryptedContent, EncryptedContentInfo, EnvelopedData,

@@ -1,7 +1,7 @@
 //! Signed data with content of any type, and signers of one of several types (RFC 5652, 5.1).
 
 ghost use Rattle.std.specs.Prelude.{◌≡◌, ℕ, List, map};
-ghost use Rattle.asn1_core.specs.Der.{set_of, lawful_set, list_equal, with_end, kept, only_oid, lawful_only_oid};
+ghost use Rattle.asn1_core.specs.Der.{set_of, lawful_set, list_equal, with_end, verbatim, only_oid, lawful_only_oid};
 ghost use Rattle.x509_pkcs7.specs.RawSigned.{signed_data_oid, raw_revocation_info_choices, raw_revocation_info_choices_value, RawSignedValue, raw_signed_value, raw_signed, lawful_raw_signed, RawCertificateValue, raw_certificate, lawful_raw_certificate, raw_revocation_info_choices_equal, raw_signed_equal, with_head};
 
 use crate::raw_contents::RawEncapsulatedContentInfo;
@@ -172,7 +172,7 @@ impl Leaf for SignedDataType {
 
     ghost value = { λ _. signed_data_oid };
 
-    ghost spelling = { kept (λ c. c ≡ signed_data_oid) };
+    ghost spelling = { verbatim (λ c. c ≡ signed_data_oid) };
 
     ghost MayLackMemory = { ⊥ };
 

@@ -21,7 +21,7 @@ type TaggedSets = Asn1SequenceOf<ExplicitContextTag0<Asn1SetOf<OctetStringAsn1>>
 
 type TaggedNumbers = Asn1SequenceOf<ExplicitContextTag1<u8>>;
 
-type HeldNumbers = OctetStringAsn1Container<Asn1SequenceOf<u8>>;
+type ContainedNumbers = OctetStringAsn1Container<Asn1SequenceOf<u8>>;
 
 /// What comes of a row, where the word names one of the lists and containers.
 pub fn is_so_of_a_list(alloc: Global, word: &str, row: &Row) -> Option<Result<(), Fail>> {
@@ -36,7 +36,7 @@ pub fn is_so_of_a_list(alloc: Global, word: &str, row: &Row) -> Option<Result<()
         ),
         "asn1sequenceof-u8" => under_tags::<Asn1SequenceOf<u8>>(alloc, row),
         "asn1setof-u8" => under_tags::<Asn1SetOf<u8>>(alloc, row),
-        "octetstringasn1container-asn1sequenceof-u8" => in_each_way::<HeldNumbers>(alloc, row),
+        "octetstringasn1container-asn1sequenceof-u8" => in_each_way::<ContainedNumbers>(alloc, row),
         "octetstringasn1container-octetstringasn1" => {
             in_each_way::<OctetStringAsn1Container<OctetStringAsn1>>(alloc, row)
         }

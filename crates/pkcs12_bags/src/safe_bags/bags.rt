@@ -9,7 +9,7 @@ ghost use Rattle.pkcs12_bags.specs.Attributes.{attributes_value};
 ghost use Rattle.pkcs12_bags.specs.Oids.{oid};
 ghost use Rattle.pkcs12_bags.specs.declared.parts.oids.TheConstants.{KEY_BAG, SHROUDED_KEY_BAG, CERTIFICATE_BAG, CRL_BAG, SECRET_BAG, SAFE_CONTENTS_BAG};
 ghost use Rattle.pkcs12_bags.specs.PlainBags.{bag_alternative};
-ghost use Rattle.pkcs12_bags.specs.Bags.{Bag, BagComponents, bag_out, safe_bag, safe_contents, held_choice};
+ghost use Rattle.pkcs12_bags.specs.Bags.{Bag, BagComponents, bag_out, safe_bag, safe_contents, nested_choice};
 ghost use Rattle.pkcs12_bags.specs.BagEqual.{bag_equal, kind_equal, contents_equal};
 ghost use Rattle.pkcs12_bags.specs.BagsLaws.{lawful_safe_bag, lawful_safe_contents};
 ghost use Rattle.pkcs12_bags.specs.BagValues.{Kind, bag_value, kind_value, contents_value};
@@ -65,23 +65,26 @@ pub enum SafeBagKind {
 pub struct SafeContents(pub Vec<SafeBag>);
 
 /// What follows the object identifier of a bag.
-type Held<T> = Part<ExplicitContextTag0<T>, BagAttributes>;
+type BagBody<T> = Part<ExplicitContextTag0<T>, BagAttributes>;
 
 type Nested = Known<SAFE_CONTENTS_BAG>;
 
 /// A bag that holds no bags.
-type SecretOr = Either<Alternative<Known<SECRET_BAG>, Held<SecretBag>>, AnyOid<Held<Asn1RawDer>>>;
+type SecretOr = Either<
+    Alternative<Known<SECRET_BAG>, BagBody<SecretBag>>,
+    AnyOid<BagBody<Asn1RawDer>>,
+>;
 
-type CrlOr = Either<Alternative<Known<CRL_BAG>, Held<CrlBag>>, SecretOr>;
+type CrlOr = Either<Alternative<Known<CRL_BAG>, BagBody<CrlBag>>, SecretOr>;
 
-type CertificateOr = Either<Alternative<Known<CERTIFICATE_BAG>, Held<CertificateBag>>, CrlOr>;
+type CertificateOr = Either<Alternative<Known<CERTIFICATE_BAG>, BagBody<CertificateBag>>, CrlOr>;
 
 type ShroudedOr = Either<
-    Alternative<Known<SHROUDED_KEY_BAG>, Held<EncryptedKeyBag>>,
+    Alternative<Known<SHROUDED_KEY_BAG>, BagBody<EncryptedKeyBag>>,
     CertificateOr,
 >;
 
-type PlainBag = Either<Alternative<Known<KEY_BAG>, Held<KeyBag>>, ShroudedOr>;
+type PlainBag = Either<Alternative<Known<KEY_BAG>, BagBody<KeyBag>>, ShroudedOr>;
 
 impl SafeBag {
     /// The bag that was read.
@@ -162,7 +165,7 @@ impl WriteComponents for SafeBag {
 
     ghost value = { λ b. bag_out (bag_value b) };
 
-    ghost format = { held_choice.components };
+    ghost format = { nested_choice.components };
 
     #[cycle(put)]
     fn put_components<W: Writer>(&self, w: &mut W) -> Result<(), WriteError> {
@@ -212,7 +215,7 @@ impl DerSerialize for SafeBag {
             SafeBagKind::Certificate(value) => value.well_formed_at(limit),
             SafeBagKind::Crl(value) => value.well_formed_at(limit),
             SafeBagKind::Secret(value) => value.well_formed_at(limit),
-            SafeBagKind::SafeContents(held) => held_formed_at(held, limit),
+            SafeBagKind::SafeContents(inner) => inner_formed_at(inner, limit),
             SafeBagKind::Unknown { type_id, value } => {
                 if is_bag_oid(type_id) {
                     return false;
@@ -248,13 +251,13 @@ impl DerSerialize for SafeContents {
 
 /// Whether contents one level down are well-formed.
 #[cycle(formed)]
-fn held_formed_at(held: &SafeContents, limit: u8) -> bool
-    ensures { IsTrue result ↔ (less safe_contents).IsWellFormed limit (contents_value held.now) }
+fn inner_formed_at(inner: &SafeContents, limit: u8) -> bool
+    ensures { IsTrue result ↔ (less safe_contents).IsWellFormed limit (contents_value inner.now) }
 {
     if limit == 0 {
         return false;
     }
-    held.well_formed_at(limit - 1)
+    inner.well_formed_at(limit - 1)
 }
 
 impl DerDeserialize for SafeContents {

@@ -1,7 +1,7 @@
 //! How signed data with their content type are written, tested, read and cloned.
 
 ghost use Rattle.std.specs.Prelude.{◌≡◌, ◌↔◌, IsTrue, List, [], map, false, ℕ, MatchResult, ◌∷◌, ◌++◌};
-ghost use Rattle.asn1_core.specs.Der.{octets_of, set_of, Gives, kept, GivesComponents, within, only_oid, lawful_only_oid, Clones};
+ghost use Rattle.asn1_core.specs.Der.{octets_of, set_of, Gives, verbatim, GivesComponents, within, only_oid, lawful_only_oid, Clones};
 ghost use Rattle.pkcs7_signed.specs.Signers.{Value, certificates, signer, certificate, signed_data, certificate_out};
 ghost use Rattle.pkcs7_signed.specs.SignerValues.{signer_value, signers_value, certificate_value, signed_value};
 ghost use Rattle.asn1_core_element.specs.declared.error.Error.TheVariants.{Memory};
@@ -33,7 +33,7 @@ impl Leaf for SignedDataType {
 
     ghost value = { λ x. octets_of x.0.0 };
 
-    ghost spelling = { kept (λ c. c ≡ signed_data_oid) };
+    ghost spelling = { verbatim (λ c. c ≡ signed_data_oid) };
 
     fn from_contents(alloc: Global, contents: &[u8]) -> Result<Self, Error> {
         if contents != SIGNED_DATA.as_slice() {
@@ -73,9 +73,9 @@ impl DerDeserialize for SignedDataType {
     ghost lawful = { lawful_only_oid signed_data_oid };
 }
 
-type Held = Alone<ExplicitContextTag0<Boxed<SignedData>>>;
+type TaggedSignedData = Alone<ExplicitContextTag0<Boxed<SignedData>>>;
 
-type CertificateParts = Part<SignedDataType, Tail<Held>>;
+type CertificateParts = Part<SignedDataType, Tail<TaggedSignedData>>;
 
 impl DerSerialize for Pkcs7Certificate {
     ghost Value = { Value certificates };
@@ -154,7 +154,7 @@ fn read_certificate_with<F: Fn(&mut Reader<'_>, u8) -> Result<Boxed<SignerInfo>,
             requires sound { s.old.refused ≡ false }
             requires below { ReadsSigners (F.pre by.now) (F.post by.now) nest }
             ensures { GivesComponents (λ x. signed_value x.0.0.0.value) (within 0xA0 signed_data) nest s.old s.new result }
-        { read_held_with(alloc, s, nest, by) },
+        { read_tagged_with(alloc, s, nest, by) },
     )?;
     let certificate = certificate_of(alloc, components)?;
     Ok(certificate)
@@ -180,12 +180,12 @@ fn certificate_of(
 }
 
 /// Reads signed data under their tag, to the end of the open contents.
-fn read_held_with<F: Fn(&mut Reader<'_>, u8) -> Result<Boxed<SignerInfo>, Error>>(
+fn read_tagged_with<F: Fn(&mut Reader<'_>, u8) -> Result<Boxed<SignerInfo>, Error>>(
     alloc: Global,
     r: &mut Reader<'_>,
     nest: u8,
     by: &F,
-) -> Result<Held, Error>
+) -> Result<TaggedSignedData, Error>
     requires sound { r.old.refused ≡ false }
     requires below { ReadsSigners (F.pre by.now) (F.post by.now) nest }
     ensures { GivesComponents (λ x. signed_value x.0.0.0.value) (within 0xA0 signed_data) nest r.old r.new result }

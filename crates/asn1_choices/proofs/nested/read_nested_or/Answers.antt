@@ -11,18 +11,18 @@ returns-in_err-oid g c =
     let r = oid_refused (known g.N.Named.OID (part (within c.args.tag (less g.T.DerSerialize.format)) g.R.WriteComponents.format) g.C.WriteChoice.choice) (lawful_nested g.N.Named.OID c.args.tag c.requires.tag g.T.DerSerialize.format c.requires.lawful g.R.WriteComponents.format (g.met.R.ReadComponents.lawful c.requires.tags_of_rest) g.C.WriteChoice.choice (g.met.C.ReadChoice.lawful c.requires.tags_of_others)) {k = c.args.nest} c.in_err-oid.ensures in
     has_refused_components _ (known g.N.Named.OID (part (within c.args.tag (less g.T.DerSerialize.format)) g.R.WriteComponents.format) g.C.WriteChoice.choice).components c.args.nest (err_from_is_err_and c.from_residual.result c.from_residual.ensures.1) r
 
-pub returns-in_err-held : goal.returns-in_err-held
-returns-in_err-held g c =
-    let r = held_failed g.N.Named.OID c.args.tag c.requires.tag g.T.DerSerialize.format c.requires.lawful g.R.WriteComponents.format (g.met.R.ReadComponents.lawful c.requires.tags_of_rest) g.C.WriteChoice.choice (g.met.C.ReadChoice.lawful c.requires.tags_of_others) c.args.nest c.in_ok-oid.ensures (c.is_named.ensures.0 c.if-is_named.true) c.in_err-held.ensures in
-    has_refused_components _ (known g.N.Named.OID (part (within c.args.tag (less g.T.DerSerialize.format)) g.R.WriteComponents.format) g.C.WriteChoice.choice).components c.args.nest (err_from_is_err_and c.from_residual-in_err-held.result c.from_residual-in_err-held.ensures.1) r
+pub returns-in_err-nested : goal.returns-in_err-nested
+returns-in_err-nested g c =
+    let r = held_failed g.N.Named.OID c.args.tag c.requires.tag g.T.DerSerialize.format c.requires.lawful g.R.WriteComponents.format (g.met.R.ReadComponents.lawful c.requires.tags_of_rest) g.C.WriteChoice.choice (g.met.C.ReadChoice.lawful c.requires.tags_of_others) c.args.nest c.in_ok-oid.ensures (c.is_named.ensures.0 c.if-is_named.true) c.in_err-nested.ensures in
+    has_refused_components _ (known g.N.Named.OID (part (within c.args.tag (less g.T.DerSerialize.format)) g.R.WriteComponents.format) g.C.WriteChoice.choice).components c.args.nest (err_from_is_err_and c.from_residual-in_err-nested.result c.from_residual-in_err-nested.ensures.1) r
 
 pub returns-in_err-rest : goal.returns-in_err-rest
 returns-in_err-rest g c =
-    let r = rest_failed g.N.Named.OID c.args.tag c.requires.tag g.T.DerSerialize.format c.requires.lawful g.R.WriteComponents.format (g.met.R.ReadComponents.lawful c.requires.tags_of_rest) g.C.WriteChoice.choice (g.met.C.ReadChoice.lawful c.requires.tags_of_others) c.args.nest c.in_ok-oid.ensures (c.is_named.ensures.0 c.if-is_named.true) c.in_ok-held.ensures c.in_err-rest.ensures in
+    let r = rest_failed g.N.Named.OID c.args.tag c.requires.tag g.T.DerSerialize.format c.requires.lawful g.R.WriteComponents.format (g.met.R.ReadComponents.lawful c.requires.tags_of_rest) g.C.WriteChoice.choice (g.met.C.ReadChoice.lawful c.requires.tags_of_others) c.args.nest c.in_ok-oid.ensures (c.is_named.ensures.0 c.if-is_named.true) c.in_ok-nested.ensures c.in_err-rest.ensures in
     has_refused_components _ (known g.N.Named.OID (part (within c.args.tag (less g.T.DerSerialize.format)) g.R.WriteComponents.format) g.C.WriteChoice.choice).components c.args.nest (err_from_is_err_and c.from_residual-in_err-rest.result c.from_residual-in_err-rest.ensures.1) r
 
 pub returns-then-is_named : goal.returns-then-is_named
-returns-then-is_named g c = both_has_read g.N.Named.OID c.args.tag c.requires.tag g.T.DerSerialize.format c.requires.lawful g.R.WriteComponents.format (g.met.R.ReadComponents.lawful c.requires.tags_of_rest) g.C.WriteChoice.choice (g.met.C.ReadChoice.lawful c.requires.tags_of_others) c.args.nest c.in_ok-oid.ensures (c.is_named.ensures.0 c.if-is_named.true) c.in_ok-held.ensures c.in_ok-rest.ensures
+returns-then-is_named g c = both_has_read g.N.Named.OID c.args.tag c.requires.tag g.T.DerSerialize.format c.requires.lawful g.R.WriteComponents.format (g.met.R.ReadComponents.lawful c.requires.tags_of_rest) g.C.WriteChoice.choice (g.met.C.ReadChoice.lawful c.requires.tags_of_others) c.args.nest c.in_ok-oid.ensures (c.is_named.ensures.0 c.if-is_named.true) c.in_ok-nested.ensures c.in_ok-rest.ensures
 
 pub returns-in_err-other : goal.returns-in_err-other
 returns-in_err-other g c =

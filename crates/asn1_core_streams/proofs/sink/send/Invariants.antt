@@ -6,7 +6,7 @@ abbrev pub invariant-loop-rest : goal.invariant-loop-rest
 invariant-loop-rest g l = record {
   sent : List ℕ;
   split : l.initial.rest ≡ sent ++ l.rest;
-  appended : Appends (g.S.Sink.held l.initial.sink) (g.S.Sink.held l.sink) sent;
+  appended : Appends (g.S.Sink.received l.initial.sink) (g.S.Sink.received l.sink) sent;
   count : g.S.Sink.failed l.sink ≡ g.S.Sink.failed l.initial.sink;
 }
 

@@ -1,7 +1,7 @@
 use Rattle.std.proofs.Common.{◌≡◌, rules, subst}
 use Rattle.asn1_core.specs.Der.{octet_string, option_value}
 use Rattle.bag_ranges.proofs.Attributes.{no_key_id_range}
-use Rattle.bag_ranges.proofs.Held.{Place}
+use Rattle.bag_ranges.proofs.Contained.{Place}
 use Rattle.bag_ranges.specs.Bags.{IsAttributeAt}
 use Rattle.bag_ranges.specs.Failures.{HasNone}
 use Rattle.pkcs12_bags.specs.Oids.{oid}

@@ -1,7 +1,7 @@
 use Rattle.std.proofs.Common.{rules, map}
 use Rattle.bag_ranges.proofs.Rows.{no_rows, none_of_one, one_more}
 use Rattle.bag_ranges.specs.Bags.{InOrder}
-use Rattle.bag_ranges.specs.Contents.{raw_content_info_value}
+use Rattle.bag_ranges.specs.RawContentInfos.{raw_content_info_value}
 use Rattle.bag_ranges.specs.Stores.{AreOfContent}
 use Rattle.bag_ranges.proofs.stores.push_contents.Goals as goal
 

@@ -1,6 +1,6 @@
 use Rattle.std.proofs.Common.{map, take}
 use Rattle.bag_ranges.specs.Bags.{InOrder}
-use Rattle.bag_ranges.specs.Contents.{raw_content_info_value}
+use Rattle.bag_ranges.specs.RawContentInfos.{raw_content_info_value}
 use Rattle.bag_ranges.specs.Failures.{Adds}
 use Rattle.bag_ranges.specs.Stores.{AreOfContent}
 use Rattle.bag_ranges.proofs.stores.push_contents.Given as goal

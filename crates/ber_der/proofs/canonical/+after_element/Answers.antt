@@ -1,7 +1,7 @@
 use Rattle.std.proofs.Common.{◌∙◌, sym, rules, arith}
 use Rattle.std.proofs.lemmas.List.{take_rest}
 use Rattle.std.proofs.lemmas.Bool.Decides.{nat_tests}
-use Rattle.ber_der.proofs.DerTests.{no_front, no_tag, primitive, constructed, too_deep, not_constructed, not_held, held_after, nothing_held, shorter}
+use Rattle.ber_der.proofs.DerTests.{no_front, no_tag, primitive, constructed, too_deep, not_constructed, not_held, inside_after, nothing_inside, shorter}
 use Rattle.ber_der.proofs.canonical.+after_element.Goals as goal
 use Rattle.ber_der.proofs.canonical.+after_element.Goals.{after_element-then-tag-eq36-via-then-tag-eq36, after_element-then-tag-eq36-via-else-tag-eq36+then-not-may_be_constructed}
 
@@ -31,7 +31,7 @@ after_element-returns t c = constructed c.args.nest c.args.bytes.now _ c.split_a
 
 pub are_elements-returns-in_default : goal.are_elements-returns-in_default
 are_elements-returns-in_default t c =
-    let n = nothing_held c.args.nest c.loop-rest.rest.now (grind (arith, nat_tests)) c.in_default.ensures in
+    let n = nothing_inside c.args.nest c.loop-rest.rest.now (grind (arith, nat_tests)) c.in_default.ensures in
     (λ f. cc, λ h. absurd (n (c.loop-rest.invariant.0 h)))
 
 pub are_elements-loop-rest-smaller : goal.are_elements-loop-rest-smaller
@@ -39,5 +39,5 @@ are_elements-loop-rest-smaller t c = shorter c.args.nest c.loop-rest.rest.now c.
 
 pub are_elements-loop-rest-preserved : goal.are_elements-loop-rest-preserved
 are_elements-loop-rest-preserved t c =
-    let s = held_after c.args.nest c.loop-rest.rest.now c.in-Some.after.now c.in-Some.ensures in
+    let s = inside_after c.args.nest c.loop-rest.rest.now c.in-Some.after.now c.in-Some.ensures in
     (λ h. s.0 (c.loop-rest.invariant.0 h), λ h. c.loop-rest.invariant.1 (s.1 h))

@@ -1,4 +1,4 @@
-use Rattle.container_parts.proofs.HeldMacs.{count_is, no_count}
+use Rattle.container_parts.proofs.MacCounts.{count_is, no_count}
 use Rattle.der_c.proofs.macs.ber_mac_iterations.Goals as goal
 
 pub returns-in-Some : goal.returns-in-Some

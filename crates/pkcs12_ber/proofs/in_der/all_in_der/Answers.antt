@@ -1,4 +1,4 @@
-use Rattle.pkcs12_ber.specs.Contents.{content_info_value}
+use Rattle.pkcs12_ber.specs.ContentInfos.{content_info_value}
 use Rattle.pkcs12_ber.proofs.Appended.{one_more_appended, none_of_all, in_one, all_appended}
 use Rattle.pkcs12_ber.proofs.in_der.all_in_der.Goals as goal
 

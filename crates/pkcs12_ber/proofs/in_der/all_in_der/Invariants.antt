@@ -1,5 +1,5 @@
 use Rattle.std.proofs.Common.{[], map, take}
-use Rattle.pkcs12_ber.specs.Contents.{content_info_value}
+use Rattle.pkcs12_ber.specs.ContentInfos.{content_info_value}
 use Rattle.pkcs12_ber.specs.InDer.{HasAppended}
 use Rattle.pkcs12_ber.proofs.in_der.all_in_der.Given as goal
 

@@ -1,5 +1,5 @@
 use Rattle.std.proofs.Common.{sym, ap, ◌∙◌, inl}
-use Rattle.pkcs12_ber.specs.Contents.{content_info_value}
+use Rattle.pkcs12_ber.specs.ContentInfos.{content_info_value}
 use Rattle.pkcs12_ber.proofs.Exits.{written}
 use Rattle.pkcs12_ber.proofs.in_der.append_in_der.Goals as goal
 

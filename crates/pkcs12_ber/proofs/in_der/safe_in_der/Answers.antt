@@ -1,7 +1,7 @@
 use Rattle.std.proofs.Common.{◌≢◌, List, map}
 use Rattle.std.proofs.lemmas.Result.{err_from_is_err_and}
 use Rattle.asn1_core_element.specs.declared.error.Error.TheVariants.{Memory}
-use Rattle.pkcs12_ber.specs.Contents.{content_info_value}
+use Rattle.pkcs12_ber.specs.ContentInfos.{content_info_value}
 use Rattle.asn1_core.specs.Der.{Octets}
 use Rattle.x509_pkcs12.specs.AuthSafes.{AuthSafeValue}
 use Rattle.pkcs12_ber.specs.InDer.{safe, IsSafeInDer, HasNoSafe}

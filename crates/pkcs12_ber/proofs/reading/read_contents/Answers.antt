@@ -1,7 +1,7 @@
 use Rattle.std.proofs.Common.{◌≢◌, sym, ap, ◌∙◌, inl}
 use Rattle.std.proofs.lemmas.Result.{err_from_is_err_and}
 use Rattle.asn1_core_element.specs.declared.error.Error.TheVariants.{Memory}
-use Rattle.pkcs12_ber.specs.Contents.{content_info_value}
+use Rattle.pkcs12_ber.specs.ContentInfos.{content_info_value}
 use Rattle.pkcs12_ber.specs.Files.{HasNoContents}
 use Rattle.pkcs12_ber.specs.Places.{InAuthSafe}
 use Rattle.pkcs12_ber.specs.declared.reading.Place.TheVariants.{Contents}

@@ -4,4 +4,4 @@ use Rattle.asn1_core_format.proofs.traits.DerSerialize.emit.Goals as goal
 
 pub returns : goal.returns
 returns g c =
-    emits_buffered g.S.Sink.held g.S.Sink.failed _ _ _ _ _ _ _ _ _ _ _ _ _ (search rules) c.new-w.ensures.same_sink c.new-w.ensures.sink c.new-w.ensures.waiting c.in_ok-put.ensures c.flush.ensures.same_sink c.flush.ensures.sent (search rules)
+    emits_buffered g.S.Sink.received g.S.Sink.failed _ _ _ _ _ _ _ _ _ _ _ _ _ (search rules) c.new-w.ensures.same_sink c.new-w.ensures.sink c.new-w.ensures.waiting c.in_ok-put.ensures c.flush.ensures.same_sink c.flush.ensures.sent (search rules)

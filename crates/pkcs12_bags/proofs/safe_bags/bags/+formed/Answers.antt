@@ -2,7 +2,7 @@ use Rattle.std.proofs.Common.{◌↔◌, IsTrue, false, true, map, sym, subst, r
 use Rattle.std.proofs.lemmas.Bool.{iff_false}
 use Rattle.asn1_core.specs.Der.{each}
 use Rattle.asn1_core_format.proofs.ItemTests.{all_tested, one_failed}
-use Rattle.pkcs12_bags.specs.Bags.{safe_bag, held_choice}
+use Rattle.pkcs12_bags.specs.Bags.{safe_bag, nested_choice}
 use Rattle.pkcs12_bags.specs.BagLevels.{row_holder, contents_formed}
 use Rattle.pkcs12_bags.specs.BagValues.{bag_value}
 use Rattle.pkcs12_bags.proofs.safe_bags.bags.+formed.Goals as goal
@@ -10,7 +10,7 @@ use Rattle.pkcs12_bags.proofs.safe_bags.bags.+formed.Goals as goal
 pub SafeBagDerSerialize::well_formed_at-returns-in-SafeContents : goal.SafeBagDerSerialize::well_formed_at-returns-in-SafeContents
 SafeBagDerSerialize::well_formed_at-returns-in-SafeContents m c =
     let v = row_holder c.args.self.now c.in-SafeContents.is in
-    subst (λ w. IsTrue c.held_formed_at.result ↔ held_choice.components.IsWellFormed c.args.limit w) (sym v) (search rules)
+    subst (λ w. IsTrue c.inner_formed_at.result ↔ nested_choice.components.IsWellFormed c.args.limit w) (sym v) (search rules)
 
 pub SafeContentsDerSerialize::well_formed_at-returns-then-not-well_formed_at : goal.SafeContentsDerSerialize::well_formed_at-returns-then-not-well_formed_at
 SafeContentsDerSerialize::well_formed_at-returns-then-not-well_formed_at m c =

@@ -3,7 +3,7 @@ use Rattle.std.proofs.lemmas.Result.{err_from_is_err_and}
 use Rattle.asn1_core.specs.Der.{HasRead, less}
 use Rattle.asn1_core_format.proofs.LevelReads.{has_refused}
 use Rattle.asn1_core_format.proofs.ComponentReads.{within_refused, within_has_read}
-use Rattle.pkcs12_bags.specs.Bags.{held_choice, bag_components, safe_bag, safe_contents}
+use Rattle.pkcs12_bags.specs.Bags.{nested_choice, bag_components, safe_bag, safe_contents}
 use Rattle.pkcs12_bags.specs.BagsLaws.{lawful_safe_bag, lawful_safe_contents}
 use Rattle.pkcs12_bags.specs.BagLevels.{value_rolled}
 use Rattle.pkcs12_bags.specs.BagValues.{bag_value, contents_value}
@@ -26,10 +26,10 @@ SafeBagDerDeserialize::read-read_nested_or-requires-clause-lawful m c = lawful_s
 
 pub SafeBagDerDeserialize::read-returns-in_err-components : goal.SafeBagDerDeserialize::read-returns-in_err-components
 SafeBagDerDeserialize::read-returns-in_err-components m c =
-    let r = bag_refused c.args.nest (within_refused held_choice.components c.args.nest 0x30 c.in_ok-outer.ensures c.in_err-components.ensures) in
+    let r = bag_refused c.args.nest (within_refused nested_choice.components c.args.nest 0x30 c.in_ok-outer.ensures c.in_err-components.ensures) in
     has_refused bag_value safe_bag c.args.nest (err_from_is_err_and c.from_residual-in_err-components.result c.from_residual-in_err-components.ensures.1) r
 
 pub SafeBagDerDeserialize::read-returns : goal.SafeBagDerDeserialize::read-returns
 SafeBagDerDeserialize::read-returns m c =
-    let t = within_has_read held_choice.components c.args.nest 0x30 c.in_ok-outer.ensures c.in_ok-components.ensures c.in_ok-end.ensures in
+    let t = within_has_read nested_choice.components c.args.nest 0x30 c.in_ok-outer.ensures c.in_ok-components.ensures c.in_ok-end.ensures in
     bag_has_read c.args.nest (bag_value c.of_components.result) (subst (HasRead (bag_components (less safe_contents)) c.args.nest c.args.r.now c.end.new.self) (sym c.of_components.ensures) t)

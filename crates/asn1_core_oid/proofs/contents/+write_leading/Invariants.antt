@@ -1,4 +1,0 @@
-use Rattle.asn1_core_oid.proofs.contents.+write_leading.Given as goal
-
-abbrev pub decreases-write_leading : goal.decreases-write_leading
-decreases-write_leading l = l.n
