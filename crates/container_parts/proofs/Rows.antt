@@ -15,13 +15,13 @@ module _ (part : StorePart) (i : ℕ) (b : List ℕ) where
   pub rows_refused : (refusal : Refusal) → IsRefusal b refusal → RefusesPart (in_store part i) b refusal
   rows_refused (Refused e place) why = (
     record {
-      none = λ m l rows are. why.0.none m are.store are.is_value.reads;
+      none = λ m l store reads. why.0.none m store reads;
       long = λ l. absurd (why.0.kind l);
     },
     why.1,
   )
-  rows_refused (Part e place) why = (why.1, why.2)
-  rows_refused NoRange why = why.1
+  rows_refused (Part e place) why = ((why.0, why.1), why.2)
+  rows_refused NoRange why = why
 
   pub rows_copied : (rows : List BagRanges) → AreBagsOf b rows → (r : Result (Option (Vec ℕ Global)) Error) → Copies (slice_get (all_in part b rows) i) r → GivesPart (in_store part i) b (with_refusal r)
   rows_copied rows are r c = gives_copy (in_store part i) b _ (record { rows = rows; are = are; is = refl }) r c

@@ -15,6 +15,8 @@ pub record Meaning : Type 1 where
   pub Has : List ℕ → Option (List ℕ) → Type 0
   -- the input is no such container
   pub IsNoContainer : List ℕ → Type 0
+  -- it is one, of which a part doesn't read, or isn't in the input
+  pub IsBroken : List ℕ → Type 0
 
 -- the input is the encoding of a value of which that is said
 pub record HasPart {V : Type 0} (F : Format V) (Is : V → Option (List ℕ) → Type 0) (b : List ℕ) (octets : Option (List ℕ)) : Type 0 where
@@ -24,7 +26,7 @@ pub record HasPart {V : Type 0} (F : Format V) (Is : V → Option (List ℕ) →
 
 -- a part of the values of a format, by what is said of a value and octets
 abbrev pub part_of : {V : Type 0} → Format V → (V → Option (List ℕ) → Type 0) → Meaning
-part_of {V} F Is = record { Has = λ b octets. HasPart F Is b octets; IsNoContainer = λ b. (v : V) → F.Reads 64 b v → ⊥ }
+part_of {V} F Is = record { Has = λ b octets. HasPart F Is b octets; IsNoContainer = λ b. (v : V) → F.Reads 64 b v → ⊥; IsBroken = λ b. ⊥ }
 
 -- the input has the part, and that is too long
 pub record HasLongPart (M : Meaning) (b : List ℕ) : Type 0 where
@@ -39,8 +41,8 @@ pub record GivesNoPart (M : Meaning) (b : List ℕ) (e : Error) : Type 0 where
 
 abbrev pub RefusesPart : Meaning → List ℕ → Refusal → Type 0
 RefusesPart M b (Refused e place) = GivesNoPart M b e × (place ≤ length b)
-RefusesPart M b (Part e place) = M.IsNoContainer b × (place ≤ length b)
-RefusesPart M b NoRange = M.IsNoContainer b
+RefusesPart M b (Part e place) = M.IsBroken b × (place ≤ length b)
+RefusesPart M b NoRange = M.IsBroken b
 
 abbrev pub GivesPart : Meaning → List ℕ → Result (Option (Vec ℕ Global)) Refusal → Type 0
 GivesPart M b r = MatchResult r (λ found. M.Has b (copied found)) (λ refusal. RefusesPart M b refusal)
@@ -78,7 +80,7 @@ module _ {V : Type 0} (F : Format V) (Is : V → Option (List ℕ) → Type 0) (
     why.1,
   )
   refused (Part e place) why = absurd why
-  refused NoRange why = absurd why
+  refused NoRange why = why
 
   -- the input reads, and what is said of its value was copied
   pub gives : (v : V) → IsValueOf F 64 b v → (r : Result (Option (Vec ℕ Global)) Error) → CopiesOne (Is v) r → GivesPart (part_of F Is) b (with_refusal r)

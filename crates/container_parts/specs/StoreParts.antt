@@ -2,11 +2,12 @@
 use Rattle.std.specs.Prelude.{◌≡◌, ℕ, List, [], ◌∷◌, map, Option, None, Some, slice_get, slice_range}
 use Rattle.std.specs.List.{flat_map}
 use Rattle.std.specs.declared.ops.Range.{Range}
-use Rattle.asn1_core.specs.Der.{Octets}
-use Rattle.bag_ranges.specs.Stores.{AreBagsOf, HasNoBags}
+use Rattle.asn1_core.specs.Der.{raw, Octets}
+use Rattle.bag_ranges.specs.Stores.{AreBagsOf, HasNoBags, IsStore, StoreValue}
 use Rattle.bag_ranges.specs.declared.ranges.BagKind.{BagKind}
 use Rattle.bag_ranges.specs.declared.ranges.BagKind.TheVariants as OfKind
 use Rattle.bag_ranges.specs.declared.ranges.BagRanges.{BagRanges}
+use Rattle.x509_pkcs12.specs.Pfxs.{pfx}
 use Rattle.container_parts.specs.Inputs.{Meaning}
 use Rattle.container_parts.specs.declared.stores.StorePart.{StorePart}
 use Rattle.container_parts.specs.declared.stores.StorePart.TheVariants.{Certificate, Key, EncryptedKey, WholeBag}
@@ -42,4 +43,8 @@ pub record HasStorePart (part : StorePart) (i : ℕ) (b : List ℕ) (octets : Op
   pub is : octets ≡ slice_get (all_in part b rows) i
 
 abbrev pub in_store : StorePart → ℕ → Meaning
-in_store part i = record { Has = λ b octets. HasStorePart part i b octets; IsNoContainer = HasNoBags }
+in_store part i = record {
+  Has = λ b octets. HasStorePart part i b octets;
+  IsNoContainer = λ b. (store : StoreValue) → (pfx raw).Reads 64 b store → ⊥;
+  IsBroken = λ b. IsStore b × HasNoBags b;
+}

@@ -74,10 +74,10 @@ OfPart number index Q = (p : ContainerPart) × IsPartAt number p × Q (meaning_o
 abbrev pub without_part : ((Meaning → Type 0) → Type 0) → Type 0 → List ℕ → Reasons
 without_part Of Unknown b = record {
   IsUnknown = Unknown;
-  HasNone = Of (λ M. M.IsNoContainer b);
-  IsLong = Of (λ M. HasLongPart M b ⊎ M.IsNoContainer b);
+  HasNone = Of (λ M. M.IsNoContainer b ⊎ M.IsBroken b);
+  IsLong = Of (λ M. HasLongPart M b ⊎ M.IsBroken b);
   TakesMemory = Unit {0};
-  LacksRange = Of (λ M. M.IsNoContainer b);
+  LacksRange = Of (λ M. M.IsBroken b);
   IsAbsent = Of (λ M. M.Has b None);
 }
 
