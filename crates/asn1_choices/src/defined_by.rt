@@ -3,6 +3,7 @@
 
 ghost use Rattle.std.specs.Prelude.{◌≡◌, List, ℕ, false};
 ghost use Rattle.asn1_core.specs.Der.{IsLawful, Gives, GivesComponents, within, octets_of};
+ghost use Rattle.asn1_core_format.specs.Tagged.{inside};
 ghost use Rattle.asn1_choices.specs.DefinedBy.{DefinedBy, any_defined_by};
 ghost use Rattle.asn1_choices.specs.DefinedByLaws.{IsDefinedBy};
 
@@ -62,6 +63,18 @@ pub fn read_sequence_defined_by<P: AnyDefinedBy>(
     let both = read_both(alloc, r, nest)?;
     r.end(outer)?;
     Ok(both)
+}
+
+/// Reads an object identifier and what it picks, to the end of the open contents of a SEQUENCE.
+pub fn read_inside_defined_by<P: AnyDefinedBy>(
+    alloc: Global,
+    r: &mut Reader<'_>,
+    nest: u8,
+) -> Result<OidAnd<P>, Error>
+    requires { r.old.refused ≡ false }
+    ensures { GivesComponents (λ x. (octets_of x.0.0, P.value x.1)) (inside 0x30 (within 0x30 (any_defined_by P.defined_by))) nest r.old r.new result }
+{
+    read_both(alloc, r, nest)
 }
 
 /// What an object identifier picks makes a lawful type.

@@ -14,7 +14,8 @@ mod tables;
 pub use alternatives::{Alternative, AnyOid, AnyOidRef, Named};
 pub use choices::{Chosen, ReadChoice, WriteChoice};
 pub use defined_by::{
-    AnyDefinedBy, OidAnd, read_sequence_defined_by, sequences_defined_by_are_lawful,
+    AnyDefinedBy, OidAnd, read_inside_defined_by, read_sequence_defined_by,
+    sequences_defined_by_are_lawful,
 };
 pub use known_or_raw::KnownOrRaw;
 pub use nested::read_nested_or;

@@ -9,11 +9,10 @@ ghost use Rattle.pkcs7_content.specs.Contents.{ContentValues, content_values, Co
 ghost use Rattle.pkcs7_content.specs.ContentLaws.{content_is_defined_by, encapsulated_content_info};
 ghost use Rattle.pkcs7_content.specs.Oids.{data_oid};
 
-use crate::defined_by::read_inside_defined_by;
 use crate::indirect_data::SpcIndirectDataContent;
 use crate::oids::{DATA, INDIRECT_DATA, TRUST_LIST};
 use crate::trust_lists::Ctl;
-use asn1_choices::{AnyDefinedBy, OidAnd};
+use asn1_choices::{AnyDefinedBy, OidAnd, read_inside_defined_by};
 use asn1_core::prelude::*;
 use std::alloc::Global;
 

@@ -4,11 +4,10 @@ ghost use Rattle.std.specs.Prelude.{◌≡◌, ◌↔◌, IsTrue};
 ghost use Rattle.asn1_core.specs.Asn1.{SEQUENCE};
 ghost use Rattle.pkcs7_content.specs.IndirectData.{SpcValue, spc_values, subject_of, spc_defined_by, spc_attribute, spc_indirect_data_content, spc_is_defined_by, spc_value, spc_attribute_value, spc_indirect_data_content_value, spc_value_equal, spc_attribute_equal, spc_indirect_data_content_equal};
 
-use crate::defined_by::read_inside_defined_by;
 use crate::oids::{PE_IMAGE, SIP_INFO};
 use crate::pe_images::SpcPeImageData;
 use crate::sip_infos::SpcSipInfo;
-use asn1_choices::{AnyDefinedBy, OidAnd};
+use asn1_choices::{AnyDefinedBy, OidAnd, read_inside_defined_by};
 use asn1_core::prelude::*;
 use std::alloc::Global;
 use x509_base::DigestInfo;

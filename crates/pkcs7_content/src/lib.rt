@@ -2,7 +2,6 @@
 #![tactic(auto)]
 
 pub mod contents;
-mod defined_by;
 pub mod indirect_data;
 mod oids;
 pub mod pe_images;

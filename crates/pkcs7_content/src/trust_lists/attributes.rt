@@ -3,9 +3,8 @@
 ghost use Rattle.asn1_core.specs.Asn1.{SEQUENCE};
 ghost use Rattle.pkcs7_content.specs.TrustLists.{ctl_entry_attribute, ctl_entry_attribute_value, ctl_entry_attribute_equal};
 
-use crate::defined_by::read_inside_defined_by;
 use crate::trust_lists::values::CTLEntryAttributeValues;
-use asn1_choices::OidAnd;
+use asn1_choices::{OidAnd, read_inside_defined_by};
 use asn1_core::prelude::*;
 use std::alloc::Global;
 
