@@ -123,8 +123,8 @@ def own_lines(data: bytes, place: Optional[int]) -> Iterator[Line]:
             at += 2
             opened.pop()
             continue
+        is_indefinite = text == ", indefinite length"
         text = tag_word(element.tag) + text + (", segment" if around.is_segmented else "")
-        is_indefinite = text.endswith(", indefinite length")
         if _opens(element, is_indefinite, place):
             yield Line(at, depth, text)
             at = element.start
