@@ -9,7 +9,7 @@ use Rattle.asn1_core_format.specs.Whole.{IsValueOf}
 use Rattle.input_ranges.specs.Failures.{IsRefusalOf}
 use Rattle.input_ranges.specs.declared.ranges.Refusal.{Refusal}
 use Rattle.x509_base.specs.AlgorithmLaws.{algorithm_identifier}
-use Rattle.x509_pkcs7.specs.Enveloped.{encrypted_content_info, enveloped, enveloped_value, EnvelopedValue, lawful_enveloped}
+use Rattle.pkcs7_enveloped.specs.Enveloped.{encrypted_content_info, enveloped, enveloped_value, EnvelopedValue, lawful_enveloped}
 use Rattle.part_ranges.specs.Ranges.{AreAt, LacksItem}
 use Rattle.part_ranges.specs.declared.enveloped.Envelope.{Envelope}
 use Rattle.part_ranges.specs.declared.envelope_parts.EnvelopePart.{EnvelopePart}

@@ -4,9 +4,9 @@ ghost use Rattle.std.specs.Prelude.{◌≡◌, ℕ, List, map};
 ghost use Rattle.asn1_core.specs.Der.{verbatim, lawful_only_oid, list_equal, only_oid, option_equal, two_equal, with_end};
 ghost use Rattle.part_ranges.specs.Enveloped.{enveloped_data_oid, envelope, EnvelopeValue, envelope_value, lawful_envelope};
 ghost use Rattle.x509_base.specs.Names.{attribute_equal, attribute_value};
-ghost use Rattle.x509_pkcs7.specs.Enveloped.{encrypted_content_equal, originator_equal, originator_info_value};
+ghost use Rattle.pkcs7_enveloped.specs.Enveloped.{encrypted_content_equal, originator_equal, originator_info_value};
 ghost use Rattle.x509_pkcs7.specs.RawSigned.{with_head};
-ghost use Rattle.x509_pkcs7.specs.Versions.{version_equal};
+ghost use Rattle.pkcs7_enveloped.specs.Versions.{version_equal};
 
 use asn1_core::prelude::*;
 use std::alloc::Global;

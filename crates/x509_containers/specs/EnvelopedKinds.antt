@@ -3,9 +3,9 @@
 use Rattle.asn1_core.specs.Asn1.{SEQUENCE}
 use Rattle.std.specs.Prelude.{List, [], ◌∷◌, codes}
 use Rattle.x509_pkcs7.specs.ContentInfos.{content_info}
-use Rattle.x509_pkcs7.specs.Descriptors.{protection_descriptor, general_protection_descriptor}
-use Rattle.x509_pkcs7.specs.Enveloped.{encrypted_content_info, enveloped, originator_info}
-use Rattle.x509_pkcs7.specs.Recipients.{kek_identifier, kek_recipient_info, other_key_attribute, recipient_info}
+use Rattle.pkcs7_enveloped.specs.Descriptors.{protection_descriptor, general_protection_descriptor}
+use Rattle.pkcs7_enveloped.specs.Enveloped.{encrypted_content_info, enveloped, originator_info}
+use Rattle.pkcs7_enveloped.specs.Recipients.{kek_identifier, kek_recipient_info, other_key_attribute, recipient_info}
 use Rattle.x509_containers.specs.Entries.{Entry, entry}
 use Rattle.x509_containers.specs.declared.kinds.enveloped.EnvelopedKind.{EnvelopedKind}
 use Rattle.x509_containers.specs.declared.kinds.enveloped.EnvelopedKind.TheVariants as Kind

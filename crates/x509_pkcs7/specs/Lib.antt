@@ -1,8 +1,4 @@
-pub mod Versions
 pub mod ContentInfos
-pub mod Recipients
-pub mod Enveloped
-pub mod Descriptors
 pub mod RawContents
 pub mod RawSigners
 pub mod RawSigned

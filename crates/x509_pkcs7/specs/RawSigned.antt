@@ -17,7 +17,7 @@ use Rattle.x509_pkcs7.specs.declared.raw_signed.RawRevocationInfoChoices.{RawRev
 use Rattle.std.specs.Option.{option_eq}
 use lib.Pointwise.{pointwise}
 use Rattle.pkcs7_signed_crl.specs.PartsEqual.{digest_algorithm_identifiers_equal, certificate_set_equal}
-use Rattle.x509_pkcs7.specs.Versions.{version_equal}
+use Rattle.pkcs7_enveloped.specs.Versions.{version_equal}
 use Rattle.pkcs7_content.specs.contracts.versions.CmsVersionPartialEq.TheImpl as Version
 use Rattle.pkcs7_signed_crl.specs.contracts.algorithms.DigestAlgorithmIdentifiersPartialEq.TheImpl as Algorithms
 use Rattle.x509_pkcs7.specs.contracts.raw_contents.RawEncapsulatedContentInfoPartialEq.TheImpl as Encapsulated

@@ -13,7 +13,7 @@ use Rattle.x509_pkcs7.specs.declared.raw_signers.RawSignerInfo.{RawSignerInfo}
 use Rattle.x509_pkcs7.specs.declared.raw_signers.RawUnsignedAttributes.{RawUnsignedAttributes}
 use Rattle.pkcs7_attributes.specs.AttributesEqual.{attributes_equal}
 use Rattle.pkcs7_signed_crl.specs.PartsEqual.{signer_identifier_equal}
-use Rattle.x509_pkcs7.specs.Versions.{version_equal}
+use Rattle.pkcs7_enveloped.specs.Versions.{version_equal}
 use Rattle.x509_pkcs7.specs.contracts.raw_signers.RawUnsignedAttributesPartialEq.TheImpl as Unsigned
 use Rattle.x509_pkcs7.specs.contracts.raw_signers.RawSignerInfoPartialEq.TheImpl as Signer
 

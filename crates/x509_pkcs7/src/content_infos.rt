@@ -6,10 +6,8 @@ ghost use Rattle.x509_pkcs7.specs.ContentInfos.{content_info, content_info_value
 
 use asn1_core::from_bytes;
 use asn1_core::prelude::*;
+use pkcs7_enveloped::ContentType;
 use std::alloc::Global;
-
-/// `ContentType ::= OBJECT IDENTIFIER`
-pub type ContentType = ObjectIdentifierAsn1;
 
 /// `ContentInfo ::= SEQUENCE { contentType ContentType, content [0] EXPLICIT ANY DEFINED BY contentType }`
 #[derive(Debug, Drop, PartialEq)]

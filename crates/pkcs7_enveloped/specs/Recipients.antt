@@ -8,18 +8,18 @@ use Rattle.asn1_leaves_times.specs.Times.{moment_of_generalized}
 use Rattle.pkcs7_content.specs.Versions.{number_of}
 use Rattle.x509_base.specs.AlgorithmLaws.{algorithm_identifier}
 use Rattle.x509_base.specs.AlgorithmParts.{algorithm_identifier_value}
-use Rattle.x509_pkcs7.specs.declared.recipients.KekIdentifier.{KekIdentifier}
-use Rattle.x509_pkcs7.specs.declared.recipients.KekRecipientInfo.{KekRecipientInfo}
-use Rattle.x509_pkcs7.specs.declared.recipients.OtherKeyAttribute.{OtherKeyAttribute}
-use Rattle.x509_pkcs7.specs.declared.recipients.RecipientInfo.{RecipientInfo}
-use Rattle.x509_pkcs7.specs.declared.recipients.RecipientInfo.TheVariants.{Kek}
+use Rattle.pkcs7_enveloped.specs.declared.recipients.KekIdentifier.{KekIdentifier}
+use Rattle.pkcs7_enveloped.specs.declared.recipients.KekRecipientInfo.{KekRecipientInfo}
+use Rattle.pkcs7_enveloped.specs.declared.recipients.OtherKeyAttribute.{OtherKeyAttribute}
+use Rattle.pkcs7_enveloped.specs.declared.recipients.RecipientInfo.{RecipientInfo}
+use Rattle.pkcs7_enveloped.specs.declared.recipients.RecipientInfo.TheVariants.{Kek}
 use Rattle.x509_base.specs.BaseEqual.{x509_equal}
 use Rattle.asn1_leaves_times.specs.TimesLaws.{equal_generalized}
-use Rattle.x509_pkcs7.specs.Versions.{version_equal}
-use Rattle.x509_pkcs7.specs.contracts.recipients.OtherKeyAttributePartialEq.TheImpl as OtherKey
-use Rattle.x509_pkcs7.specs.contracts.recipients.KekIdentifierPartialEq.TheImpl as KekId
-use Rattle.x509_pkcs7.specs.contracts.recipients.KekRecipientInfoPartialEq.TheImpl as KekRecipient
-use Rattle.x509_pkcs7.specs.contracts.recipients.RecipientInfoPartialEq.TheImpl as Recipient
+use Rattle.pkcs7_enveloped.specs.Versions.{version_equal}
+use Rattle.pkcs7_enveloped.specs.contracts.recipients.OtherKeyAttributePartialEq.TheImpl as OtherKey
+use Rattle.pkcs7_enveloped.specs.contracts.recipients.KekIdentifierPartialEq.TheImpl as KekId
+use Rattle.pkcs7_enveloped.specs.contracts.recipients.KekRecipientInfoPartialEq.TheImpl as KekRecipient
+use Rattle.pkcs7_enveloped.specs.contracts.recipients.RecipientInfoPartialEq.TheImpl as Recipient
 
 -- OtherKeyAttribute ::= SEQUENCE { keyAttrId OBJECT IDENTIFIER, keyAttr ANY DEFINED BY keyAttrId OPTIONAL }
 --   (RFC 5652, 10.2.7)

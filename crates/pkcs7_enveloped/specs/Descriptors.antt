@@ -5,10 +5,10 @@ use Rattle.asn1_core.specs.Asn1.{Contents, contents, ◌then◌, end, OBJECT_IDE
 use Rattle.asn1_core.specs.Der.{Format, sequence, octets_of, SeesEqual, der_equal}
 use Rattle.asn1_leaves.specs.Asn1.{UTF8_STRING}
 use Rattle.asn1_leaves_strings.specs.Octets.{octets_of_utf8}
-use Rattle.x509_pkcs7.specs.declared.descriptors.GeneralProtectionDescriptor.{GeneralProtectionDescriptor}
-use Rattle.x509_pkcs7.specs.declared.descriptors.ProtectionDescriptor.{ProtectionDescriptor}
-use Rattle.x509_pkcs7.specs.contracts.descriptors.ProtectionDescriptorPartialEq.TheImpl as Descriptor
-use Rattle.x509_pkcs7.specs.contracts.descriptors.GeneralProtectionDescriptorPartialEq.TheImpl as General
+use Rattle.pkcs7_enveloped.specs.declared.descriptors.GeneralProtectionDescriptor.{GeneralProtectionDescriptor}
+use Rattle.pkcs7_enveloped.specs.declared.descriptors.ProtectionDescriptor.{ProtectionDescriptor}
+use Rattle.pkcs7_enveloped.specs.contracts.descriptors.ProtectionDescriptorPartialEq.TheImpl as Descriptor
+use Rattle.pkcs7_enveloped.specs.contracts.descriptors.GeneralProtectionDescriptorPartialEq.TheImpl as General
 
 -- ProtectionDescriptor ::= SEQUENCE { descriptorType UTF8String, descriptorValue UTF8String }
 abbrev pub protection_descriptor : Contents

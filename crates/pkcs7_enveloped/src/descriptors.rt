@@ -1,6 +1,6 @@
 //! Protection descriptors: to whom data are protected (MS-GKDI, DPAPI-NG).
 
-ghost use Rattle.x509_pkcs7.specs.Descriptors.{protection_descriptor, protection_descriptor_value, general_protection_descriptor, general_protection_descriptor_value, descriptor_equal, general_descriptor_equal};
+ghost use Rattle.pkcs7_enveloped.specs.Descriptors.{protection_descriptor, protection_descriptor_value, general_protection_descriptor, general_protection_descriptor_value, descriptor_equal, general_descriptor_equal};
 
 use asn1_core::prelude::*;
 use asn1_leaves::Utf8StringAsn1;

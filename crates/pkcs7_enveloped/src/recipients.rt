@@ -1,6 +1,6 @@
 //! Recipients of enveloped data who have a key encryption key (RFC 5652, 6.2.3).
 
-ghost use Rattle.x509_pkcs7.specs.Recipients.{other_key_attribute, other_key_attribute_value, kek_identifier, kek_identifier_value, kek_recipient_info, kek_recipient_info_value, recipient_info, recipient_info_value, other_key_equal, kek_id_equal, kek_recipient_equal, recipient_equal};
+ghost use Rattle.pkcs7_enveloped.specs.Recipients.{other_key_attribute, other_key_attribute_value, kek_identifier, kek_identifier_value, kek_recipient_info, kek_recipient_info_value, recipient_info, recipient_info_value, other_key_equal, kek_id_equal, kek_recipient_equal, recipient_equal};
 
 use asn1_core::prelude::*;
 use asn1_leaves::GeneralizedTimeAsn1;

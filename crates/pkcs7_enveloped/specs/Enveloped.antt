@@ -11,13 +11,13 @@ use Rattle.pkcs7_signed_crl.specs.Revocations.{revocation_info_choices_value, re
 use Rattle.x509_base.specs.AlgorithmLaws.{algorithm_identifier}
 use Rattle.x509_base.specs.AlgorithmParts.{algorithm_identifier_value}
 use Rattle.x509_base.specs.Names.{attribute, attribute_value}
-use Rattle.x509_pkcs7.specs.declared.enveloped.EncryptedContentInfo.{EncryptedContentInfo}
-use Rattle.x509_pkcs7.specs.declared.enveloped.EnvelopedData.{EnvelopedData}
-use Rattle.x509_pkcs7.specs.declared.enveloped.OriginatorInfo.{OriginatorInfo}
+use Rattle.pkcs7_enveloped.specs.declared.enveloped.EncryptedContentInfo.{EncryptedContentInfo}
+use Rattle.pkcs7_enveloped.specs.declared.enveloped.EnvelopedData.{EnvelopedData}
+use Rattle.pkcs7_enveloped.specs.declared.enveloped.OriginatorInfo.{OriginatorInfo}
 use Rattle.x509_base.specs.BaseEqual.{x509_equal}
 use Rattle.pkcs7_signed_crl.specs.PartsEqual.{certificate_set_equal, revocation_info_choices_equal}
-use Rattle.x509_pkcs7.specs.contracts.enveloped.EncryptedContentInfoPartialEq.TheImpl as Encrypted
-use Rattle.x509_pkcs7.specs.contracts.enveloped.OriginatorInfoPartialEq.TheImpl as Originator
+use Rattle.pkcs7_enveloped.specs.contracts.enveloped.EncryptedContentInfoPartialEq.TheImpl as Encrypted
+use Rattle.pkcs7_enveloped.specs.contracts.enveloped.OriginatorInfoPartialEq.TheImpl as Originator
 
 -- EncryptedContentInfo ::= SEQUENCE { contentType ContentType, contentEncryptionAlgorithm
 --   ContentEncryptionAlgorithmIdentifier, encryptedContent [0] IMPLICIT EncryptedContent OPTIONAL }

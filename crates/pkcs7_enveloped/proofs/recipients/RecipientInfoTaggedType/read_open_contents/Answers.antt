@@ -5,8 +5,8 @@ use Rattle.asn1_core.specs.Der.{Position, HasRefusedComponents, element, element
 use Rattle.asn1_core_element.specs.declared.error.Error.{Error}
 use Rattle.asn1_core_format.specs.Tagged.{inside}
 use Rattle.asn1_core_format.proofs.LevelReads.{has_refused_components}
-use Rattle.x509_pkcs7.specs.Recipients.{kek_recipient_info, recipient_info, recipient_info_value}
-use Rattle.x509_pkcs7.proofs.recipients.RecipientInfoTaggedType.read_open_contents.Goals as goal
+use Rattle.pkcs7_enveloped.specs.Recipients.{kek_recipient_info, recipient_info, recipient_info_value}
+use Rattle.pkcs7_enveloped.proofs.recipients.RecipientInfoTaggedType.read_open_contents.Goals as goal
 
 -- the contents are those of the SEQUENCE
 refused : {k : ℕ} {old new : Position} {e : Error} → HasRefusedComponents (inside 0x30 (SEQUENCE kek_recipient_info).format) k old new e → HasRefusedComponents (inside 0xA2 recipient_info.format) k old new e

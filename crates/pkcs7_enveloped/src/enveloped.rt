@@ -3,16 +3,18 @@
 ghost use Rattle.std.specs.Prelude.{map};
 ghost use Rattle.asn1_core.specs.Der.{list_equal, option_equal, two_equal, with_end};
 ghost use Rattle.x509_base.specs.Names.{attribute_equal, attribute_value};
-ghost use Rattle.x509_pkcs7.specs.Enveloped.{encrypted_content_info, encrypted_content_info_value, originator_info, originator_info_value, EnvelopedValue, enveloped_value, enveloped, lawful_enveloped, encrypted_content_equal, originator_equal};
-ghost use Rattle.x509_pkcs7.specs.Versions.{version_equal};
+ghost use Rattle.pkcs7_enveloped.specs.Enveloped.{encrypted_content_info, encrypted_content_info_value, originator_info, originator_info_value, EnvelopedValue, enveloped_value, enveloped, lawful_enveloped, encrypted_content_equal, originator_equal};
+ghost use Rattle.pkcs7_enveloped.specs.Versions.{version_equal};
 
-use crate::content_infos::ContentType;
 use crate::recipients::RecipientInfo;
 use asn1_core::prelude::*;
 use pkcs7_content::CmsVersion;
 use pkcs7_signed_crl::{CertificateSet, RevocationInfoChoices};
 use std::alloc::Global;
 use x509_base::{AlgorithmIdentifier, Attribute};
+
+/// `ContentType ::= OBJECT IDENTIFIER` (RFC 5652, 3)
+pub type ContentType = ObjectIdentifierAsn1;
 
 /// `ContentEncryptionAlgorithmIdentifier ::= AlgorithmIdentifier` (RFC 5652, 10.1.4)
 pub type ContentEncryptionAlgorithmIdentifier = AlgorithmIdentifier;

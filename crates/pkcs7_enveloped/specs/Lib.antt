@@ -1,0 +1,4 @@
+pub mod Versions
+pub mod Recipients
+pub mod Enveloped
+pub mod Descriptors
