@@ -1,5 +1,4 @@
 pub mod Words
-pub mod Seen
 pub mod Octets
 pub mod Raw
 pub mod Nulls

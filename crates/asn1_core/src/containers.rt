@@ -6,7 +6,8 @@ ghost use Rattle.asn1_core_format.specs.ComponentLaws.{lawful_within};
 
 use asn1_core_element::{Error, Reader};
 use asn1_core_format::{
-    Alone, DerDeserialize, DerSerialize, Ref, TryClone, Viewed, put_within, read_within,
+    Alone, DerDeserialize, DerSerialize, EqualByText, Ref, TryClone, Viewed, put_within,
+    read_within,
 };
 use asn1_core_writers::{WriteError, Writer};
 use std::alloc::Global;
@@ -44,15 +45,11 @@ impl<T: DerDeserialize> DerDeserialize for OctetStringAsn1Container<T> {
     ghost lawful = { lawful_within T.DerSerialize.format T.lawful.components 0x04 (Prim.omega arith) };
 }
 
-impl<T: Viewed> Viewed for OctetStringAsn1Container<T> {
-    ghost View = { T.View };
-
-    ghost view = { λ x. T.view x.0 };
-
-    ghost equal = { λ x y. T.equal x.0 y.0 };
+impl<T: EqualByText> EqualByText for OctetStringAsn1Container<T> {
+    ghost equal_by_text = { λ x y. T.equal_by_text x.0 y.0 };
 }
 
-impl<T: TryClone> TryClone for OctetStringAsn1Container<T> {
+impl<T: TryClone + EqualByText> TryClone for OctetStringAsn1Container<T> {
     fn try_clone(&self, alloc: Global) -> Result<Self, Error> {
         Ok(OctetStringAsn1Container(self.0.try_clone(alloc)?))
     }

@@ -10,7 +10,8 @@ ghost use Rattle.asn1_core_format.specs.TaggedDefaults.{explicit_left_out};
 
 use asn1_core_element::{Error, Reader};
 use asn1_core_format::{
-    Alone, DerDeserialize, DerSerialize, HasDefault, Ref, TryClone, Viewed, put_within, read_within,
+    Alone, DerDeserialize, DerSerialize, EqualByText, HasDefault, Ref, TryClone, put_within,
+    read_within,
 };
 use asn1_core_writers::{WriteError, Writer};
 use std::alloc::Global;
@@ -48,15 +49,11 @@ impl<T: DerDeserialize> DerDeserialize for ExplicitContextTag0<T> {
     ghost lawful = { lawful_within T.DerSerialize.format T.lawful.components 0xA0 (Prim.omega arith) };
 }
 
-impl<T: Viewed> Viewed for ExplicitContextTag0<T> {
-    ghost View = { T.View };
-
-    ghost view = { λ x. T.view x.0 };
-
-    ghost equal = { λ x y. T.equal x.0 y.0 };
+impl<T: EqualByText> EqualByText for ExplicitContextTag0<T> {
+    ghost equal_by_text = { λ x y. T.equal_by_text x.0 y.0 };
 }
 
-impl<T: TryClone> TryClone for ExplicitContextTag0<T> {
+impl<T: TryClone + EqualByText> TryClone for ExplicitContextTag0<T> {
     fn try_clone(&self, alloc: Global) -> Result<Self, Error> {
         Ok(ExplicitContextTag0(self.0.try_clone(alloc)?))
     }
@@ -95,15 +92,11 @@ impl<T: DerDeserialize> DerDeserialize for ExplicitContextTag1<T> {
     ghost lawful = { lawful_within T.DerSerialize.format T.lawful.components 0xA1 (Prim.omega arith) };
 }
 
-impl<T: Viewed> Viewed for ExplicitContextTag1<T> {
-    ghost View = { T.View };
-
-    ghost view = { λ x. T.view x.0 };
-
-    ghost equal = { λ x y. T.equal x.0 y.0 };
+impl<T: EqualByText> EqualByText for ExplicitContextTag1<T> {
+    ghost equal_by_text = { λ x y. T.equal_by_text x.0 y.0 };
 }
 
-impl<T: TryClone> TryClone for ExplicitContextTag1<T> {
+impl<T: TryClone + EqualByText> TryClone for ExplicitContextTag1<T> {
     fn try_clone(&self, alloc: Global) -> Result<Self, Error> {
         Ok(ExplicitContextTag1(self.0.try_clone(alloc)?))
     }
@@ -142,15 +135,11 @@ impl<T: DerDeserialize> DerDeserialize for ExplicitContextTag2<T> {
     ghost lawful = { lawful_within T.DerSerialize.format T.lawful.components 0xA2 (Prim.omega arith) };
 }
 
-impl<T: Viewed> Viewed for ExplicitContextTag2<T> {
-    ghost View = { T.View };
-
-    ghost view = { λ x. T.view x.0 };
-
-    ghost equal = { λ x y. T.equal x.0 y.0 };
+impl<T: EqualByText> EqualByText for ExplicitContextTag2<T> {
+    ghost equal_by_text = { λ x y. T.equal_by_text x.0 y.0 };
 }
 
-impl<T: TryClone> TryClone for ExplicitContextTag2<T> {
+impl<T: TryClone + EqualByText> TryClone for ExplicitContextTag2<T> {
     fn try_clone(&self, alloc: Global) -> Result<Self, Error> {
         Ok(ExplicitContextTag2(self.0.try_clone(alloc)?))
     }
@@ -195,15 +184,11 @@ impl<const N: u8, T: DerDeserialize> DerDeserialize for Explicit<N, T> {
     ghost lawful = { lawful_explicit_context N T.lawful };
 }
 
-impl<const N: u8, T: Viewed> Viewed for Explicit<N, T> {
-    ghost View = { T.View };
-
-    ghost view = { λ x. T.view x.0 };
-
-    ghost equal = { λ x y. T.equal x.0 y.0 };
+impl<const N: u8, T: EqualByText> EqualByText for Explicit<N, T> {
+    ghost equal_by_text = { λ x y. T.equal_by_text x.0 y.0 };
 }
 
-impl<const N: u8, T: TryClone> TryClone for Explicit<N, T> {
+impl<const N: u8, T: TryClone + EqualByText> TryClone for Explicit<N, T> {
     fn try_clone(&self, alloc: Global) -> Result<Self, Error> {
         Ok(Explicit(self.0.try_clone(alloc)?))
     }

@@ -11,7 +11,7 @@ ghost use Rattle.asn1_core_format.specs.TaggedDefaults.{implicit_left_out};
 use asn1_core_element::{Error, Reader};
 use asn1_core_format::tagged::context_tag_of;
 use asn1_core_format::{
-    DerDeserialize, DerSerialize, DerTagged, HasDefault, TryClone, Viewed, read_retagged,
+    DerDeserialize, DerSerialize, DerTagged, EqualByText, HasDefault, TryClone, read_retagged,
 };
 use asn1_core_writers::{WriteError, Writer};
 use std::alloc::Global;
@@ -48,15 +48,11 @@ impl<T: DerTagged> DerDeserialize for ImplicitContextTag0<T> {
     ghost lawful = { lawful_implicit (context_tag 0 T.TAG) T.TAG T.DerSerialize.format T.lawful T.tagged (context_tag_is 0 T.TAG (Prim.omega arith)) };
 }
 
-impl<T: Viewed> Viewed for ImplicitContextTag0<T> {
-    ghost View = { T.View };
-
-    ghost view = { λ x. T.view x.0 };
-
-    ghost equal = { λ x y. T.equal x.0 y.0 };
+impl<T: EqualByText + DerTagged> EqualByText for ImplicitContextTag0<T> {
+    ghost equal_by_text = { λ x y. T.equal_by_text x.0 y.0 };
 }
 
-impl<T: TryClone> TryClone for ImplicitContextTag0<T> {
+impl<T: TryClone + EqualByText + DerTagged> TryClone for ImplicitContextTag0<T> {
     fn try_clone(&self, alloc: Global) -> Result<Self, Error> {
         Ok(ImplicitContextTag0(self.0.try_clone(alloc)?))
     }
@@ -94,15 +90,11 @@ impl<T: DerTagged> DerDeserialize for ImplicitContextTag1<T> {
     ghost lawful = { lawful_implicit (context_tag 1 T.TAG) T.TAG T.DerSerialize.format T.lawful T.tagged (context_tag_is 1 T.TAG (Prim.omega arith)) };
 }
 
-impl<T: Viewed> Viewed for ImplicitContextTag1<T> {
-    ghost View = { T.View };
-
-    ghost view = { λ x. T.view x.0 };
-
-    ghost equal = { λ x y. T.equal x.0 y.0 };
+impl<T: EqualByText + DerTagged> EqualByText for ImplicitContextTag1<T> {
+    ghost equal_by_text = { λ x y. T.equal_by_text x.0 y.0 };
 }
 
-impl<T: TryClone> TryClone for ImplicitContextTag1<T> {
+impl<T: TryClone + EqualByText + DerTagged> TryClone for ImplicitContextTag1<T> {
     fn try_clone(&self, alloc: Global) -> Result<Self, Error> {
         Ok(ImplicitContextTag1(self.0.try_clone(alloc)?))
     }
@@ -147,15 +139,11 @@ impl<const N: u8, T: DerTagged> DerDeserialize for Implicit<N, T> {
     ghost lawful = { lawful_implicit_context N T.TAG T.lawful T.tagged };
 }
 
-impl<const N: u8, T: Viewed> Viewed for Implicit<N, T> {
-    ghost View = { T.View };
-
-    ghost view = { λ x. T.view x.0 };
-
-    ghost equal = { λ x y. T.equal x.0 y.0 };
+impl<const N: u8, T: EqualByText + DerTagged> EqualByText for Implicit<N, T> {
+    ghost equal_by_text = { λ x y. T.equal_by_text x.0 y.0 };
 }
 
-impl<const N: u8, T: TryClone> TryClone for Implicit<N, T> {
+impl<const N: u8, T: TryClone + EqualByText + DerTagged> TryClone for Implicit<N, T> {
     fn try_clone(&self, alloc: Global) -> Result<Self, Error> {
         Ok(Implicit(self.0.try_clone(alloc)?))
     }

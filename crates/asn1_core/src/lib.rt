@@ -14,7 +14,6 @@ pub mod objects;
 pub mod octets;
 pub mod prelude;
 pub mod raw;
-pub mod seen;
 pub mod versions;
 
 pub use asn1_core_element::{Error, Reader};
@@ -42,5 +41,4 @@ pub use nulls::Null;
 pub use objects::{KnownOid, ObjectIdentifierAsn1, OidRef};
 pub use octets::OctetStringAsn1;
 pub use raw::Asn1RawDer;
-pub use seen::SeenByText;
 pub use versions::FixedVersion;

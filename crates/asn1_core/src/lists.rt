@@ -12,7 +12,7 @@ ghost use Rattle.asn1_core_format.specs.Views.{list_equal};
 
 use asn1_core_element::{Error, Reader};
 use asn1_core_format::{
-    DerDeserialize, DerSerialize, DerTagged, TryClone, Viewed, WriteComponents, put_within,
+    DerDeserialize, DerSerialize, DerTagged, EqualByText, TryClone, WriteComponents, put_within,
     read_inside, read_within,
 };
 use asn1_core_writers::{WriteError, Writer};
@@ -68,15 +68,11 @@ impl<T: DerDeserialize> DerTagged for Asn1SequenceOf<T> {
     ghost tagged = { within_tagged 0x30 (Prim.omega arith) (each T.DerSerialize.format) };
 }
 
-impl<T: Viewed> Viewed for Asn1SequenceOf<T> {
-    ghost View = { List T.View };
-
-    ghost view = { λ s. map T.view s.0.items };
-
-    ghost equal = { λ x y. list_equal T.eq T.view T.equal x.0.items y.0.items };
+impl<T: EqualByText> EqualByText for Asn1SequenceOf<T> {
+    ghost equal_by_text = { λ x y. list_equal T.eq T.DerSerialize.value T.equal_by_text x.0.items y.0.items };
 }
 
-impl<T: TryClone> TryClone for Asn1SequenceOf<T> {
+impl<T: TryClone + EqualByText> TryClone for Asn1SequenceOf<T> {
     fn try_clone(&self, alloc: Global) -> Result<Self, Error> {
         Ok(Asn1SequenceOf(self.0.try_clone(alloc)?))
     }
@@ -132,15 +128,11 @@ impl<T: DerDeserialize> DerTagged for Asn1SetOf<T> {
     ghost tagged = { within_tagged 0x31 (Prim.omega arith) (each T.DerSerialize.format) };
 }
 
-impl<T: Viewed> Viewed for Asn1SetOf<T> {
-    ghost View = { List T.View };
-
-    ghost view = { λ s. map T.view s.0.items };
-
-    ghost equal = { λ x y. list_equal T.eq T.view T.equal x.0.items y.0.items };
+impl<T: EqualByText> EqualByText for Asn1SetOf<T> {
+    ghost equal_by_text = { λ x y. list_equal T.eq T.DerSerialize.value T.equal_by_text x.0.items y.0.items };
 }
 
-impl<T: TryClone> TryClone for Asn1SetOf<T> {
+impl<T: TryClone + EqualByText> TryClone for Asn1SetOf<T> {
     fn try_clone(&self, alloc: Global) -> Result<Self, Error> {
         Ok(Asn1SetOf(self.0.try_clone(alloc)?))
     }

@@ -1,4 +1,4 @@
-//! What is alike in the methods of every SEQUENCE: `put_of`, `formed_of`, `read_of` and `clone_of` are their bodies.
+//! What is alike in the methods of every SEQUENCE.
 
 /// The body of a SEQUENCE over references to its fields: `body_of!(self; id, data, count OPTIONAL)`. A field is
 /// followed by `OPTIONAL` where it is an `Option`, and by `DEFAULT` where its type has a default. Any other part is an
@@ -32,8 +32,8 @@ macro_rules! body_of {
     };
 }
 
-/// The parts of a SEQUENCE's body as a pattern, with the words of `body_of`, for a `read` that does more than
-/// `read_of`: `let fields_of!((Null), count OPTIONAL) = read_within(alloc, r, nest, 0x30)?;`. What isn't a field is a
+/// The parts of a SEQUENCE's body as a pattern, with the words of `body_of`, for a reading that does more than
+/// `read_fields_of`: `let fields_of!((Null), count OPTIONAL) = read_within(alloc, r, nest, 0x30)?;`. What isn't a field is a
 /// pattern in parentheses.
 #[macro_export]
 macro_rules! fields_of {
@@ -77,16 +77,6 @@ macro_rules! formed_of {
     ($value:ident, $limit:ident; $($parts:tt)*) => {
         $crate::body_of!($value; $($parts)*).components_well_formed_at($limit)
     };
-}
-
-/// Reads a SEQUENCE whose parts are the fields of a struct, as the body of `DerDeserialize::read`: `read_of!(alloc, r,
-/// nest; Stamp { id, data, count OPTIONAL })`.
-#[macro_export]
-macro_rules! read_of {
-    ($alloc:ident, $r:ident, $nest:ident; $type:ident { $($field:ident $($word:ident)?),* }) => {{
-        let $crate::fields_of!($($field $($word)?),*) = $crate::prelude::read_within($alloc, $r, $nest, 0x30)?;
-        Ok($type { $($field),* })
-    }};
 }
 
 /// Clones a struct with named fields, as the body of `TryClone::try_clone`: `clone_of!(self, alloc; Attribute { ty,

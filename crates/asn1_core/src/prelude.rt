@@ -5,9 +5,8 @@ pub use crate::{
     Asn1RawDer, Asn1SequenceOf, Asn1SetOf, DefaultFalse, DefaultNumber, Explicit,
     ExplicitContextTag0, ExplicitContextTag1, ExplicitContextTag2, FixedVersion, Implicit,
     ImplicitContextTag0, ImplicitContextTag1, KnownOid, Null, ObjectIdentifierAsn1,
-    OctetStringAsn1, OctetStringAsn1Container, Optional, SeenByText, body_of, clone_fields_of,
-    clone_of, fields_of, formed_of, put_of, read_fields_of, read_of, struct_of, types_of,
-    with_components_of,
+    OctetStringAsn1, OctetStringAsn1Container, Optional, body_of, clone_fields_of, clone_of,
+    fields_of, formed_of, put_of, read_fields_of, struct_of, types_of, with_components_of,
 };
 pub use asn1_core_element::{Error, Reader};
 pub use asn1_core_format::{

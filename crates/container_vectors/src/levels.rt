@@ -1,8 +1,8 @@
 //! Values inside one another that are built: their encodings and levels.
 
 use asn1_core::{
-    Asn1SetOf, DerDeserialize, Error, ObjectIdentifier, ObjectIdentifierAsn1, Optional, SeenByText,
-    TryClone, from_bytes, to_vec,
+    Asn1SetOf, DerDeserialize, EqualByText, Error, ObjectIdentifier, ObjectIdentifierAsn1,
+    Optional, TryClone, from_bytes, to_vec,
 };
 use std::alloc::Global;
 use std::test::Fail;
@@ -23,7 +23,7 @@ fn is_well_formed<T: DerDeserialize>(value: &T, levels: u8) -> Result<(), Fail> 
 }
 
 /// Asks besides for the size of its encoding, that it is cloned, and that up to 64 levels are read.
-fn has_levels<T: DerDeserialize + SeenByText + TryClone>(
+fn has_levels<T: DerDeserialize + EqualByText + TryClone>(
     alloc: Global,
     value: &T,
     levels: u8,

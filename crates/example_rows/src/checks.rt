@@ -3,7 +3,7 @@
 use crate::rows::Row;
 use asn1_core::prelude::read_retagged;
 use asn1_core::{
-    DerDeserialize, DerTagged, Error, MAX_NESTING, Reader, SeenByText, StdSink, StdSource,
+    DerDeserialize, DerTagged, EqualByText, Error, MAX_NESTING, Reader, StdSink, StdSource,
     TryClone, from_bytes, from_bytes_counted, from_bytes_limited, from_bytes_located, to_vec,
 };
 use std::alloc::Global;
@@ -266,7 +266,7 @@ fn is_shown<T: Debug>(alloc: Global, value: &T, row: &Row) -> Result<(), Fail> {
 
 /// Asks of an accepted input that its value is shown as the row says, cloned and written, and of a short one that no
 /// beginning is accepted, and what changes of one byte come to.
-fn is_kept<T: DerDeserialize + SeenByText + TryClone + Debug>(
+fn is_kept<T: DerDeserialize + EqualByText + TryClone + Debug>(
     alloc: Global,
     row: &Row,
 ) -> Result<(), Fail> {
@@ -280,7 +280,7 @@ fn is_kept<T: DerDeserialize + SeenByText + TryClone + Debug>(
 }
 
 /// Asks what a row says of its input as the type.
-pub fn is_so<T: DerDeserialize + SeenByText + TryClone + Debug>(
+pub fn is_so<T: DerDeserialize + EqualByText + TryClone + Debug>(
     alloc: Global,
     row: &Row,
 ) -> Result<(), Fail> {
@@ -308,7 +308,7 @@ pub fn is_so<T: DerDeserialize + SeenByText + TryClone + Debug>(
 
 /// Asks besides that the value of an accepted input is written in each way, and of a short one that it is sent into sinks
 /// that fail.
-pub fn is_so_in_each_way<T: DerDeserialize + SeenByText + TryClone + Debug>(
+pub fn is_so_in_each_way<T: DerDeserialize + EqualByText + TryClone + Debug>(
     alloc: Global,
     row: &Row,
 ) -> Result<(), Fail> {
@@ -329,7 +329,7 @@ pub fn is_so_in_each_way<T: DerDeserialize + SeenByText + TryClone + Debug>(
 const OTHER_TAG: u8 = 0x9E;
 
 /// Asks what a row says of its input as a type with a tag of its own.
-pub fn is_so_under_tags<T: DerTagged + SeenByText + TryClone + Debug>(
+pub fn is_so_under_tags<T: DerTagged + EqualByText + TryClone + Debug>(
     alloc: Global,
     row: &Row,
 ) -> Result<(), Fail> {
@@ -338,7 +338,10 @@ pub fn is_so_under_tags<T: DerTagged + SeenByText + TryClone + Debug>(
 }
 
 /// Asks that under another tag an accepted input's encoding differs in its first byte alone, and has the same value.
-pub fn is_kept_under_tags<T: DerTagged + SeenByText>(alloc: Global, row: &Row) -> Result<(), Fail> {
+pub fn is_kept_under_tags<T: DerTagged + EqualByText>(
+    alloc: Global,
+    row: &Row,
+) -> Result<(), Fail> {
     let Ok(value) = from_bytes::<T>(alloc, &row.input) else {
         return Ok(());
     };

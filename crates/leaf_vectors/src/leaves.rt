@@ -1,6 +1,6 @@
 //! Leaves by themselves, and under an implicit tag.
 
-use asn1_core::{DerDeserialize, Error, Implicit, SeenByText, TryClone, from_bytes};
+use asn1_core::{DerDeserialize, EqualByText, Error, Implicit, TryClone, from_bytes};
 use asn1_other_leaves::{
     BooleanAsn1, EnumeratedAsn1, KeptAsn1, NullAsn1, NumericStringAsn1, PrintableStringAsn1,
     TeletexStringAsn1, UniversalStringAsn1, VisibleStringAsn1,
@@ -10,7 +10,7 @@ use std::test::Fail;
 use vector_checks::checks::{expect, is_rewritten};
 
 /// Reads each encoding and writes it again, and refuses each of the others.
-fn reads<T: DerDeserialize + SeenByText + TryClone>(
+fn reads<T: DerDeserialize + EqualByText + TryClone>(
     alloc: Global,
     accepted: &[&[u8]],
     refused: &[&[u8]],

@@ -2,7 +2,7 @@
 
 use crate::rows::Row;
 use asn1_core::{
-    DerDeserialize, Error, SeenByText, TryClone, from_bytes, from_bytes_counted, to_vec,
+    DerDeserialize, EqualByText, Error, TryClone, from_bytes, from_bytes_counted, to_vec,
 };
 use std::alloc::Global;
 use std::fmt::Debug;
@@ -37,7 +37,10 @@ fn is_whole<T: DerDeserialize>(alloc: Global, input: &[u8]) -> Result<(), Fail> 
 }
 
 /// Asks of an input that it is refused, though not for want of memory, or has a value whose encoding has that value.
-fn reaches_an_end<T: DerDeserialize + SeenByText>(alloc: Global, input: &[u8]) -> Result<(), Fail> {
+fn reaches_an_end<T: DerDeserialize + EqualByText>(
+    alloc: Global,
+    input: &[u8],
+) -> Result<(), Fail> {
     let (outcome, headers) = from_bytes_counted::<T>(alloc, input);
     let value = match outcome {
         Ok(value) => value,
@@ -57,7 +60,7 @@ fn reaches_an_end<T: DerDeserialize + SeenByText>(alloc: Global, input: &[u8]) -
 }
 
 /// Asks of changes of each byte what `reaches_an_end` does.
-fn is_changed<T: DerDeserialize + SeenByText>(alloc: Global, input: &[u8]) -> Result<(), Fail> {
+fn is_changed<T: DerDeserialize + EqualByText>(alloc: Global, input: &[u8]) -> Result<(), Fail> {
     let mut changed = Vec::from_slice(alloc, input)?;
     let last = if input.len() <= SHORT { 255 } else { 1 };
     for at in 0..changed.len() {
@@ -81,7 +84,7 @@ fn is_refused(why: &str, outcome: Option<Error>) -> Result<(), Fail> {
 }
 
 /// Asks what a row says of its input as the type.
-pub fn is_so<T: DerDeserialize + SeenByText + TryClone + Debug>(
+pub fn is_so<T: DerDeserialize + EqualByText + TryClone + Debug>(
     alloc: Global,
     row: &Row,
 ) -> Result<(), Fail> {

@@ -117,9 +117,14 @@ impl Sequence for TbsCertList {
     }
 
     fn clone_fields(&self, alloc: Global) -> Result<Self, Error> {
-        clone_of!(self, alloc; TbsCertList {
-            signature, issuer, this_update, next_update, revoked_certificates, crl_extension;
-            version
+        Ok(TbsCertList {
+            version: self.version,
+            signature: self.signature.try_clone(alloc)?,
+            issuer: self.issuer.try_clone(alloc)?,
+            this_update: self.this_update.try_clone(alloc)?,
+            next_update: self.next_update.try_clone(alloc)?,
+            revoked_certificates: self.revoked_certificates.try_clone(alloc)?,
+            crl_extension: ExplicitContextTag0(self.crl_extension.0.try_clone(alloc)?),
         })
     }
 

@@ -1,8 +1,8 @@
 //! What is checked of every type: that its encodings are read, written and sent, and its values cloned, where `==` and
-//! clones see all that an encoding says (`SeenByText`). A failure names what didn't hold, and the encoding.
+//! clones see all that an encoding says (`EqualByText`). A failure names what didn't hold, and the encoding.
 
 use crate::fakes::Narrow;
-use asn1_core::SeenByText;
+use asn1_core::EqualByText;
 use asn1_core_format::{DerDeserialize, DerSerialize, TryClone, from_bytes, to_vec, write_to};
 use asn1_core_streams::Sink;
 use asn1_core_writers::WriteError;
@@ -62,7 +62,7 @@ pub fn is_sent<T: DerSerialize>(
 }
 
 /// The value of the input, with checks that it is well-formed, has this encoding, and equals its clone.
-pub fn is_rewritten<T: DerDeserialize + SeenByText + TryClone>(
+pub fn is_rewritten<T: DerDeserialize + EqualByText + TryClone>(
     alloc: Global,
     input: &[u8],
     text: &[u8],

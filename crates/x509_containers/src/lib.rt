@@ -35,7 +35,6 @@ pub use asn1_core::OidRef;
 pub use asn1_core::Optional;
 pub use asn1_core::ReadError;
 pub use asn1_core::Reader;
-pub use asn1_core::SeenByText;
 pub use asn1_core::Sink;
 pub use asn1_core::Source;
 pub use asn1_core::StdSink;
