@@ -118,19 +118,11 @@ impl<A: DerSerialize, R: WriteComponents> WriteComponents for Maybe<A, R> {
     ghost format = { optional A.format R.format };
 
     fn put_components<W: Writer>(&self, w: &mut W) -> Result<(), WriteError> {
-        match &self.0 {
-            None => self.1.put_components(w),
-            Some(first) => put_both(&Alone(Ref(first)), &self.1, w),
-        }
+        MaybeRef(&self.0, &self.1).put_components(w)
     }
 
     fn components_well_formed_at(&self, limit: u8) -> bool {
-        if let Some(first) = &self.0 {
-            if !first.well_formed_at(limit) {
-                return false;
-            }
-        }
-        self.1.components_well_formed_at(limit)
+        MaybeRef(&self.0, &self.1).components_well_formed_at(limit)
     }
 }
 
@@ -208,15 +200,11 @@ impl<A: HasDefault, R: WriteComponents> WriteComponents for Omitted<A, R> {
     ghost format = { omitted (is_default_with A.INSIDE A.format A.DEFAULT) A.DEFAULT A.format R.format };
 
     fn put_components<W: Writer>(&self, w: &mut W) -> Result<(), WriteError> {
-        if self.0.is_default() {
-            self.1.put_components(w)
-        } else {
-            put_both(&Alone(Ref(&self.0)), &self.1, w)
-        }
+        OmittedRef(&self.0, &self.1).put_components(w)
     }
 
     fn components_well_formed_at(&self, limit: u8) -> bool {
-        self.0.well_formed_at(limit) && self.1.components_well_formed_at(limit)
+        OmittedRef(&self.0, &self.1).components_well_formed_at(limit)
     }
 }
 

@@ -28,7 +28,7 @@ pub use components::{
 pub use eithers::{Alternatives, Either};
 pub use leaves::{Leaf, read_leaf, read_leaf_contents};
 pub use less::Less;
-pub use recursive::{read_below_within, read_list_with};
+pub use recursive::{ItemLevel, LevelBelow, SameLevel, read_below_within, read_list_with};
 pub use sequences::Sequence;
 pub use sets::{SetOrNone, is_left_out, read_set_below_with, read_set_or_none_with, read_set_with};
 pub use tagged::{DerTagged, read_retagged};

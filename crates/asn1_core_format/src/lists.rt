@@ -3,10 +3,12 @@
 ghost use Rattle.std.specs.Prelude.{◌≡◌, ◌<◌, List, [], ◌∷◌, ◌++◌, map, true, false, MatchResult};
 ghost use Rattle.std.specs.List.{flat_map};
 ghost use Rattle.asn1_core_element.specs.declared.error.Error.TheVariants.{Memory};
+ghost use Rattle.asn1_core_format.specs.Format.{Gives};
 ghost use Rattle.asn1_core_format.specs.Lists.{each};
 ghost use Rattle.asn1_core_format.specs.ListLaws.{lawful_each};
 
 use crate::components::{ReadComponents, WriteComponents};
+use crate::recursive::{SameLevel, read_items};
 use crate::traits::{DerDeserialize, DerSerialize};
 use asn1_core_element::{Error, Reader};
 use asn1_core_writers::{WriteError, Writer};
@@ -118,14 +120,16 @@ impl<T: DerSerialize> WriteComponents for Vec<T> {
 
 impl<T: DerDeserialize> ReadComponents for Vec<T> {
     fn read_components(alloc: Global, r: &mut Reader<'_>, nest: u8) -> Result<Self, Error> {
-        let mut items = Vec::new(alloc);
-        let whole = r.left();
-        'items: while r.left() > 0 {
-            let item = T::read(alloc, r, nest)?;
-            let taken = whole.saturating_sub(r.left());
-            push_item(&mut items, item, taken, r.left(), STEP)?;
-        }
-        Ok(items)
+        read_items::<SameLevel, T, _>(
+            alloc,
+            r,
+            nest,
+            STEP,
+            &|s: &mut Reader<'_>|
+                requires { s.old.refused ≡ false }
+                ensures { Gives T.value T.format nest s.old s.new result }
+            { T::read(alloc, s, nest) },
+        )
     }
 
     ghost lawful = { λ _. lawful_each T.DerSerialize.format T.lawful };

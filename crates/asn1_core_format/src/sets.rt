@@ -6,15 +6,14 @@ ghost use Rattle.asn1_core_format.specs.Calls.{MayBelow, GivesBelow};
 ghost use Rattle.asn1_core_format.specs.EmptySets.{set_or_none};
 ghost use Rattle.asn1_core_format.specs.Format.{Gives, IsLawful};
 ghost use Rattle.asn1_core_format.specs.Laws.{NextIs};
-ghost use Rattle.asn1_core_format.specs.Levels.{less};
+ghost use Rattle.asn1_core_format.specs.Levels.{less, less_if};
 ghost use Rattle.asn1_core_format.specs.Lists.{each};
 ghost use Rattle.asn1_core_format.specs.Omitted.{is_default};
 ghost use Rattle.asn1_core_format.specs.Components.{GivesComponents, within};
 ghost use Rattle.asn1_core_format.specs.Sequences.{set_of};
 
 use crate::components::WriteComponents;
-use crate::lists::{NESTED_STEP, push_item};
-use crate::recursive::{read_below, read_list_with};
+use crate::recursive::{ItemLevel, LevelBelow, SameLevel, read_below, read_list_with};
 use crate::traits::DerSerialize;
 use crate::within::put_within;
 use asn1_core_element::element::open_element;
@@ -22,71 +21,27 @@ use asn1_core_element::{Error, Reader};
 use asn1_core_writers::{WriteError, Writer};
 use std::alloc::Global;
 
-/// Reads items to the end of the open contents, each a level down by `by`, which is told the levels that are left.
-fn read_all_below_with<T: DerSerialize + Drop, F: Fn(&mut Reader<'_>, u8) -> Result<T, Error>>(
-    alloc: Global,
-    r: &mut Reader<'_>,
-    nest: u8,
-    by: &F,
-) -> Result<Vec<T>, Error>
+/// Reads a SET OF items to the end of the open contents, each item by `by`, at the level `L`.
+pub fn read_set_with<
+    L: ItemLevel,
+    T: DerSerialize + Drop,
+    F: Fn(&mut Reader<'_>) -> Result<T, Error>,
+>(alloc: Global, r: &mut Reader<'_>, nest: u8, by: &F) -> Result<Vec<T>, Error>
     requires sound { r.old.refused ≡ false }
-    requires lawful { IsLawful T.format }
-    requires called { MayBelow (F.pre by.now) nest }
-    requires gives { GivesBelow (F.post by.now) T.value T.format nest }
-    ensures { GivesComponents (λ v. map T.value v.items) (each (less T.format)) nest r.old r.new result }
-{
-    let mut items = Vec::new(alloc);
-    let whole = r.left();
-    'items: while r.left() > 0 {
-        let item = read_below(r, nest, by)?;
-        let taken = whole.saturating_sub(r.left());
-        push_item(&mut items, item, taken, r.left(), NESTED_STEP)?;
-    }
-    Ok(items)
-}
-
-/// Reads a SET OF items to the end of the open contents, each item by `by`.
-pub fn read_set_with<T: DerSerialize + Drop, F: Fn(&mut Reader<'_>) -> Result<T, Error>>(
-    alloc: Global,
-    r: &mut Reader<'_>,
-    nest: u8,
-    by: &F,
-) -> Result<Vec<T>, Error>
-    requires sound { r.old.refused ≡ false }
-    requires lawful { IsLawful T.format }
+    requires lawful { IsLawful (less_if L.below T.format) }
     requires called { (s : _) → s.now.refused ≡ false → F.pre by.now s }
-    requires gives { (s : _) (x : _) (t : _) → F.post by.now s x t → Gives T.value T.format nest s.now t.now x }
-    ensures { GivesComponents (λ v. map T.value v.items) (set_of T.format) nest r.old r.new result }
+    requires gives { (s : _) (x : _) (t : _) → F.post by.now s x t → Gives T.value (less_if L.below T.format) nest s.now t.now x }
+    ensures { GivesComponents (λ v. map T.value v.items) (set_of (less_if L.below T.format)) nest r.old r.new result }
 {
-    let items = read_list_with(alloc, r, nest, 0x31, by)?;
+    let items = read_list_with::<L, T, F>(alloc, r, nest, 0x31, by)?;
     if r.left() > 0 {
         return Err(Error::Malformed);
     }
     Ok(items)
 }
 
-/// Reads an element with that tag that holds items a level down, each read by `by`.
-fn read_list_below_with<T: DerSerialize + Drop, F: Fn(&mut Reader<'_>, u8) -> Result<T, Error>>(
-    alloc: Global,
-    r: &mut Reader<'_>,
-    nest: u8,
-    tag: u8,
-    by: &F,
-) -> Result<Vec<T>, Error>
-    requires sound { r.old.refused ≡ false }
-    requires tag { IsTagByte tag }
-    requires lawful { IsLawful T.format }
-    requires called { MayBelow (F.pre by.now) nest }
-    requires gives { GivesBelow (F.post by.now) T.value T.format nest }
-    ensures { Gives (λ v. map T.value v.items) (within tag (each (less T.format))) nest r.old r.new result }
-{
-    let outer = open_element(r, tag)?;
-    let items = read_all_below_with(alloc, r, nest, by)?;
-    r.end(outer)?;
-    Ok(items)
-}
-
-/// Reads a SET OF items to the end of the open contents, each item a level down by `by`.
+/// Reads a SET OF items to the end of the open contents, each item a level down by `by`, which is told the levels that
+/// are left there.
 pub fn read_set_below_with<T: DerSerialize + Drop, F: Fn(&mut Reader<'_>, u8) -> Result<T, Error>>(
     alloc: Global,
     r: &mut Reader<'_>,
@@ -99,11 +54,17 @@ pub fn read_set_below_with<T: DerSerialize + Drop, F: Fn(&mut Reader<'_>, u8) ->
     requires gives { GivesBelow (F.post by.now) T.value T.format nest }
     ensures { GivesComponents (λ v. map T.value v.items) (set_of (less T.format)) nest r.old r.new result }
 {
-    let items = read_list_below_with(alloc, r, nest, 0x31, by)?;
-    if r.left() > 0 {
-        return Err(Error::Malformed);
-    }
-    Ok(items)
+    read_set_with::<LevelBelow, T, _>(
+        alloc,
+        r,
+        nest,
+        &|s: &mut Reader<'_>|
+            requires sound { s.old.refused ≡ false }
+            requires called { MayBelow (F.pre by.now) nest }
+            requires gives { GivesBelow (F.post by.now) T.value T.format nest }
+            ensures { Gives T.value (less T.format) nest s.old s.new result }
+        { read_below(s, nest, by) },
+    )
 }
 
 /// `[1] IMPLICIT SET OF T` at the end of contents. Absence is the empty set.
@@ -143,7 +104,7 @@ pub fn read_set_or_none_with<T: DerSerialize + Drop, F: Fn(&mut Reader<'_>) -> R
     ensures { GivesComponents (λ x. (map T.value x.0.items, tt)) (set_or_none 0xA1 T.format) nest r.old r.new result }
 {
     if next_is_tag(r, 0xA1) {
-        let items = read_list_with(alloc, r, nest, 0xA1, by)?;
+        let items = read_list_with::<SameLevel, T, F>(alloc, r, nest, 0xA1, by)?;
         if r.left() > 0 {
             return Err(Error::Malformed);
         }

@@ -27,7 +27,7 @@ use asn1_core::OidRef;
 use asn1_core::prelude::*;
 use asn1_core_element::element::open_element;
 use asn1_core_format::Either::{self, First, Second};
-use asn1_core_format::read_list_with;
+use asn1_core_format::{SameLevel, read_list_with};
 use std::alloc::Global;
 
 /// `SafeBag ::= SEQUENCE { bagId BAG-TYPE.&id, bagValue [0] EXPLICIT BAG-TYPE.&Type, bagAttributes SET OF
@@ -263,7 +263,7 @@ fn inner_formed_at(inner: &SafeContents, limit: u8) -> bool
 impl DerDeserialize for SafeContents {
     #[cycle(read)]
     fn read(alloc: Global, r: &mut Reader<'_>, nest: u8) -> Result<Self, Error> {
-        let bags = read_list_with(
+        let bags = read_list_with::<SameLevel, _, _>(
             alloc,
             r,
             nest,
