@@ -1,9 +1,9 @@
-//! The alternative of one object identifier, and that of any other.
+//! One object identifier, its alternative, and that of any other.
 
-ghost use Rattle.std.specs.Prelude.{◌≡◌, ◌↔◌, ◌⊎◌, ◌&&◌, ℕ, List, Bool, IsTrue, true};
+ghost use Rattle.std.specs.Prelude.{◌≡◌, ◌↔◌, ◌⊎◌, ◌&&◌, ℕ, List, Bool, IsTrue, true, false};
 ghost use Rattle.std.proofs.Common.{inl, inr};
 ghost use Rattle.std.proofs.lemmas.Bool.{and_parts};
-ghost use Rattle.asn1_core.specs.Der.{known, otherwise, lawful_known, lawful_otherwise, IsOid, octets_of};
+ghost use Rattle.asn1_core.specs.Der.{known, otherwise, lawful_known, lawful_otherwise, IsOid, octets_of, only_oid, lawful_only_oid, verbatim};
 ghost use Rattle.asn1_core_format.specs.declared.eithers.Either.TheVariants.{First, Second};
 
 use crate::choices::{ReadChoice, WriteChoice};
@@ -30,6 +30,61 @@ pub(crate) fn is_named<N: Named>(octets: &[u8]) -> bool
     let name = N::octets();
     // identifiers of one family differ in their last octet
     octets.last() == name.last() && octets == name
+}
+
+/// The object identifier `N`, and no other.
+#[derive(Drop)]
+pub struct OnlyOid<N>(PhantomData<N>);
+
+impl<N> OnlyOid<N> {
+    pub fn new() -> Self {
+        OnlyOid(PhantomData)
+    }
+}
+
+impl<N: Named> Leaf for OnlyOid<N> {
+    ghost Value = { List ℕ };
+
+    ghost value = { λ _. N.OID };
+
+    ghost spelling = { verbatim (λ c. c ≡ N.OID) };
+
+    ghost MayLackMemory = { ⊥ };
+
+    fn from_contents(_alloc: Global, contents: &[u8]) -> Result<Self, Error> {
+        if !is_named::<N>(contents) {
+            return Err(Error::Invalid);
+        }
+        Ok(OnlyOid::new())
+    }
+}
+
+impl<N: Named> DerSerialize for OnlyOid<N> {
+    ghost Value = { List ℕ };
+
+    ghost value = { λ _. N.OID };
+
+    ghost format = { only_oid N.OID };
+
+    fn put<W: Writer>(&self, w: &mut W) -> Result<(), WriteError> {
+        put_element(0x06, N::octets(), w)
+    }
+
+    fn well_formed_at(&self, _limit: u8) -> bool {
+        true
+    }
+}
+
+impl<N: Named + Drop> DerDeserialize for OnlyOid<N> {
+    fn read(alloc: Global, r: &mut Reader<'_>, nest: u8) -> Result<Self, Error> {
+        read_leaf(alloc, r, nest, 0x06)
+    }
+
+    fn begins(tag: u8) -> bool {
+        tag == 0x06
+    }
+
+    ghost lawful = { lawful_only_oid N.OID };
 }
 
 /// The body that follows the object identifier `N`.

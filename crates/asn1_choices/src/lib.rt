@@ -11,7 +11,7 @@ mod known_or_raw;
 mod nested;
 mod tables;
 
-pub use alternatives::{Alternative, AnyOid, AnyOidRef, Named};
+pub use alternatives::{Alternative, AnyOid, AnyOidRef, Named, OnlyOid};
 pub use choices::{Chosen, ReadChoice, WriteChoice};
 pub use defined_by::{
     AnyDefinedBy, OidAnd, read_inside_defined_by, read_sequence_defined_by,

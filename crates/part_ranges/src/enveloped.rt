@@ -1,13 +1,15 @@
 //! Enveloped data under its content type (RFC 5652, 3 and 6.1), with recipients of every kind, each kept as it is.
 
 ghost use Rattle.std.specs.Prelude.{◌≡◌, ℕ, List, map};
-ghost use Rattle.asn1_core.specs.Der.{verbatim, lawful_only_oid, list_equal, only_oid, option_equal, two_equal, with_end};
+ghost use Rattle.std.proofs.Common.{refl};
+ghost use Rattle.asn1_core.specs.Der.{list_equal, oid_from_test, option_equal, two_equal, with_end};
 ghost use Rattle.part_ranges.specs.Enveloped.{enveloped_data_oid, envelope, EnvelopeValue, envelope_value, lawful_envelope};
 ghost use Rattle.x509_base.specs.Names.{attribute_equal, attribute_value};
 ghost use Rattle.pkcs7_enveloped.specs.Enveloped.{encrypted_content_equal, originator_equal, originator_info_value};
 ghost use Rattle.x509_pkcs7.specs.RawSigned.{with_head};
 ghost use Rattle.pkcs7_enveloped.specs.Versions.{version_equal};
 
+use asn1_choices::{Named, OnlyOid};
 use asn1_core::prelude::*;
 use std::alloc::Global;
 use x509_pkcs7::EnvelopedData;
@@ -15,53 +17,18 @@ use x509_pkcs7::EnvelopedData;
 /// `id-envelopedData` (RFC 5652, 6.1)
 const ENVELOPED_DATA: [u8; 9] = [0x2A, 0x86, 0x48, 0x86, 0xF7, 0x0D, 0x01, 0x07, 0x03];
 
-/// `id-envelopedData`, and no other object identifier.
+/// Names `id-envelopedData`.
 #[derive(Drop)]
 struct EnvelopedDataType;
 
-impl Leaf for EnvelopedDataType {
-    ghost Value = { List ℕ };
+impl Named for EnvelopedDataType {
+    ghost OID = { enveloped_data_oid };
 
-    ghost value = { λ _. enveloped_data_oid };
-
-    ghost spelling = { verbatim (λ c. c ≡ enveloped_data_oid) };
-
-    ghost MayLackMemory = { ⊥ };
-
-    fn from_contents(_alloc: Global, contents: &[u8]) -> Result<Self, Error> {
-        if contents != ENVELOPED_DATA.as_slice() {
-            return Err(Error::Invalid);
-        }
-        Ok(EnvelopedDataType)
-    }
-}
-
-impl DerSerialize for EnvelopedDataType {
-    ghost Value = { List ℕ };
-
-    ghost value = { λ _. enveloped_data_oid };
-
-    ghost format = { only_oid enveloped_data_oid };
-
-    fn put<W: Writer>(&self, w: &mut W) -> Result<(), WriteError> {
-        put_element(0x06, &ENVELOPED_DATA, w)
+    fn octets() -> &'static [u8] {
+        &ENVELOPED_DATA
     }
 
-    fn well_formed_at(&self, _limit: u8) -> bool {
-        true
-    }
-}
-
-impl DerDeserialize for EnvelopedDataType {
-    fn read(alloc: Global, r: &mut Reader<'_>, nest: u8) -> Result<Self, Error> {
-        read_leaf(alloc, r, nest, 0x06)
-    }
-
-    fn begins(tag: u8) -> bool {
-        tag == 0x06
-    }
-
-    ghost lawful = { lawful_only_oid enveloped_data_oid };
+    ghost valid = { oid_from_test enveloped_data_oid refl };
 }
 
 /// `ContentInfo ::= SEQUENCE { contentType ContentType, content [0] EXPLICIT ANY DEFINED BY contentType }` (RFC 5652,
@@ -79,7 +46,7 @@ impl<R: DerSerialize> DerSerialize for Envelope<R> {
     ghost format = { envelope R.format };
 
     fn put<W: Writer>(&self, w: &mut W) -> Result<(), WriteError> {
-        put_of!(self, w; (EnvelopedDataType), enveloped_data)
+        put_of!(self, w; (OnlyOid::<EnvelopedDataType>::new()), enveloped_data)
     }
 
     fn well_formed_at(&self, limit: u8) -> bool {
@@ -89,7 +56,9 @@ impl<R: DerSerialize> DerSerialize for Envelope<R> {
 
 impl<R: DerDeserialize> DerDeserialize for Envelope<R> {
     fn read(alloc: Global, r: &mut Reader<'_>, nest: u8) -> Result<Self, Error> {
-        let fields_of!((EnvelopedDataType), enveloped_data) = read_within(alloc, r, nest, 0x30)?;
+        let Part(_, Part(enveloped_data, End)) = read_within::<Part<OnlyOid<EnvelopedDataType>, _>>(
+            alloc, r, nest, 0x30,
+        )?;
         Ok(Envelope { enveloped_data })
     }
 

@@ -7,6 +7,7 @@ mod oids;
 mod recursion;
 pub mod signers;
 
+pub use oids::SignedDataType;
 pub use pkcs7_signed_crl::{
     Attributes, CertificateChoices, CertificateList, CertificateSerialNumber, CertificateSet,
     DigestAlgorithmIdentifier, DigestAlgorithmIdentifiers, IssuerAndSerialNumber,

@@ -28,12 +28,13 @@ pub enum SafeContentsContentInfo {
 }
 
 /// `content [0] EXPLICIT ANY OPTIONAL`, at the end of a `ContentInfo`.
-pub(crate) type AnyContent = Maybe<ExplicitContextTag0<Asn1RawDer>, End>;
+pub type AnyContent = Maybe<ExplicitContextTag0<Asn1RawDer>, End>;
 
 /// The same, borrowed, for writing.
-pub(crate) type AnyContentRef<'a> = Maybe<ExplicitContextTag0<Ref<&'a Asn1RawDer>>, End>;
+pub type AnyContentRef<'a> = Maybe<ExplicitContextTag0<Ref<&'a Asn1RawDer>>, End>;
 
-pub(crate) fn any_content(content: &Option<Asn1RawDer>) -> AnyContentRef<'_>
+/// The content, borrowed.
+pub fn any_content(content: &Option<Asn1RawDer>) -> AnyContentRef<'_>
     ensures { ⟦<AnyContentRef<'static> as WriteComponents>⟧.value result ≡ (option_value (λ c. c.0.items) content.now, tt) }
 {
     match content {
@@ -43,7 +44,7 @@ pub(crate) fn any_content(content: &Option<Asn1RawDer>) -> AnyContentRef<'_>
 }
 
 /// The content that was read.
-pub(crate) fn content_of(content: AnyContent) -> Option<Asn1RawDer>
+pub fn content_of(content: AnyContent) -> Option<Asn1RawDer>
     ensures { option_value (λ c. c.0.items) result ≡ (⟦<AnyContent as WriteComponents>⟧.value content).0 }
 {
     let Maybe(tagged, End) = content;

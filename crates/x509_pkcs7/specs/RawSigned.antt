@@ -6,7 +6,7 @@
 use Rattle.asn1_core.specs.Asn1.{Asn1, asn1_tagged, ANY, SEQUENCE}
 use Rattle.std.specs.Prelude.{ℕ, List, [], ◌∷◌, Option, map, ◌≡◌, ◌↔◌, ◌&&◌, Bool, true}
 use Rattle.std.proofs.Common.{arith, refl, ap}
-use Rattle.asn1_core.specs.Der.{Format, IsLawful, IsLawfulComponents, sequence, part, optional, nothing, number_below, set_of, each, explicit, within_tagged, only_oid, arcs, option_value, ElementOctets, omitted, is_default, lawful_sequence, followed_by, perhaps, lawful_number, lawful_nothing, lawful_set, lawful_explicit, lawful_implicit_set, lawful_only_oid, unless, SeesEqual, der_equal, two_equal, with_end, list_equal, option_equal}
+use Rattle.asn1_core.specs.Der.{Format, IsLawful, IsLawfulComponents, sequence, part, optional, nothing, number_below, set_of, each, explicit, within_tagged, only_oid, option_value, ElementOctets, omitted, is_default, lawful_sequence, followed_by, perhaps, lawful_number, lawful_nothing, lawful_set, lawful_explicit, lawful_implicit_set, lawful_only_oid, unless, SeesEqual, der_equal, two_equal, with_end, list_equal, option_equal}
 use Rattle.pkcs7_content.specs.Versions.{number_of}
 use Rattle.pkcs7_signed_crl.specs.Algorithms.{digest_algorithm_identifiers_value, digest_algorithm_identifiers}
 use Rattle.pkcs7_signed_crl.specs.Certificates.{certificate_choices, certificate_set_value, certificate_set, no_certificates, no_certificates_left_out}
@@ -23,6 +23,7 @@ use Rattle.pkcs7_signed_crl.specs.contracts.algorithms.DigestAlgorithmIdentifier
 use Rattle.x509_pkcs7.specs.contracts.raw_contents.RawEncapsulatedContentInfoPartialEq.TheImpl as Encapsulated
 use Rattle.pkcs7_signed_crl.specs.contracts.certificates.CertificateSetPartialEq.TheImpl as Certificates
 use Rattle.x509_pkcs7.specs.contracts.raw_signed.RawRevocationInfoChoicesPartialEq.TheImpl as Revocations
+pub use Rattle.pkcs7_signed.specs.Oids.{signed_data_oid}
 
 -- RevocationInfoChoices, each as it is
 abbrev pub raw_revocation_info_choices : Asn1
@@ -64,10 +65,6 @@ module _ {V : Type 0} where
 
   pub lawful_raw_signed : (F : Format V) → IsLawful F → IsLawful (raw_signed F)
   lawful_raw_signed F f = lawful_sequence (followed_by (lawful_number 6) (followed_by digest_algorithm_identifiers.law (followed_by (SEQUENCE raw_encapsulated_content_info).law (lawful_sets_components F f))))
-
--- id-signedData (RFC 5652, 5.1)
-abbrev pub signed_data_oid : List ℕ
-signed_data_oid = arcs (1 ∷ 2 ∷ 840 ∷ 113549 ∷ 1 ∷ 7 ∷ 2 ∷ [])
 
 abbrev pub RawCertificateValue : Type 0 → Type 0
 RawCertificateValue V = List ℕ × (RawSignedValue V × Unit {0})

@@ -1,13 +1,15 @@
 //! Signed data with content of any type, and signers of one of several types (RFC 5652, 5.1).
 
 ghost use Rattle.std.specs.Prelude.{◌≡◌, ℕ, List, map};
-ghost use Rattle.asn1_core.specs.Der.{set_of, lawful_set, list_equal, with_end, verbatim, only_oid, lawful_only_oid};
+ghost use Rattle.asn1_core.specs.Der.{set_of, lawful_set, list_equal, with_end};
 ghost use Rattle.x509_pkcs7.specs.RawSigned.{signed_data_oid, raw_revocation_info_choices, raw_revocation_info_choices_value, RawSignedValue, raw_signed_value, raw_signed, lawful_raw_signed, RawCertificateValue, raw_certificate, lawful_raw_certificate, raw_revocation_info_choices_equal, raw_signed_equal, with_head};
 
 use crate::raw_contents::RawEncapsulatedContentInfo;
 use crate::raw_signers::RawSignerInfo;
+use asn1_choices::OnlyOid;
 use asn1_core::prelude::*;
 use pkcs7_content::CmsVersion;
+use pkcs7_signed::SignedDataType;
 use pkcs7_signed_crl::{CertificateSet, DigestAlgorithmIdentifiers};
 use std::alloc::Global;
 
@@ -160,58 +162,6 @@ impl<S: TryClone + EqualByText> TryClone for RawSignedData<S> {
     }
 }
 
-/// `id-signedData` (RFC 5652, 5.1)
-const SIGNED_DATA: [u8; 9] = [0x2A, 0x86, 0x48, 0x86, 0xF7, 0x0D, 0x01, 0x07, 0x02];
-
-/// `id-signedData`, and no other object identifier.
-#[derive(Drop)]
-struct SignedDataType;
-
-impl Leaf for SignedDataType {
-    ghost Value = { List ℕ };
-
-    ghost value = { λ _. signed_data_oid };
-
-    ghost spelling = { verbatim (λ c. c ≡ signed_data_oid) };
-
-    ghost MayLackMemory = { ⊥ };
-
-    fn from_contents(_alloc: Global, contents: &[u8]) -> Result<Self, Error> {
-        if contents != SIGNED_DATA.as_slice() {
-            return Err(Error::Invalid);
-        }
-        Ok(SignedDataType)
-    }
-}
-
-impl DerSerialize for SignedDataType {
-    ghost Value = { List ℕ };
-
-    ghost value = { λ _. signed_data_oid };
-
-    ghost format = { only_oid signed_data_oid };
-
-    fn put<W: Writer>(&self, w: &mut W) -> Result<(), WriteError> {
-        put_element(0x06, &SIGNED_DATA, w)
-    }
-
-    fn well_formed_at(&self, _limit: u8) -> bool {
-        true
-    }
-}
-
-impl DerDeserialize for SignedDataType {
-    fn read(alloc: Global, r: &mut Reader<'_>, nest: u8) -> Result<Self, Error> {
-        read_leaf(alloc, r, nest, 0x06)
-    }
-
-    fn begins(tag: u8) -> bool {
-        tag == 0x06
-    }
-
-    ghost lawful = { lawful_only_oid signed_data_oid };
-}
-
 /// `ContentInfo ::= SEQUENCE { contentType ContentType, content [0] EXPLICIT ANY DEFINED BY contentType }` (RFC 5652,
 /// 3) of `id-signedData`, which is no field, since it is the only content type.
 #[derive(Debug, Drop, PartialEq)]
@@ -227,7 +177,7 @@ impl<S: DerSerialize> DerSerialize for RawPkcs7Certificate<S> {
     ghost format = { raw_certificate S.format };
 
     fn put<W: Writer>(&self, w: &mut W) -> Result<(), WriteError> {
-        put_of!(self, w; (SignedDataType), signed_data)
+        put_of!(self, w; (OnlyOid::<SignedDataType>::new()), signed_data)
     }
 
     fn well_formed_at(&self, limit: u8) -> bool {
@@ -237,7 +187,9 @@ impl<S: DerSerialize> DerSerialize for RawPkcs7Certificate<S> {
 
 impl<S: DerDeserialize> DerDeserialize for RawPkcs7Certificate<S> {
     fn read(alloc: Global, r: &mut Reader<'_>, nest: u8) -> Result<Self, Error> {
-        let fields_of!((SignedDataType), signed_data) = read_within(alloc, r, nest, 0x30)?;
+        let Part(_, Part(signed_data, End)) = read_within::<Part<OnlyOid<SignedDataType>, _>>(
+            alloc, r, nest, 0x30,
+        )?;
         Ok(RawPkcs7Certificate { signed_data })
     }
 

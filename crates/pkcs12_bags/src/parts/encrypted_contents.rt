@@ -1,64 +1,17 @@
 //! Encrypted contents.
 
 ghost use Rattle.std.specs.Prelude.{◌≡◌, ℕ, List};
-ghost use Rattle.pkcs12_bags.specs.Oids.{data_oid};
-ghost use Rattle.pkcs12_bags.specs.EncryptedContents.{only_octets, fixed_oid, lawful_fixed_oid, encrypted_octets, encrypted_safe_contents, encrypted_safe_contents_value};
+ghost use Rattle.pkcs12_bags.specs.EncryptedContents.{encrypted_octets, encrypted_safe_contents, encrypted_safe_contents_value};
 ghost use Rattle.pkcs12_bags.specs.EncryptedContentsEqual.{encrypted_safe_contents_equal};
 
-use crate::parts::oids::DATA;
+use crate::parts::oids::{Known, PKCS7_DATA};
+use asn1_choices::OnlyOid;
 use asn1_core::prelude::*;
 use pkcs12_algs::Pkcs12EncryptionAlgorithm;
 use std::alloc::Global;
 
 /// The content type `pkcs7-data`. Any other is refused.
-#[derive(Drop)]
-struct DataType;
-
-impl Leaf for DataType {
-    ghost Value = { Unit {0} };
-
-    ghost value = { λ _. tt };
-
-    ghost spelling = { only_octets data_oid };
-
-    ghost MayLackMemory = { ⊥ };
-
-    fn from_contents(_alloc: Global, contents: &[u8]) -> Result<Self, Error> {
-        if contents == &DATA[..] {
-            Ok(DataType)
-        } else {
-            Err(Error::Invalid)
-        }
-    }
-}
-
-impl DerSerialize for DataType {
-    ghost Value = { Unit {0} };
-
-    ghost value = { λ _. tt };
-
-    ghost format = { fixed_oid data_oid };
-
-    fn put<W: Writer>(&self, w: &mut W) -> Result<(), WriteError> {
-        put_element(0x06, &DATA, w)
-    }
-
-    fn well_formed_at(&self, _limit: u8) -> bool {
-        true
-    }
-}
-
-impl DerDeserialize for DataType {
-    fn read(alloc: Global, r: &mut Reader<'_>, nest: u8) -> Result<Self, Error> {
-        read_leaf(alloc, r, nest, 0x06)
-    }
-
-    fn begins(tag: u8) -> bool {
-        tag == 0x06
-    }
-
-    ghost lawful = { lawful_fixed_oid data_oid };
-}
+type DataType = OnlyOid<Known<PKCS7_DATA>>;
 
 /// `[0] IMPLICIT OCTET STRING`, of borrowed octets, for writing.
 #[derive(Drop)]
@@ -102,7 +55,10 @@ impl EncryptedSafeContents {
             Some(octets) => Some(EncryptedRef(octets)),
             None => None,
         };
-        Part(DataType, Part(Ref(&self.algorithm), Maybe(content, End)))
+        Part(
+            DataType::new(),
+            Part(Ref(&self.algorithm), Maybe(content, End)),
+        )
     }
 }
 
@@ -116,7 +72,7 @@ impl Sequence for EncryptedSafeContents {
     }
 
     fn read_fields(alloc: Global, r: &mut Reader<'_>, nest: u8) -> Result<Self, Error> {
-        let fields_of!((DataType), algorithm, content OPTIONAL) = ReadComponents::read_components(
+        let fields_of!((_), algorithm, content OPTIONAL) = Part::<DataType, _>::read_components(
             alloc, r, nest,
         )?;
         let encrypted_content = match content {

@@ -14,68 +14,20 @@ ghost use Rattle.pkcs7_signed.specs.declared.signers.SignedData.{out-SignedData}
 
 use crate::boxed::{Boxed, in_box, opened};
 use crate::heads::put_two;
-use crate::oids::SIGNED_DATA;
+use crate::oids::{SIGNED_DATA, SignedDataType};
 use crate::recursion::signed_data::{cloned_signers, read_signed_with, signed_with};
 use crate::recursion::signer_info::read_boxed;
 use crate::signers::{Pkcs7Certificate, SignedData, SignerInfo, SignersInfos};
+use asn1_choices::{Named, OnlyOid};
 use asn1_core::prelude::*;
 use asn1_core_element::element::open_element;
-use asn1_core_format::{Tail, read_set_with, read_within_with};
+use asn1_core_format::{SameLevel, Tail, read_set_with, read_within_with};
 use asn1_core_oid::is_oid_of;
 use std::alloc::Global;
 
-/// `id-signedData` as the only object identifier.
-#[derive(Drop)]
-struct SignedDataType(ObjectIdentifierAsn1);
-
-impl Leaf for SignedDataType {
-    ghost Value = { List ℕ };
-
-    ghost value = { λ x. octets_of x.0.0 };
-
-    ghost spelling = { verbatim (λ c. c ≡ signed_data_oid) };
-
-    fn from_contents(alloc: Global, contents: &[u8]) -> Result<Self, Error> {
-        if contents != SIGNED_DATA.as_slice() {
-            return Err(Error::Invalid);
-        }
-        let octets = Vec::from_slice(alloc, contents)?;
-        let oid = ObjectIdentifier::from_checked(octets);
-        Ok(SignedDataType(ObjectIdentifierAsn1(oid)))
-    }
-}
-
-impl DerSerialize for SignedDataType {
-    ghost Value = { List ℕ };
-
-    ghost value = { λ x. octets_of x.0.0 };
-
-    ghost format = { only_oid signed_data_oid };
-
-    fn put<W: Writer>(&self, w: &mut W) -> Result<(), WriteError> {
-        self.0.put(w)
-    }
-
-    fn well_formed_at(&self, _limit: u8) -> bool {
-        self.0.0.octets() == SIGNED_DATA.as_slice()
-    }
-}
-
-impl DerDeserialize for SignedDataType {
-    fn read(alloc: Global, r: &mut Reader<'_>, nest: u8) -> Result<Self, Error> {
-        read_leaf(alloc, r, nest, 0x06)
-    }
-
-    fn begins(tag: u8) -> bool {
-        tag == 0x06
-    }
-
-    ghost lawful = { lawful_only_oid signed_data_oid };
-}
-
 type TaggedSignedData = Alone<ExplicitContextTag0<Boxed<SignedData>>>;
 
-type CertificateParts = Part<SignedDataType, Tail<TaggedSignedData>>;
+type CertificateParts = Part<OnlyOid<SignedDataType>, Tail<TaggedSignedData>>;
 
 impl DerSerialize for Pkcs7Certificate {
     ghost Value = { Value certificates };
@@ -119,7 +71,7 @@ pub(crate) fn read_certificates_with<
     requires below { ReadsSigners (F.pre by.now) (F.post by.now) nest }
     ensures { GivesComponents (λ v. map certificate_value v.items) (set_of certificate) nest r.old r.new result }
 {
-    let boxes = read_set_with(
+    let boxes = read_set_with::<SameLevel, _, _>(
         alloc,
         r,
         nest,
@@ -167,12 +119,14 @@ fn certificate_of(
     components: CertificateParts,
 ) -> Result<Boxed<Pkcs7Certificate>, Error>
     ensures { MatchResult result
-        (λ b. certificate_out (certificate_value b.0.value) ≡ (octets_of components.0.0.0, signed_value components.1.0.0.0.0.value))
+        (λ b. certificate_out (certificate_value b.0.value) ≡ (signed_data_oid, signed_value components.1.0.0.0.0.value))
         (λ e. e ≡ Memory) }
 {
-    let Part(SignedDataType(oid), Tail(Alone(ExplicitContextTag0(signed)))) = components;
+    let Part(_, Tail(Alone(ExplicitContextTag0(signed)))) = components;
+    let octets = Vec::from_slice(alloc, SignedDataType::octets())?;
+    let oid = ObjectIdentifier::from_checked(octets);
     let certificate = Pkcs7Certificate {
-        oid,
+        oid: ObjectIdentifierAsn1(oid),
         signed_data: ExplicitContextTag0(signed.open()),
     };
     let certificate = in_box(alloc, certificate)?;
