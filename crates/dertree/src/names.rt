@@ -242,7 +242,7 @@ impl<'a> Names<'a> {
         };
         let mut node = frame.pass(tag, line.contents);
         if line.role == Role::Segment {
-            frame.name = Some("~");
+            frame.name = self.name_of_segment();
             node = "";
         }
         self.frames.push(frame)?;
@@ -251,6 +251,14 @@ impl<'a> Names<'a> {
             self.frames.push(Frame::new(rows, frame.identifier))?;
         }
         Ok(())
+    }
+
+    /// What a segment adds to the name of the string that it is in: no part, and no name where that has none.
+    fn name_of_segment(&self) -> Option<&'static str> {
+        match self.frames.last() {
+            Some(string) if string.name.is_some() => Some("~"),
+            _ => None,
+        }
     }
 
     /// Writes the name of the element of the last line, at its depth, or `?` where it has none.
