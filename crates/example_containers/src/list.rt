@@ -1,29 +1,15 @@
-//! Lists what a PKCS #12 file on standard input holds, in DER or in BER as NSS writes it, without its password: each bag,
-//! those in bags too, the contents that are encrypted, the MAC, and how many octets that covers. README.md quotes `covered`.
-#![tactic(auto)]
+//! Lists what a PKCS #12 file holds, in DER or in BER as NSS writes it, without its password: each bag, those in bags too,
+//! the contents that are encrypted, the MAC, and how many octets that covers.
 
+use crate::{ExampleError, print_octets};
 use pkcs12_ber::read_ber_pfx;
 use std::alloc::Global;
-use std::io;
-use std::process::ExitCode;
-use thiserror::Error as ThisError;
 use x509_containers::{
     AuthenticatedSafeContentInfo, BmpString, CertificateBag, CrlBag, Error,
     ParsedAuthenticatedSafeDataRepr, Pbes2EncryptionScheme, Pbes2KeyDerivationFunc, Pbes2Params,
-    Pkcs12EncryptionAlgorithm, RawPfx, SafeBag, SafeBagKind, SafeContentsContentInfo, StdSource,
-    from_bytes, read_all, to_vec,
+    Pkcs12EncryptionAlgorithm, RawPfx, SafeBag, SafeBagKind, SafeContentsContentInfo, from_bytes,
+    to_vec,
 };
-
-/// Why a list ended.
-#[derive(Debug, Drop, ThisError)]
-enum ListError {
-    #[error("standard input can't be read")]
-    Read,
-    #[error("refused: {0}")]
-    Refused(#[from] Error),
-    #[error("standard output: {0}")]
-    Write(#[from] io::Error),
-}
 
 fn pbes2_text(alloc: Global, params: &Pbes2Params) -> Result<String, Error> {
     let scheme = match &params.encryption_scheme {
@@ -70,29 +56,20 @@ fn kind_text(alloc: Global, kind: &SafeBagKind) -> Result<String, Error> {
     Ok(format!(in alloc; "{word}: {count} octets")?)
 }
 
-fn list_name(rt: &HostRuntime, name: &BmpString) -> Result<(), ListError> {
+fn list_name(rt: &HostRuntime, name: &BmpString) -> Result<(), ExampleError> {
     let text = name.to_text(rt.alloc())?;
     println!(rt; "  friendly name: {text}")?;
     Ok(())
 }
 
-fn list_key_id(rt: &HostRuntime, octets: &[u8]) -> Result<(), ListError> {
-    print!(rt; "  key identifier: ")?;
-    for octet in octets {
-        print!(rt; "{octet:02x}")?;
-    }
-    println!(rt)?;
-    Ok(())
-}
-
-fn list_bag(rt: &HostRuntime, bag: &SafeBag) -> Result<(), ListError> {
+fn list_bag(rt: &HostRuntime, bag: &SafeBag) -> Result<(), ExampleError> {
     let kind = kind_text(rt.alloc(), &bag.kind)?;
     println!(rt; "{kind}")?;
     if let Some(name) = bag.friendly_name() {
         list_name(rt, name)?;
     }
     if let Some(octets) = bag.local_key_id() {
-        list_key_id(rt, octets)?;
+        print_octets(rt, "  key identifier: ", octets)?;
     }
     Ok(())
 }
@@ -106,13 +83,10 @@ fn covered(alloc: Global, file: &[u8]) -> Result<(Option<usize>, Vec<u8>), Error
     Ok((count, text))
 }
 
-fn list(rt: &HostRuntime) -> Result<(), ListError> {
-    let Ok(file) = read_all(rt.alloc(), &mut StdSource::new(rt.stdin())) else {
-        return Err(ListError::Read);
-    };
-    let (octets, pfx) = match read_ber_pfx::<ParsedAuthenticatedSafeDataRepr>(rt.alloc(), &file) {
+pub fn list(rt: &HostRuntime, file: &[u8]) -> Result<(), ExampleError> {
+    let (octets, pfx) = match read_ber_pfx::<ParsedAuthenticatedSafeDataRepr>(rt.alloc(), file) {
         Ok(both) => both,
-        Err((error, _)) => return Err(ListError::Refused(error)),
+        Err((error, _)) => return Err(ExampleError::Refused(error)),
     };
     for bag in &pfx.all_bags(rt.alloc())? {
         list_bag(rt, bag)?;
@@ -128,13 +102,13 @@ fn list(rt: &HostRuntime) -> Result<(), ListError> {
     if let Some(mac) = &pfx.mac_data {
         let (digest, count) = (&mac.mac.digest_algorithm, mac.effective_iterations());
         println!(rt; "MAC: {digest}, {count} iterations")?;
-        list_covered(rt, &file, octets.mac_octets())?;
+        list_covered(rt, file, octets.mac_octets())?;
     }
     Ok(())
 }
 
 /// How many octets the MAC covers, and whether the file is written as it was: one in BER isn't.
-fn list_covered(rt: &HostRuntime, file: &[u8], octets: Option<&[u8]>) -> Result<(), ListError> {
+fn list_covered(rt: &HostRuntime, file: &[u8], octets: Option<&[u8]>) -> Result<(), ExampleError> {
     let Some(octets) = octets else {
         return Ok(());
     };
@@ -147,15 +121,7 @@ fn list_covered(rt: &HostRuntime, file: &[u8], octets: Option<&[u8]>) -> Result<
             let count = octets.len();
             println!(rt; "the MAC covers {count} octets; in BER")?;
         }
-        Err(error) => return Err(ListError::Refused(error)),
+        Err(error) => return Err(ExampleError::Refused(error)),
     }
     Ok(())
-}
-
-fn main(rt: HostRuntime) -> ExitCode {
-    let Err(error) = list(&rt) else {
-        return ExitCode::SUCCESS;
-    };
-    let _ = eprintln!(rt; "example_list: {error}");
-    ExitCode::FAILURE
 }

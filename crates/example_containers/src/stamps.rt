@@ -1,13 +1,13 @@
 //! Time stamps over the signatures of signed data (RFC 3161).
 
-use crate::{PartsError, print_digest};
+use crate::{ExampleError, print_digest};
 use x509_containers::{RawPkcs7Certificate, TstInfo, from_bytes};
 
 /// What a time stamp says: when it was made, and the digest of the signature that it is of.
-fn list_stamp(rt: &HostRuntime, stamp: &[u8]) -> Result<(), PartsError> {
+fn list_stamp(rt: &HostRuntime, stamp: &[u8]) -> Result<(), ExampleError> {
     let signed: RawPkcs7Certificate = from_bytes(rt.alloc(), stamp)?;
     let Some(octets) = signed.signed_data.0.content_info.hashed_octets()? else {
-        return Err(PartsError::OtherContent);
+        return Err(ExampleError::OtherContent);
     };
     let info: TstInfo = from_bytes(rt.alloc(), octets)?;
     print!(rt; "  ")?;
@@ -20,7 +20,7 @@ fn list_stamp(rt: &HostRuntime, stamp: &[u8]) -> Result<(), PartsError> {
 }
 
 /// The time stamps of each signer.
-pub fn list_stamps(rt: &HostRuntime, file: &[u8]) -> Result<(), PartsError> {
+pub fn list_stamps(rt: &HostRuntime, file: &[u8]) -> Result<(), ExampleError> {
     let file: RawPkcs7Certificate = from_bytes(rt.alloc(), file)?;
     for signer in &file.signed_data.0.signers_infos.0.0 {
         for stamp in &signer.time_stamps(rt.alloc())? {

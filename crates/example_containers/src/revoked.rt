@@ -1,9 +1,9 @@
 //! Revocation lists (RFC 5280, 5).
 
-use crate::{PartsError, print_octets};
+use crate::{ExampleError, print_octets};
 use x509_containers::{CertificateList, RevokedCertificate, Time, from_bytes};
 
-fn print_date(rt: &HostRuntime, time: &Time) -> Result<(), PartsError> {
+fn print_date(rt: &HostRuntime, time: &Time) -> Result<(), ExampleError> {
     let (year, month, day) = match time {
         Time::Utc(short) => (short.0.year(), short.0.month(), short.0.day()),
         Time::Generalized(long) => (long.0.year(), long.0.month(), long.0.day()),
@@ -13,7 +13,7 @@ fn print_date(rt: &HostRuntime, time: &Time) -> Result<(), PartsError> {
 }
 
 /// The serial number, the day of the revocation, and the types of the extensions.
-fn list_entry(rt: &HostRuntime, entry: &RevokedCertificate) -> Result<(), PartsError> {
+fn list_entry(rt: &HostRuntime, entry: &RevokedCertificate) -> Result<(), ExampleError> {
     print_octets(rt, "  ", &entry.user_certificate.0.0)?;
     print_date(rt, &entry.revocation_data)?;
     if let Some(extensions) = &entry.crl_entry_extensions {
@@ -26,7 +26,7 @@ fn list_entry(rt: &HostRuntime, entry: &RevokedCertificate) -> Result<(), PartsE
 }
 
 /// The entries of a revocation list.
-pub fn list_revoked(rt: &HostRuntime, file: &[u8]) -> Result<(), PartsError> {
+pub fn list_revoked(rt: &HostRuntime, file: &[u8]) -> Result<(), ExampleError> {
     let list: CertificateList = from_bytes(rt.alloc(), file)?;
     if let Some(entries) = &list.tbs_cert_list.revoked_certificates {
         for entry in &entries.0.0 {

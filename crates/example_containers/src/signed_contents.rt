@@ -1,22 +1,22 @@
 //! Signed content that isn't an OCTET STRING: what Authenticode signs, and trust lists.
 
-use crate::{PartsError, print_digest, print_octets};
+use crate::{ExampleError, print_digest, print_octets};
 use x509_containers::{CTLEntry, ContentValue, Pkcs7Certificate, from_bytes};
 
 /// The digest of the program that the signature is of.
-pub fn list_program(rt: &HostRuntime, signature: &[u8]) -> Result<(), PartsError> {
+pub fn list_program(rt: &HostRuntime, signature: &[u8]) -> Result<(), ExampleError> {
     let file: Pkcs7Certificate = from_bytes(rt.alloc(), signature)?;
     let Some(content) = &file.signed_data.0.content_info.content else {
-        return Err(PartsError::OtherContent);
+        return Err(ExampleError::OtherContent);
     };
     let ContentValue::SpcIndirectDataContent(indirect) = &content.0 else {
-        return Err(PartsError::OtherContent);
+        return Err(ExampleError::OtherContent);
     };
     print_digest(rt, &indirect.message_digest)
 }
 
 /// The digest of a trusted certificate, or a name of it, and the types of its attributes.
-fn list_entry(rt: &HostRuntime, entry: &CTLEntry) -> Result<(), PartsError> {
+fn list_entry(rt: &HostRuntime, entry: &CTLEntry) -> Result<(), ExampleError> {
     print_octets(rt, "  ", &entry.cert_fingerprint.0)?;
     for attribute in &entry.attributes.0 {
         let ty = attribute.oid.0.to_text(rt.alloc())?;
@@ -26,13 +26,13 @@ fn list_entry(rt: &HostRuntime, entry: &CTLEntry) -> Result<(), PartsError> {
 }
 
 /// The entries of a trust list.
-pub fn list_trusted(rt: &HostRuntime, file: &[u8]) -> Result<(), PartsError> {
+pub fn list_trusted(rt: &HostRuntime, file: &[u8]) -> Result<(), ExampleError> {
     let file: Pkcs7Certificate = from_bytes(rt.alloc(), file)?;
     let Some(content) = &file.signed_data.0.content_info.content else {
-        return Err(PartsError::OtherContent);
+        return Err(ExampleError::OtherContent);
     };
     let ContentValue::CertificateTrustList(list) = &content.0 else {
-        return Err(PartsError::OtherContent);
+        return Err(ExampleError::OtherContent);
     };
     for entry in &list.crl_entries.0 {
         list_entry(rt, entry)?;

@@ -1,19 +1,20 @@
 //! Key stores of PKCS #12 (RFC 7292).
 
-use crate::BuildError;
+use crate::{ExampleError, send};
 use std::alloc::Global;
+use std::fs;
 use x509_containers::{
     Asn1RawDer, AuthenticatedSafeContentInfo, BmpString, CertificateBag, Error, MacData,
     OctetStringAsn1, ParsedAuthenticatedSafeDataRepr, Pfx, Pkcs12Attribute, Pkcs12DigestAlgorithm,
     Pkcs12DigestInfo, RawPfx, SafeBag, SafeBagKind, SafeContents, SafeContentsContentInfo, StdSink,
-    TryClone, from_bytes, send, to_vec,
+    TryClone, from_bytes, send as send_octets, to_vec,
 };
 
 /// How often the key derivation of the MAC hashes.
 const ITERATIONS: u32 = 2048;
 
 /// A friendly name and a local key identifier, sorted as DER has a SET OF: by their encodings.
-pub fn attributes(
+fn attributes(
     alloc: Global,
     name: &BmpString,
     key_id: &[u8],
@@ -50,7 +51,7 @@ fn content_of(
 }
 
 /// A store of a key, a `PrivateKeyInfo`, and its certificate, both with the attributes, and without a MAC.
-pub fn store(
+fn store(
     alloc: Global,
     key: Vec<u8>,
     certificate: Vec<u8>,
@@ -67,19 +68,14 @@ pub fn store(
 }
 
 /// Writes the octets that the MAC of a store covers.
-pub fn send_covered(rt: &HostRuntime, store: &[u8]) -> Result<(), BuildError> {
+pub fn send_covered(rt: &HostRuntime, store: &[u8]) -> Result<(), ExampleError> {
     let pfx: RawPfx = from_bytes(rt.alloc(), store)?;
-    let octets = pfx.mac_octets().ok_or(BuildError::NothingCovered)?;
-    send(&mut StdSink::new(rt.stdout()), octets).map_err(|_| BuildError::Output)
+    let octets = pfx.mac_octets().ok_or(ExampleError::NothingCovered)?;
+    send_octets(&mut StdSink::new(rt.stdout()), octets).map_err(|_| ExampleError::Output)
 }
 
 /// The store with a MAC by HMAC with SHA-256, which the caller has made. The octets that it covers stay as they are.
-pub fn with_mac(
-    alloc: Global,
-    store: &[u8],
-    digest: Vec<u8>,
-    salt: Vec<u8>,
-) -> Result<RawPfx, Error> {
+fn with_mac(alloc: Global, store: &[u8], digest: Vec<u8>, salt: Vec<u8>) -> Result<RawPfx, Error> {
     let mut pfx: RawPfx = from_bytes(alloc, store)?;
     pfx.mac_data = Some(MacData {
         mac: Pkcs12DigestInfo {
@@ -90,4 +86,32 @@ pub fn with_mac(
         iterations: Some(ITERATIONS),
     });
     Ok(pfx)
+}
+
+/// Writes a store of the files of a key, of its certificate and of a key identifier, with a friendly name.
+pub fn send_store(
+    rt: &HostRuntime,
+    key: &str,
+    certificate: &str,
+    key_id: &str,
+    name: &str,
+) -> Result<(), ExampleError> {
+    let name = BmpString::from_text(rt.alloc(), name)?;
+    let attributes = attributes(rt.alloc(), &name, &fs::read(rt, key_id)?)?;
+    let (key, certificate) = (fs::read(rt, key)?, fs::read(rt, certificate)?);
+    send(rt, &store(rt.alloc(), key, certificate, attributes)?)
+}
+
+/// Writes the file of a store with a MAC, of which the digest and the salt are files too.
+pub fn send_with_mac(
+    rt: &HostRuntime,
+    store: &str,
+    digest: &str,
+    salt: &str,
+) -> Result<(), ExampleError> {
+    let (digest, salt) = (fs::read(rt, digest)?, fs::read(rt, salt)?);
+    send(
+        rt,
+        &with_mac(rt.alloc(), &fs::read(rt, store)?, digest, salt)?,
+    )
 }

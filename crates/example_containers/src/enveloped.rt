@@ -1,7 +1,9 @@
 //! Enveloped data (RFC 5652, 6) of content that is encrypted by AES-256 in CBC mode, for whoever has the AES-128 key
 //! that wraps the content's key (RFC 3565).
 
+use crate::{ExampleError, send};
 use std::alloc::Global;
+use std::fs;
 use x509_containers::{
     AlgorithmIdentifier, Asn1RawDer, Asn1SetOf, CmsVersion, ContentInfo, EncryptedContentInfo,
     EnvelopedData, Error, ExplicitContextTag0, ImplicitContextTag0, KekIdentifier,
@@ -18,11 +20,7 @@ const AES_128_WRAP: &str = "2.16.840.1.101.3.4.1.5";
 const AES_256_CBC: &str = "2.16.840.1.101.3.4.1.42";
 
 /// Whoever knows the key with this identifier, by which the content's key is wrapped.
-pub fn recipient(
-    alloc: Global,
-    key_id: Vec<u8>,
-    wrapped_key: Vec<u8>,
-) -> Result<RecipientInfo, Error> {
+fn recipient(alloc: Global, key_id: Vec<u8>, wrapped_key: Vec<u8>) -> Result<RecipientInfo, Error> {
     let wrap = ObjectIdentifier::from_text(alloc, AES_128_WRAP)?;
     Ok(RecipientInfo::Kek(KekRecipientInfo {
         version: CmsVersion::V4,
@@ -37,7 +35,7 @@ pub fn recipient(
 }
 
 /// The encrypted content, with the initialization vector as the algorithm's parameters.
-pub fn content(
+fn content(
     alloc: Global,
     vector: Vec<u8>,
     ciphertext: Vec<u8>,
@@ -52,7 +50,7 @@ pub fn content(
 }
 
 /// Enveloped data for one recipient, as content of its type.
-pub fn enveloped(
+fn enveloped(
     alloc: Global,
     recipient: RecipientInfo,
     encrypted_content_info: EncryptedContentInfo,
@@ -68,4 +66,19 @@ pub fn enveloped(
         content_type: ObjectIdentifierAsn1(ObjectIdentifier::from_text(alloc, ENVELOPED_DATA)?),
         content: ExplicitContextTag0(Asn1RawDer(to_vec(alloc, &enveloped)?)),
     })
+}
+
+/// Writes enveloped data of the files of a key identifier, a wrapped key, an initialization vector and the ciphertext.
+pub fn send_enveloped(
+    rt: &HostRuntime,
+    key_id: &str,
+    wrapped_key: &str,
+    vector: &str,
+    ciphertext: &str,
+) -> Result<(), ExampleError> {
+    let (key_id, wrapped_key) = (fs::read(rt, key_id)?, fs::read(rt, wrapped_key)?);
+    let recipient = recipient(rt.alloc(), key_id, wrapped_key)?;
+    let (vector, ciphertext) = (fs::read(rt, vector)?, fs::read(rt, ciphertext)?);
+    let content = content(rt.alloc(), vector, ciphertext)?;
+    send(rt, &enveloped(rt.alloc(), recipient, content)?)
 }
