@@ -1,4 +1,4 @@
-"""Object identifiers, their names and their documents. scripts/oids made this file of asn1/object_identifiers.txt."""
+"""Object identifiers, their names and their documents. Made of asn1/object_identifiers.txt."""
 
 TABLE = """
 1.2.840.113549.2.2  md2  RFC 1319

@@ -1,5 +1,5 @@
 //! The universal types that `asn1_core` and `asn1_leaves` have no field for: BOOLEAN without a default, ENUMERATED, NULL,
-//! and strings whose characters aren't tested. Crates that `scripts/asn1` makes of ASN.1 modules hold them.
+//! and strings whose characters aren't tested. Crates that are made of ASN.1 modules hold them.
 #![tactic(auto)]
 
 pub mod bits;

@@ -1,6 +1,6 @@
 //! Says of each line of standard input, an input in hexadecimal, what `ber_der` makes of it: `is DER`, `converted`
 //! or `ambiguous`, where only one of the two conversions takes it, with the DER, or `refused`, with the place. Lines that
-//! begin with `#` are repeated. `scripts/ber` compares the answers with those of a converter of its own.
+//! begin with `#` are repeated. A test compares the answers with those of a converter of its own.
 #![tactic(auto)]
 
 use asn1_core_streams::{StdSource, read_all};

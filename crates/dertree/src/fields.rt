@@ -1,4 +1,4 @@
-//! The table of names, made by scripts/fields, which says how it is written, of the modules in asn1/: change those.
+//! The table of names, made of the modules in asn1/: change those. What makes it says how it is written.
 
 /// A node for each type, between empty lines: its name, and a row for each element that its contents may have.
 pub const FIELDS: &[u8] = b"\

@@ -1,6 +1,6 @@
 //! One round of calls that take memory, over values of each shape, and of calls that take none: names each before it
 //! makes it, and says what went wrong, if anything. Ends with status 3 where a request was refused with no other effect:
-//! `scripts/memory` refuses each in turn. With a word it prints how long calls take instead.
+//! a test refuses each in turn. With a word it prints how long calls take instead.
 #![tactic(auto)]
 
 mod conversions;

@@ -1,4 +1,4 @@
-//! Calls that take no memory. The line of each says so, and what they are made from is named before that: `scripts/memory`
+//! Calls that take no memory. The line of each says so, and what they are made from is named before that: a test
 //! asks that no request is made after such a line, up to the next one, and that nothing changes where one is refused.
 
 use crate::rounds::{Stop, expect, has_text, names};

@@ -1,6 +1,6 @@
-//! Rows of the crates that `scripts/asn1` makes: each line of standard input is a type, an input in hexadecimal, whether
-//! it is accepted, and what `Debug` or the functions of named bits say of its value. Prints each row that doesn't hold,
-//! and counts the others. `scripts/module_rows` makes the rows of files of other tools.
+//! Rows of the crates that are made of ASN.1 modules: each line of standard input is a type, an input in hexadecimal,
+//! whether it is accepted, and what `Debug` or the functions of named bits say of its value. Prints each row that
+//! doesn't hold, and counts the others. The inputs are from files that other tools write.
 #![tactic(auto)]
 
 mod bits;

@@ -1,4 +1,4 @@
-//! The types of the crates that `scripts/asn1` makes, by the words of rows.
+//! The types of the crates that are made of ASN.1 modules, by the words of rows.
 
 use crate::checks::is_so as at;
 use crate::rows::Row;

@@ -1,4 +1,4 @@
--- Names of ciphers, key wraps and compressions, which S/MIME capabilities name too. scripts/oids made this file of asn1/object_identifiers.txt.
+-- Names of ciphers, key wraps and compressions, also as S/MIME capabilities. Made of asn1/object_identifiers.txt.
 use Rattle.std.specs.Prelude.{ℕ, List, [], ◌∷◌, codes}
 use Rattle.asn1_core_oid.specs.Arcs.{arcs}
 

@@ -1,4 +1,4 @@
--- Names of other keys and signatures, and key agreements. scripts/oids made this file of asn1/object_identifiers.txt.
+-- Names of other keys and signatures, and key agreements. Made of asn1/object_identifiers.txt.
 use Rattle.std.specs.Prelude.{ℕ, List, [], ◌∷◌, codes}
 use Rattle.asn1_core_oid.specs.Arcs.{arcs}
 

@@ -1,4 +1,4 @@
--- Names of object identifiers. scripts/oids made this file of asn1/object_identifiers.txt.
+-- Names of object identifiers. Made of asn1/object_identifiers.txt.
 use Rattle.std.specs.Prelude.{◌⊎◌, ℕ, List}
 use Rattle.oid_names.specs.Tables.{IsNamed}
 use Rattle.oid_names.specs.Digests.{digests_names}

@@ -1,4 +1,4 @@
-//! The groups, in turn. scripts/oids made this file of asn1/object_identifiers.txt.
+//! The groups, in turn. Made of asn1/object_identifiers.txt.
 
 ghost use Rattle.std.specs.Prelude.{ℕ, List, MatchOption};
 ghost use Rattle.oid_names.specs.Names.{IsObjectName};

@@ -1,4 +1,4 @@
--- The types of PKIXTSP. Made by scripts/asn1 of rfc3161.asn1; not to be edited.
+-- The types of PKIXTSP, made of rfc3161.asn1; not to be edited.
 use Rattle.asn1_core.specs.Asn1.{ANY, Asn1, BOOLEAN_or_FALSE, Contents, EXPLICIT, IMPLICIT, INTEGER_BELOW, OBJECT_IDENTIFIER, OCTET_STRING, SEQUENCE, SEQUENCE_OF, contents, end, ◌then◌, ◌OPTIONAL◌, ◌DEFAULT◌}
 use Rattle.asn1_leaves.specs.Asn1.{BIT_STRING, INTEGER, UTF8_STRING}
 use Rattle.std.proofs.lemmas.Bool.Decides.{Decides-eqb}

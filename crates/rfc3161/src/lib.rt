@@ -1,4 +1,4 @@
-//! The types of PKIXTSP. Made by `scripts/asn1`; not to be edited.
+//! The types of PKIXTSP, made of `rfc3161.asn1`; not to be edited.
 #![tactic(auto)]
 
 pub mod pkixtsp;

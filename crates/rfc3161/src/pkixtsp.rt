@@ -1,4 +1,4 @@
-//! The types of PKIXTSP. Made by `scripts/asn1` of `rfc3161.asn1`; not to be edited.
+//! The types of PKIXTSP, made of `rfc3161.asn1`; not to be edited.
 
 ghost use Rattle.rfc3161.specs.Pkixtsp.{message_imprint, message_imprint_value, message_imprint_equal};
 ghost use Rattle.rfc3161.specs.Pkixtsp.{time_stamp_req, time_stamp_req_value, time_stamp_req_equal};

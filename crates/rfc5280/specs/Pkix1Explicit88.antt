@@ -1,4 +1,4 @@
--- The types of PKIX1Explicit88. Made by scripts/asn1 of rfc5280-explicit.asn1; not to be edited.
+-- The types of PKIX1Explicit88, made of rfc5280-explicit.asn1; not to be edited.
 use Rattle.asn1_core.specs.Asn1.{Asn1, CHOICE, Contents, EXPLICIT, EXPLICIT_default, IMPLICIT, INTEGER_BELOW, INTEGER_or, SEQUENCE, SEQUENCE_OF, SET_OF, contents, end, ◌then◌, ◌OPTIONAL◌, ◌DEFAULT◌}
 use Rattle.asn1_leaves.specs.Asn1.{BIT_STRING, BMP_STRING, INTEGER, UTF8_STRING}
 use Rattle.std.proofs.lemmas.Bool.Decides.{Decides-eqb}

@@ -1,4 +1,4 @@
--- The types of PKIX1Implicit88. Made by scripts/asn1 of rfc5280-implicit.asn1; not to be edited.
+-- The types of PKIX1Implicit88, made of rfc5280-implicit.asn1; not to be edited.
 use Rattle.asn1_core.specs.Asn1.{ANY, Asn1, BOOLEAN_or_FALSE, CHOICE, Contents, EXPLICIT, IMPLICIT, IMPLICIT_default, INTEGER_or, OBJECT_IDENTIFIER, OCTET_STRING, SEQUENCE, SEQUENCE_OF, contents, end, ◌then◌, ◌OPTIONAL◌, ◌DEFAULT◌}
 use Rattle.asn1_leaves.specs.Asn1.{BIT_STRING, BMP_STRING, GENERALIZED_TIME, IA5_STRING, INTEGER, UTF8_STRING}
 use Rattle.std.proofs.lemmas.Bool.Decides.{Decides-eqb}

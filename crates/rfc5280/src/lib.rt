@@ -1,4 +1,4 @@
-//! The types of PKIX1Explicit88 and PKIX1Implicit88. Made by `scripts/asn1`; not to be edited.
+//! Types made of `rfc5280-explicit.asn1` and `rfc5280-implicit.asn1`; not to be edited.
 #![tactic(auto)]
 
 pub mod pkix1_explicit88;

@@ -1,4 +1,4 @@
-//! The types of PKIX1Explicit88. Made by `scripts/asn1` of `rfc5280-explicit.asn1`; not to be edited.
+//! The types of PKIX1Explicit88, made of `rfc5280-explicit.asn1`; not to be edited.
 
 ghost use Rattle.rfc5280.specs.Pkix1Explicit88.{directory_string, directory_string_value, directory_string_equal};
 ghost use Rattle.rfc5280.specs.Pkix1Explicit88.{validity, validity_value, validity_equal};

@@ -1,4 +1,4 @@
-//! The types of PKIX1Implicit88. Made by `scripts/asn1` of `rfc5280-implicit.asn1`; not to be edited.
+//! The types of PKIX1Implicit88, made of `rfc5280-implicit.asn1`; not to be edited.
 
 ghost use Rattle.rfc5280.specs.Pkix1Implicit88.{another_name, another_name_value, another_name_equal};
 ghost use Rattle.rfc5280.specs.Pkix1Implicit88.{edi_party_name, edi_party_name_value, edi_party_name_equal};

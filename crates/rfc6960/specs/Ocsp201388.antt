@@ -1,4 +1,4 @@
--- The types of OCSP-2013-88. Made by scripts/asn1 of rfc6960.asn1; not to be edited.
+-- The types of OCSP-2013-88, made of rfc6960.asn1; not to be edited.
 use Rattle.asn1_core.specs.Asn1.{Asn1, CHOICE, Contents, EXPLICIT, EXPLICIT_default, IMPLICIT, INTEGER_BELOW, INTEGER_or, NULL, OBJECT_IDENTIFIER, OCTET_STRING, SEQUENCE, SEQUENCE_OF, contents, end, ◌then◌, ◌OPTIONAL◌, ◌DEFAULT◌}
 use Rattle.asn1_leaves.specs.Asn1.{BIT_STRING, GENERALIZED_TIME, IA5_STRING, INTEGER}
 use Rattle.std.proofs.lemmas.Bool.Decides.{Decides-eqb}

@@ -1,4 +1,4 @@
-//! The types of OCSP-2013-88. Made by `scripts/asn1`; not to be edited.
+//! The types of OCSP-2013-88, made of `rfc6960.asn1`; not to be edited.
 #![tactic(auto)]
 
 pub mod ocsp_2013_88;

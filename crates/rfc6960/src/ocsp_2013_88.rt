@@ -1,4 +1,4 @@
-//! The types of OCSP-2013-88. Made by `scripts/asn1` of `rfc6960.asn1`; not to be edited.
+//! The types of OCSP-2013-88, made of `rfc6960.asn1`; not to be edited.
 
 ghost use Rattle.rfc6960.specs.Ocsp201388.{cert_id, cert_id_value, cert_id_equal};
 ghost use Rattle.rfc6960.specs.Ocsp201388.{request, request_value, request_equal};

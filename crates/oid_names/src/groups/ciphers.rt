@@ -1,4 +1,4 @@
-//! Names of ciphers, key wraps and compressions, which S/MIME capabilities name too. scripts/oids made this file of asn1/object_identifiers.txt.
+//! Names of ciphers, key wraps and compressions, also as S/MIME capabilities. Made of asn1/object_identifiers.txt.
 
 ghost use Rattle.std.specs.Prelude.{ℕ, List, MatchOption};
 ghost use Rattle.oid_names.specs.Tables.{IsNamed};
@@ -117,7 +117,7 @@ const ROWS: [Row; 25] = [
     },
 ];
 
-/// The name of one of ciphers, key wraps and compressions, which S/MIME capabilities name too, by its contents octets.
+/// The name of one of ciphers, key wraps and compressions, also as S/MIME capabilities, by its contents octets.
 pub fn name(octets: &[u8]) -> Option<&'static str>
     ensures { MatchOption result
         ((name : List ℕ) → ¬ (IsNamed ciphers_names octets.now name))

@@ -1,4 +1,4 @@
-//! Names of keys and signatures over elliptic curves. scripts/oids made this file of asn1/object_identifiers.txt.
+//! Names of keys and signatures over elliptic curves. Made of asn1/object_identifiers.txt.
 
 ghost use Rattle.std.specs.Prelude.{ℕ, List, MatchOption};
 ghost use Rattle.oid_names.specs.Tables.{IsNamed};

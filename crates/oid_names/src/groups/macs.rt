@@ -1,4 +1,4 @@
-//! Names of message authentication codes and key derivations. scripts/oids made this file of asn1/object_identifiers.txt.
+//! Names of message authentication codes and key derivations. Made of asn1/object_identifiers.txt.
 
 ghost use Rattle.std.specs.Prelude.{ℕ, List, MatchOption};
 ghost use Rattle.oid_names.specs.Tables.{IsNamed};

@@ -1,4 +1,4 @@
-//! Names of types of attributes in names. scripts/oids made this file of asn1/object_identifiers.txt.
+//! Names of types of attributes in names. Made of asn1/object_identifiers.txt.
 
 ghost use Rattle.std.specs.Prelude.{ℕ, List, MatchOption};
 ghost use Rattle.oid_names.specs.Tables.{IsNamed};

@@ -1,4 +1,4 @@
-//! Names of attributes of S/MIME and of signature policies. scripts/oids made this file of asn1/object_identifiers.txt.
+//! Names of attributes of S/MIME and of signature policies. Made of asn1/object_identifiers.txt.
 
 ghost use Rattle.std.specs.Prelude.{ℕ, List, MatchOption};
 ghost use Rattle.oid_names.specs.Tables.{IsNamed};

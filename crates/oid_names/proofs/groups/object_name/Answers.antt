@@ -1,4 +1,4 @@
--- scripts/oids made this file of asn1/object_identifiers.txt.
+-- Made of asn1/object_identifiers.txt.
 use Rattle.std.proofs.Common.{inl, inr, ⊎_elim}
 use Rattle.oid_names.proofs.groups.object_name.Goals as goal
 
