@@ -1,6 +1,6 @@
 """Compares what the installed package vuyhanip and derbox say of inputs with the rows of crates/example_rows/stdin.
 
-Usage: python3 rows.py DERBOX ROWS
+Usage: python3 installed_rows.py DERBOX ROWS
 It takes each row whose type is a kind, but those with a limit of nesting levels, and prints how many there are.
 """
 import subprocess
@@ -42,7 +42,7 @@ def answer(library, kind, text):
 
 def main():
     if len(sys.argv) != 3:
-        sys.exit("usage: rows.py DERBOX ROWS")
+        sys.exit("usage: installed_rows.py DERBOX ROWS")
     library, count = vuyhanip.library(), 0
     kinds = set(library.kinds())
     for kind, text, said, place in rows(sys.argv[2], kinds):
