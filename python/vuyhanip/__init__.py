@@ -8,53 +8,35 @@ command `vuyhanip` over files, which is `python -m vuyhanip` too.
     library.store(data)             a Store: bags, certificates, keys, names, and a check of the MAC
     library.signed(data)            a SignedData: content, certificates, and signers with their attributes
 
-help(vuyhanip.der) says what each call does. Where the package is installed, callers/der.py is in it as der, beside
-version and the library for C. In a clone, callers/der.py is taken, and the library of the environment's
-VUYHANIP_LIBRARY, or else crates/der_c/out/libder.so.
+help(vuyhanip.der) says what each call does. An installed package has the library for C in its folder, and its version.
+In a clone the library is that of the environment's VUYHANIP_LIBRARY, or else crates/der_c/out/libder.so.
 """
 import ctypes
 import functools
-import importlib.util
+import importlib
 import os
-import sys
-from typing import TYPE_CHECKING
 
-if TYPE_CHECKING:
-    from . import der as der
-    from .der import (
-        MAX_NESTING,
-        BadAttributes,
-        Bag,
-        BagKind,
-        EnvelopePart,
-        Library,
-        Mac,
-        Part,
-        Refused,
-        SignedData,
-        Signer,
-        SignerInfo,
-        Store,
-        UnknownKind,
-        Verdict,
-        attribute_oid,
-        attribute_values,
-        dotted,
-    )
-else:
-    try:
-        from . import der
-    except ImportError:
-        _top = os.path.dirname(os.path.dirname(os.path.dirname(os.path.realpath(__file__))))
-        _spec = importlib.util.spec_from_file_location(f"{__name__}.der", os.path.join(_top, "callers", "der.py"))
-        der = importlib.util.module_from_spec(_spec)
-        sys.modules[_spec.name] = der
-        _spec.loader.exec_module(der)
-    MAX_NESTING, Library, Mac, Part = der.MAX_NESTING, der.Library, der.Mac, der.Part
-    Refused, UnknownKind, Verdict, dotted = der.Refused, der.UnknownKind, der.Verdict, der.dotted
-    BadAttributes, SignedData, Signer, SignerInfo = der.BadAttributes, der.SignedData, der.Signer, der.SignerInfo
-    Bag, BagKind, EnvelopePart, Store = der.Bag, der.BagKind, der.EnvelopePart, der.Store
-    attribute_oid, attribute_values = der.attribute_oid, der.attribute_values
+from . import der as der
+from .der import (
+    MAX_NESTING,
+    BadAttributes,
+    Bag,
+    BagKind,
+    EnvelopePart,
+    Library,
+    Mac,
+    Part,
+    Refused,
+    SignedData,
+    Signer,
+    SignerInfo,
+    Store,
+    UnknownKind,
+    Verdict,
+    attribute_oid,
+    attribute_values,
+    dotted,
+)
 
 __all__ = ["MAX_NESTING", "BadAttributes", "Bag", "BagKind", "EnvelopePart", "Library", "Mac", "Part", "Refused"]
 __all__ += ["SignedData", "Signer", "SignerInfo", "Store", "UnknownKind", "Verdict", "attribute_oid"]

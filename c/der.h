@@ -1,0 +1,486 @@
+/* Checks and rewritings of DER, the parts of containers that a verifier needs, as octets, and conversions of BER to
+ * DER: the static library der_c. Only der_from_ber takes BER. Pass every other call what it wrote, and der_mac_ber and
+ * der_mac_part_ber where the MAC of a PKCS #12 file is to be verified.
+ *
+ * What is proved of its calls der_check_word_limited, der_rewrite_word_limited, der_kind_word, der_part_octets,
+ * der_signer_rows, der_part_ranges, der_attribute_ranges, der_mac_range, der_mac, der_from_ber, der_mac_ber,
+ * der_mac_part_ber, der_name_text, der_oid_text, der_oid_name, der_integer_text, der_utf16_text and der_bag_rows, for
+ * all inputs, and what isn't:
+ *  - A call answers no status but those that are listed at it. What it writes into numbers and into out is as said
+ *    below.
+ *  - DER_NORMAL, DER_LOOSE, DER_UNKNOWN_KIND, DER_NO_ROOM and DER_NO_PART are true where they are answered, and so are
+ *    DER_TOO_LONG and DER_NO_RANGE, but of bags. DER_BAD_ATTRIBUTES is true where a row of der_signer_rows has it, but
+ *    that an empty set of signed attributes is that signer's: proved is that the signer's value has none, and that the
+ *    input has the octets A0 00.
+ *  - At DER_MALFORMED, DER_MISSING, DER_INVALID and DER_TOO_DEEP the input is no encoding of the kind, of der_from_ber
+ *    it has no DER, of the calls for parts, signers and ranges it isn't what has the part, and of those that write text
+ *    it has none, as said there. Which of the four it is isn't proved: tests tell them apart.
+ *  - Of the bags of a store, and of parts of these, the same is said at the four, at DER_TOO_LONG and at DER_NO_RANGE:
+ *    the input has no such rows as der_bag_rows writes at DER_NORMAL. At DER_NO_RANGE of der_bag_rows it is a store.
+ *  - That memory was refused where a call answers DER_NO_MEMORY isn't proved. Tests show that calls with memory enough
+ *    don't answer it, on inputs of up to 190 KB and of hundreds of parts, and that calls keep no memory.
+ *  - The functions in this file, in C, are tested and not proved, nor are der_version and der_processor.
+ *
+ * What a caller has to keep to:
+ *  - word, input, out and the pointers to numbers aren't null, also where a length is 0. word and input point to so
+ *    many bytes that can be read, out to so many that can be read and written.
+ *  - A pointer to a number is aligned as a size_t is, and what it points to can be written. out of der_signer_rows,
+ *    der_bag_rows and the calls for ranges points to out_len structs and not bytes, and is aligned so too.
+ *  - The string kind ends in a zero byte.
+ *  - out and each number overlap nothing else that is passed, and not one another.
+ *  - While a call runs nothing else reads or writes out or the numbers, and nothing writes word or input: no other
+ *    thread, and no signal handler.
+ *  - Lengths are below 2^63.
+ *  - Memory comes from malloc, realloc and free, which are those of one allocator. A block of malloc and of realloc is
+ *    aligned to each power of two up to 16 that divides its size.
+ *  - No call is made from a signal handler, nor from the child that a process with threads forked.
+ *  - The stack has room for the nesting of the input: see DER_MAX_NESTING.
+ *  - The system is Linux, and the processor is one that the library was built for, which der_processor says. Where that
+ *    is x86-64, any of them is; where it is x86-64-v2, one that has SSE4.2 and POPCNT. On an older one the loader
+ *    starts no program with an installed library, or an illegal instruction ends the program. package/install and
+ *    .ci/library take x86-64 by default, and `rt lib` takes x86-64-v2.
+ * Calls share nothing, so threads may make them side by side, each with an out and numbers of its own. */
+#ifndef DER_H
+#define DER_H
+
+#include <stddef.h>
+#include <stdint.h>
+#include <string.h>
+
+#ifdef __cplusplus
+extern "C" {
+#endif
+
+/* The version of an installed library, and the processors that it was built for, as constant strings: "0.2.0", and
+ * "x86-64" or "x86-64-v2". A caller compares der_version with DER_VERSION, with which an installed header begins, by
+ * strcmp. A library that `rt lib` left has neither call. */
+#ifdef DER_VERSION
+const char *der_version(void);
+const char *der_processor(void);
+#endif
+
+/* The most levels of nesting that an input may have: bags in bags, signed data in time stamps, counter signatures of
+ * counter signatures. A level takes 1.3 to 2.8 KB of stack, so 64 levels take up to 180, and a program that checks them
+ * passes with 288 KB in all, with its environment and arguments. A caller on a smaller stack passes a lower limit to
+ * der_check_limited and der_rewrite_limited. That is measured, not proved. */
+#define DER_MAX_NESTING 64
+
+typedef enum der_status {
+  DER_NORMAL = 0,       /* the input is normal; of a call that writes more than a length: it is done */
+  DER_LOOSE = 1,        /* the input has another encoding, which is normal */
+  DER_UNKNOWN_KIND = 2, /* no kind has that word, or that index; no part has that number */
+  DER_MALFORMED = 3,    /* 3 to 6: the input is no encoding of the kind: bytes that are no element, or too many */
+  DER_MISSING = 4,      /* an element isn't there */
+  DER_INVALID = 5,      /* a tag, version, object identifier, character or number that can't be there */
+  DER_TOO_DEEP = 6,     /* more levels of nesting than the limit */
+  DER_TOO_LONG = 7,     /* its normal encoding, or that of the part, has 2^64 bytes or more */
+  DER_NO_MEMORY = 8,    /* a request for memory was refused: nothing is said of the input */
+  DER_NO_ROOM = 9,      /* out is too short: the number of bytes, or of ranges, that are needed is written */
+  DER_NO_RANGE = 10,    /* authSafe isn't data, so no octets are covered by a MAC; of others: a part isn't found */
+  DER_NO_PART = 11,     /* the container has no such part, or not so many; the file has no MAC; no name is known */
+  DER_BAD_ATTRIBUTES = 12 /* of a signer: its signed attributes break RFC 5652 */
+} der_status;
+
+/* The parts of containers. Each is of the type that the input is read as, which is said before it. */
+typedef enum der_part_number {
+  /* signed data with its content type, of any CMSVersion, with signers of version 1 or 3, and over content of any type
+   * (RawPkcs7Certificate; RFC 5652, 5) */
+  DER_PART_HASHED_CONTENT = 0,      /* contents octets of the content, which are hashed; the index isn't looked at */
+  DER_PART_CERTIFICATE = 1,         /* a certificate, or another choice, as it is in certificates */
+  DER_PART_SIGNED_ATTRIBUTES = 2,   /* of a signer: signedAttrs under the tag of a SET OF, which the signature covers */
+  DER_PART_ISSUER = 3,              /* of a signer: the encoding of the issuer's Name */
+  DER_PART_SERIAL_NUMBER = 4,       /* of a signer: the contents octets of serialNumber, an INTEGER */
+  DER_PART_KEY_IDENTIFIER = 5,      /* of a signer: the octets of subjectKeyIdentifier */
+  DER_PART_DIGEST_ALGORITHM = 6,    /* of a signer: the contents octets of the object identifier */
+  DER_PART_SIGNATURE_ALGORITHM = 7, /* of a signer: the encoding of signatureAlgorithm, with its parameters */
+  DER_PART_SIGNATURE = 8,           /* of a signer: the octets of signature */
+  /* a PKCS #12 file, in the order of der_bag_rows and with its statuses: without what is encrypted, and with bags in
+   * bags (RFC 7292, 4) */
+  DER_PART_STORE_CERTIFICATE = 9,    /* an X.509 certificate, as it is */
+  DER_PART_STORE_KEY = 10,           /* a key that isn't encrypted: a PrivateKeyInfo, as it is */
+  DER_PART_STORE_ENCRYPTED_KEY = 11, /* an encrypted key: an EncryptedPrivateKeyInfo, as it is */
+  DER_PART_STORE_BAG = 12,           /* a bag, as it is, with all that it holds; what is unread is no bag */
+  /* "rawpfx": the MAC of a PKCS #12 file; the index isn't looked at */
+  DER_PART_MAC_DIGEST_ALGORITHM = 13, /* the contents octets of the object identifier */
+  DER_PART_MAC_DIGEST = 14,           /* what a verifier compares with the MAC that it makes */
+  DER_PART_MAC_SALT = 15,             /* macSalt */
+  /* of enveloped data under its content type, a ContentInfo (RFC 5652, 3 and 6.1): der_ranges alone knows these */
+  DER_PART_RECIPIENT = 16,            /* a RecipientInfo of any kind, as it is */
+  DER_PART_ENCRYPTION_ALGORITHM = 17, /* contentEncryptionAlgorithm, with its parameters: one item */
+  DER_PART_ENCRYPTED_CONTENT = 18     /* the octets of encryptedContent: one item, or none where that is absent */
+} der_part_number;
+
+/* The calls themselves, which answer a der_status. The functions that follow them take strings. A limit above 64 counts
+ * as 64. */
+uint32_t der_check_word_limited(const uint8_t *word, size_t word_len, uint8_t limit, const uint8_t *input,
+                                size_t input_len, size_t *normal_len, size_t *place);
+uint32_t der_rewrite_word_limited(const uint8_t *word, size_t word_len, uint8_t limit, const uint8_t *input,
+                                  size_t input_len, uint8_t *out, size_t out_len, size_t *written);
+uint32_t der_kind_word(size_t index, uint8_t *out, size_t out_len, size_t *written);
+uint32_t der_part_octets(size_t number, size_t index, const uint8_t *input, size_t input_len, uint8_t *out,
+                         size_t out_len, size_t *written, size_t *place);
+
+/* Octets of the input: len of them, from input + start on. All of them are inside of it. */
+typedef struct der_range {
+  size_t start, len;
+} der_range;
+
+/* Where the input has each item of a part, in one reading, where der_part_octets reads it anew for each. number is
+ * DER_PART_CERTIFICATE: certificates of signed data, or other choices. Or it is one of the three parts of enveloped
+ * data.
+ *  - DER_NORMAL: *count ranges are at the front of out, in the order of the items, and the rest of out is as it was.
+ *  - DER_NO_ROOM: there are *count items, and out_len is less.
+ *  - DER_UNKNOWN_KIND: the items of the part with that number aren't listed, or no part has it.
+ *  - DER_MALFORMED to DER_TOO_DEEP: the input is no signed or no enveloped data, and *place says where, as of
+ *    der_locate.
+ *  - DER_NO_MEMORY: *place is an offset without use.
+ *  - DER_NO_RANGE: the octets of an item are nowhere in the input. No input is known where it is answered, and that
+ *    there is none isn't proved.
+ * Unless at DER_NORMAL out is as it was, unless at DER_NORMAL and DER_NO_ROOM *count is 0, and but for the refusals and
+ * DER_NO_MEMORY *place is 0. Proved is that the octets in each range are those of the item, and that each item has one;
+ * that they are the item itself, and no equal octets, is tested. */
+uint32_t der_part_ranges(size_t number, const uint8_t *input, size_t input_len, der_range *out, size_t out_len,
+                         size_t *count, size_t *place);
+
+/* Where signed data, as of DER_PART_CERTIFICATE, have each attribute of the signer with that index, an Attribute with
+ * its type and values (RFC 5652, 5.3): each signed one, or, where is_signed is 0, each unsigned one, as a
+ * countersignature or a time stamp. At DER_NO_PART there are fewer signers. Any other status is as of der_part_ranges,
+ * but never DER_UNKNOWN_KIND. */
+uint32_t der_attribute_ranges(size_t is_signed, size_t index, const uint8_t *input, size_t input_len, der_range *out,
+                              size_t out_len, size_t *count, size_t *place);
+
+/* What a verification of one signer needs (RFC 5652, 5.3 to 5.6). A verifier
+ *  1. takes the signer only where status is DER_NORMAL;
+ *  2. where over_attributes is 1, hashes the content's octets by digest_algorithm, and compares with digest;
+ *  3. verifies signature over what der_covered copies, by signature_algorithm and the certificate's key.
+ * Where has_content is 0 the signature is detached, and the content's octets are the caller's. So are the octets that
+ * the signature covers, where over_attributes is 0 too: covered then has none. That the certificate is to be trusted,
+ * and may sign, isn't looked at. */
+typedef struct der_signer_parts {
+  size_t status;                 /* DER_NORMAL, or DER_BAD_ATTRIBUTES, or what der_signer answers: all else is 0 then */
+  size_t over_attributes;        /* 1: the signature covers signed attributes, 0: the content */
+  size_t has_content;            /* 1: the content is in the input */
+  size_t has_certificate;        /* 1: a certificate of the input is the one that the signer names */
+  der_range covered;             /* signed attributes, whose first octet is to be 0x31, not 0xA0; or the content */
+  der_range digest;              /* messageDigest, which the digest of the content has to be; none without attributes */
+  der_range content;             /* the contents octets of the content, which are hashed */
+  der_range digest_algorithm;    /* an AlgorithmIdentifier, with its parameters */
+  der_range signature_algorithm; /* the same */
+  der_range signature;           /* the octets of the signature */
+  der_range certificate;         /* the first that has the signer's issuer and serial number, or its key identifier */
+} der_signer_parts;
+
+/* What a verifier needs of the signers of signed data, of any CMSVersion and over content of any type (RawSignedData),
+ * in one reading. out has room for out_len signers, and takes those with the index first and after.
+ *  - DER_NORMAL: *count is how many signers there are in all. Those asked for are at the front of out, at most out_len,
+ *    and the rest of out is as it was. The status of each is DER_BAD_ATTRIBUTES where signed attributes are an empty
+ *    set, A0 00, lack messageDigest or contentType, have one of them several times, with no value or with several, or
+ *    where contentType is another than the content's (RFC 5652, 5.3, 11.1, 11.2).
+ *  - DER_MALFORMED to DER_TOO_DEEP: the input is no signed data, and *place says where, as of der_locate.
+ *  - DER_NO_MEMORY: *place is an offset without use.
+ *  - DER_NO_RANGE: the octets of a part are nowhere in the input. No input is known where it is answered, and that
+ *    there is none isn't proved.
+ * Unless at DER_NORMAL out is as it was and *count is 0; at DER_NORMAL and DER_NO_RANGE *place is 0. Proved is that the
+ * octets in each range are those of the part; that they are the part itself, and no equal octets, is tested. */
+uint32_t der_signer_rows(const uint8_t *input, size_t input_len, size_t first, der_signer_parts *out, size_t out_len,
+                         size_t *count, size_t *place);
+
+/* What a bag holds: up to DER_BAG_SAFE_CONTENTS the last number of its object identifier (RFC 7292, 4.2). */
+typedef enum der_bag_kind {
+  DER_BAG_OTHER = 0,
+  DER_BAG_KEY = 1,
+  DER_BAG_SHROUDED_KEY = 2,
+  DER_BAG_CERTIFICATE = 3,       /* of X.509 */
+  DER_BAG_CRL = 4,               /* of X.509 */
+  DER_BAG_SECRET = 5,
+  DER_BAG_SAFE_CONTENTS = 6,     /* bags, whose rows follow this one, one level down */
+  DER_BAG_UNREAD = 7,            /* no bag, but a whole ContentInfo that isn't data: encrypted bags, say */
+  DER_BAG_OTHER_CERTIFICATE = 8, /* a certificate of another type than X.509, as SDSI */
+  DER_BAG_OTHER_CRL = 9          /* a revocation list of another type than X.509 */
+} der_bag_kind;
+
+/* Where a bag is. A range that isn't there is 0 and 0. */
+typedef struct der_bag_parts {
+  size_t kind;              /* a der_bag_kind */
+  size_t level;             /* in how many bags it is, at most 64 */
+  size_t has_friendly_name; /* 1: it has one */
+  size_t has_local_key_id;  /* 1: it has one */
+  der_range element;        /* the whole bag, or the ContentInfo */
+  der_range value;          /* DER of the X.509 certificate or revocation list; of one of another type its element; of
+                               other kinds the element that the bag holds, without the [0] around it; of what is unread
+                               the ContentInfo */
+  der_range friendly_name;  /* in UTF-16, two octets for each unit, the high one first; it may be empty: see
+                               der_utf16_text */
+  der_range local_key_id;   /* its octets; a key has those of its certificate */
+} der_bag_parts;
+
+/* Where a PKCS #12 file has each bag that isn't encrypted, in one reading: bags in bags after those that hold them, in
+ * at most 64 levels. The MAC isn't looked at, and nothing is decrypted: see der_mac.
+ *  - DER_NORMAL: *count rows are at the front of out, in the order of the file, and the rest of out is as it was.
+ *  - DER_NO_ROOM: there are *count rows, and out_len is less.
+ *  - DER_MALFORMED to DER_TOO_DEEP: the input is no PFX, read as "rawpfx"; or a SafeContents, certificate, revocation
+ *    list or encrypted key doesn't read as its type, or a friendlyName or localKeyId doesn't, or is there twice. *place
+ *    says where: of an attribute, where the first of its type begins.
+ *  - DER_TOO_LONG: no input is known where it is answered.
+ *  - DER_NO_MEMORY: *place is an offset without use.
+ *  - DER_NO_RANGE: the input is a PFX, and a part isn't in it as its value is written: where it is loose, say.
+ * Unless at DER_NORMAL out is as it was, unless at DER_NORMAL and DER_NO_ROOM *count is 0, and but for the refusals and
+ * DER_NO_MEMORY *place is 0. Proved is that each bag has a row, and that the octets in each range are those of the part;
+ * that they are the part itself, and no equal octets, is tested. */
+uint32_t der_bag_rows(const uint8_t *input, size_t input_len, der_bag_parts *out, size_t out_len, size_t *count,
+                      size_t *place);
+
+/* Which octets of a PKCS #12 file a MAC covers: the contents octets of the OCTET STRING that is the content of
+ * authSafe, without its tag and length.
+ *  - DER_NORMAL: they are the *len octets from input + *start on, all of them inside of the input. That doesn't say
+ *    that there is a MAC: a file without macData answers so too, as `openssl pkcs12 -export -nomac` makes it. Nor does
+ *    it say that a MAC is right.
+ *  - DER_NO_RANGE: the file is a PFX, and its authSafe isn't data, but signed, say.
+ *  - DER_MALFORMED to DER_TOO_DEEP: it is no PFX, read as "rawpfx", which asks of what the OCTET STRING holds only that
+ *    it is one element.
+ *  - DER_NO_MEMORY.
+ * Unless at DER_NORMAL both numbers are 0. */
+uint32_t der_mac_range(const uint8_t *input, size_t input_len, size_t *start, size_t *len);
+
+/* What a verifier of a PKCS #12 file's MAC needs beside DER_PART_MAC_DIGEST_ALGORITHM, DER_PART_MAC_DIGEST and
+ * DER_PART_MAC_SALT: the range of der_mac_range, and how often the key derivation hashes, 1 where that is left out.
+ *  - DER_NORMAL: the file has a MAC, which covers the *len octets from input + *start on. Nothing is said of whether it
+ *    is right: the caller makes it and compares.
+ *  - DER_NO_PART: its authSafe is data, and it has no MAC.
+ *  - DER_NO_RANGE, DER_MALFORMED to DER_TOO_DEEP, DER_NO_MEMORY: as of der_mac_range.
+ * Unless at DER_NORMAL the numbers are 0. */
+uint32_t der_mac(const uint8_t *input, size_t input_len, size_t *start, size_t *len, size_t *iterations);
+
+/* Writes the DER (X.690, 10) of an input in BER (X.690, 8) to the front of out, with at most DER_MAX_NESTING levels of
+ * nesting. Lengths become definite, in the fewest octets, and an OCTET STRING in segments becomes one piece of the
+ * same octets: so the octets of content that a digest or a MAC covers stay. All else stays as it is, and DER that is
+ * not refused comes out as it went in.
+ *  - DER_NORMAL: *written bytes were written, and the rest of out is as it was.
+ *  - DER_NO_ROOM: *written bytes are needed, and out_len is less. Where contents are long, that may be some bytes more
+ *    than the input has.
+ *  - DER_MALFORMED to DER_TOO_DEEP: the input has no DER, and *place says where, as an offset from its first byte.
+ *    Refused are also tags of several bytes, lengths of more than eight octets, and other strings in segments than
+ *    OCTET STRINGs.
+ *    - DER_MALFORMED: where an element should begin and none does, or where bytes begin that are left over.
+ *    - DER_MISSING: the end of the contents, or of the input, in which an element or the end of contents is missing.
+ *    - DER_INVALID: where the element begins whose tag is refused.
+ *    - DER_TOO_DEEP: where the element begins that is nested too deep.
+ *  - DER_NO_MEMORY: *place is an offset without use.
+ * DER_TOO_LONG isn't answered, which isn't proved. Unless at DER_NORMAL out is as it was, and unless at DER_NORMAL and
+ * DER_NO_ROOM *written is 0. At these two *place is 0. That it is at most input_len is proved; which place it is, is
+ * tested.
+ *
+ * It looks into each constructed element, and so it may refuse what a kind keeps as it is. One element has two
+ * readings: in a SEQUENCE that begins with an OBJECT IDENTIFIER and a SEQUENCE, a third element [0] of indefinite
+ * length. It is taken as an OCTET STRING under an implicit tag, which it is in EncryptedContentInfo (RFC 5652, 6.1),
+ * though it could be an explicit tag around an OCTET STRING. */
+uint32_t der_from_ber(const uint8_t *input, size_t input_len, uint8_t *out, size_t out_len, size_t *written,
+                      size_t *place);
+
+/* As der_mac, of a PKCS #12 file that der_from_ber wrote: its authSafe may hold BER, which der_from_ber keeps as it is,
+ * since the MAC covers it, and which der_mac and "rawpfx" refuse unless it is one element. Of what the OCTET STRING
+ * holds nothing is asked. The *len octets from input + *start on are in what der_from_ber wrote, and in the same order in
+ * the file that it was given, though there they may be in pieces. The statuses are those of der_mac. */
+uint32_t der_mac_ber(const uint8_t *input, size_t input_len, size_t *start, size_t *len, size_t *iterations);
+
+/* As der_part, of the MAC of such a file. number is DER_PART_MAC_DIGEST_ALGORITHM, DER_PART_MAC_DIGEST or
+ * DER_PART_MAC_SALT; at any other one the status is DER_UNKNOWN_KIND. */
+uint32_t der_mac_part_ber(size_t number, const uint8_t *input, size_t input_len, uint8_t *out, size_t out_len,
+                          size_t *written);
+
+/* Writes the Name (RFC 5280, 4.1.2.4) that the input encodes, as a subject or an issuer, to the front of out, as text
+ * by RFC 4514 in UTF-8 without a zero byte after it: the last RelativeDistinguishedName first, and within one the last
+ * attribute first, as openssl -nameopt RFC2253 orders them. Types have the short names CN, L, ST, O, OU, C, STREET, DC
+ * and UID; another type is dotted, and its value # and hexadecimal. So is the value of one of these where it is no
+ * UTF8String, BMPString, or PrintableString, TeletexString or IA5String in ASCII. A control character, but for NUL, is
+ * written as it is.
+ *  - DER_NORMAL: *written bytes were written, and the rest of out is as it was.
+ *  - DER_NO_ROOM: *written bytes are needed, and out_len is less.
+ *  - DER_MALFORMED to DER_TOO_DEEP: the input is no encoding of a Name, or, at DER_INVALID, a dotted type in it has a
+ *    number that 64 bits don't hold.
+ *  - DER_NO_MEMORY.
+ * Unless at DER_NORMAL out is as it was, and unless at DER_NORMAL and DER_NO_ROOM *written is 0. */
+uint32_t der_name_text(const uint8_t *input, size_t input_len, uint8_t *out, size_t out_len, size_t *written);
+
+/* Writes an object identifier, by its contents octets, as "1.2.840.113549.1.1.11" to the front of out. What it answers
+ * is as of der_name_text: DER_INVALID, and no other refusal, where the octets are no object identifier's, or have a
+ * number that 64 bits don't hold. */
+uint32_t der_oid_text(const uint8_t *octets, size_t octets_len, uint8_t *out, size_t out_len, size_t *written);
+
+/* Writes the name of an object identifier, by its contents octets, as "sha256WithRSAEncryption" to the front of out, in
+ * ASCII without a zero byte after it: the long name that openssl prints, of some 400 that people meet in containers and
+ * certificates. It takes no memory.
+ *  - DER_NORMAL: *written bytes were written, and the rest of out is as it was.
+ *  - DER_NO_ROOM: *written bytes are needed, and out_len is less.
+ *  - DER_NO_PART: the library knows no name for these octets, and *written is 0.
+ * Unless at DER_NORMAL out is as it was. */
+uint32_t der_oid_name(const uint8_t *octets, size_t octets_len, uint8_t *out, size_t out_len, size_t *written);
+
+/* Writes the number that the contents octets of an INTEGER hold (X.690, 8.3), as a serial number, in decimal, after a
+ * minus where it is negative, to the front of out. Octets that DER would leave out are taken too. What it answers is as
+ * of der_name_text: DER_INVALID, and no other refusal, where there are no octets or more than 1,024, since the time
+ * that a text takes grows by the square of their count. */
+uint32_t der_integer_text(const uint8_t *octets, size_t octets_len, uint8_t *out, size_t out_len, size_t *written);
+
+/* Writes UTF-16, two octets for each unit, the high one first, as friendly_name of der_bag_parts has it, as UTF-8 to
+ * the front of out, without a zero byte after it. What it answers is as of der_name_text: DER_INVALID, and no other
+ * refusal, where the octets are no UTF-16: an odd number of them, or a surrogate without its other half. */
+uint32_t der_utf16_text(const uint8_t *octets, size_t octets_len, uint8_t *out, size_t out_len, size_t *written);
+
+/* A limit as the calls take it: one that a byte is too small for counts as DER_MAX_NESTING too. */
+static inline uint8_t der_levels(unsigned limit) {
+  return (uint8_t)(limit < DER_MAX_NESTING ? limit : DER_MAX_NESTING);
+}
+
+/* Checks an input as the kind, the name of a type in lower case, as "pfx", with at most limit levels of nesting. A
+ * limit above DER_MAX_NESTING counts as DER_MAX_NESTING.
+ *  - DER_NORMAL: the whole input is an encoding of the kind, and normal. *normal_len is its length.
+ *  - DER_LOOSE: it is an encoding of the kind, but its normal encoding is another. *normal_len is the length of that
+ *    one.
+ *  - DER_UNKNOWN_KIND.
+ *  - DER_MALFORMED to DER_TOO_DEEP: it is no encoding of the kind, within the limit.
+ *  - DER_TOO_LONG: it is one, but its normal encoding is too long.
+ *  - DER_NO_MEMORY.
+ * Unless at DER_NORMAL and DER_LOOSE *normal_len is 0. */
+static inline der_status der_check_limited(const char *kind, unsigned limit, const uint8_t *input, size_t input_len,
+                                           size_t *normal_len) {
+  size_t place;
+  return (der_status)der_check_word_limited((const uint8_t *)kind, strlen(kind), der_levels(limit), input, input_len,
+                                            normal_len, &place);
+}
+
+/* The same with at most DER_MAX_NESTING levels. */
+static inline der_status der_check(const char *kind, const uint8_t *input, size_t input_len, size_t *normal_len) {
+  return der_check_limited(kind, DER_MAX_NESTING, input, input_len, normal_len);
+}
+
+/* Checks as der_check does, and says where an input is refused, as an offset from its first byte.
+ *  - DER_MALFORMED: *place is where an element should begin and none does, or where bytes begin that are left over.
+ *  - DER_MISSING: the end of the contents in which an element is missing.
+ *  - DER_INVALID: where the element begins whose tag or contents are refused. Of a set of one value that has two, as
+ *    two friendly names of a bag, it is the first of them, which may be right itself.
+ *  - DER_TOO_DEEP: where the element begins that is nested too deep.
+ * At any other status *place is 0. That it is at most input_len is proved; which place it is, is tested. */
+static inline der_status der_locate(const char *kind, const uint8_t *input, size_t input_len, size_t *place) {
+  size_t normal_len;
+  uint32_t status = der_check_word_limited((const uint8_t *)kind, strlen(kind), DER_MAX_NESTING, input, input_len,
+                                           &normal_len, place);
+  if (status < DER_MALFORMED || status > DER_TOO_DEEP) *place = 0;
+  return (der_status)status;
+}
+
+/* Checks as der_check does, and says where an input is loose.
+ *  - DER_LOOSE: from *place on the input is what its normal encoding ends in too, and no longer end is: the last
+ *    difference is right before *place, in the input or in its normal encoding.
+ * At any other status *place is 0. */
+static inline der_status der_loose_end(const char *kind, const uint8_t *input, size_t input_len, size_t *place) {
+  size_t normal_len;
+  uint32_t status = der_check_word_limited((const uint8_t *)kind, strlen(kind), DER_MAX_NESTING, input, input_len,
+                                           &normal_len, place);
+  if (status != DER_LOOSE) *place = 0;
+  return (der_status)status;
+}
+
+/* Writes the normal encoding of an input to the front of out. The limit is as of der_check_limited.
+ *  - DER_NORMAL: *written bytes were written, and the rest of out is as it was.
+ *  - DER_NO_ROOM: *written bytes are needed, and out_len is less.
+ *  - Any other status but DER_LOOSE is as of der_check_limited, and *written is 0.
+ * Unless at DER_NORMAL out is as it was. */
+static inline der_status der_rewrite_limited(const char *kind, unsigned limit, const uint8_t *input, size_t input_len,
+                                             uint8_t *out, size_t out_len, size_t *written) {
+  return (der_status)der_rewrite_word_limited((const uint8_t *)kind, strlen(kind), der_levels(limit), input, input_len,
+                                              out, out_len, written);
+}
+
+/* The same with at most DER_MAX_NESTING levels. */
+static inline der_status der_rewrite(const char *kind, const uint8_t *input, size_t input_len, uint8_t *out,
+                                     size_t out_len, size_t *written) {
+  return der_rewrite_limited(kind, DER_MAX_NESTING, input, input_len, out, out_len, written);
+}
+
+/* Writes a part of a container, with at most DER_MAX_NESTING levels, to the front of out. Parts that a container has
+ * several of, certificates, signers, keys and bags, are counted by the index from 0 on. A signer's issuer, signature
+ * algorithm and signed attributes are written anew, and so normal where the input is loose; all else is octets of the
+ * input.
+ *  - DER_NORMAL: *written bytes were written, and the rest of out is as it was.
+ *  - DER_NO_ROOM: *written bytes are needed, and out_len is less.
+ *  - DER_NO_PART: the container has none of that index; or signed data have no content, since the signature is
+ *    detached; or a signer has no signed attributes, is named by its key and not by its issuer, or the other way round;
+ *    or the file has no MAC.
+ *  - DER_MALFORMED to DER_TOO_DEEP: the input is no encoding of the type that the part is of, or, of a store, as of
+ *    der_bag_rows, whatever the part is. *place says where, as there and as of der_locate.
+ *  - DER_TOO_LONG: the part is too long.
+ *  - DER_NO_RANGE: of a store, as of der_bag_rows.
+ *  - DER_UNKNOWN_KIND: no part has that number.
+ *  - DER_NO_MEMORY: *place is an offset without use.
+ * Unless at DER_NORMAL out is as it was, unless at DER_NORMAL and DER_NO_ROOM *written is 0, and but for the refusals
+ * and DER_NO_MEMORY *place is 0. That *place is at most input_len is proved; which place it is, is tested. Each call
+ * reads the input anew. */
+static inline der_status der_part(der_part_number part, size_t index, const uint8_t *input, size_t input_len,
+                                  uint8_t *out, size_t out_len, size_t *written, size_t *place) {
+  return (der_status)der_part_octets((size_t)part, index, input, input_len, out, out_len, written, place);
+}
+
+/* The same as der_part_ranges. */
+static inline der_status der_ranges(der_part_number part, const uint8_t *input, size_t input_len, der_range *out,
+                                    size_t out_len, size_t *count, size_t *place) {
+  return (der_status)der_part_ranges((size_t)part, input, input_len, out, out_len, count, place);
+}
+
+/* The same as der_attribute_ranges. */
+static inline der_status der_attributes(int is_signed, size_t index, const uint8_t *input, size_t input_len,
+                                        der_range *out, size_t out_len, size_t *count, size_t *place) {
+  return (der_status)der_attribute_ranges(is_signed != 0, index, input, input_len, out, out_len, count, place);
+}
+
+/* The same as der_signer_rows. */
+static inline der_status der_signers(const uint8_t *input, size_t input_len, size_t first, der_signer_parts *out,
+                                     size_t out_len, size_t *count, size_t *place) {
+  return (der_status)der_signer_rows(input, input_len, first, out, out_len, count, place);
+}
+
+/* The same of the signer with that index alone. Its status is answered, and where there are fewer signers DER_NO_PART.
+ * out->status is what is answered, and unless that is DER_NORMAL all else of *out is 0. */
+static inline der_status der_signer(size_t index, const uint8_t *input, size_t input_len, der_signer_parts *out,
+                                    size_t *place) {
+  size_t count;
+  memset(out, 0, sizeof *out);
+  uint32_t status = der_signer_rows(input, input_len, index, out, 1, &count, place);
+  if (status != DER_NORMAL) out->status = status;
+  else if (index >= count) out->status = DER_NO_PART;
+  return (der_status)out->status;
+}
+
+/* The same as der_bag_rows. */
+static inline der_status der_bags(const uint8_t *input, size_t input_len, der_bag_parts *out, size_t out_len,
+                                  size_t *count, size_t *place) {
+  return (der_status)der_bag_rows(input, input_len, out, out_len, count, place);
+}
+
+/* Copies what the signature of a signer covers to out, which has room for covered.len bytes. */
+static inline void der_covered(const der_signer_parts *signer, const uint8_t *input, uint8_t *out) {
+  memcpy(out, input + signer->covered.start, signer->covered.len);
+  if (signer->over_attributes) out[0] = 0x31;
+}
+
+/* Writes the word of the kind with that index, from 0 on, to the front of out.
+ *  - DER_NORMAL: *written bytes were written, without a zero byte after them, and the rest of out is as it was.
+ *  - DER_NO_ROOM: *written bytes are needed, and out_len is less.
+ *  - DER_UNKNOWN_KIND: there are no more kinds, and *written is 0.
+ * Unless at DER_NORMAL out is as it was. It takes no memory. */
+static inline der_status der_kind(size_t index, char *out, size_t out_len, size_t *written) {
+  return (der_status)der_kind_word(index, (uint8_t *)out, out_len, written);
+}
+
+/* A word for each status. */
+static inline const char *der_status_word(der_status status) {
+  static const char *const words[] = {"normal",   "loose",    "unknown kind", "malformed", "missing", "invalid",
+                                      "too deep", "too long", "no memory",    "no room",   "no range", "no part",
+                                      "bad attributes"};
+  return (unsigned)status <= DER_BAD_ATTRIBUTES ? words[status] : "unknown status";
+}
+
+#ifdef __cplusplus
+}
+#endif
+#endif

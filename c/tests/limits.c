@@ -1,0 +1,367 @@
+/* limits KIND < FILE makes each call over a file, with marks around all that the call may write, and says its status and
+ * its numbers. Then it makes the call again, while one request for memory after another is refused: each comes to
+ * DER_NO_MEMORY, or changes nothing. limits KIND LIMIT allows so many levels of nesting. limits alone asks for the words of
+ * all kinds, with room enough and a byte less.
+ * Ends with 4, and says why, where a call writes what der.h doesn't say, or keeps memory.
+ * To be linked with -Wl,--wrap=malloc,--wrap=realloc,--wrap=free. */
+#include "der.h"
+
+#include <stdio.h>
+#include <stdlib.h>
+
+enum { MARK = 0xEE, MARGIN = 64, SPARE = 16, LONGEST = 1 << 20 };
+/* How many octets at the front of an input are taken as those of an INTEGER: each digit of it takes memory. */
+enum { LONGEST_INTEGER = 24 };
+
+/* The calls, by the word that begins their lines. */
+typedef enum {
+  CHECK, LOCATE, LOOSE_END, REWRITE, MAC, MAC_NUMBERS, FROM_BER, MAC_BER, MAC_PART_BER, NAME, OID, OID_NAME, PART, KIND,
+  SIGNERS, SIGNER, RANGES, ATTRIBUTES, BAGS, INTEGER, UTF16
+} call;
+static const char *const calls[] = {
+    "check",     "locate",   "loose_end", "rewrite", "mac",  "mac_numbers", "from_ber", "mac_ber", "mac_part_ber",
+    "name_text", "oid_text", "oid_name",  "part",    "kind", "signers",     "signer",   "ranges",
+    "attributes", "bags", "integer_text", "utf16_text"};
+
+/* What a call is given: the index of a kind or of a signer, or the number of a part, where it takes one, and a limit if
+ * there is one. */
+typedef struct {
+  const char *kind;
+  const uint8_t *input;
+  size_t len, index;
+  int is_limited;
+  unsigned limit;
+} given;
+
+/* What a call answers: its status, and its numbers, 0 where it has but one. */
+typedef struct {
+  der_status status;
+  size_t first, second, third;
+} answer;
+
+/* A number that a call writes, between marks. */
+typedef struct {
+  size_t before, it, behind;
+} number;
+
+static const size_t MARKS = (size_t)-1 / 0xFF * MARK;
+
+/* The number of the request for memory that is refused, 0 for none; the requests so far; the blocks that are held. */
+static size_t refused, requests, held;
+
+void *__real_malloc(size_t size);
+void *__real_realloc(void *old, size_t size);
+void __real_free(void *old);
+
+void *__wrap_malloc(size_t size) {
+  void *made = ++requests == refused ? NULL : __real_malloc(size);
+  held += !!made;
+  return made;
+}
+
+void *__wrap_realloc(void *old, size_t size) {
+  void *made = ++requests == refused ? NULL : __real_realloc(old, size);
+  held += made && !old;
+  return made;
+}
+
+void __wrap_free(void *old) {
+  held -= !!old;
+  __real_free(old);
+}
+
+static void fault(call it, const char *why) {
+  fprintf(stderr, "%s: %s\n", calls[it], why);
+  exit(4);
+}
+
+static int is_marked(const number *it) { return it->before == MARKS && it->behind == MARKS; }
+
+/* How many numbers a call writes. */
+static int numbers_of(call it) {
+  const int lists = it == SIGNERS || it == RANGES || it == ATTRIBUTES || it == BAGS;
+  const int two = it == MAC || it == FROM_BER || it == PART || lists;
+  return it == MAC_NUMBERS || it == MAC_BER ? 3 : two ? 2 : 1;
+}
+
+/* Whether a call writes so many bytes as its first number says. */
+static int says_written(call it) {
+  return it == REWRITE || it == FROM_BER || it == MAC_PART_BER || it == NAME || it == OID || it == OID_NAME ||
+         it == INTEGER || it == UTF16 || it == PART || it == KIND;
+}
+
+/* How many bytes a call writes of signers, of which there are so many from that index on. */
+static size_t bytes_of_signers(size_t count, size_t first, size_t out_len) {
+  size_t room = out_len / sizeof(der_signer_parts), rest = first < count ? count - first : 0;
+  return (rest < room ? rest : room) * sizeof(der_signer_parts);
+}
+
+/* Makes the call for one signer. Unless at DER_NORMAL all that it writes is 0, but for the status, which is what it
+ * answers. */
+static der_status one_signer(const given *its, uint8_t *out, size_t *place) {
+  der_signer_parts *signer = (der_signer_parts *)(void *)out, nothing = {0};
+  der_status status = der_signer(its->index, its->input, its->len, signer, place);
+  nothing.status = status;
+  if (!memcmp(signer, &nothing, sizeof nothing) != (status != DER_NORMAL))
+    fault(SIGNER, "it writes what isn't the signer's, or nothing of it");
+  return status;
+}
+
+/* Makes a call, with so many bytes of out between marks. */
+static answer made(call it, const given *its, uint8_t *room, size_t out_len) {
+  number first = {MARKS, MARKS, MARKS}, second = {MARKS, numbers_of(it) > 1 ? MARKS : 0, MARKS};
+  number third = {MARKS, numbers_of(it) > 2 ? MARKS : 0, MARKS};
+  size_t written = 0, at, before = held;
+  uint8_t *out = room + MARGIN;
+  answer said = {DER_NORMAL, 0, 0, 0};
+  memset(room, MARK, MARGIN + out_len + MARGIN);
+  switch (it) {
+  case CHECK:
+    said.status = its->is_limited ? der_check_limited(its->kind, its->limit, its->input, its->len, &first.it)
+                                  : der_check(its->kind, its->input, its->len, &first.it);
+    break;
+  case LOCATE:
+    said.status = der_locate(its->kind, its->input, its->len, &first.it);
+    break;
+  case LOOSE_END:
+    said.status = der_loose_end(its->kind, its->input, its->len, &first.it);
+    break;
+  case REWRITE:
+    said.status = its->is_limited
+                      ? der_rewrite_limited(its->kind, its->limit, its->input, its->len, out, out_len, &first.it)
+                      : der_rewrite(its->kind, its->input, its->len, out, out_len, &first.it);
+    break;
+  case MAC:
+    said.status = (der_status)der_mac_range(its->input, its->len, &first.it, &second.it);
+    break;
+  case MAC_NUMBERS:
+    said.status = (der_status)der_mac(its->input, its->len, &first.it, &second.it, &third.it);
+    break;
+  case FROM_BER:
+    said.status = (der_status)der_from_ber(its->input, its->len, out, out_len, &first.it, &second.it);
+    break;
+  case MAC_BER:
+    said.status = (der_status)der_mac_ber(its->input, its->len, &first.it, &second.it, &third.it);
+    break;
+  case MAC_PART_BER:
+    said.status = (der_status)der_mac_part_ber(its->index, its->input, its->len, out, out_len, &first.it);
+    break;
+  case NAME:
+    said.status = (der_status)der_name_text(its->input, its->len, out, out_len, &first.it);
+    break;
+  case OID:
+    said.status = (der_status)der_oid_text(its->input, its->len, out, out_len, &first.it);
+    break;
+  case OID_NAME:
+    said.status = (der_status)der_oid_name(its->input, its->len, out, out_len, &first.it);
+    break;
+  case INTEGER:
+    said.status = (der_status)der_integer_text(its->input, its->len, out, out_len, &first.it);
+    break;
+  case UTF16:
+    said.status = (der_status)der_utf16_text(its->input, its->len, out, out_len, &first.it);
+    break;
+  case PART:
+    said.status =
+        der_part((der_part_number)its->index, 0, its->input, its->len, out, out_len, &first.it, &second.it);
+    break;
+  case KIND:
+    said.status = der_kind(its->index, (char *)out, out_len, &first.it);
+    break;
+  case SIGNERS:
+    said.status = der_signers(its->input, its->len, its->index, (der_signer_parts *)(void *)out,
+                              out_len / sizeof(der_signer_parts), &first.it, &second.it);
+    if (said.status == DER_NORMAL)
+      written = bytes_of_signers(first.it, its->index, out_len);
+    break;
+  case SIGNER:
+    said.status = one_signer(its, out, &first.it);
+    written = sizeof(der_signer_parts);
+    break;
+  case RANGES:
+    said.status = der_ranges((der_part_number)its->index, its->input, its->len, (der_range *)(void *)out,
+                             out_len / sizeof(der_range), &first.it, &second.it);
+    if (said.status == DER_NORMAL)
+      written = first.it * sizeof(der_range);
+    break;
+  case ATTRIBUTES:
+    said.status = der_attributes((int)its->index, 0, its->input, its->len, (der_range *)(void *)out,
+                                 out_len / sizeof(der_range), &first.it, &second.it);
+    if (said.status == DER_NORMAL)
+      written = first.it * sizeof(der_range);
+    break;
+  case BAGS:
+    said.status = der_bags(its->input, its->len, (der_bag_parts *)(void *)out, out_len / sizeof(der_bag_parts),
+                           &first.it, &second.it);
+    if (said.status == DER_NORMAL)
+      written = first.it * sizeof(der_bag_parts);
+    break;
+  }
+  said.first = first.it;
+  said.second = second.it;
+  said.third = third.it;
+  if (held != before)
+    fault(it, "memory is kept");
+  if (!is_marked(&first) || !is_marked(&second) || !is_marked(&third))
+    fault(it, "it writes beside a number");
+  if (says_written(it) && said.status == DER_NORMAL && (written = said.first) > out_len)
+    fault(it, "it says that it wrote more than there is room for");
+  for (at = 0; at < MARGIN + out_len + MARGIN; at++)
+    if ((at < MARGIN || at >= MARGIN + written) && room[at] != MARK)
+      fault(it, "it writes beside its encoding");
+  return said;
+}
+
+/* Whether the numbers are 0, but for a place, which has no use where memory is refused. */
+static int is_without_use(call it, const answer *said) {
+  const int lists = it == SIGNERS || it == RANGES || it == ATTRIBUTES || it == BAGS;
+  const int has_place = it == FROM_BER || it == PART || lists;
+  return (!said->first || it == SIGNER) && (!said->second || has_place) && !said->third;
+}
+
+/* Makes a call, says what it answers, and then refuses its requests for memory in turn. */
+static answer tried(call it, const given *its, uint8_t *room, size_t out_len) {
+  answer ample = made(it, its, room, out_len), said;
+  size_t nth, short_of = 0;
+  printf("%s %d %zu %zu %zu\n", calls[it], (int)ample.status, ample.first, ample.second, ample.third);
+  for (nth = 1;; nth++) {
+    requests = 0;
+    refused = nth;
+    said = made(it, its, room, out_len);
+    refused = 0;
+    if (requests < nth)
+      break;
+    if (said.status == DER_NO_MEMORY && is_without_use(it, &said))
+      short_of++;
+    else if (said.status != ample.status || said.first != ample.first || said.second != ample.second ||
+             said.third != ample.third)
+      fault(it, "a refused request for memory changes the answer");
+  }
+  if (short_of)
+    printf("%s %d 0 0 0\n", calls[it], (int)DER_NO_MEMORY);
+  return ample;
+}
+
+static int kinds(void) {
+  static uint8_t room[MARGIN + 64 + MARGIN];
+  given its = {NULL, NULL, 0, 0, 0, 0};
+  answer said;
+  while ((said = tried(KIND, &its, room, 64)).status == DER_NORMAL) {
+    tried(KIND, &its, room, said.first);
+    tried(KIND, &its, room, said.first - 1);
+    its.index++;
+  }
+  its.index = (size_t)-1;
+  tried(KIND, &its, room, 64);
+  return 0;
+}
+
+/* Makes a call for each part, with room enough and a byte less, and for a number that no part has. */
+static void parts(call it, given *its, uint8_t *room) {
+  for (its->index = 0; its->index <= DER_PART_MAC_SALT + 1; its->index++) {
+    answer said = tried(it, its, room, 2 * its->len);
+    if (said.status == DER_NORMAL && said.first)
+      tried(it, its, room, said.first - 1);
+  }
+}
+
+/* Makes a call that writes text, with room enough and a byte less. */
+static void text(call it, const given *its, uint8_t *room) {
+  answer said = tried(it, its, room, 8 * its->len + SPARE);
+  if (said.status == DER_NORMAL && said.first)
+    tried(it, its, room, said.first - 1);
+}
+
+/* Asks for signers: for all, with room for one more, for just them, for one less and for none, for those from the
+ * middle on, and past the last. And for one signer: the first, and one past the last. */
+static void signers(given *its, uint8_t *room) {
+  const size_t one = sizeof(der_signer_parts);
+  answer said;
+  its->index = 0;
+  said = tried(SIGNERS, its, room, one);
+  if (said.status == DER_NORMAL) {
+    const size_t all = said.first, firsts[] = {all / 2, all, all + 1, (size_t)-1};
+    if ((all + 1) * one > 2 * LONGEST)
+      fault(SIGNERS, "there are more than this program has room for");
+    tried(SIGNERS, its, room, (all + 1) * one);
+    tried(SIGNERS, its, room, all * one);
+    tried(SIGNERS, its, room, all ? (all - 1) * one : 0);
+    tried(SIGNERS, its, room, 0);
+    for (size_t nth = 0; nth < sizeof firsts / sizeof *firsts; nth++) {
+      its->index = firsts[nth];
+      tried(SIGNERS, its, room, (all + 1) * one);
+    }
+  }
+  its->index = 0;
+  tried(SIGNER, its, room, one);
+  its->index = said.first;
+  tried(SIGNER, its, room, one);
+}
+
+/* Asks for items with room for one, and where they are listed for one more than all, for just them, and for one less. */
+static void listed(call it, const given *its, uint8_t *room, size_t one) {
+  const answer said = tried(it, its, room, one);
+  if (said.status != DER_NORMAL && said.status != DER_NO_ROOM)
+    return;
+  if ((said.first + 1) * one > 2 * LONGEST)
+    fault(it, "there are more than this program has room for");
+  tried(it, its, room, (said.first + 1) * one);
+  tried(it, its, room, said.first * one);
+  if (said.first)
+    tried(it, its, room, (said.first - 1) * one);
+}
+
+/* Asks for the ranges of each part's items, and of a number that no part has; and for those of the first signer's
+ * unsigned and signed attributes. */
+static void ranges(given *its, uint8_t *room) {
+  for (its->index = 0; its->index <= DER_PART_ENCRYPTED_CONTENT + 1; its->index++)
+    listed(RANGES, its, room, sizeof(der_range));
+  for (its->index = 0; its->index < 2; its->index++)
+    listed(ATTRIBUTES, its, room, sizeof(der_range));
+}
+
+int main(int count, char **words) {
+  static uint8_t input[LONGEST];
+  static _Alignas(der_signer_parts) uint8_t room[MARGIN + 2 * LONGEST + MARGIN];
+  given its = {count > 1 ? words[1] : NULL, input, 0, 0, count == 3, 0};
+  answer said;
+  if (count == 1)
+    return kinds();
+  if (its.is_limited)
+    its.limit = (unsigned)strtoul(words[2], NULL, 10);
+  its.len = fread(input, 1, sizeof input, stdin);
+  if (count > 3 || its.len == sizeof input)
+    return 2;
+  if (!its.is_limited) {
+    tried(LOCATE, &its, room, 0);
+    tried(LOOSE_END, &its, room, 0);
+  }
+  said = tried(CHECK, &its, room, 0);
+  if (said.first > 2 * sizeof input - SPARE)
+    return 2;
+  tried(REWRITE, &its, room, (said.first ? said.first : its.len) + SPARE);
+  if (said.status <= DER_LOOSE)
+    tried(REWRITE, &its, room, said.first - 1);
+  tried(MAC, &its, room, 0);
+  tried(MAC_NUMBERS, &its, room, 0);
+  said = tried(FROM_BER, &its, room, 2 * its.len);
+  if (said.status == DER_NORMAL) {
+    tried(FROM_BER, &its, room, said.first);
+    tried(FROM_BER, &its, room, said.first - 1);
+  }
+  tried(MAC_BER, &its, room, 0);
+  parts(PART, &its, room);
+  parts(MAC_PART_BER, &its, room);
+  if (8 * its.len + SPARE > 2 * sizeof input)
+    return 2;
+  text(NAME, &its, room);
+  text(OID, &its, room);
+  text(OID_NAME, &its, room);
+  text(UTF16, &its, room);
+  signers(&its, room);
+  ranges(&its, room);
+  listed(BAGS, &its, room, sizeof(der_bag_parts));
+  its.len = its.len < LONGEST_INTEGER ? its.len : LONGEST_INTEGER;
+  text(INTEGER, &its, room);
+  return 0;
+}

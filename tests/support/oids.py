@@ -1,0 +1,54 @@
+"""Object identifiers that tests need, by name: as contents octets and as whole elements (X.690, 8.19)."""
+from .elements import element
+
+ARCS = {
+    "data": "1.2.840.113549.1.7.1",
+    "signed data": "1.2.840.113549.1.7.2",
+    "enveloped data": "1.2.840.113549.1.7.3",
+    "TSTInfo": "1.2.840.113549.1.9.16.1.4",
+    "key bag": "1.2.840.113549.1.12.10.1.1",
+    "shrouded key bag": "1.2.840.113549.1.12.10.1.2",
+    "certificate bag": "1.2.840.113549.1.12.10.1.3",
+    "list bag": "1.2.840.113549.1.12.10.1.4",
+    "secret bag": "1.2.840.113549.1.12.10.1.5",
+    "safe contents bag": "1.2.840.113549.1.12.10.1.6",
+    "X.509 certificate": "1.2.840.113549.1.9.22.1",
+    "X.509 list": "1.2.840.113549.1.9.23.1",
+    "friendlyName": "1.2.840.113549.1.9.20",
+    "localKeyId": "1.2.840.113549.1.9.21",
+    "contentType": "1.2.840.113549.1.9.3",
+    "messageDigest": "1.2.840.113549.1.9.4",
+    "signingTime": "1.2.840.113549.1.9.5",
+    "subjectKeyIdentifier": "2.5.29.14",
+    "commonName": "2.5.4.3",
+    "SHA-1": "1.3.14.3.2.26",
+    "SHA-256": "2.16.840.1.101.3.4.2.1",
+    "SHA-512": "2.16.840.1.101.3.4.2.3",
+    "rsaEncryption": "1.2.840.113549.1.1.1",
+    "Ed25519": "1.3.101.112",
+    "pbeWithSHAAnd3-KeyTripleDES-CBC": "1.2.840.113549.1.12.1.3",
+}
+
+
+def base_128(number):
+    """The octets of an arc."""
+    octets = [number % 128]
+    while number := number // 128:
+        octets.insert(0, 128 + number % 128)
+    return bytes(octets)
+
+
+def contents(dotted):
+    """The contents octets of an object identifier in dotted form."""
+    first, second, *rest = map(int, dotted.split("."))
+    return b"".join(map(base_128, [40 * first + second, *rest]))
+
+
+def octets(name):
+    """The contents octets of an object identifier by its name above."""
+    return contents(ARCS[name])
+
+
+def oid(name):
+    """The encoding of an object identifier by its name above, or in dotted form."""
+    return element(0x06, contents(ARCS.get(name, name)))

@@ -1,0 +1,245 @@
+"""c/tests/limits.c makes each call of the library over an input, looks at all that the call writes, between marks, and
+refuses its requests for memory in turn. Its lines are compared with what derbox, dertree and the readers of
+tests/oracle say of the input, and with what Python is told where other tests compare that. Each status is met that a
+call can answer, but 7, which takes an encoding past 64 bits."""
+import functools
+import unittest
+
+from support import built, inputs
+from support.cases import Comparing
+from support.parts import certificate_places, covered, mac_parts, over_any_octets
+from support.statuses import (
+    INVALID, LOOSE, NO_MEMORY, NO_PART, NO_RANGE, NO_ROOM, NORMAL, UNKNOWN_KIND, answered,
+    checked, outcome, place, status_and_length,
+)
+from support.tools import needs
+from oracle import answers
+from vuyhanip import der
+
+LIMITS = built.TOP / "c/tests/limits.c"
+WRAPPED = "-Wl,--wrap=malloc,--wrap=realloc,--wrap=free"
+# How many octets of an input the program takes as those of an INTEGER.
+INTEGER_OCTETS = 24
+# What each call is to be seen to answer.
+WANTED = {
+    "check": {0, 1, 2, 3, 4, 5, 6, 8},
+    "locate": {0, 1, 2, 3, 4, 5, 6, 8},
+    "loose_end": {0, 1, 2, 3, 4, 5, 6, 8},
+    "rewrite": {0, 2, 3, 4, 5, 6, 8, 9},
+    "mac": {0, 3, 4, 5, 8, 10},
+    "mac_numbers": {0, 3, 4, 5, 8, 10, 11},
+    "from_ber": {0, 3, 4, 5, 6, 8, 9},
+    "name_text": {0, 3, 4, 5, 8, 9},
+    "oid_text": {0, 5, 8, 9},
+    "oid_name": {0, 9, 11},
+    "mac_ber": {0, 3, 4, 5, 8, 10, 11},
+    "mac_part_ber": {0, 2, 3, 4, 5, 8, 9, 11},
+    "part": {0, 2, 3, 4, 5, 6, 8, 9, 11},
+    "utf16_text": {0, 5, 8, 9},
+    "kind": {0, 2, 9},
+    "signers": {0, 3, 4, 5, 8},
+    "signer": {0, 3, 4, 5, 8, 11, 12},
+    "ranges": {0, 2, 3, 4, 5, 8, 9},
+    "attributes": {0, 3, 4, 5, 8, 9, 11},
+    "bags": {0, 3, 4, 5, 6, 8, 9},
+    "integer_text": {0, 5, 8, 9},
+}
+
+
+# The lines that are wanted, where memory suffices: the word of a call, its status, and its numbers, up to the last that
+# isn't 0.
+
+
+def written(call, size):
+    """The lines on octets that a call writes: into ample room, and into an octet less than they need."""
+    return [(call, NORMAL, size)] + [(call, NO_ROOM, size)] * (size > 0)
+
+
+def listed(call, count):
+    """The lines on items that a call lists: with room for one, for one more than all, for just them and for one less."""
+    rooms = (1, count + 1, count, count - 1)[: 3 + (count > 0)]
+    return [(call, NORMAL if room >= count else NO_ROOM, count) for room in rooms]
+
+
+def lines_on_places(kind, status, text):
+    where = place(kind, status, text)
+    return [
+        ("locate", status, where if status > LOOSE else 0),
+        ("loose_end", status, where if status == LOOSE else 0),
+    ]
+
+
+def lines_on_a_kind(status, size):
+    """The lines on a check that answers that status and that length, and on the rewriting."""
+    lines = [("check", status, size), ("rewrite", NORMAL if status <= LOOSE else status, size)]
+    return lines + [("rewrite", NO_ROOM, size)] * (status <= LOOSE)
+
+
+def mac_line(call, status, text):
+    """The line on the numbers of a MAC, where a check answers that status."""
+    if status > LOOSE:
+        return call, status
+    found, rounds = covered(text), mac_parts(text)[1]
+    if found and rounds:
+        return call, NORMAL, found[0], found[1] - found[0], rounds
+    return call, NO_PART if found else NO_RANGE
+
+
+def lines_on_the_mac(text):
+    """The line on the range that a MAC covers, and that on its numbers."""
+    numbers = mac_line("mac_numbers", checked("rawpfx", text)[0], text)
+    found = covered(text) if numbers[1] in (NORMAL, NO_PART) else None
+    return [("mac", NORMAL, found[0], found[1] - found[0]) if found else ("mac", *numbers[1:]), numbers]
+
+
+def lines_on_ber(text):
+    """The lines on conversions from BER, also into just the room that the DER needs."""
+    status, made, where = answers.der_of(text)
+    lines = [("from_ber", status, len(made), where)]
+    return lines + [("from_ber", NORMAL, len(made)), ("from_ber", NO_ROOM, len(made))] * (status == NORMAL)
+
+
+def lines_on_a_mac_over_ber(text):
+    """The line on the numbers of a MAC that may cover BER, and then, after other lines, those on its parts."""
+    status, _ = checked("rawpfx", over_any_octets(text))
+    found, lines = mac_parts(text)[0] if status <= LOOSE else {}, []
+    for number in range(len(der.Part) + 1):
+        part = next((part for part in der.MAC_PARTS if part.value == number), None)
+        if part is None:
+            lines.append(("mac_part_ber", UNKNOWN_KIND))
+        elif status > LOOSE or not found:
+            lines.append(("mac_part_ber", status if status > LOOSE else NO_PART))
+        else:
+            lines += written("mac_part_ber", len(found[part, 0]))
+    return [mac_line("mac_ber", status, text)], lines
+
+
+def lines_on_parts(text):
+    """The lines on parts: what Python is told, which tests/test_parts.py compares."""
+    lines = []
+    for part in der.Part:
+        status, octets, where = answered(built.library().part, part, text)
+        if status != NORMAL:
+            lines.append(("part", status, 0, where))
+        else:
+            lines += [("part", NO_PART)] if octets is None else written("part", len(octets))
+    return [*lines, ("part", UNKNOWN_KIND)]
+
+
+def lines_on_texts(text):
+    """The lines on texts for people: what Python is told, which tests/test_names.py compares."""
+    library = built.library()
+    lines = lines_on_a_text("name_text", library.name_text, text) + lines_on_a_text("oid_text", library.oid_text, text)
+    name = library.oid_name(text)
+    lines += [("oid_name", NO_PART)] if name is None else written("oid_name", len(name))
+    return lines + lines_on_a_text("utf16_text", library.utf16_text, text)
+
+
+def lines_on_a_text(call, read, text):
+    status, made, _ = answered(read, text)
+    return [(call, status)] if status != NORMAL else written(call, len(made.encode()))
+
+
+def lines_on_signers(text):
+    """The lines on signers, of each room for them and index, and on one signer: the first, and one past the last."""
+    status, rows, where = answers.signers(text)
+    if status != NORMAL:
+        return [("signers", status, 0, where), *2 * [("signer", status, where)]]
+    first = rows[0].status if rows else NO_PART
+    return 9 * [("signers", NORMAL, len(rows))] + [("signer", first), ("signer", NO_PART)]
+
+
+def lines_on_ranges(text):
+    """The lines on the ranges of each part's items: those of certificates and of enveloped data are listed. Of the latter
+    they are what Python is told, which tests/test_ranges.py compares."""
+    envelope = {part.value: part for part in der.EnvelopePart}
+    lines = []
+    for number in range(len(der.Part) + len(envelope) + 1):
+        if number in envelope:
+            status, found, where = answered(built.library().ranges, envelope[number], text)
+        elif number == der.Part.CERTIFICATE.value:
+            status, _, where = answers.signers(text)
+            found = certificate_places(text) if status == NORMAL else None
+        else:
+            status, where = UNKNOWN_KIND, 0
+        lines += listed("ranges", len(found)) if status == NORMAL else [("ranges", status, 0, where)]
+    return lines
+
+
+def lines_on_attributes(text):
+    """The lines on the first signer's unsigned and signed attributes: what Python is told, which tests/test_ranges.py
+    compares."""
+    lines = []
+    for is_signed in (False, True):
+        status, found, where = answered(built.library().attributes, text, 0, is_signed)
+        if status != NORMAL:
+            lines.append(("attributes", status, 0, where))
+        else:
+            lines += [("attributes", NO_PART)] if found is None else listed("attributes", len(found))
+    return lines
+
+
+def lines_on_bags(text):
+    """The lines on the bags of a store: what Python is told, which tests/test_bag_rows.py compares."""
+    status, found, where = answered(lambda: list(built.library().bags(text)))
+    return listed("bags", len(found)) if status == NORMAL else [("bags", status, 0, where)]
+
+
+def lines_on_an_integer(text):
+    """The lines on the number that the first octets of an input hold."""
+    contents = text[:INTEGER_OCTETS]
+    if not contents:
+        return [("integer_text", INVALID)]
+    return written("integer_text", len(str(int.from_bytes(contents, "big", signed=True))))
+
+
+@functools.lru_cache(maxsize=None)
+def lines_on(status, size, text):
+    """All lines on an input but those on places, where a check answers that status and that length."""
+    numbers, mac_lines = lines_on_a_mac_over_ber(text)
+    lines = [*lines_on_a_kind(status, size), *lines_on_the_mac(text), *lines_on_ber(text), *numbers]
+    lines += [*lines_on_parts(text), *mac_lines, *lines_on_texts(text), *lines_on_signers(text)]
+    lines += lines_on_ranges(text) + lines_on_attributes(text)
+    return lines + lines_on_bags(text) + lines_on_an_integer(text)
+
+
+class TestLimits(Comparing):
+    """What c/tests/limits.c says of all calls."""
+
+    def setUp(self):
+        super().setUp()
+        self.met = {call: set() for call in WANTED}
+
+    def lines_agree(self, program, words, text, wanted):
+        """Compares the lines of the program, but for want of memory, and keeps all statuses that they say."""
+        status, octets = outcome(program, *words, text=text)
+        lines = [(call, *map(int, numbers)) for call, *numbers in map(str.split, octets.decode().splitlines())]
+        for call, number, *_ in lines:
+            self.met[call].add(number)
+        wanted = [(*line, 0, 0, 0)[:5] for line in wanted]
+        answer = status, [line for line in lines if line[1] != NO_MEMORY]
+        self.same(answer, (0, wanted), program.name, *words, text)
+
+    def program_agrees(self, program):
+        kinds = built.library().kinds()
+        for kind, text in inputs.cases(kinds, answers.is_over_attributes):
+            status, size = checked(kind, text) if kind in kinds else (UNKNOWN_KIND, 0)
+            wanted = lines_on_places(kind, status, text) + lines_on(status, size, text)
+            self.lines_agree(program, [kind], text, wanted)
+        for kind, limit, text, line in inputs.limited(kinds):
+            self.lines_agree(program, [kind, limit], text, lines_on(*status_and_length(line), text))
+        words = [("kind", status, len(kind)) for kind in kinds for status in (NORMAL, NORMAL, NO_ROOM)]
+        self.lines_agree(program, [], b"", [*words, *2 * [("kind", UNKNOWN_KIND)]])
+        for call, wanted in WANTED.items():
+            self.same(self.met[call], wanted, program.name, "statuses of", call)
+
+    def test_calls_write_where_they_may_and_say_so_where_memory_is_refused(self):
+        self.program_agrees(built.in_c(LIMITS, WRAPPED))
+
+    @needs("gcc", "clang")
+    def test_calls_do_so_from_a_caller_that_clang_builds(self):
+        self.program_agrees(built.in_c(LIMITS, WRAPPED, by="clang"))
+
+
+if __name__ == "__main__":
+    unittest.main()

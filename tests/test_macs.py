@@ -1,0 +1,154 @@
+"""What a verification of the MAC of a PKCS #12 store needs, as the calls say it, is what is found element by element: the
+range that the MAC covers, which c/examples/mac.c writes too, its numbers, and its parts, into just the room that they
+need. The MAC of stores in BER is made of what the calls say, and is that of the store, which openssl verifies: of
+stores of openssl, and of NSS's pk12util."""
+import hmac
+import tempfile
+import unittest
+from pathlib import Path
+
+from support import built, foreign, inputs
+from support.cases import Comparing
+from support.containers import in_ber, mac_data, store
+from support.elements import octet_string
+from support.parts import covered, mac_parts, over_any_octets
+from support.rooms import InRooms
+from support.statuses import LOOSE, NORMAL, answered, checked, outcome
+from support.tools import needs, openssl
+from oracle.answers import is_over_attributes
+from vuyhanip import der
+
+MAC_IN_C = built.TOP / "c/examples/mac.c"
+PASSWORD = foreign.PASSWORD
+# How many stores of each form there are at least.
+LEAST = 4
+
+
+def stores():
+    """What is read as a PKCS #12 store, by what tests ask of inputs of all kinds."""
+    for kind, text in inputs.cases(built.library().kinds(), is_over_attributes):
+        if kind == "rawpfx":
+            yield text
+
+
+def accepted(texts):
+    """Those of the inputs that are PKCS #12 stores."""
+    return [text for text in texts if checked("rawpfx", text)[0] <= LOOSE]
+
+
+def long_stores():
+    return accepted(text for kind, text in inputs.long() if kind == "rawpfx")
+
+
+class TestMacs(InRooms):
+    """What is said of MACs, beside what is found element by element."""
+
+    def same_mac(self, text, calls):
+        """Compares what calls in Python say of the MAC of a store, and what is written of its parts."""
+        place, (found, rounds), wanted = covered(text), mac_parts(text), None
+        library = built.library()
+        if place and found:
+            oid, digest, salt = found.values()
+            wanted = range(*place), der.dotted(oid), digest, salt, rounds, text[slice(*place)]
+        for call in calls:
+            status, mac, where = answered(getattr(library, call), text)
+            self.same((status, mac and tuple(mac), where), (NORMAL, wanted, 0), call, text)
+        for part in der.MAC_PARTS:
+            octets = found.get((part, 0))
+            answer = answered(library.mac_part_ber, part, text)
+            self.same(answer, (NORMAL, octets, 0), "mac_part_ber", part.name, text)
+            if octets is not None:
+                given = part.value, text, len(text)
+                self.same_octets("der_mac_part_ber", given, octets, part.name, text)
+
+    def test_numbers_and_parts_of_a_mac_are_those_found(self):
+        texts = accepted(stores())
+        for text in texts:
+            self.same_mac(text, ("mac", "mac_ber"))
+        self.at_least(len(texts), LEAST, "stores")
+
+    def test_a_mac_over_what_is_no_der_is_told_of_converted_files(self):
+        """Such a store is refused, unless it is asked for as one in BER that was converted."""
+        refused = [text for text in stores() if checked("rawpfx", text)[0] > LOOSE]
+        texts = [text for text in refused if checked("rawpfx", over_any_octets(text))[0] <= LOOSE]
+        for text in texts:
+            self.same_mac(text, ["mac_ber"])
+        self.at_least(len(texts), LEAST, "stores")
+
+    def test_numbers_and_parts_of_macs_of_long_stores_are_those_found(self):
+        texts = long_stores()
+        for text in texts:
+            self.same_mac(text, ("mac", "mac_ber"))
+        self.at_least(len(texts), LEAST, "stores")
+
+    def test_the_range_is_that_of_the_octets_that_a_mac_covers(self):
+        for text in [*accepted(stores()), *long_stores()]:
+            place = covered(text)
+            answer = answered(built.library().mac_range, text)
+            self.same(answer, (NORMAL, place and range(*place), 0), text)
+
+    def example_agrees(self, program):
+        """Compares what c/examples/mac.c writes of each store."""
+        for text in stores():
+            place = covered(text) if checked("rawpfx", text)[0] <= LOOSE else None
+            wanted = (0, text[slice(*place)]) if place else (1, b"")
+            self.same(outcome(program, text=text), wanted, program.name, text)
+
+    def test_the_example_in_c_writes_what_a_mac_covers(self):
+        self.example_agrees(built.in_c(MAC_IN_C))
+
+    @needs("gcc", "clang")
+    def test_the_example_that_clang_builds_does_so(self):
+        self.example_agrees(built.in_c(MAC_IN_C, by="clang"))
+
+
+def mac_of(salt, octets):
+    """The MAC data of a store with these octets, and the password (RFC 7292, 4 and B)."""
+    [password] = der.password_octets(PASSWORD)
+    key = der.derived("sha256", password, salt, 2048, der.FOR_MAC, 32)
+    return mac_data(hmac.new(key, octets, "sha256").digest(), salt, 2048)
+
+
+def stores_of_openssl(room):
+    """The name of each store, and its octets: one of openssl with the octets that its MAC covers in segments, and one
+    in which these are BER, so that the MAC is made anew."""
+    key = "req -x509 -newkey rsa:2048 -nodes -keyout k.pem -out c.pem -subj /CN=ber"
+    openssl(*key.split(), cwd=room)
+    export = f"pkcs12 -export -in c.pem -inkey k.pem -passout pass:{PASSWORD} -out store.p12"
+    openssl(*export.split(), cwd=room)
+    made = (room / "store.p12").read_bytes()
+    yield "a store of openssl, in segments", in_ber(made, cuts=True)
+    safe = in_ber(made[slice(*covered(made))])
+    mac = mac_of(bytes(range(8)), safe)
+    yield "a store of openssl, over BER", in_ber(store("data", octet_string(safe), 3, mac), cuts=True)
+
+
+class TestStoresInBer(Comparing):
+    """MACs of stores in BER."""
+
+    def same_macs(self, makes):
+        """Makes the MAC of stores of what the calls say of them, and compares it with that of the store; and one over a
+        changed octet. openssl verifies the same stores."""
+        with tempfile.TemporaryDirectory() as folder:
+            for name, text in makes(Path(folder)):
+                Path(folder, "read").write_bytes(text)
+                openssl("pkcs12", "-legacy", "-passin", f"pass:{PASSWORD}", "-noout", "-in", "read", cwd=folder)
+                made = built.library().from_ber(text)
+                mac = built.library().mac_ber(made)
+                octets = bytearray(mac.octets)
+                self.same(bytes(octets), made[mac.covered.start : mac.covered.stop], name, "the octets of the MAC")
+                self.same(mac.is_right(PASSWORD), True, name, "the MAC")
+                octets[len(octets) // 2] ^= 1
+                changed = mac._replace(octets=memoryview(octets))
+                self.same(changed.is_right(PASSWORD), False, name, "the MAC of other octets")
+
+    def test_macs_of_stores_of_openssl_are_those_of_the_stores(self):
+        self.same_macs(stores_of_openssl)
+
+    @needs("certutil", "pk12util")
+    def test_macs_of_stores_of_nss_are_those_of_the_stores(self):
+        self.same_macs(foreign.stores_of_nss)
+
+
+if __name__ == "__main__":
+    unittest.main()

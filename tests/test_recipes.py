@@ -1,0 +1,322 @@
+"""The verbs of example_containers over files of openssl, beside what openssl writes or says: a key store is openssl's
+octet for octet, and openssl opens it with a MAC that Python's hashlib makes; enveloped data are openssl's octet for
+octet, and openssl decrypts what was encrypted outside; certificates as signed data likewise; and time stamps, digests of
+programs, trust lists and revocation lists beside what openssl and osslsigncode say of them."""
+import functools
+import hmac
+import random
+import re
+import unittest
+from pathlib import Path
+
+from support import built, making, tools
+from support.cases import Comparing
+from support.elements import at, contents, parts
+from support.making import put, run
+from support.tools import needs
+from vuyhanip.der import FOR_MAC, derived
+
+WRAPPING_KEY, KEY_ID = bytes(range(16)), bytes.fromhex("C0FFEE")
+SHA_256 = "2.16.840.1.101.3.4.2.1"
+# The type of an entry's attribute in a trust list, its friendly name.
+FRIENDLY_NAME = "1.3.6.1.4.1.311.10.11.11"
+PASSWORD, ITERATIONS = "test", 2048
+NAMES = "a", "Größe", "x" * 40
+SIZES = 0, 1, 16, 1000, 70000
+MONTHS = "Jan Feb Mar Apr May Jun Jul Aug Sep Oct Nov Dec".split()
+# What a program says of a file that is another than its type asks for.
+ILL = "a file isn't what its type asks for"
+OTHER = "the content has another type"
+
+
+def octets(file):
+    return Path(file).read_bytes()
+
+
+def wrote(*words):
+    """What example_containers writes."""
+    return tools.run(built.program("example_containers"), *words)
+
+
+def listed(word, file):
+    """What example_containers lists of a file, without white space before and after lines."""
+    lines = tools.run(built.program("example_containers"), word, file).decode().splitlines()
+    return [line.strip() for line in lines]
+
+
+def refusal(*words):
+    """Why example_containers refuses the words."""
+    ran = tools.ended(built.program("example_containers"), *words)
+    return ran.stderr.decode().partition(": ")[2].strip() if ran.returncode == 1 else f"status {ran.returncode}"
+
+
+def shown(file, what):
+    """The contents of the elements of one kind of a file, at the places that openssl shows: of a salt whose octets happen
+    to be printable it shows no hex dump, but text."""
+    lines, whole = run(f"openssl asn1parse -inform DER -in {file}").decode().splitlines(), octets(file)
+    return [at(whole, int(line.split(":")[0])).contents(whole) for line in lines if f" prim: {what}" in line]
+
+
+def pem_blocks(text):
+    return re.findall(rb"-----BEGIN.*?-----END [A-Z ]+-----\n", text, re.S)
+
+
+def in_der(name):
+    """Keeps a certificate in DER: NAME of NAME.pem."""
+    run(f"openssl x509 -in {name}.pem -outform DER -out {name}")
+
+
+def fingerprint(file):
+    """The SHA-1 of a file, in hexadecimal."""
+    return run(f"openssl dgst -sha1 -r {file}").decode().split()[0]
+
+
+class Recipe(Comparing):
+    """Tests of a recipe, each in a folder of its own."""
+
+    def setUp(self):
+        super().setUp()
+        folder = making.inside_a_new_folder()
+        folder.__enter__()
+        self.addCleanup(folder.__exit__, None, None, None)
+
+
+def opened(store, password=PASSWORD):
+    """The key and the certificate of a store, which openssl takes out where the MAC is right."""
+    ran = tools.ended("openssl", "pkcs12", "-in", store, "-passin", f"pass:{password}", "-nodes")
+    return pem_blocks(ran.stdout) if ran.returncode == 0 else "refused"
+
+
+def mac_of(covered, salt):
+    """The MAC of RFC 7292, appendix B, by SHA-256."""
+    password = PASSWORD.encode("utf-16-be") + b"\0\0"
+    return hmac.digest(derived("sha256", password, salt, ITERATIONS, FOR_MAC, 32), covered, "sha256")
+
+
+@functools.lru_cache(maxsize=None)
+def keys():
+    """The folder of two keys, of which there are PEM and, as KEY.pkcs8, KEY.der and KEY.id, what a store is made of."""
+    room = built.room() / "recipes"
+    room.mkdir()
+    with making.inside(room):
+        making.certificate("one")
+        making.certificate("two", key="rsa:2048")
+        for key in ("one", "two"):
+            run(f"openssl pkcs8 -topk8 -nocrypt -in {key}.key -outform DER -out {key}.pkcs8")
+            run(f"openssl x509 -in {key}.pem -outform DER -out {key}.der")
+            # the key identifier is the SHA-1 of the certificate
+            put(f"{key}.id", bytes.fromhex(fingerprint(f"{key}.der")))
+    return room
+
+
+class Stores(Recipe):
+    """Stores of a key and its certificate, under a name."""
+
+    def setUp(self):
+        super().setUp()
+        for file in keys().iterdir():
+            put(file.name, file.read_bytes())
+
+    def each(self):
+        """Of each key and name what it is, and the key; the store is in the file `made`, and openssl's in the files `bare`,
+        without a MAC, and `whole`."""
+        for key in ("one", "two"):
+            for name in NAMES:
+                options = f"-keypbe NONE -certpbe NONE -name {name}"
+                making.store("bare", f"{options} -nomac", key)
+                making.store("whole", options, key)
+                put("made", wrote("store", f"{key}.pkcs8", f"{key}.der", f"{key}.id", name))
+                yield f"a store of {key} by the name {name}", key
+        self.at_least(self.compared, 2 * len(NAMES), "stores")
+
+    def test_a_store_is_that_of_openssl(self):
+        for what, _ in self.each():
+            self.same(octets("made"), octets("bare"), what)
+
+    def test_a_mac_covers_what_that_of_openssl_covers(self):
+        for what, _ in self.each():
+            digest, salt = shown("whole", "OCTET STRING")[-2:]
+            self.same(mac_of(wrote("covered", "made"), salt), digest, what)
+
+    def test_a_store_with_the_mac_of_openssl_is_that_of_openssl(self):
+        for what, _ in self.each():
+            digest, salt = shown("whole", "OCTET STRING")[-2:]
+            put("digest", digest)
+            put("salt", salt)
+            self.same(wrote("mac", "made", "digest", "salt"), octets("whole"), what)
+
+    def test_openssl_opens_a_store_by_its_password_alone(self):
+        """With a MAC by hashlib."""
+        for what, key in self.each():
+            salt = random.randbytes(20)
+            put("salt", salt)
+            put("digest", mac_of(wrote("covered", "made"), salt))
+            put("sealed", wrote("mac", "made", "digest", "salt"))
+            held = [run(f"openssl x509 -in {key}.pem"), run(f"openssl pkey -inform DER -in {key}.pkcs8")]
+            self.same(opened("sealed"), held, what)
+            self.same(opened("sealed", "other"), "refused", what, "with another password")
+
+    def test_what_is_no_key_or_no_store_is_refused(self):
+        # one of some 270 made-up key identifiers is an element, and this is none
+        put("none", KEY_ID)
+        self.same(refusal("store", "none", "one.der", "one.id", "a"), ILL, "a key that is no element")
+        self.same(refusal("mac", "one.pkcs8", "one.id", "one.id"), "refused: invalid", "a store that is none")
+
+
+class EnvelopedData(Recipe):
+    """Content that is encrypted outside, by a key that is wrapped by another one."""
+
+    PARTS = "key_id", "wrapped", "vector", "ciphertext"
+    SECRET = f"-secretkey {WRAPPING_KEY.hex()} -secretkeyid {KEY_ID.hex()}"
+
+    def setUp(self):
+        super().setUp()
+        put("key_id", KEY_ID)
+
+    def test_openssl_decrypts_what_openssl_enc_encrypted(self):
+        for size in SIZES:
+            content, key, vector = random.randbytes(size), random.randbytes(32), random.randbytes(16)
+            put("content", content)
+            put("vector", vector)
+            run(f"openssl enc -aes-256-cbc -K {key.hex()} -iv {vector.hex()} -in content -out ciphertext")
+            run(f"openssl enc -id-aes128-wrap -K {WRAPPING_KEY.hex()} -iv {'A6' * 8}", key, "wrapped")
+            put("made", wrote("enveloped", *self.PARTS))
+            decrypted = run(f"openssl cms -decrypt -inform DER -binary {self.SECRET} -in made")
+            self.same(decrypted, content, size, "octets of content")
+
+    def test_the_parts_of_a_file_of_openssl_make_the_same_file(self):
+        for size in SIZES:
+            making.seal("sealed", f"-aes-256-cbc {self.SECRET}", random.randbytes(size))
+            sealed = octets("sealed")
+            _, wrapped, vector = shown("sealed", "OCTET STRING")
+            put("wrapped", wrapped)
+            put("vector", vector)
+            put("ciphertext", contents(parts(making.fields_of(sealed)[-1])[-1]))
+            self.same(wrote("enveloped", *self.PARTS), sealed, size, "octets of content")
+
+
+class Bundles(Recipe):
+    """Certificates as signed data without signers."""
+
+    NAMES = "one", "two", "three"
+
+    def setUp(self):
+        super().setUp()
+        making.certificate("one")
+        making.certificate("two", key="rsa:2048")
+        making.certificate("three", "/C=DE/O=Größe/CN=three")
+        for name in self.NAMES:
+            in_der(name)
+
+    def each(self):
+        """Some of the certificates; the file `made` has them."""
+        for count in (1, 2, 3):
+            put("made", wrote("certificates", *self.NAMES[:count]))
+            yield self.NAMES[:count]
+
+    def test_a_bundle_is_that_of_openssl(self):
+        for names in self.each():
+            files = " ".join(f"-certfile {name}.pem" for name in names)
+            whole = run(f"openssl crl2pkcs7 -nocrl {files} -outform DER")
+            self.same(octets("made"), whole, len(names), "certificates")
+
+    def test_openssl_lists_its_certificates(self):
+        for names in self.each():
+            found = pem_blocks(run("openssl pkcs7 -inform DER -in made -print_certs"))
+            self.same(found, [run(f"openssl x509 -in {name}.pem") for name in names], len(names), "certificates")
+
+    def test_what_is_no_certificate_is_refused(self):
+        put("none", KEY_ID)
+        self.same(refusal("certificates", "none"), ILL, "a certificate that is no element")
+
+
+class Lists(Recipe):
+    def test_digests_and_attributes_of_a_trust_list(self):
+        """By openssl asn1parse -genconf, with the digests of two certificates, and a name of the second."""
+        making.certificate("one")
+        making.certificate("two")
+        in_der("one")
+        in_der("two")
+        prints = [fingerprint("one"), fingerprint("two")]
+        sections = {
+            **making.CATALOG,
+            "entries": ["SEQUENCE:first", "SEQUENCE:second"],
+            "first": [f"FORMAT:HEX,OCT:{prints[0]}", "SET"],
+            "second": [f"FORMAT:HEX,OCT:{prints[1]}", "SET:attributes"],
+            "attributes": ["SEQUENCE:name"],
+            "name": [f"OID:{FRIENDLY_NAME}", "SET:names"],
+            "names": ["FORMAT:HEX,OCT:410000000000"],
+        }
+        making.made_of(sections, "trusted")
+        self.same(listed("trusted", "trusted"), [*prints, FRIENDLY_NAME], "a trust list")
+        self.same(refusal("program", "trusted"), OTHER, "a trust list as a program")
+        making.sign("signed", "-nodetach -md sha256", "one", random.randbytes(5000))
+        self.same(refusal("trusted", "signed"), OTHER, "data as a trust list")
+
+    def test_serial_numbers_days_and_extensions_of_revocation_lists(self):
+        making.authority()
+        making.revoked()
+        for file in ("numbered", "old", "entries"):
+            self.same(listed("revoked", file), list(entries(file)), "the revocation list", file)
+
+
+def entries(file):
+    """What a revocation list has, as openssl lists it: serial numbers, days and types of extensions."""
+    names = {"CRL Reason Code": "2.5.29.21", "Invalidity Date": "2.5.29.24", "Hold Instruction Code": "2.5.29.23"}
+    for line in run(f"openssl crl -inform DER -in {file} -noout -text").decode().splitlines():
+        if found := re.match(r" *Serial Number: (\w+)$", line):
+            # openssl leaves a first octet 00 out, which says that a number isn't negative
+            yield ("00" if int(found[1][0], 16) > 7 else "") + found[1].lower()
+        elif found := re.match(r" *Revocation Date: (\w+) +(\d+) [\d:]+ (\d+)", line):
+            yield f"{found[3]}-{MONTHS.index(found[1]) + 1:02}-{int(found[2]):02}"
+        elif (word := line.strip().removeprefix("X509v3 ").rstrip(":")) in names:
+            yield names[word]
+
+
+@needs("osslsigncode")
+class Programs(Recipe):
+    """Programs that osslsigncode signs, with a time stamp of its own and with one of a server."""
+
+    FILES = "stamped", "stamped_by_server"
+
+    def setUp(self):
+        super().setUp()
+        own = "-certs one.pem -key one.key"
+        making.certificate("one")
+        put("small.exe", making.image())
+        with making.stamps() as address:
+            making.signed_file("small.exe", "stamped", f"{own} -TSA-certs tsa.pem -TSA-key tsa.key")
+            making.signed_file("small.exe", "stamped_by_server", f"{own} -ts {address}/stamp")
+
+    def test_the_digest_of_a_program_is_that_which_osslsigncode_makes_anew(self):
+        for file in self.FILES:
+            # its status says that it doesn't trust the certificate
+            said = tools.ended("osslsigncode", "verify", f"{file}.signed").stdout.decode()
+            made = re.search(r"Calculated message digest *: (\w+)", said)[1].lower()
+            self.same(listed("program", file), [f"{SHA_256} {made}"], file)
+
+    def test_the_time_of_a_stamp_is_that_of_openssl(self):
+        for file in self.FILES:
+            put("token", token_of(file))
+            said = run("openssl ts -reply -token_in -in token -text").decode()
+            month, day, clock, year = re.search(r"Time stamp: (\w+) +(\d+) ([\d:]+)\S* (\d+)", said).groups()
+            wanted = f"{year}{MONTHS.index(month) + 1:02}{int(day):02}{clock.replace(':', '')}Z"
+            self.same(listed("stamps", file)[0], wanted, file)
+
+    def test_openssl_verifies_a_stamp_over_the_digest(self):
+        for file in self.FILES:
+            put("token", token_of(file))
+            time, digest = listed("stamps", file)
+            verified = run(f"openssl ts -verify -digest {digest.split()[1]} -token_in -in token -CAfile tsa.pem")
+            self.same(verified.strip(), b"Verification: OK", file, "at", time)
+
+
+def token_of(file):
+    """The signer's only time stamp, which is the only signed data below the whole."""
+    lines, whole = run(f"openssl asn1parse -inform DER -in {file}").decode().splitlines(), octets(file)
+    inner = [number for number, line in enumerate(lines) if ":pkcs7-signedData" in line][1]
+    return at(whole, int(lines[inner - 1].split(":")[0])).of(whole)
+
+
+if __name__ == "__main__":
+    unittest.main()
