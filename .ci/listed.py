@@ -12,7 +12,7 @@ import sys
 from pathlib import Path
 
 ROWS = ("example_rows", "module_vectors", "ber_trial")
-PYTHON = ("tests/test_*.py", ".ci/test_*.py", "scripts/command")
+PYTHON = ("tests/test_*.py", ".ci/test_*.py", "tests/test_command.py")
 TEST = re.compile(r"#\[test\]\s*(?:#\[[^\]]*\]\s*)*(?:pub\s+)?fn (\w+)")
 
 

@@ -65,12 +65,10 @@ def unit_of(pid, words):
 
 
 def script_of(words):
-    """The script that a process directly below the gate runs."""
-    for word in words:
-        found = re.search(r"(?:^|/)((?:\.ci|scripts|tests|package|tools)/\w+)$", word)
-        if found:
-            return found[1]
-    return Path(words[0]).name
+    """The script that a process directly below the gate runs: of `.ci/tests.py FILE` that file."""
+    found = [re.search(r"(?:^|/)((?:\.ci|bench|package|tests|tools)/[\w.]+)$", word) for word in words]
+    names = [it[1] for it in found if it]
+    return names[-1] if names else Path(words[0]).name
 
 
 class Watch:
@@ -221,6 +219,9 @@ def page_with(table):
 
 
 def page(words):
+    if not GATE.is_file():
+        print("bench/gate.txt is not there yet: no run has written it")
+        return
     made = page_with(GATE.read_text("utf-8"))
     if words != ["--check"]:
         PAGE.write_text(made, "utf-8")

@@ -11,6 +11,7 @@ from pathlib import Path
 sys.path.insert(0, str(Path(__file__).resolve().parent))
 import listed
 import passed
+import tests
 
 TREE = {
     "crates/low/src/lib.rt": "pub fn two() -> u8 {\n    2\n}\n\n#[test]\nfn is_two() {}\n\n#[test]\nfn isnt_three() {}\n",
@@ -108,6 +109,16 @@ class Passed(unittest.TestCase):
     def test_whether_all_was_done_in_this_run(self):
         self.assertTrue(passed.is_whole(RT))
         self.assertFalse(passed.is_whole(RT.replace("every proof and must-fail edit was done in this run", "done in this run: 1")))
+
+
+class Tests(unittest.TestCase):
+    def test_what_may_be_left_out_is_listed(self):
+        skipped = [("one", "not there: keytool"), ("two", "not there: keytool, java"), ("three", "no time")]
+        self.assertEqual(tests.unlisted(skipped, {"keytool", "java"}), ["three is left out: no time"])
+        self.assertEqual(len(tests.unlisted(skipped, {"keytool"})), 2)
+
+    def test_openssl_and_a_compiler_are_never_left_out(self):
+        self.assertFalse(tests.allowed() & {"openssl", "cc", "gcc"})
 
 
 class Minutes(unittest.TestCase):
