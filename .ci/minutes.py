@@ -75,12 +75,15 @@ class Watch:
     """The processes below the gate, and what each unit of work took: a phase with a crate or a script."""
 
     def __init__(self, top):
-        self.top, self.took, self.memory = top, {}, defaultdict(int)
+        self.top, self.took, self.memory, self.last = top, {}, defaultdict(int), {}
 
     def unit(self, pid, process, above):
-        """The unit that a process belongs to, where its parent belongs to the unit `above`."""
+        """The unit that a process belongs to, where its parent belongs to the unit `above`. One that has ended, and that
+        nothing has waited for yet, has no words any more."""
         if process.parent == self.top:
             words = words_of(pid)
+            if words == [""]:
+                return self.last.get(process.key)
             is_rt = "ci" in words and any(Path(word).name == "rt" for word in words)
             return ("rt", "rt ci") if is_rt else ("scripts", script_of(words))
         if above == ("rt", "rt ci"):
@@ -115,7 +118,7 @@ class Watch:
                     continue
         found, now = self.units(seen), defaultdict(int)
         for pid, unit in found.items():
-            first = pid
+            first, self.last[seen[pid].key] = pid, unit
             while found.get(seen[first].parent) == unit:
                 first = seen[first].parent
             process = seen[pid]

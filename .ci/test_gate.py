@@ -122,14 +122,26 @@ class Tests(unittest.TestCase):
 
 
 class Minutes(unittest.TestCase):
+    def left_alone(self, room, minutes):
+        """The units that took half a second where `rt ci` has ended, and nothing waits for it."""
+        gate = f"import subprocess, sys, time, os; it = subprocess.Popen([sys.executable, {str(room / 'rt')!r}, 'ci']); "
+        gate += f"watch = subprocess.Popen([sys.executable, {str(minutes)!r}, 'watch', str(os.getpid()), {str(room / 'alone')!r}]); "
+        gate += "time.sleep(4); watch.terminate(); watch.wait()"
+        subprocess.run([sys.executable, "-c", gate], check=True)
+        result = json.loads((room / "alone").read_text("utf-8"))
+        return {(phase, name) for phase, name, *_ in result["units"]}
+
     def test_what_a_crate_and_a_script_took(self):
         with tempfile.TemporaryDirectory() as folder:
             room = Path(folder)
             (room / "rt").write_text(f"import subprocess, sys\nsubprocess.run([sys.executable, {str(room / 'burn')!r}, '--crate-name', 'low'])\n")
             (room / "burn").write_text(BURN)
             minutes = Path(__file__).resolve().parent / "minutes.py"
-            gate = f"{sys.executable} {minutes} watch $$ {room}/took & {sys.executable} {room}/rt ci; {sys.executable} {room}/burn; kill %1; wait %1"
+            took = f"{sys.executable} {minutes} watch $$ {room}/took"
+            gate = f"{took} & {sys.executable} {room}/rt ci; {sys.executable} {room}/burn; kill %1; wait %1"
             subprocess.run(["bash", "-c", gate], check=True)
+            # a process that has ended stays for a while where its parent waits for nothing
+            self.assertEqual(self.left_alone(room, minutes), {("rt", "rt ci"), ("libraries", "low")})
             result = json.loads((room / "took").read_text("utf-8"))
         took = {(phase, name): seconds for phase, name, seconds, _ in result["units"]}
         self.assertAlmostEqual(took["libraries", "low"], 1.5, delta=0.35)
