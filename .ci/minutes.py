@@ -79,16 +79,16 @@ class Watch:
 
     def unit(self, pid, process, above):
         """The unit that a process belongs to, where its parent belongs to the unit `above`. One that has ended, and that
-        nothing has waited for yet, has no words any more."""
-        if process.parent == self.top:
-            words = words_of(pid)
-            if words == [""]:
-                return self.last.get(process.key)
-            is_rt = "ci" in words and any(Path(word).name == "rt" for word in words)
-            return ("rt", "rt ci") if is_rt else ("scripts", script_of(words))
-        if above == ("rt", "rt ci"):
-            return unit_of(pid, words_of(pid)) or above
-        return above
+        nothing has waited for yet, has no words any more, and stays where it was."""
+        if process.parent != self.top and above != ("rt", "rt ci"):
+            return above
+        words = words_of(pid)
+        if words == [""]:
+            return self.last.get(process.key)
+        if process.parent != self.top:
+            return unit_of(pid, words) or above
+        is_rt = "ci" in words and any(Path(word).name == "rt" for word in words)
+        return ("rt", "rt ci") if is_rt else ("scripts", script_of(words))
 
     def units(self, seen):
         """The unit of each process below the gate, by its number."""
