@@ -195,14 +195,15 @@ def selftest():
 
 
 def keep(result):
-    """Writes the tables, with what tells how fast the machine is, and the page."""
+    """Writes the tables, with what tells how fast the machine is, and the page. Prints what tells that, too."""
     kit = subprocess.run(["rt", "version"], check=True, capture_output=True, text=True).stdout.strip()
-    head = ["A run of .ci/run in which everything was proved and tried, nothing being kept from earlier runs.", "",
-            f"{'kit':32}  {kit}", f"{'processors':32}{os.cpu_count():8}",
-            f"{'processor seconds of rt selftest':32}{selftest():8.1f}", ""]
+    machine = [f"{'kit':32}  {kit}", f"{'processors':32}{os.cpu_count():8}",
+               f"{'processor seconds of rt selftest':32}{selftest():8.1f}", ""]
+    head = ["A run of .ci/run in which everything was proved and tried, nothing being kept from earlier runs.", ""]
     GATE.parent.mkdir(exist_ok=True)
-    GATE.write_text("\n".join(head) + "\n" + text(result), "utf-8")
+    GATE.write_text("\n".join([*head, *machine]) + "\n" + text(result), "utf-8")
     PAGE.write_text(page_with(GATE.read_text("utf-8")), "utf-8")
+    print("\n".join(machine))
 
 
 def page_with(table):
@@ -218,7 +219,8 @@ def page_with(table):
              "|crate|proof|edits|tests|sum|GB|", "|---|---|---|---|---|---|"]
     lines += [f"|`{row[0]}`|{'|'.join(row[1:])}|" for row in by_crate[1:ROWS_IN_PAGE + 1]]
     made = "\n".join(lines)
-    return re.sub(r"(<!-- gate -->\n).*?(\n<!-- end -->)", lambda at: at[1] + made + at[2], PAGE.read_text("utf-8"), flags=re.S)
+    place = re.compile(r"(<!-- gate -->\n).*?(<!-- end -->)", re.S)
+    return place.sub(lambda at: f"{at[1]}{made}\n{at[2]}", PAGE.read_text("utf-8"))
 
 
 def page(words):
