@@ -8,6 +8,7 @@ from support import inputs
 from support.containers import long_signers
 from support.parts import certificate_places
 from support.rooms import SIGNER_ROW, InRooms, in_room, marked, octets_of
+from support.signed_attributes import of_another_content
 from support.statuses import BAD_ATTRIBUTES
 from oracle import answers
 from oracle.signed import NOTHING
@@ -55,6 +56,12 @@ class TestSignerRows(InRooms):
         for text in files:
             self.same(self.same_signers(text)[0].status, BAD_ATTRIBUTES, "bad attributes", text)
         self.at_least(len(files), LEAST, "files with bad attributes")
+
+    def test_no_attributes_over_content_that_is_not_data_are_told(self):
+        files = list(map(of_another_content, filter(answers.is_over_content, inputs.signed_data())))
+        for text in files:
+            self.same(self.same_signers(text)[0].status, BAD_ATTRIBUTES, "no attributes", text)
+        self.at_least(len(files), 5, "files whose content was changed")
 
     def test_rows_of_hundreds_of_signers_are_as_these_were_made(self):
         """It is known which of them have bad attributes, and which certificate each has."""

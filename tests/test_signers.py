@@ -27,7 +27,7 @@ from support.built import TOP, library
 from support.cases import Comparing
 from support.elements import element, set_of, tags_and_contents, within
 from support.oids import oid
-from support.signed_attributes import SIGNER, attributes, of_type, twice, without, wrong_attributes
+from support.signed_attributes import SIGNER, attributes, of_another_content, of_type, twice, without, wrong_attributes
 from support.tools import ended, needs, openssl, run
 from vuyhanip.der import BadAttributes, Part, Refused, Signer
 
@@ -69,7 +69,7 @@ int main(int count, char **words) {
       double start = now();
       int repeats = all < 10 ? 100 : 1;
       for (int nth = 0; nth < repeats; nth++)
-        if (which) der_check("pkcs7certificate", in, len, &found);
+        if (which) place = der_check("pkcs7certificate", in, len, &found);
         else if (der_signers(in, len, 0, signers, all, &found, &place) != DER_NORMAL || found != all) return 1;
       double took = (now() - start) / repeats;
       if (took < shortest[which]) shortest[which] = took;
@@ -135,7 +135,9 @@ def signed_and_changed(key, words, is_detached):
     yield File(f"{name}, another signature", another, ["wrong signature"], content)
     if is_detached:
         yield File(f"{name}, alone", octets, ["no content"])
-    if "-noattr" not in words:
+    if "-noattr" in words:
+        yield File(f"{name}, of another type", of_another_content(octets), ["bad attributes"], content)
+    else:
         for number, file in enumerate(wrong_attributes(octets)):
             yield File(f"{name}, attributes {number}", file, ["bad attributes"], content)
 
@@ -222,7 +224,7 @@ class Files:
             self.compare(file)
 
     def test_what_is_said_of_files_of_openssl(self):
-        self.each(by_openssl(), 154)
+        self.each(by_openssl(), 162)
 
     def test_what_is_said_of_files_of_many_signers(self):
         self.each(by_many(), 8)
@@ -327,7 +329,7 @@ def refusal(call, *given):
 def signing_time(octets):
     """The time of the first signer, as text; None where it isn't one."""
     try:
-        return str(next(library().signed(octets).signer_infos).signing_time)
+        return str(library().signed(octets).signer_infos[0].signing_time)
     except ValueError:
         return None
 
@@ -365,7 +367,7 @@ class Parts(FilesOfTools, Comparing):
     def compare_signed(self, name, octets):
         """Compares Library.signed with the calls for signers, for parts and for attributes."""
         signed = library().signed(octets)
-        signers, infos = list(signed.signers), list(signed.signer_infos)
+        signers, infos = signed.signers, signed.signer_infos
         types = [type(one) for one in library().signers(octets)]
         self.same([type(one) for one in signers], types, name, "types of signers")
         self.same(len(infos), len(signers), name, "signers as they are")

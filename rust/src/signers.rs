@@ -42,8 +42,8 @@ impl<'a> Signer<'a> {
 }
 
 /// A signer whose signed attributes break RFC 5652 (5.3, 11.1, 11.2): they are an empty set, lack messageDigest or
-/// contentType, have one of them several times, with no value or with several, or name another type than the content's.
-/// There is nothing to verify.
+/// contentType, have one of them several times, with no value or with several, or name another type than the content's;
+/// or there are none, and the content's type isn't id-data. There is nothing to verify.
 #[derive(Debug, Clone, Copy, PartialEq, Eq)]
 pub struct BadAttributes;
 

@@ -27,6 +27,11 @@ def is_over_attributes(text):
     return any(row.over_attributes for row in signers(text)[1][:1])
 
 
+def is_over_content(text):
+    """Whether these are signed data, the first of whose signers has no signed attributes."""
+    return any(not row.status and not row.over_attributes for row in signers(text)[1][:1])
+
+
 def bags_of(check, text):
     """The rows of the bags of a store. `check` takes a kind and octets and returns why and where the kind refuses them,
     or None."""

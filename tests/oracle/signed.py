@@ -9,7 +9,7 @@ import contextlib
 import sys
 from typing import NamedTuple
 
-SIGNED_DATA = bytes.fromhex("2A864886F70D010702")
+DATA, SIGNED_DATA = bytes.fromhex("2A864886F70D010701"), bytes.fromhex("2A864886F70D010702")
 CONTENT_TYPE, MESSAGE_DIGEST = bytes.fromhex("2A864886F70D010903"), bytes.fromhex("2A864886F70D010904")
 SUBJECT_KEY_IDENTIFIER = bytes.fromhex("551D0E")
 # The greatest of the versions of signed data and of signers (RFC 5652, 10.2.5).
@@ -22,7 +22,7 @@ class Refused(Exception):
 
 
 class BadAttributes(Exception):
-    """Signed attributes that RFC 5652 forbids (5.3, 11.1, 11.2)."""
+    """Signed attributes that RFC 5652 forbids, or none where it asks for them (5.3, 11.1, 11.2)."""
 
 
 class Element(NamedTuple):
@@ -296,6 +296,8 @@ def row(octets, content_type, content, certificates, parts):
     named, over, attributes, ranges = parts
     if content:
         ranges |= {"has_content": 1, "content": content.contents(), "covered": content.contents()}
+    if not over and content_type != DATA:
+        return Signer()
     if over:
         try:
             digest = digest_of(octets, attributes, content_type)

@@ -5,6 +5,8 @@ from .oids import oid
 CONTENT_TYPE, MESSAGE_DIGEST = oid("contentType"), oid("messageDigest")
 # Where signers, and the first of them, are: the last element of signed data is signerInfos.
 SIGNER = [0, 1, 0, -1, 0]
+# Where the type of the content is.
+TYPE_OF_CONTENT = [0, 1, 0, 0x30, 0]
 # The tag of the signed attributes in a signer.
 ATTRIBUTES = 0xA0
 
@@ -62,3 +64,8 @@ def wrong_attributes(file):
     ways = without, twice, no_value, two_values, other_tag
     changes = [way(oid) for way in ways for oid in (CONTENT_TYPE, MESSAGE_DIGEST)]
     return [attributes(file, change) for change in [*changes, other_type, empty]]
+
+
+def of_another_content(file):
+    """The file with content of the type 1.2.3.4, for which RFC 5652 (5.3) asks for signed attributes."""
+    return within(file, TYPE_OF_CONTENT, lambda _: bytes.fromhex("2A0304"))

@@ -14,7 +14,7 @@ use std::ops::Range;
 #[repr(C)]
 #[derive(Clone, Copy)]
 pub struct Signer {
-    /// `NORMAL`, or `BAD_ATTRIBUTES` where the signed attributes break RFC 5652; then all else is 0.
+    /// `NORMAL`, or `BAD_ATTRIBUTES` where the signed attributes, or their absence, break RFC 5652; then all else is 0.
     status: usize,
     /// 1 where the signature covers signed attributes, otherwise 0.
     over_attributes: usize,

@@ -5,10 +5,10 @@ use Rattle.asn1_core.specs.Der.{Format, object_identifier, lawful_object_identif
 use Rattle.asn1_core_element.specs.declared.error.Error.{Error}
 use Rattle.asn1_core_element.specs.declared.error.Error.TheVariants.{Memory}
 use Rattle.asn1_core_format.specs.Whole.{value_of}
-use Rattle.input_ranges.specs.Ranges.{IsAt}
+use Rattle.asn1_core_oid.specs.Known.{data_oid}
 use Rattle.pkcs7_attributes.specs.NamedAttributes.{content_type_oid, message_digest_oid}
 use Rattle.signer_ranges.specs.Pieces.{IsDigestOrBroken}
-use Rattle.signer_ranges.specs.Signers.{HasEmptySet, OnlyOrNone, SignsOrNone}
+use Rattle.signer_ranges.specs.Signers.{SignerValue, HasEmptySet, OnlyOrNone, signed_of, SignsOrNone}
 use Rattle.x509_base.specs.AttributesByOid.{with_oid, IsOnlyOf, HasNoOnly}
 use Rattle.x509_base.specs.Names.{attribute}
 
@@ -47,19 +47,28 @@ module _ (attrs : List attribute.Value) (type : OidOctets) (b : Bool) (s : IsTru
 pub not_empty : (attrs : List attribute.Value) (empty : Bool) → (IsTrue empty ↔ (attrs ≡ [])) → false ≡ empty → attrs ≢ []
 not_empty attrs empty s e h = true≢false (sym (s.1 h) ∙ sym e)
 
-module _ (attrs : List attribute.Value) (type : OidOctets) {T : Type 0} (f : T → Octets) (d : Option T) (none : d ≡ None) where
-  pub signs_no_digest : OnlyOrNone octet_string (with_oid message_digest_oid attrs) (option_value f d) → SignsOrNone attrs type None
-  signs_no_digest n digest r = subst (λ o. OnlyOrNone octet_string (with_oid message_digest_oid attrs) (option_value f o)) none n digest r.message
+-- where no empty set is looked for
+pub is_elsewhere : (b : List ℕ) (s : SignerValue) → IsTrue false → HasEmptySet b s
+is_elsewhere b s f = absurd (true≢false (sym f))
 
-  pub is_broken : (b : List ℕ) (empty : Bool) → (IsTrue empty ↔ (attrs ≡ [])) → false ≡ empty → SignsOrNone attrs type (option_value f d) → IsDigestOrBroken b attrs type None
-  is_broken b empty s e n = inl (not_empty attrs empty s e, subst (λ o. SignsOrNone attrs type (option_value f o)) none n)
+pub signs_no_digest : (attrs : List attribute.Value) (type : OidOctets) {T : Type 0} (f : T → Octets) (d : Option T) → d ≡ None → OnlyOrNone octet_string (with_oid message_digest_oid attrs) (option_value f d) → SignsOrNone attrs type None
+signs_no_digest attrs type f d none n digest r = subst (λ o. OnlyOrNone octet_string (with_oid message_digest_oid attrs) (option_value f o)) none n digest r.message
 
--- an empty set where it is looked for
-pub is_empty_set : (b : List ℕ) (start end : ℕ) (there : Bool) → (IsTrue there ↔ IsAt b (0xA0 ∷ 0x00 ∷ []) start end) → IsTrue there → HasEmptySet b
-is_empty_set b start end there is t = record { start = start; end = end; is = is.0 t }
+module _ (b : List ℕ) (s : SignerValue) (type : OidOctets) where
+  module _ (empty : Bool) (is : IsTrue empty ↔ (signed_of s ≡ [])) (some : false ≡ empty) where
+    pub is_broken : {T : Type 0} (f : T → Octets) (d : Option T) → d ≡ None → SignsOrNone (signed_of s) type (option_value f d) → IsDigestOrBroken b s type None
+    is_broken f d none n = inl (not_empty (signed_of s) empty is some, subst (λ o. SignsOrNone (signed_of s) type (option_value f o)) none n)
 
-pub is_emptied : (attrs : List attribute.Value) (type : OidOctets) (b : List ℕ) → (IsTrue true ↔ (attrs ≡ [])) → (IsTrue true → HasEmptySet b) → IsDigestOrBroken b attrs type None
-is_emptied attrs type b s h = inr (s.0 refl, h refl)
+    pub is_signed : (digest : Octets) → SignsOrNone (signed_of s) type (Some digest) → IsDigestOrBroken b s type (Some (Some digest))
+    is_signed digest d = (not_empty (signed_of s) empty is some, d)
 
-pub is_signed : (attrs : List attribute.Value) (type : OidOctets) (b : List ℕ) (empty : Bool) (digest : Octets) → (IsTrue empty ↔ (attrs ≡ [])) → false ≡ empty → SignsOrNone attrs type (Some digest) → IsDigestOrBroken b attrs type (Some (Some digest))
-is_signed attrs type b empty digest s e d = (not_empty attrs empty s e, d)
+  module _ (is : IsTrue true ↔ (signed_of s ≡ [])) where
+    -- content of another type needs them
+    pub is_unsigned : (IsTrue false ↔ (type ≡ data_oid)) → IsDigestOrBroken b s type None
+    is_unsigned d = inr (is.0 refl, inr (λ e. true≢false (sym (d.1 e))))
+
+    pub is_emptied : (IsTrue true → HasEmptySet b s) → IsDigestOrBroken b s type None
+    is_emptied h = inr (is.0 refl, inl (h refl))
+
+    pub is_plain : (IsTrue true ↔ (type ≡ data_oid)) → IsDigestOrBroken b s type (Some None)
+    is_plain d = (is.0 refl, d.0 refl)

@@ -62,7 +62,7 @@ module _ (b : List ℕ) (v : FileValue) (s : SignerValue) (algorithm attributes 
   is_signed (Some r) h = h.0
 
   adjacent : (signed : Option SignedRanges) → AreSignedIn b (signed_of s) (content_info_of v).0 attributes signed → AreAdjacent signed algorithm signing
-  adjacent None h = at.after ∙ empty_range b attributes.start attributes.end (subst (λ attrs. IsAt b (attributes_text attrs) attributes.start attributes.end) h at.attributes) ∙ at.before
+  adjacent None h = at.after ∙ empty_range b attributes.start attributes.end (subst (λ attrs. IsAt b (attributes_text attrs) attributes.start attributes.end) h.0 at.attributes) ∙ at.before
   adjacent (Some r) h = (ap (λ (p : Range ℕ). p.start) h.1 ∙ at.before, at.after ∙ sym (ap (λ (p : Range ℕ). p.end) h.1))
 
   pub are_ranges : (signed : Option SignedRanges) (content certificate : Option (Range ℕ)) (signature : Range ℕ) → AreSignedIn b (signed_of s) (content_info_of v).0 attributes signed → IsContentAt b v content → IsAt b (signature_of s) signature.start signature.end → IsCertificateAt b v (sid_of s) certificate → AreRangesOf b v s (record {

@@ -16,7 +16,7 @@ use Rattle.pkcs7_attributes.specs.Attributes.{attributes}
 use Rattle.x509_base.specs.Names.{attribute}
 use Rattle.signer_ranges.proofs.Attributes.{not_empty}
 use Rattle.signer_ranges.specs.Pieces.{AreAlgorithmsAt, AreSignedIn, LacksDigest}
-use Rattle.signer_ranges.specs.Signers.{SignerValue, algorithm_text, algorithms_text, attributes_text, digest_algorithm_of, signature_algorithm_of, signed_of, Signs}
+use Rattle.signer_ranges.specs.Signers.{SignerValue, HasEmptySet, algorithm_text, algorithms_text, attributes_text, digest_algorithm_of, signature_algorithm_of, signed_of, Signs}
 
 text_is : (attrs : List attribute.Value) → attrs ≢ [] → attributes_text attrs ≡ attributes.format.text attrs
 text_is [] h = absurd (h refl)
@@ -88,6 +88,12 @@ module _ (b : List ℕ) (s : SignerValue) (first second third all : List ℕ) (f
         before = refl;
         after = refl;
       }
+
+-- an empty set between the algorithms, where it is looked for
+pub has_empty_set : (b first last all : List ℕ) (s : SignerValue) (start end : ℕ) (found : Bool) → first ≡ algorithm_text (digest_algorithm_of s) → last ≡ algorithm_text (signature_algorithm_of s) → all ≡ first ++ ((0xA0 ∷ 0x00 ∷ []) ++ last) → (IsTrue found ↔ IsAt b all start end) → IsTrue found → HasEmptySet b s
+has_empty_set b first last all s start end found f l a is t =
+    let same : all ≡ algorithm_text (digest_algorithm_of s) ++ ((0xA0 ∷ 0x00 ∷ []) ++ algorithm_text (signature_algorithm_of s)) = a ∙ ap (λ t. t ++ ((0xA0 ∷ 0x00 ∷ []) ++ last)) f ∙ ap (λ t. algorithm_text (digest_algorithm_of s) ++ ((0xA0 ∷ 0x00 ∷ []) ++ t)) l in
+    record { start = start; end = end; is = subst (λ t. IsAt b t start end) same (is.0 t) }
 
 module _ (b : List ℕ) (attrs : List attribute.Value) (type : OidOctets) (digest : Octets) (signs : (attrs ≢ []) × Signs attrs type digest) where
   pub are_signed_in : (place message : Range ℕ) → IsAt b (attributes_text attrs) place.start place.end → IsAt b digest message.start message.end → AreSignedIn b attrs type place (Some (record { attributes = place; message_digest = message }))

@@ -5,6 +5,7 @@ use Rattle.std.specs.declared.ops.Range.{Range}
 use Rattle.asn1_core.specs.Asn1.{SEQUENCE}
 use Rattle.asn1_core.specs.Der.{Format, object_identifier, octet_string, ElementOctets, Octets, OidOctets}
 use Rattle.asn1_core_format.specs.Whole.{IsValueOf}
+use Rattle.asn1_core_oid.specs.Known.{data_oid}
 use Rattle.input_ranges.specs.Failures.{IsRefusalOf}
 use Rattle.input_ranges.specs.Ranges.{IsAt, IsAtOrNone, IsNowhere}
 use Rattle.input_ranges.specs.declared.ranges.Refusal.{Refusal}
@@ -78,21 +79,28 @@ pub record AreSignedAt (b : List ℕ) (attrs : List attribute.Value) (content_ty
   pub signs : Signs attrs content_type digest
   pub message_digest : IsAt b digest r.message_digest.start r.message_digest.end
 
--- none where there are no signed attributes
+-- none where there are no signed attributes, as only content of the type id-data allows (RFC 5652, 5.3)
 abbrev pub AreSignedOrNone : List ℕ → List attribute.Value → OidOctets → Option SignedRanges → Type 0
-AreSignedOrNone b attrs content_type None = attrs ≡ []
+AreSignedOrNone b attrs content_type None = (attrs ≡ []) × (content_type ≡ data_oid)
 AreSignedOrNone b attrs content_type (Some r) = AreSignedAt b attrs content_type r
 
--- signed attributes that are an empty set, under the tag [0], are in the input. RFC 5652 (5.3) asks for one or more
-pub record HasEmptySet (b : List ℕ) : Type 0 where
+abbrev pub algorithm_text : algorithm_identifier.Value → List ℕ
+algorithm_text a = (SEQUENCE algorithm_identifier).format.text a
+
+-- a set [0] of no signed attributes is in the input between the algorithms of a signer. RFC 5652 (5.3) asks for one or more
+pub record HasEmptySet (b : List ℕ) (s : SignerValue) : Type 0 where
   pub start : ℕ
   pub end : ℕ
-  pub is : IsAt b (0xA0 ∷ 0x00 ∷ []) start end
+  pub is : IsAt b (algorithm_text (digest_algorithm_of s) ++ ((0xA0 ∷ 0x00 ∷ []) ++ algorithm_text (signature_algorithm_of s))) start end
 
 -- the signed attributes lack one of the two, have it several times, or with no value or several, or the contentType is
--- another than the content's; or they are an empty set, which has the same value as none
-abbrev pub AreBroken : List ℕ → List attribute.Value → OidOctets → Type 0
-AreBroken b attrs content_type = ((attrs ≢ []) × ((digest : Octets) → Signs attrs content_type digest → ⊥)) ⊎ ((attrs ≡ []) × HasEmptySet b)
+-- another than the content's
+abbrev pub SignWrongly : List attribute.Value → OidOctets → Type 0
+SignWrongly attrs content_type = (attrs ≢ []) × ((digest : Octets) → Signs attrs content_type digest → ⊥)
+
+-- or they are an empty set, which has the same value as none, or none, and the content is of another type than id-data
+abbrev pub AreBroken : List ℕ → SignerValue → OidOctets → Type 0
+AreBroken b s content_type = SignWrongly (signed_of s) content_type ⊎ ((signed_of s ≡ []) × (HasEmptySet b s ⊎ (content_type ≢ data_oid)))
 
 -- the signature's algorithm begins where the digest's ends, or where the signed attributes end, which begin there
 abbrev pub AreAdjacent : Option SignedRanges → Range ℕ → Range ℕ → Type 0
@@ -119,7 +127,7 @@ pub record AreRangesOf (b : List ℕ) (v : FileValue) (s : SignerValue) (r : Sig
 
 -- the signer's signed attributes aren't as they have to be
 abbrev pub BreaksRules : List ℕ → FileValue → SignerValue → Type 0
-BreaksRules b v s = AreBroken b (signed_of s) (content_info_of v).0
+BreaksRules b v s = AreBroken b s (content_info_of v).0
 
 abbrev pub AreRangesOrNone : List ℕ → FileValue → SignerValue → Option SignerRanges → Type 0
 AreRangesOrNone b v s None = BreaksRules b v s
@@ -146,9 +154,6 @@ pub record AreFound (b : List ℕ) (first most count : ℕ) (found : List (Optio
 abbrev pub attributes_text : List attribute.Value → List ℕ
 attributes_text [] = []
 attributes_text (a ∷ attrs) = attributes.format.text (a ∷ attrs)
-
-abbrev pub algorithm_text : algorithm_identifier.Value → List ℕ
-algorithm_text a = (SEQUENCE algorithm_identifier).format.text a
 
 -- the algorithms of a signer, with the signed attributes between them (RFC 5652, 5.3)
 abbrev pub algorithms_text : SignerValue → List ℕ

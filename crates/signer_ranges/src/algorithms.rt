@@ -7,15 +7,18 @@ ghost use Rattle.input_ranges.specs.Failures.{IsFailure};
 ghost use Rattle.input_ranges.specs.Ranges.{IsNowhere};
 ghost use Rattle.pkcs7_attributes.specs.Attributes.{attributes_value};
 ghost use Rattle.signer_ranges.specs.Pieces.{AreAlgorithmsAt};
-ghost use Rattle.signer_ranges.specs.Signers.{algorithms_text, attributes_text};
+ghost use Rattle.signer_ranges.specs.Signers.{algorithms_text, attributes_text, HasEmptySet};
 ghost use Rattle.x509_pkcs7.specs.RawSigners.{raw_signer_info_value};
 
 use crate::ranges::AlgorithmRanges;
 use asn1_core::{Error, to_vec};
-use input_ranges::range_of;
+use input_ranges::{is_there, range_of};
 use pkcs7_attributes::Attributes;
 use std::alloc::Global;
 use x509_pkcs7::RawSignerInfo;
+
+/// Signed attributes that are an empty set. RFC 5652 (5.3) asks for one or more.
+pub(crate) const EMPTY_SET: [u8; 2] = [0xA0, 0x00];
 
 /// Whether there are no attributes.
 pub(crate) fn is_none(attributes: &Attributes) -> bool
@@ -70,4 +73,22 @@ pub(crate) fn algorithm_ranges(
         attributes: attributes..signature,
         signature: signature..range.end,
     })
+}
+
+/// Whether the input has an empty set of signed attributes between the algorithms of a signer, from there on.
+#[tactic(auto, using(crate::proofs::Pieces::lacks_first, crate::proofs::Pieces::lacks_third, input_ranges::specs::Failures::memory_fails, crate::proofs::Pieces::has_empty_set))]
+pub(crate) fn has_empty_set(
+    alloc: Global,
+    input: &[u8],
+    start: usize,
+    signer: &RawSignerInfo,
+) -> Result<bool, Error>
+    ensures { MatchResult result
+        (λ found. IsTrue found → HasEmptySet input.now (raw_signer_info_value signer.now))
+        (λ e. IsFailure (IsNowhere input.now (algorithms_text (raw_signer_info_value signer.now))) e) }
+{
+    let first = to_vec(alloc, &signer.digest_algorithm.0)?;
+    let last = to_vec(alloc, &signer.signature_algorithm.0)?;
+    let all = joined(alloc, &first, &EMPTY_SET, &last)?;
+    Ok(is_there(input, start, &all))
 }

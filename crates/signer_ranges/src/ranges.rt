@@ -15,7 +15,7 @@ pub struct SignedRanges {
 /// What a verification of one signer needs.
 #[derive(Debug, Drop, PartialEq, Eq)]
 pub struct SignerRanges {
-    /// `None` without signed attributes: the signature then covers the octets of the content.
+    /// `None` without signed attributes: the signature then covers the octets of the content, whose type is `id-data`.
     pub signed: Option<SignedRanges>,
     /// The octets of the content that are hashed. `None` where the signature is detached.
     pub content: Option<Range<usize>>,
@@ -35,7 +35,8 @@ pub struct Signers {
     pub count: usize,
     /// Those that were asked for, in their order. `None` where signed attributes are an empty set, lack `messageDigest` or
     /// `contentType`, have one of them several times, with no value or with several, or name another type than the
-    /// content's: RFC 5652 (5.3, 11.1, 11.2) forbids all of that, and no such signature counts.
+    /// content's, or where there are none and the content's type isn't `id-data`: RFC 5652 (5.3, 11.1, 11.2) forbids all
+    /// of that, and no such signature counts.
     pub found: Vec<Option<SignerRanges>>,
 }
 

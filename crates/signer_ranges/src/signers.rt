@@ -5,23 +5,24 @@ ghost use Rattle.std.specs.Prelude.{◌≡◌, ◌≢◌, ◌↔◌, IsTrue, Som
 ghost use Rattle.asn1_core.specs.Der.{object_identifier, octet_string, octets_of, option_value};
 ghost use Rattle.asn1_core_element.specs.declared.error.Error.TheVariants.{Memory};
 ghost use Rattle.input_ranges.specs.Failures.{IsFailure};
-ghost use Rattle.input_ranges.specs.Ranges.{IsAt, IsAtOrNone};
+ghost use Rattle.input_ranges.specs.Ranges.{IsAt, IsAtOrNone, IsNowhere};
 ghost use Rattle.pkcs7_attributes.specs.Attributes.{attributes_value};
 ghost use Rattle.pkcs7_attributes.specs.NamedAttributes.{content_type_oid, message_digest_oid};
 ghost use Rattle.pkcs7_signed_crl.specs.SignerParts.{signer_identifier_value};
 ghost use Rattle.signer_ranges.specs.Files.{file_value};
-ghost use Rattle.signer_ranges.specs.Pieces.{AreSignedIn, IsDigestOrBroken, LacksDigest, LacksOctets};
-ghost use Rattle.signer_ranges.specs.Signers.{AreFound, AreRangesOfAll, AreRangesOrNone, attributes_text, certificates_of, HasEmptySet, HasNoRange, IsContentAt, IsPartOf, IsRefusal, LacksContent, LacksPart, LacksRange, OnlyOrNone, SignsOrNone};
+ghost use Rattle.signer_ranges.specs.Pieces.{AreSignedIn, IsDigest, IsDigestOrBroken, LacksDigest, LacksOctets};
+ghost use Rattle.signer_ranges.specs.Signers.{AreFound, AreRangesOfAll, AreRangesOrNone, algorithms_text, attributes_text, certificates_of, HasEmptySet, HasNoRange, IsContentAt, IsPartOf, IsRefusal, LacksContent, LacksPart, LacksRange, OnlyOrNone, SignsOrNone};
 ghost use Rattle.x509_base.specs.AttributesByOid.{with_oid, IsOnlyOf};
 ghost use Rattle.x509_pkcs7.specs.AllSigners.{AreSigners};
 ghost use Rattle.x509_pkcs7.specs.Matches.{IsFirst, IsSigners};
 ghost use Rattle.x509_pkcs7.specs.RawSigners.{raw_signer_info_value};
 
-use crate::algorithms::{algorithm_ranges, is_none};
+use crate::algorithms::{EMPTY_SET, algorithm_ranges, has_empty_set, is_none};
 use crate::places::{SignerPlaces, attribute_value_at, file_places, places_from, signer_places};
 use crate::ranges::{AlgorithmRanges, SignedRanges, SignerRanges, Signers};
 use asn1_core::{Error, ObjectIdentifierAsn1, OctetStringAsn1, from_bytes_located};
 use asn1_core_oid::is_oid_of;
+use asn1_core_oid::known::DATA;
 use input_ranges::{
     Place, Refusal, contents_of, is_there, nth_from, range_of, refusal_of, start_of,
 };
@@ -34,9 +35,6 @@ use x509_pkcs7::{RawPkcs7Certificate, RawSignerInfo, SignerCertificate, signer_c
 
 /// `id-messageDigest`
 const MESSAGE_DIGEST: [u8; 9] = [0x2A, 0x86, 0x48, 0x86, 0xF7, 0x0D, 0x01, 0x09, 0x04];
-
-/// Signed attributes that are an empty set. RFC 5652 (5.3) asks for one or more.
-const EMPTY_SET: [u8; 2] = [0xA0, 0x00];
 
 /// Whether two object identifiers are equal.
 fn is_same(a: &ObjectIdentifierAsn1, b: &ObjectIdentifierAsn1) -> bool
@@ -144,7 +142,7 @@ fn signed_ranges(
     range: Range<usize>,
     digest: Option<OctetStringAsn1>,
 ) -> Result<Option<SignedRanges>, Error>
-    requires digest { IsDigestOrBroken input.now (attributes_value attributes.now) (octets_of content_type.now.0) (Some (option_value (λ o. o.0.items) digest)) }
+    requires digest { IsDigest (attributes_value attributes.now) (octets_of content_type.now.0) (option_value (λ o. o.0.items) digest) }
     requires range { IsAt input.now (attributes_text (attributes_value attributes.now)) range.start range.end }
     ensures { MatchResult result
         (λ r. AreSignedIn input.now (attributes_value attributes.now) (octets_of content_type.now.0) range r)
@@ -163,34 +161,48 @@ fn signed_ranges(
     }
 }
 
-/// Whether the element is an empty set of signed attributes, which is read as none.
-#[tactic(auto, using(crate::proofs::Attributes::is_empty_set))]
-fn is_empty_set(input: &[u8], place: Option<Place>) -> bool
-    ensures { IsTrue result → HasEmptySet input.now }
+/// Whether an empty set is in the place of a signer's signed attributes, which are read as none.
+#[tactic(auto, using(crate::proofs::Attributes::is_elsewhere))]
+fn is_empty_set(
+    alloc: Global,
+    input: &[u8],
+    places: SignerPlaces,
+    signer: &RawSignerInfo,
+) -> Result<bool, Error>
+    ensures { MatchResult result
+        (λ found. IsTrue found → HasEmptySet input.now (raw_signer_info_value signer.now))
+        (λ e. IsFailure (IsNowhere input.now (algorithms_text (raw_signer_info_value signer.now))) e) }
 {
-    is_there(input, start_of(place), &EMPTY_SET)
+    if !is_there(input, start_of(places.attributes), &EMPTY_SET) {
+        return Ok(false);
+    }
+    has_empty_set(alloc, input, start_of(places.digest_algorithm), signer)
 }
 
-/// The digest in signed attributes, where there are any. The outer `None` is said of those that aren't as they have to be.
-#[tactic(auto, using(crate::proofs::Attributes::is_broken, crate::proofs::Attributes::is_emptied, crate::proofs::Attributes::is_signed))]
+/// The digest in a signer's signed attributes, where there are any. The outer `None` is said of those that aren't as they
+/// have to be, and of none where the content isn't `id-data` (RFC 5652, 5.3).
+#[tactic(auto, using(input_ranges::specs::Failures::memory_fails, crate::proofs::Attributes::is_broken, crate::proofs::Attributes::is_emptied, crate::proofs::Attributes::is_plain, crate::proofs::Attributes::is_signed, crate::proofs::Attributes::is_unsigned))]
 fn digest_or_none(
     alloc: Global,
     input: &[u8],
-    place: Option<Place>,
-    attributes: &Attributes,
+    places: SignerPlaces,
+    signer: &RawSignerInfo,
     content_type: &ObjectIdentifierAsn1,
 ) -> Result<Option<Option<OctetStringAsn1>>, Error>
     ensures { MatchResult result
-        (λ d. IsDigestOrBroken input.now (attributes_value attributes.now) (octets_of content_type.now.0) (option_value (λ o. option_value (λ s. s.0.items) o) d))
-        (λ e. e ≡ Memory) }
+        (λ d. IsDigestOrBroken input.now (raw_signer_info_value signer.now) (octets_of content_type.now.0) (option_value (λ o. option_value (λ s. s.0.items) o) d))
+        (λ e. IsFailure (IsNowhere input.now (algorithms_text (raw_signer_info_value signer.now))) e) }
 {
-    if is_none(attributes) {
-        if is_empty_set(input, place) {
+    if is_none(&signer.signed_attrs.0) {
+        if !is_oid_of(&content_type.0, &DATA) {
+            return Ok(None);
+        }
+        if is_empty_set(alloc, input, places, signer)? {
             return Ok(None);
         }
         return Ok(Some(None));
     }
-    match signed_digest(alloc, attributes, content_type)? {
+    match signed_digest(alloc, &signer.signed_attrs.0, content_type)? {
         Some(digest) => Ok(Some(Some(digest))),
         None => Ok(None),
     }
@@ -278,7 +290,7 @@ fn ranges_of(
     let content_type = &known.file.signed_data.0.content_info.content_type;
     let attributes = &signer.signed_attrs.0;
     let place = places.attributes;
-    let digest = match digest_or_none(alloc, input, place, attributes, content_type)? {
+    let digest = match digest_or_none(alloc, input, places, signer, content_type)? {
         Some(digest) => digest,
         None => return Ok(None),
     };

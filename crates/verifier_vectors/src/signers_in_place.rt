@@ -110,9 +110,14 @@ fn element(alloc: Global, tag: u8, contents: &[&[u8]]) -> Result<Vec<u8>, Error>
     Ok(whole)
 }
 
-/// A detached signature over content of the type 1.2.3.4 without certificates, by a signer with these signed attributes.
-/// Those begin at the place 46.
-fn file_with(alloc: Global, attributes: &[u8]) -> Result<Vec<u8>, Error> {
+/// `id-data`, and a type of one's own.
+const DATA: &[u8] = b"\x06\x09\x2A\x86\x48\x86\xF7\x0D\x01\x07\x01";
+
+const FOREIGN: &[u8] = b"\x06\x03\x2A\x03\x04";
+
+/// A detached signature over content of a type without certificates, by a signer with these signed attributes. Those
+/// begin at the place 46 where the type is of one's own.
+fn file_with(alloc: Global, content_type: &[u8], attributes: &[u8]) -> Result<Vec<u8>, Error> {
     let algorithm: &[u8] = b"\x30\x05\x06\x03\x2A\x03\x04";
     let head: &[u8] = b"\x02\x01\x03\x80\x01\x07";
     let signer = element(
@@ -121,8 +126,9 @@ fn file_with(alloc: Global, attributes: &[u8]) -> Result<Vec<u8>, Error> {
         &[head, algorithm, attributes, algorithm, b"\x04\x01\x09"],
     )?;
     let signers = element(alloc, 0x31, &[signer.as_slice()])?;
-    let head: &[u8] = b"\x02\x01\x01\x31\x00\x30\x05\x06\x03\x2A\x03\x04";
-    let signed = element(alloc, 0x30, &[head, signers.as_slice()])?;
+    let info = element(alloc, 0x30, &[content_type])?;
+    let head: &[u8] = b"\x02\x01\x01\x31\x00";
+    let signed = element(alloc, 0x30, &[head, info.as_slice(), signers.as_slice()])?;
     let content = element(alloc, 0xA0, &[signed.as_slice()])?;
     let oid: &[u8] = b"\x06\x09\x2A\x86\x48\x86\xF7\x0D\x01\x07\x02";
     element(alloc, 0x30, &[oid, content.as_slice()])
@@ -131,14 +137,14 @@ fn file_with(alloc: Global, attributes: &[u8]) -> Result<Vec<u8>, Error> {
 /// Without attributes the signature covers the content, which is elsewhere.
 #[test]
 fn detached(rt: HostRuntime) -> Result<(), Fail> {
-    let file = file_with(rt.alloc(), b"")?;
+    let file = file_with(rt.alloc(), DATA, b"")?;
     let signers = found_in(rt.alloc(), &file, 0, 1)?;
     let wanted = SignerRanges {
         signed: None,
         content: None,
-        digest_algorithm: 39..46,
-        signature_algorithm: 46..53,
-        signature: 55..56,
+        digest_algorithm: 45..52,
+        signature_algorithm: 52..59,
+        signature: 61..62,
         certificate: None,
     };
     match signers.found.as_slice() {
@@ -161,7 +167,7 @@ const OTHER: &[u8] = b"\x30\x0A\x06\x03\x2A\x03\x05\x31\x03\x04\x01\x07";
 #[test]
 fn equal_octets(rt: HostRuntime) -> Result<(), Fail> {
     let attributes = element(rt.alloc(), 0xA0, &[OTHER, TYPE, DIGEST])?;
-    let file = file_with(rt.alloc(), &attributes)?;
+    let file = file_with(rt.alloc(), FOREIGN, &attributes)?;
     let signers = found_in(rt.alloc(), &file, 0, 1)?;
     match signers.found.as_slice() {
         [Some(found)] => {
@@ -175,15 +181,26 @@ fn equal_octets(rt: HostRuntime) -> Result<(), Fail> {
     }
 }
 
-/// Attributes that RFC 5652 forbids.
-fn is_broken(alloc: Global, attributes: &[&[u8]]) -> Result<(), Fail> {
-    let attributes = element(alloc, 0xA0, attributes)?;
-    let file = file_with(alloc, &attributes)?;
+/// Attributes, or their absence, that RFC 5652 forbids over content of a type.
+fn is_broken_over(alloc: Global, content_type: &[u8], attributes: &[u8]) -> Result<(), Fail> {
+    let file = file_with(alloc, content_type, attributes)?;
     let signers = found_in(alloc, &file, 0, 1)?;
     match signers.found.as_slice() {
         [None] => Ok(()),
         _ => Err(Fail::new("not refused")),
     }
+}
+
+fn is_broken(alloc: Global, attributes: &[&[u8]]) -> Result<(), Fail> {
+    let attributes = element(alloc, 0xA0, attributes)?;
+    is_broken_over(alloc, FOREIGN, &attributes)
+}
+
+/// An empty set over data, and none over other content.
+#[test]
+fn absent(rt: HostRuntime) -> Result<(), Fail> {
+    is_broken_over(rt.alloc(), DATA, b"\xA0\x00")?;
+    is_broken_over(rt.alloc(), FOREIGN, b"")
 }
 
 #[test]
