@@ -9,9 +9,9 @@
  *  - A call answers no status but those that are listed at it. What it writes into numbers and into out is as said
  *    below.
  *  - DER_NORMAL, DER_LOOSE, DER_UNKNOWN_KIND, DER_NO_ROOM and DER_NO_PART are true where they are answered, and so are
- *    DER_TOO_LONG and DER_NO_RANGE, but of bags. DER_BAD_ATTRIBUTES is true where a row of der_signer_rows has it, but
- *    that an empty set of signed attributes is that signer's: proved is that the signer's value has none, and that the
- *    input has the octets A0 00.
+ *    DER_TOO_LONG and DER_NO_RANGE, but of bags. DER_BAD_ATTRIBUTES is true where a row of der_signer_rows has it: of an
+ *    empty set of signed attributes it is proved that the signer's value has none, and that the input has the signer's
+ *    algorithms with the octets A0 00 between them.
  *  - At DER_MALFORMED, DER_MISSING, DER_INVALID and DER_TOO_DEEP the input is no encoding of the kind, of der_from_ber
  *    it has no DER, of the calls for parts, signers and ranges it isn't what has the part, and of those that write text
  *    it has none, as said there. Which of the four it is isn't proved: tests tell them apart.
@@ -22,8 +22,9 @@
  *  - The functions in this file, in C, are tested and not proved, nor are der_version and der_processor.
  *
  * What a caller has to keep to:
- *  - word, input, out and the pointers to numbers aren't null, also where a length is 0. word and input point to so
- *    many bytes that can be read, out to so many that can be read and written.
+ *  - word, input, out and the pointers to numbers aren't null, also where a length is 0; but the functions in this file
+ *    take null for an input or out of length 0. word and input point to so many bytes that can be read, out to so many
+ *    that can be read and written.
  *  - A pointer to a number is aligned as a size_t is, and what it points to can be written. out of der_signer_rows,
  *    der_bag_rows and the calls for ranges points to out_len structs and not bytes, and is aligned so too.
  *  - The string kind ends in a zero byte.
@@ -51,9 +52,19 @@
 extern "C" {
 #endif
 
+/* That the status is looked at, and that no pointer is null, where the compiler can say so. */
+#if defined(__GNUC__) || defined(__clang__)
+#define DER_LOOK __attribute__((warn_unused_result))
+#define DER_CALL __attribute__((warn_unused_result, nonnull))
+#else
+#define DER_LOOK
+#define DER_CALL
+#endif
+
 /* The version of an installed library, and the processors that it was built for, as constant strings: "0.2.0", and
  * "x86-64" or "x86-64-v2". A caller compares der_version with DER_VERSION, with which an installed header begins, by
- * strcmp. A library that `rt lib` left has neither call. */
+ * strcmp; DER_VERSION_NUMBER is 10000, 100 and 1 times its three numbers, for #if. A library that `rt lib` left has
+ * neither call. */
 #ifdef DER_VERSION
 const char *der_version(void);
 const char *der_processor(void);
@@ -78,7 +89,7 @@ typedef enum der_status {
   DER_NO_ROOM = 9,      /* out is too short: the number of bytes, or of ranges, that are needed is written */
   DER_NO_RANGE = 10,    /* authSafe isn't data, so no octets are covered by a MAC; of others: a part isn't found */
   DER_NO_PART = 11,     /* the container has no such part, or not so many; the file has no MAC; no name is known */
-  DER_BAD_ATTRIBUTES = 12 /* of a signer: its signed attributes break RFC 5652 */
+  DER_BAD_ATTRIBUTES = 12 /* of a signer: its signed attributes, or their absence, break RFC 5652 */
 } der_status;
 
 /* The parts of containers. Each is of the type that the input is read as, which is said before it. */
@@ -112,11 +123,15 @@ typedef enum der_part_number {
 
 /* The calls themselves, which answer a der_status. The functions that follow them take strings. A limit above 64 counts
  * as 64. */
+DER_CALL
 uint32_t der_check_word_limited(const uint8_t *word, size_t word_len, uint8_t limit, const uint8_t *input,
                                 size_t input_len, size_t *normal_len, size_t *place);
+DER_CALL
 uint32_t der_rewrite_word_limited(const uint8_t *word, size_t word_len, uint8_t limit, const uint8_t *input,
                                   size_t input_len, uint8_t *out, size_t out_len, size_t *written);
+DER_CALL
 uint32_t der_kind_word(size_t index, uint8_t *out, size_t out_len, size_t *written);
+DER_CALL
 uint32_t der_part_octets(size_t number, size_t index, const uint8_t *input, size_t input_len, uint8_t *out,
                          size_t out_len, size_t *written, size_t *place);
 
@@ -139,6 +154,7 @@ typedef struct der_range {
  * Unless at DER_NORMAL out is as it was, unless at DER_NORMAL and DER_NO_ROOM *count is 0, and but for the refusals and
  * DER_NO_MEMORY *place is 0. Proved is that the octets in each range are those of the item, and that each item has one;
  * that they are the item itself, and no equal octets, is tested. */
+DER_CALL
 uint32_t der_part_ranges(size_t number, const uint8_t *input, size_t input_len, der_range *out, size_t out_len,
                          size_t *count, size_t *place);
 
@@ -146,6 +162,7 @@ uint32_t der_part_ranges(size_t number, const uint8_t *input, size_t input_len, 
  * its type and values (RFC 5652, 5.3): each signed one, or, where is_signed is 0, each unsigned one, as a
  * countersignature or a time stamp. At DER_NO_PART there are fewer signers. Any other status is as of der_part_ranges,
  * but never DER_UNKNOWN_KIND. */
+DER_CALL
 uint32_t der_attribute_ranges(size_t is_signed, size_t index, const uint8_t *input, size_t input_len, der_range *out,
                               size_t out_len, size_t *count, size_t *place);
 
@@ -174,14 +191,16 @@ typedef struct der_signer_parts {
  * in one reading. out has room for out_len signers, and takes those with the index first and after.
  *  - DER_NORMAL: *count is how many signers there are in all. Those asked for are at the front of out, at most out_len,
  *    and the rest of out is as it was. The status of each is DER_BAD_ATTRIBUTES where signed attributes are an empty
- *    set, A0 00, lack messageDigest or contentType, have one of them several times, with no value or with several, or
- *    where contentType is another than the content's (RFC 5652, 5.3, 11.1, 11.2).
+ *    set, A0 00, lack messageDigest or contentType, have one of them several times, with no value or with several,
+ *    where contentType is another than the content's, or where there are none and the content's type isn't id-data
+ *    (RFC 5652, 5.3, 11.1, 11.2). A second signingTime isn't looked at.
  *  - DER_MALFORMED to DER_TOO_DEEP: the input is no signed data, and *place says where, as of der_locate.
  *  - DER_NO_MEMORY: *place is an offset without use.
  *  - DER_NO_RANGE: the octets of a part are nowhere in the input. No input is known where it is answered, and that
  *    there is none isn't proved.
  * Unless at DER_NORMAL out is as it was and *count is 0; at DER_NORMAL and DER_NO_RANGE *place is 0. Proved is that the
  * octets in each range are those of the part; that they are the part itself, and no equal octets, is tested. */
+DER_CALL
 uint32_t der_signer_rows(const uint8_t *input, size_t input_len, size_t first, der_signer_parts *out, size_t out_len,
                          size_t *count, size_t *place);
 
@@ -227,6 +246,7 @@ typedef struct der_bag_parts {
  * Unless at DER_NORMAL out is as it was, unless at DER_NORMAL and DER_NO_ROOM *count is 0, and but for the refusals and
  * DER_NO_MEMORY *place is 0. Proved is that each bag has a row, and that the octets in each range are those of the part;
  * that they are the part itself, and no equal octets, is tested. */
+DER_CALL
 uint32_t der_bag_rows(const uint8_t *input, size_t input_len, der_bag_parts *out, size_t out_len, size_t *count,
                       size_t *place);
 
@@ -240,6 +260,7 @@ uint32_t der_bag_rows(const uint8_t *input, size_t input_len, der_bag_parts *out
  *    it is one element.
  *  - DER_NO_MEMORY.
  * Unless at DER_NORMAL both numbers are 0. */
+DER_CALL
 uint32_t der_mac_range(const uint8_t *input, size_t input_len, size_t *start, size_t *len);
 
 /* What a verifier of a PKCS #12 file's MAC needs beside DER_PART_MAC_DIGEST_ALGORITHM, DER_PART_MAC_DIGEST and
@@ -249,6 +270,7 @@ uint32_t der_mac_range(const uint8_t *input, size_t input_len, size_t *start, si
  *  - DER_NO_PART: its authSafe is data, and it has no MAC.
  *  - DER_NO_RANGE, DER_MALFORMED to DER_TOO_DEEP, DER_NO_MEMORY: as of der_mac_range.
  * Unless at DER_NORMAL the numbers are 0. */
+DER_CALL
 uint32_t der_mac(const uint8_t *input, size_t input_len, size_t *start, size_t *len, size_t *iterations);
 
 /* Writes the DER (X.690, 10) of an input in BER (X.690, 8) to the front of out, with at most DER_MAX_NESTING levels of
@@ -274,6 +296,7 @@ uint32_t der_mac(const uint8_t *input, size_t input_len, size_t *start, size_t *
  * readings: in a SEQUENCE that begins with an OBJECT IDENTIFIER and a SEQUENCE, a third element [0] of indefinite
  * length. It is taken as an OCTET STRING under an implicit tag, which it is in EncryptedContentInfo (RFC 5652, 6.1),
  * though it could be an explicit tag around an OCTET STRING. */
+DER_CALL
 uint32_t der_from_ber(const uint8_t *input, size_t input_len, uint8_t *out, size_t out_len, size_t *written,
                       size_t *place);
 
@@ -281,10 +304,12 @@ uint32_t der_from_ber(const uint8_t *input, size_t input_len, uint8_t *out, size
  * since the MAC covers it, and which der_mac and "rawpfx" refuse unless it is one element. Of what the OCTET STRING
  * holds nothing is asked. The *len octets from input + *start on are in what der_from_ber wrote, and in the same order in
  * the file that it was given, though there they may be in pieces. The statuses are those of der_mac. */
+DER_CALL
 uint32_t der_mac_ber(const uint8_t *input, size_t input_len, size_t *start, size_t *len, size_t *iterations);
 
 /* As der_part, of the MAC of such a file. number is DER_PART_MAC_DIGEST_ALGORITHM, DER_PART_MAC_DIGEST or
  * DER_PART_MAC_SALT; at any other one the status is DER_UNKNOWN_KIND. */
+DER_CALL
 uint32_t der_mac_part_ber(size_t number, const uint8_t *input, size_t input_len, uint8_t *out, size_t out_len,
                           size_t *written);
 
@@ -300,11 +325,13 @@ uint32_t der_mac_part_ber(size_t number, const uint8_t *input, size_t input_len,
  *    number that 64 bits don't hold.
  *  - DER_NO_MEMORY.
  * Unless at DER_NORMAL out is as it was, and unless at DER_NORMAL and DER_NO_ROOM *written is 0. */
+DER_CALL
 uint32_t der_name_text(const uint8_t *input, size_t input_len, uint8_t *out, size_t out_len, size_t *written);
 
 /* Writes an object identifier, by its contents octets, as "1.2.840.113549.1.1.11" to the front of out. What it answers
  * is as of der_name_text: DER_INVALID, and no other refusal, where the octets are no object identifier's, or have a
  * number that 64 bits don't hold. */
+DER_CALL
 uint32_t der_oid_text(const uint8_t *octets, size_t octets_len, uint8_t *out, size_t out_len, size_t *written);
 
 /* Writes the name of an object identifier, by its contents octets, as "sha256WithRSAEncryption" to the front of out, in
@@ -314,22 +341,37 @@ uint32_t der_oid_text(const uint8_t *octets, size_t octets_len, uint8_t *out, si
  *  - DER_NO_ROOM: *written bytes are needed, and out_len is less.
  *  - DER_NO_PART: the library knows no name for these octets, and *written is 0.
  * Unless at DER_NORMAL out is as it was. */
+DER_CALL
 uint32_t der_oid_name(const uint8_t *octets, size_t octets_len, uint8_t *out, size_t out_len, size_t *written);
 
 /* Writes the number that the contents octets of an INTEGER hold (X.690, 8.3), as a serial number, in decimal, after a
  * minus where it is negative, to the front of out. Octets that DER would leave out are taken too. What it answers is as
  * of der_name_text: DER_INVALID, and no other refusal, where there are no octets or more than 1,024, since the time
  * that a text takes grows by the square of their count. */
+DER_CALL
 uint32_t der_integer_text(const uint8_t *octets, size_t octets_len, uint8_t *out, size_t out_len, size_t *written);
 
 /* Writes UTF-16, two octets for each unit, the high one first, as friendly_name of der_bag_parts has it, as UTF-8 to
  * the front of out, without a zero byte after it. What it answers is as of der_name_text: DER_INVALID, and no other
  * refusal, where the octets are no UTF-16: an odd number of them, or a surrogate without its other half. */
+DER_CALL
 uint32_t der_utf16_text(const uint8_t *octets, size_t octets_len, uint8_t *out, size_t out_len, size_t *written);
 
 /* A limit as the calls take it: one that a byte is too small for counts as DER_MAX_NESTING too. */
 static inline uint8_t der_levels(unsigned limit) {
   return (uint8_t)(limit < DER_MAX_NESTING ? limit : DER_MAX_NESTING);
+}
+
+/* The pointers as the calls take them: for null, with the length 0, one that isn't null. Nothing is read or written
+ * there. */
+static inline const uint8_t *der_given(const uint8_t *input, size_t input_len) {
+  static const uint8_t nothing = 0;
+  return input || input_len ? input : &nothing;
+}
+
+static inline void *der_room(void *out, size_t out_len) {
+  static size_t nothing = 0;
+  return out || out_len ? out : &nothing;
 }
 
 /* Checks an input as the kind, the name of a type in lower case, as "pfx", with at most limit levels of nesting. A
@@ -342,14 +384,16 @@ static inline uint8_t der_levels(unsigned limit) {
  *  - DER_TOO_LONG: it is one, but its normal encoding is too long.
  *  - DER_NO_MEMORY.
  * Unless at DER_NORMAL and DER_LOOSE *normal_len is 0. */
+DER_LOOK
 static inline der_status der_check_limited(const char *kind, unsigned limit, const uint8_t *input, size_t input_len,
                                            size_t *normal_len) {
   size_t place;
-  return (der_status)der_check_word_limited((const uint8_t *)kind, strlen(kind), der_levels(limit), input, input_len,
-                                            normal_len, &place);
+  return (der_status)der_check_word_limited((const uint8_t *)kind, strlen(kind), der_levels(limit),
+                                            der_given(input, input_len), input_len, normal_len, &place);
 }
 
 /* The same with at most DER_MAX_NESTING levels. */
+DER_LOOK
 static inline der_status der_check(const char *kind, const uint8_t *input, size_t input_len, size_t *normal_len) {
   return der_check_limited(kind, DER_MAX_NESTING, input, input_len, normal_len);
 }
@@ -361,10 +405,11 @@ static inline der_status der_check(const char *kind, const uint8_t *input, size_
  *    two friendly names of a bag, it is the first of them, which may be right itself.
  *  - DER_TOO_DEEP: where the element begins that is nested too deep.
  * At any other status *place is 0. That it is at most input_len is proved; which place it is, is tested. */
+DER_LOOK
 static inline der_status der_locate(const char *kind, const uint8_t *input, size_t input_len, size_t *place) {
   size_t normal_len;
-  uint32_t status = der_check_word_limited((const uint8_t *)kind, strlen(kind), DER_MAX_NESTING, input, input_len,
-                                           &normal_len, place);
+  uint32_t status = der_check_word_limited((const uint8_t *)kind, strlen(kind), DER_MAX_NESTING,
+                                           der_given(input, input_len), input_len, &normal_len, place);
   if (status < DER_MALFORMED || status > DER_TOO_DEEP) *place = 0;
   return (der_status)status;
 }
@@ -373,10 +418,11 @@ static inline der_status der_locate(const char *kind, const uint8_t *input, size
  *  - DER_LOOSE: from *place on the input is what its normal encoding ends in too, and no longer end is: the last
  *    difference is right before *place, in the input or in its normal encoding.
  * At any other status *place is 0. */
+DER_LOOK
 static inline der_status der_loose_end(const char *kind, const uint8_t *input, size_t input_len, size_t *place) {
   size_t normal_len;
-  uint32_t status = der_check_word_limited((const uint8_t *)kind, strlen(kind), DER_MAX_NESTING, input, input_len,
-                                           &normal_len, place);
+  uint32_t status = der_check_word_limited((const uint8_t *)kind, strlen(kind), DER_MAX_NESTING,
+                                           der_given(input, input_len), input_len, &normal_len, place);
   if (status != DER_LOOSE) *place = 0;
   return (der_status)status;
 }
@@ -386,13 +432,16 @@ static inline der_status der_loose_end(const char *kind, const uint8_t *input, s
  *  - DER_NO_ROOM: *written bytes are needed, and out_len is less.
  *  - Any other status but DER_LOOSE is as of der_check_limited, and *written is 0.
  * Unless at DER_NORMAL out is as it was. */
+DER_LOOK
 static inline der_status der_rewrite_limited(const char *kind, unsigned limit, const uint8_t *input, size_t input_len,
                                              uint8_t *out, size_t out_len, size_t *written) {
-  return (der_status)der_rewrite_word_limited((const uint8_t *)kind, strlen(kind), der_levels(limit), input, input_len,
-                                              out, out_len, written);
+  return (der_status)der_rewrite_word_limited((const uint8_t *)kind, strlen(kind), der_levels(limit),
+                                              der_given(input, input_len), input_len,
+                                              (uint8_t *)der_room(out, out_len), out_len, written);
 }
 
 /* The same with at most DER_MAX_NESTING levels. */
+DER_LOOK
 static inline der_status der_rewrite(const char *kind, const uint8_t *input, size_t input_len, uint8_t *out,
                                      size_t out_len, size_t *written) {
   return der_rewrite_limited(kind, DER_MAX_NESTING, input, input_len, out, out_len, written);
@@ -416,45 +465,56 @@ static inline der_status der_rewrite(const char *kind, const uint8_t *input, siz
  * Unless at DER_NORMAL out is as it was, unless at DER_NORMAL and DER_NO_ROOM *written is 0, and but for the refusals
  * and DER_NO_MEMORY *place is 0. That *place is at most input_len is proved; which place it is, is tested. Each call
  * reads the input anew. */
+DER_LOOK
 static inline der_status der_part(der_part_number part, size_t index, const uint8_t *input, size_t input_len,
                                   uint8_t *out, size_t out_len, size_t *written, size_t *place) {
-  return (der_status)der_part_octets((size_t)part, index, input, input_len, out, out_len, written, place);
+  return (der_status)der_part_octets((size_t)part, index, der_given(input, input_len), input_len,
+                                     (uint8_t *)der_room(out, out_len), out_len, written, place);
 }
 
 /* The same as der_part_ranges. */
+DER_LOOK
 static inline der_status der_ranges(der_part_number part, const uint8_t *input, size_t input_len, der_range *out,
                                     size_t out_len, size_t *count, size_t *place) {
-  return (der_status)der_part_ranges((size_t)part, input, input_len, out, out_len, count, place);
+  return (der_status)der_part_ranges((size_t)part, der_given(input, input_len), input_len,
+                                     (der_range *)der_room(out, out_len), out_len, count, place);
 }
 
 /* The same as der_attribute_ranges. */
+DER_LOOK
 static inline der_status der_attributes(int is_signed, size_t index, const uint8_t *input, size_t input_len,
                                         der_range *out, size_t out_len, size_t *count, size_t *place) {
-  return (der_status)der_attribute_ranges(is_signed != 0, index, input, input_len, out, out_len, count, place);
+  return (der_status)der_attribute_ranges(is_signed != 0, index, der_given(input, input_len), input_len,
+                                          (der_range *)der_room(out, out_len), out_len, count, place);
 }
 
 /* The same as der_signer_rows. */
+DER_LOOK
 static inline der_status der_signers(const uint8_t *input, size_t input_len, size_t first, der_signer_parts *out,
                                      size_t out_len, size_t *count, size_t *place) {
-  return (der_status)der_signer_rows(input, input_len, first, out, out_len, count, place);
+  return (der_status)der_signer_rows(der_given(input, input_len), input_len, first,
+                                     (der_signer_parts *)der_room(out, out_len), out_len, count, place);
 }
 
 /* The same of the signer with that index alone. Its status is answered, and where there are fewer signers DER_NO_PART.
  * out->status is what is answered, and unless that is DER_NORMAL all else of *out is 0. */
+DER_LOOK
 static inline der_status der_signer(size_t index, const uint8_t *input, size_t input_len, der_signer_parts *out,
                                     size_t *place) {
   size_t count;
   memset(out, 0, sizeof *out);
-  uint32_t status = der_signer_rows(input, input_len, index, out, 1, &count, place);
+  uint32_t status = der_signer_rows(der_given(input, input_len), input_len, index, out, 1, &count, place);
   if (status != DER_NORMAL) out->status = status;
   else if (index >= count) out->status = DER_NO_PART;
   return (der_status)out->status;
 }
 
 /* The same as der_bag_rows. */
+DER_LOOK
 static inline der_status der_bags(const uint8_t *input, size_t input_len, der_bag_parts *out, size_t out_len,
                                   size_t *count, size_t *place) {
-  return (der_status)der_bag_rows(input, input_len, out, out_len, count, place);
+  return (der_status)der_bag_rows(der_given(input, input_len), input_len, (der_bag_parts *)der_room(out, out_len),
+                                  out_len, count, place);
 }
 
 /* Copies what the signature of a signer covers to out, which has room for covered.len bytes. */
@@ -468,8 +528,9 @@ static inline void der_covered(const der_signer_parts *signer, const uint8_t *in
  *  - DER_NO_ROOM: *written bytes are needed, and out_len is less.
  *  - DER_UNKNOWN_KIND: there are no more kinds, and *written is 0.
  * Unless at DER_NORMAL out is as it was. It takes no memory. */
+DER_LOOK
 static inline der_status der_kind(size_t index, char *out, size_t out_len, size_t *written) {
-  return (der_status)der_kind_word(index, (uint8_t *)out, out_len, written);
+  return (der_status)der_kind_word(index, (uint8_t *)der_room(out, out_len), out_len, written);
 }
 
 /* A word for each status. */

@@ -24,10 +24,13 @@ names() {
     { cat "$room/made"; printf 'der_processor\nder_version\n'; } | sort
 }
 
-# The header says of which version it is.
+# The header says of which version it is, in words and as a number.
 header() {
+    local first second third
+    IFS=.+- read -r first second third _ <<< "$version"
     mkdir -p "$root/include"
-    sed "s/^#define DER_H\$/&\n\n#define DER_VERSION \"$version\"/" c/der.h > "$root/include/der.h"
+    sed "s/^#define DER_H\$/&\n\n#define DER_VERSION \"$version\"\n#define DER_VERSION_NUMBER \
+$((10000 * first + 100 * second + third))/" c/der.h > "$root/include/der.h"
     grep -qxF "#define DER_VERSION \"$version\"" "$root/include/der.h" || stop "c/der.h defines no DER_H"
 }
 

@@ -7,6 +7,8 @@ import unittest
 
 from support import built, inputs
 from support.cases import Comparing
+from support.containers import bare_bag, store_of
+from support.elements import sequence
 from support.parts import certificate_places, covered, mac_parts, over_any_octets
 from support.statuses import (
     INVALID, LOOSE, NO_MEMORY, NO_PART, NO_RANGE, NO_ROOM, NORMAL, UNKNOWN_KIND, answered,
@@ -239,6 +241,13 @@ class TestLimits(Comparing):
     @needs("gcc", "clang")
     def test_calls_do_so_from_a_caller_that_clang_builds(self):
         self.program_agrees(built.in_c(LIMITS, WRAPPED, by="clang"))
+
+    def test_functions_take_a_null_pointer_for_no_octets(self):
+        """c/tests/nothing.c makes each with one, and ends with 0 where all answer as they do without. What is compiled
+        into it ends it where a null pointer goes on to a call."""
+        words = "-fsanitize=nonnull-attribute", "-fsanitize-undefined-trap-on-error"
+        program = built.in_c(built.TOP / "c/tests/nothing.c", *words)
+        self.same(outcome(program, text=store_of(bare_bag("safe contents bag", sequence()))), (0, b""), "null pointers")
 
 
 if __name__ == "__main__":

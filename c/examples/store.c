@@ -13,7 +13,7 @@ int main(int count, char **words) {
   len = fread(file, 1, sizeof file, stream);
   status = der_check("rawpfx", file, len, &normal_len);
   if (status > DER_LOOSE) {
-    der_locate("rawpfx", file, len, &place);
+    status = der_locate("rawpfx", file, len, &place);
     fprintf(stderr, "refused: %s at %zu\n", der_status_word(status), place);
     return 1;
   }

@@ -1,7 +1,8 @@
 /* verify FILE [CONTENT] verifies each signer of signed data by its certificate in FILE, and says what it is. CONTENT is
- * what a detached signature is of. Both have less than 1 GiB. Whether a certificate is to be trusted isn't looked at,
- * and RSASSA-PSS isn't known. Exits with 0 where there are signers and each is verified, with 2 where a file isn't
- * read, otherwise with 1. Built by cc -Ic c/examples/verify.c libder_c.a liblibc_c.a -lcrypto */
+ * what a detached signature is of; a file that has content has to have the same. Both have less than 1 GiB. Whether a
+ * certificate is to be trusted isn't looked at, and RSASSA-PSS isn't known. Exits with 0 where there are signers and each
+ * is verified, with 2 where a file isn't read, otherwise with 1. Built by
+ * cc -Ic c/examples/verify.c libder_c.a liblibc_c.a -lcrypto */
 #include "der.h"
 #include <openssl/x509.h>
 #include <stdio.h>
@@ -26,8 +27,10 @@ static int algorithm(octets in, der_range range) { /* its number, as openssl cou
 }
 static const char *is_signed(const der_signer_parts *signer, octets in, octets covered, const EVP_MD *digest) {
   int hash = 0, method = algorithm(in, signer->signature_algorithm), type = method;
-  if (OBJ_find_sigid_algs(method, &hash, &type)) digest = hash ? EVP_get_digestbynid(hash) : NULL; /* else a key's */
-  if (method == NID_rsassaPss || (hash && !digest)) return "unknown signature algorithm";
+  int known = OBJ_find_sigid_algs(method, &hash, &type); /* else it is a key's, over the digest of the signer */
+  if (method == NID_rsassaPss) return "unknown signature algorithm";
+  if (known && hash && hash != EVP_MD_type(digest)) return "another digest algorithm";
+  if (known && !hash) digest = NULL;
   const uint8_t *at = in.at + signer->certificate.start, *signature = in.at + signer->signature.start;
   X509 *certificate = d2i_X509(NULL, &at, (long)signer->certificate.len);
   EVP_PKEY *key = certificate ? X509_get0_pubkey(certificate) : NULL;
@@ -40,7 +43,11 @@ static const char *is_signed(const der_signer_parts *signer, octets in, octets c
 static const char *verify(const der_signer_parts *signer, octets in, octets content) {
   if (signer->status != DER_NORMAL) return der_status_word((der_status)signer->status);
   if (!signer->has_certificate) return "no certificate";
-  if (signer->has_content) content = (octets){in.at + signer->content.start, signer->content.len};
+  if (signer->has_content) {
+    octets own = {in.at + signer->content.start, signer->content.len};
+    if (content.at && (content.len != own.len || memcmp(content.at, own.at, own.len))) return "another content";
+    content = own;
+  }
   if (!content.at) return "no content";
   const EVP_MD *digest = EVP_get_digestbynid(algorithm(in, signer->digest_algorithm));
   if (!digest) return "unknown digest";

@@ -23,8 +23,12 @@ static uint8_t *read_all(size_t *len) {
     if (!got)
       return bytes;
     *len += got;
-    if (*len == room)
-      bytes = realloc(bytes, room *= 2);
+    if (*len == room) {
+      uint8_t *longer = realloc(bytes, room *= 2);
+      if (!longer)
+        free(bytes);
+      bytes = longer;
+    }
   }
   return NULL;
 }

@@ -4,6 +4,10 @@
 
 #include <stdio.h>
 
+#if DER_VERSION_NUMBER < 200
+#error "the calls of this header came with 0.2.0"
+#endif
+
 int main(void) {
   printf("%s for %s\n", der_version(), der_processor());
   return strcmp(der_version(), DER_VERSION) != 0;
