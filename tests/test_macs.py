@@ -2,12 +2,11 @@
 range that the MAC covers, which c/examples/mac.c writes too, its numbers, and its parts, into just the room that they
 need. The MAC of stores in BER is made of what the calls say, and is that of the store, which openssl verifies: of
 stores of openssl, and of NSS's pk12util."""
-import hmac
 import tempfile
 import unittest
 from pathlib import Path
 
-from support import built, foreign, inputs
+from support import built, foreign, inputs, macs
 from support.cases import Comparing
 from support.containers import in_ber, mac_data, store
 from support.elements import octet_string
@@ -104,9 +103,7 @@ class TestMacs(InRooms):
 
 def mac_of(salt, octets):
     """The MAC data of a store with these octets, and the password (RFC 7292, 4 and B)."""
-    [password] = der.password_octets(PASSWORD)
-    key = der.derived("sha256", password, salt, 2048, der.FOR_MAC, 32)
-    return mac_data(hmac.new(key, octets, "sha256").digest(), salt, 2048)
+    return mac_data(macs.mac("sha256", PASSWORD, salt, 2048, octets), salt, 2048)
 
 
 def stores_of_openssl(room):
@@ -137,10 +134,10 @@ class TestStoresInBer(Comparing):
                 mac = built.library().mac_ber(made)
                 octets = bytearray(mac.octets)
                 self.same(bytes(octets), made[mac.covered.start : mac.covered.stop], name, "the octets of the MAC")
-                self.same(mac.is_right(PASSWORD), True, name, "the MAC")
+                given = der.digest_name(mac.digest_algorithm), PASSWORD, mac.salt, mac.iterations
+                self.same(macs.mac(*given, octets), mac.digest, name, "the MAC")
                 octets[len(octets) // 2] ^= 1
-                changed = mac._replace(octets=memoryview(octets))
-                self.same(changed.is_right(PASSWORD), False, name, "the MAC of other octets")
+                self.same(macs.mac(*given, octets) == mac.digest, False, name, "the MAC of other octets")
 
     def test_macs_of_stores_of_openssl_are_those_of_the_stores(self):
         self.same_macs(stores_of_openssl)

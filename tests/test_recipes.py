@@ -3,18 +3,16 @@ octet for octet, and openssl opens it with a MAC that Python's hashlib makes; en
 octet, and openssl decrypts what was encrypted outside; certificates as signed data likewise; and time stamps, digests of
 programs, trust lists and revocation lists beside what openssl and osslsigncode say of them."""
 import functools
-import hmac
 import random
 import re
 import unittest
 from pathlib import Path
 
-from support import built, making, tools
+from support import built, macs, making, tools
 from support.cases import Comparing
 from support.elements import at, contents, parts
 from support.making import put, run
 from support.tools import needs
-from vuyhanip.der import FOR_MAC, derived
 
 WRAPPING_KEY, KEY_ID = bytes(range(16)), bytes.fromhex("C0FFEE")
 SHA_256 = "2.16.840.1.101.3.4.2.1"
@@ -89,8 +87,7 @@ def opened(store, password=PASSWORD):
 
 def mac_of(covered, salt):
     """The MAC of RFC 7292, appendix B, by SHA-256."""
-    password = PASSWORD.encode("utf-16-be") + b"\0\0"
-    return hmac.digest(derived("sha256", password, salt, ITERATIONS, FOR_MAC, 32), covered, "sha256")
+    return macs.mac("sha256", PASSWORD, salt, ITERATIONS, covered)
 
 
 @functools.lru_cache(maxsize=None)

@@ -5,8 +5,9 @@ command `vuyhanip` over files, which is `python -m vuyhanip` too.
 
     library = vuyhanip.library()
     library.check("pfx", data)      Verdict(is_normal=True, length=1010, loose_end=None)
-    library.store(data)             a Store: bags, certificates, keys, names, and a check of the MAC
+    library.store(data)             a Store: bags, certificates, keys, names, and what its MAC covers
     library.signed(data)            a SignedData: content, certificates, and signers with their attributes
+    vuyhanip.mac_verdict(data, password).is_right   whether the MAC of a store is right, as the program openssl says
 
 help(vuyhanip.der) says what each call does. An installed package has the library for C in its folder, and its version.
 In a clone the library is that of the environment's VUYHANIP_LIBRARY, or else crates/der_c/out/libder.so.
@@ -15,6 +16,7 @@ import ctypes
 import functools
 import importlib
 import os
+from typing import TYPE_CHECKING
 
 from . import der as der
 from .der import (
@@ -38,9 +40,12 @@ from .der import (
     dotted,
 )
 
+if TYPE_CHECKING:
+    from .findings import Finding
+
 __all__ = ["MAX_NESTING", "BadAttributes", "Bag", "BagKind", "EnvelopePart", "Library", "Mac", "Part", "Refused"]
 __all__ += ["SignedData", "Signer", "SignerInfo", "Store", "UnknownKind", "Verdict", "attribute_oid"]
-__all__ += ["attribute_values", "dotted", "library"]
+__all__ += ["attribute_values", "dotted", "library", "mac_verdict"]
 
 _HERE = os.path.dirname(os.path.realpath(__file__))
 
@@ -79,3 +84,14 @@ def library() -> Library:
     if os.path.exists(installed):
         return _installed(os.path.realpath(installed))
     return Library(os.path.join(_HERE, "..", "..", "crates", "der_c", "out", "libder.so"))
+
+
+def mac_verdict(store: bytes, password: str) -> "Finding":
+    """What the command says of the MAC of a PKCS #12 file, in DER or BER, under a password: is_right, and what is said.
+
+    The program openssl is asked, whose yes a yes is. Raises Refused where the file is none, and vuyhanip.tool.NoTool
+    where there is no openssl.
+    """
+    from .verifying import mac_verdict as verdict
+
+    return verdict(store, password)

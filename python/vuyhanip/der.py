@@ -35,16 +35,14 @@ import datetime
 import enum
 import functools
 import hashlib
-import hmac
 import os
 import re
-from typing import Callable, Dict, Iterator, List, NamedTuple, Optional, Tuple, Union
+from typing import Callable, Dict, Iterable, Iterator, List, NamedTuple, Optional, Tuple, Union
 
 # The most levels of nesting that an input may have.
 MAX_NESTING = 64
 
 NORMAL, LOOSE, UNKNOWN_KIND, TOO_LONG, NO_MEMORY, NO_ROOM, NO_RANGE, NO_PART = 0, 1, 2, 7, 8, 9, 10, 11
-REASONS = {3: "malformed", 4: "missing", 5: "invalid", 6: "too deep"}
 # How many signers are asked for at first: where there are more, the input is read a second time.
 FEW_SIGNERS = 64
 # How many ranges there is room for at first, alike.
@@ -71,26 +69,41 @@ DIGESTS = {
     "2.16.840.1.101.3.4.2.9": "sha3_384",
     "2.16.840.1.101.3.4.2.10": "sha3_512",
 }
-# The purpose of a key for a MAC (RFC 7292, B.3).
-FOR_MAC = 3
-# A count of iterations above this is refused: it would take minutes.
-MOST_ITERATIONS = 10_000_000
 
 Bytes = Union[bytes, bytearray, memoryview]
+# The octets of an input as they are kept.
+_Whole = Union[bytes, memoryview]
 # A call of the library, which returns a status.
 Call = Callable[..., int]
+
+
+class Reason(str, enum.Enum):
+    """Why an input is refused: a text, as "malformed", that is one of these."""
+
+    MALFORMED = "malformed"
+    MISSING = "missing"
+    INVALID = "invalid"
+    TOO_DEEP = "too deep"
+    NO_RANGE = "no range"
+
+    def __str__(self) -> str:
+        return str(self.value)
+
+
+# The reasons by their statuses in der.h.
+REASONS = {3: Reason.MALFORMED, 4: Reason.MISSING, 5: Reason.INVALID, 6: Reason.TOO_DEEP}
 
 
 class Refused(ValueError):
     """An input that is no encoding of its kind, or of from_ber one that has no DER.
 
-    reason is "malformed", "missing", "invalid" or "too deep", and place the offset at which the input is refused: where
+    reason is a Reason, and place the offset at which the input is refused: where
     the element begins that is invalid, nested too deep or none, or the end of the contents in which one is missing; of
     a set of one value that has two, where the first of them begins. Calls that look for parts say too which they can't
-    find: reason is "no range" then, and place 0.
+    find: reason is Reason.NO_RANGE then, and place 0.
     """
 
-    def __init__(self, reason: str, place: int) -> None:
+    def __init__(self, reason: Reason, place: int) -> None:
         super().__init__(reason, place)
         self.reason = reason
         self.place = place
@@ -107,8 +120,9 @@ class BadAttributes(ValueError):
     """A signer whose signed attributes break RFC 5652 (5.3, 11.1, 11.2), so that its signature counts for nothing.
 
     They are an empty set, lack messageDigest or contentType, have one of them several times, with no value or with
-    several, or contentType is another than the content's. It has no part of a signer, so it can't be verified by
-    mistake; and unlike None it is true, so a list without false items still has it.
+    several, or contentType is another than the content's; or there are none, and the content's type isn't id-data. It
+    has no part of a signer, so it can't be verified by mistake; and unlike None it is true, so a list without false items
+    still has it.
     """
 
     def __str__(self) -> str:
@@ -174,7 +188,7 @@ class EnvelopePart(enum.Enum):
 
 
 class Mac(NamedTuple):
-    """What a verifier of a PKCS #12 file's MAC needs beside the password. Only is_right says that the MAC is right."""
+    """What a verifier of a PKCS #12 file's MAC needs beside the password. Whether the MAC is right isn't said here."""
 
     # where the file has the octets that the MAC covers
     covered: range
@@ -188,22 +202,22 @@ class Mac(NamedTuple):
     # the octets that the MAC covers
     octets: memoryview
 
-    def is_right(self, password: str) -> bool:
-        """Whether the MAC is that of the octets under a password (RFC 7292, 4 and appendix B).
+    def __repr__(self) -> str:
+        return _shown(self, **self._asdict())
 
-        Raises ValueError where it can't be made: hashlib has no such digest, there are more than MOST_ITERATIONS, or
-        UTF-16 has no such password.
-        """
-        name = digest_name(self.digest_algorithm)
-        if name is None:
-            raise ValueError(f"the digest {self.digest_algorithm} is not known")
-        if not 0 < self.iterations <= MOST_ITERATIONS:
-            raise ValueError(f"{self.iterations} iterations")
-        for octets in password_octets(password):
-            key = derived(name, octets, self.salt, self.iterations, FOR_MAC, hashlib.new(name).digest_size)
-            if hmac.compare_digest(hmac.new(key, self.octets, name).digest(), self.digest):
-                return True
-        return False
+    def __reduce__(self) -> Tuple[object, ...]:
+        return Mac, _plain(self)
+
+
+def _shown(of: object, **fields: object) -> str:
+    """How an object with some fields is shown: octets of the input by their number."""
+    said = {name: f"{len(it)} octets" if isinstance(it, memoryview) else repr(it) for name, it in fields.items()}
+    return f"{type(of).__name__}({', '.join(f'{name}={it}' for name, it in said.items())})"
+
+
+def _plain(fields: Iterable[object]) -> Tuple[object, ...]:
+    """Fields as they are pickled: octets of the input as octets of their own."""
+    return tuple(bytes(it) if isinstance(it, memoryview) else it for it in fields)
 
 
 class _Element(NamedTuple):
@@ -218,8 +232,11 @@ class _Element(NamedTuple):
 class _SignedFile:
     """The elements of signed data that the library accepted, found once they are asked for."""
 
-    def __init__(self, data: bytes) -> None:
+    def __init__(self, data: _Whole) -> None:
         self.octets = memoryview(data)
+
+    def __reduce__(self) -> Tuple[object, ...]:
+        return _SignedFile, (bytes(self.octets),)
 
     @functools.cached_property
     def fields(self) -> List[_Element]:
@@ -237,13 +254,19 @@ class _SignedFile:
         return (it.whole for part in self.fields[3:] if part.tag == tag for it in _elements(part.contents))
 
 
-@dataclasses.dataclass(eq=False)
+@dataclasses.dataclass(frozen=True, eq=False, repr=False)
 class SignerInfo:
     """A signer as signed data have it (RFC 5652, 5.3). Nothing of it is verified: whoever made the file chose it."""
 
     _file: _SignedFile = dataclasses.field(repr=False, compare=False)
     # which of the signers it is, from 0 on
     index: int
+
+    def __repr__(self) -> str:
+        return _shown(self, index=self.index, element=self.element)
+
+    def __reduce__(self) -> Tuple[object, ...]:
+        return type(self), _plain(getattr(self, it.name) for it in dataclasses.fields(self))
 
     @property
     def element(self) -> memoryview:
@@ -272,12 +295,12 @@ class SignerInfo:
         return None if named.tag == SEQUENCE else named.contents
 
     @property
-    def attributes(self) -> Iterator[memoryview]:
+    def attributes(self) -> Tuple[memoryview, ...]:
         """Each signed Attribute, in order: attribute_oid says its type, and attribute_values its values."""
         return self._attributes(SIGNED)
 
     @property
-    def unsigned_attributes(self) -> Iterator[memoryview]:
+    def unsigned_attributes(self) -> Tuple[memoryview, ...]:
         """Each unsigned Attribute, as countersignatures and time stamps are."""
         return self._attributes(UNSIGNED)
 
@@ -300,12 +323,12 @@ class SignerInfo:
         """The components of the SignerInfo."""
         return list(_inside(self.element))
 
-    def _attributes(self, tag: int) -> Iterator[memoryview]:
+    def _attributes(self, tag: int) -> Tuple[memoryview, ...]:
         """Each Attribute in the set with a tag, if there is one."""
-        return (it.whole for part in self._parts[3:] if part.tag == tag for it in _elements(part.contents))
+        return tuple(it.whole for part in self._parts[3:] if part.tag == tag for it in _elements(part.contents))
 
 
-@dataclasses.dataclass
+@dataclasses.dataclass(frozen=True, repr=False)
 class Signer(SignerInfo):
     """What a verification of one signer needs (RFC 5652, 5.3 to 5.6), as octets of the input. A verifier
 
@@ -333,6 +356,11 @@ class Signer(SignerInfo):
     signature: memoryview
     # the first that has the signer's issuer and serial number, or its key identifier; None where the input has none
     certificate: Optional[memoryview]
+
+    def __repr__(self) -> str:
+        names = {"digest_oid": self.digest_oid, "signature_oid": self.signature_oid}
+        parts = {"content": self.content, "certificate": self.certificate}
+        return _shown(self, index=self.index, is_over_attributes=self.is_over_attributes, **names, **parts)
 
     @property
     def message_digest(self) -> Optional[memoryview]:
@@ -393,17 +421,23 @@ class Bag(NamedTuple):
     # its octets, which a key and its certificate have in common; None where it has none
     local_key_id: Optional[memoryview]
 
+    def __repr__(self) -> str:
+        return _shown(self, **self._asdict())
+
+    def __reduce__(self) -> Tuple[object, ...]:
+        return Bag, _plain(self)
+
     @property
     def name(self) -> str:
         """The friendly name, or nothing where there is none."""
         return self.friendly_name or ""
 
     @property
-    def attributes(self) -> Iterator[memoryview]:
+    def attributes(self) -> Tuple[memoryview, ...]:
         """Each Attribute of the bag: attribute_oid says its type, and attribute_values its values."""
         if self.kind is BagKind.UNREAD:
-            return iter(())
-        return (it.whole for part in list(_inside(self.element))[2:] for it in _elements(part.contents))
+            return ()
+        return tuple(it.whole for part in list(_inside(self.element))[2:] for it in _elements(part.contents))
 
 
 class _Octets(ctypes.Structure):
@@ -491,49 +525,55 @@ class _BagParts(ctypes.Structure):
 class Store:
     """A PKCS #12 store, whose bags that aren't encrypted Library.store found in one reading.
 
-    Octets are memoryviews of the file, and of a copy where that isn't bytes. Nothing is decrypted: unread are contents
-    that would have to be. Whether the MAC is right only check_mac says.
+    Octets are memoryviews of the file, and of a copy where that can be written. Nothing is decrypted: unread are contents
+    that would have to be, and no MAC is made.
     """
 
-    def __init__(self, library: "Library", data: bytes, bags: List[Bag]) -> None:
+    def __init__(self, library: "Library", data: _Whole, bags: Tuple[Bag, ...]) -> None:
         self._library, self._data, self._bags = library, data, bags
 
-    @property
-    def bags(self) -> Iterator[Bag]:
-        """All bags, in the order of the file, those in a bag after it, and what isn't read, as BagKind.UNREAD."""
-        return iter(self._bags)
+    def __repr__(self) -> str:
+        return _shown(self, data=memoryview(self._data), bags=len(self._bags))
+
+    def __reduce__(self) -> Tuple[object, ...]:
+        return Library.store, (self._library, bytes(self._data))
 
     @property
-    def certificates(self) -> Iterator[memoryview]:
+    def bags(self) -> Tuple[Bag, ...]:
+        """All bags, in the order of the file, those in a bag after it, and what isn't read, as BagKind.UNREAD."""
+        return self._bags
+
+    @property
+    def certificates(self) -> Tuple[memoryview, ...]:
         """The DER of each X.509 certificate."""
         return self._values(BagKind.CERTIFICATE)
 
     @property
-    def crls(self) -> Iterator[memoryview]:
+    def crls(self) -> Tuple[memoryview, ...]:
         """The DER of each X.509 revocation list."""
         return self._values(BagKind.CRL)
 
     @property
-    def keys(self) -> Iterator[memoryview]:
+    def keys(self) -> Tuple[memoryview, ...]:
         """Each key that isn't encrypted, a PrivateKeyInfo (RFC 5208)."""
         return self._values(BagKind.KEY)
 
     @property
-    def encrypted_keys(self) -> Iterator[memoryview]:
+    def encrypted_keys(self) -> Tuple[memoryview, ...]:
         """Each encrypted key, an EncryptedPrivateKeyInfo."""
         return self._values(BagKind.SHROUDED_KEY)
 
     @property
-    def unread(self) -> Iterator[memoryview]:
+    def unread(self) -> Tuple[memoryview, ...]:
         """Each ContentInfo that isn't data, as encrypted bags are."""
         return self._values(BagKind.UNREAD)
 
-    def _values(self, kind: BagKind) -> Iterator[memoryview]:
-        return (it.value for it in self._bags if it.kind is kind)
+    def _values(self, kind: BagKind) -> Tuple[memoryview, ...]:
+        return tuple(it.value for it in self._bags if it.kind is kind)
 
-    def named(self, name: str) -> Iterator[Bag]:
+    def named(self, name: str) -> Tuple[Bag, ...]:
         """The bags with a friendly name."""
-        return (it for it in self._bags if it.friendly_name == name)
+        return tuple(it for it in self._bags if it.friendly_name == name)
 
     def key_for(self, certificate: Bag) -> Optional[Bag]:
         """The first key, encrypted or not, that has the local key identifier of a certificate's bag. None where there is
@@ -566,22 +606,24 @@ class Store:
         """What a verifier of the MAC needs. None where there is no MAC."""
         return self._library.mac(self._data)
 
-    def check_mac(self, password: str) -> bool:
-        """Whether the MAC is right under a password. Raises ValueError where there is none, and as Mac.is_right does."""
-        if self.mac is None:
-            raise ValueError("the store has no MAC")
-        return self.mac.is_right(password)
-
 
 class SignedData:
     """Signed data of any CMSVersion and over content of any type (RFC 5652, 5.1), that Library.signed accepted.
 
-    Octets are memoryviews of the file, and of a copy where that isn't bytes. What a verification needs of signers and of
+    Octets are memoryviews of the file, and of a copy where that can be written. What a verification needs of signers and of
     certificates the library says; the rest is found, element by element, in what it accepted.
     """
 
-    def __init__(self, library: "Library", file: _SignedFile, data: bytes, rows: List[_SignerParts]) -> None:
+    def __init__(
+        self, library: "Library", file: _SignedFile, data: _Whole, rows: List[_SignerParts]
+    ) -> None:
         self._library, self._file, self._data, self._rows = library, file, data, rows
+
+    def __repr__(self) -> str:
+        return _shown(self, data=self._file.octets, content_type=self.content_type, signers=len(self._rows))
+
+    def __reduce__(self) -> Tuple[object, ...]:
+        return Library.signed, (self._library, bytes(self._data))
 
     @property
     def content_type(self) -> str:
@@ -598,32 +640,39 @@ class SignedData:
         return next(_inside(explicit[0].whole)).contents if explicit else None
 
     @property
-    def certificates(self) -> Iterator[memoryview]:
+    def content_tag(self) -> Optional[int]:
+        """The tag of the content, 4 where that is an OCTET STRING. None where the signature is detached."""
+        _, *explicit = _inside(self._file.fields[2].whole)
+        return next(_inside(explicit[0].whole)).tag if explicit else None
+
+    @functools.cached_property
+    def certificates(self) -> Tuple[memoryview, ...]:
         """All certificates, or other choices, in order."""
         return self._library.certificates(self._data)
 
-    @property
-    def crls(self) -> Iterator[memoryview]:
+    @functools.cached_property
+    def crls(self) -> Tuple[memoryview, ...]:
         """All revocation lists, or other revocation information, in order."""
-        return self._file.items(CRLS)
+        return tuple(self._file.items(CRLS))
 
-    @property
-    def signers(self) -> Iterator[Union[Signer, BadAttributes]]:
+    @functools.cached_property
+    def signers(self) -> Tuple[Union[Signer, BadAttributes], ...]:
         """All signers, as Library.signers gives them."""
-        return (row.of(self._file, index) for index, row in enumerate(self._rows))
+        return tuple(row.of(self._file, index) for index, row in enumerate(self._rows))
 
-    @property
-    def signer_infos(self) -> Iterator[SignerInfo]:
+    @functools.cached_property
+    def signer_infos(self) -> Tuple[SignerInfo, ...]:
         """All signers as they are, also those whose signed attributes break RFC 5652."""
-        return (SignerInfo(self._file, index) for index in range(len(self._rows)))
+        return tuple(SignerInfo(self._file, index) for index in range(len(self._rows)))
 
 
 class Library:
     """The calls of a shared library that der_c was made into."""
 
     def __init__(self, path: Union[str, "os.PathLike[str]"]) -> None:
-        self._library = ctypes.CDLL(os.path.realpath(path))
-        octets, size, number = ctypes.c_char_p, ctypes.c_size_t, ctypes.POINTER(ctypes.c_size_t)
+        self._path = os.path.realpath(path)
+        self._library = ctypes.CDLL(self._path)
+        octets, size, number = ctypes.c_void_p, ctypes.c_size_t, ctypes.POINTER(ctypes.c_size_t)
         word = [octets, size, ctypes.c_uint8, octets, size]
         for name, arguments in (
             ("der_check_word_limited", [*word, number, number]),
@@ -647,6 +696,12 @@ class Library:
         ):
             call = getattr(self._library, name)
             call.argtypes, call.restype = arguments, ctypes.c_uint32
+
+    def __repr__(self) -> str:
+        return _shown(self, path=self._path)
+
+    def __reduce__(self) -> Tuple[object, ...]:
+        return Library, (self._path,)
 
     def check(self, kind: str, data: Bytes, limit: int = MAX_NESTING) -> Verdict:
         """What an input of a kind is, with at most limit levels of nesting (a limit above 64 counts as 64)."""
@@ -672,7 +727,7 @@ class Library:
         """Where a PKCS #12 file has the octets that its MAC covers. None where its authSafe isn't data."""
         data = _octets(data)
         start, length = ctypes.c_size_t(), ctypes.c_size_t()
-        status = self._library.der_mac_range(data, len(data), ctypes.byref(start), ctypes.byref(length))
+        status = self._library.der_mac_range(*_given(data), ctypes.byref(start), ctypes.byref(length))
         if status == NO_RANGE:
             return None
         if status in REASONS:
@@ -695,7 +750,7 @@ class Library:
         """What a call says of a MAC, with the parts of it that another one gives."""
         data = _octets(data)
         start, length, iterations = ctypes.c_size_t(), ctypes.c_size_t(), ctypes.c_size_t()
-        status = call(data, len(data), *map(ctypes.byref, (start, length, iterations)))
+        status = call(*_given(data), *map(ctypes.byref, (start, length, iterations)))
         if status in (NO_RANGE, NO_PART):
             return None
         if status in REASONS:
@@ -717,7 +772,7 @@ class Library:
         """
         data = _octets(data)
         place = ctypes.c_size_t()
-        call, given = self._library.der_from_ber, (data, len(data))
+        call, given = self._library.der_from_ber, _given(data)
         status, octets = _written(call, given, len(data) + 64, ctypes.byref(place))
         _raise_for(status, "", place.value)
         return octets
@@ -735,7 +790,7 @@ class Library:
             return None
         data = _octets(data)
         place = ctypes.c_size_t()
-        call, given = self._library.der_part_octets, (part.value, index, data, len(data))
+        call, given = self._library.der_part_octets, (Part(part).value, index, *_given(data))
         status, octets = _written(call, given, len(data) + 64, ctypes.byref(place))
         if status == NO_PART:
             return None
@@ -751,19 +806,19 @@ class Library:
         """
         return [range(start, start + size) for start, size in self._places(part, _octets(data))]
 
-    def certificates(self, data: Bytes) -> Iterator[memoryview]:
+    def certificates(self, data: Bytes) -> Tuple[memoryview, ...]:
         """All certificates of signed data, or other choices, in order, as memoryviews of data, and of a copy where data
-        aren't bytes. Raises Refused, before the first of them, where data are no signed data.
+        can be written. Raises Refused where data are no signed data.
         """
         octets = _octets(data)
         whole = memoryview(octets)
-        return (whole[start : start + size] for start, size in self._places(Part.CERTIFICATE, octets))
+        return tuple(whole[start : start + size] for start, size in self._places(Part.CERTIFICATE, octets))
 
-    def recipients(self, data: Bytes) -> Iterator[memoryview]:
+    def recipients(self, data: Bytes) -> Tuple[memoryview, ...]:
         """All recipients of enveloped data, as certificates does. Raises Refused where data are no enveloped data."""
         octets = _octets(data)
         whole = memoryview(octets)
-        return (whole[start : start + size] for start, size in self._places(EnvelopePart.RECIPIENT, octets))
+        return tuple(whole[start : start + size] for start, size in self._places(EnvelopePart.RECIPIENT, octets))
 
     def attributes(self, data: Bytes, index: int, is_signed: bool = True) -> Optional[List[memoryview]]:
         """Each Attribute of the signer with an index, from 0 on, in order, as certificates does: signed ones, or unsigned
@@ -776,19 +831,19 @@ class Library:
         whole = memoryview(octets)
         return None if found is None else [whole[start : start + size] for start, size in found]
 
-    def _places(self, part: Union[Part, EnvelopePart], data: bytes) -> Iterator[Tuple[int, int]]:
+    def _places(self, part: Union[Part, EnvelopePart], data: _Whole) -> Iterator[Tuple[int, int]]:
         """The start and the length of each item of a part."""
         found = self._listed(self._library.der_part_ranges, (part.value,), data)
         if found is None:
             raise ValueError(f"the items of {part.name} aren't listed")
         return found
 
-    def _listed(self, call: Call, which: Tuple[int, ...], data: bytes) -> Optional[Iterator[Tuple[int, int]]]:
+    def _listed(self, call: Call, which: Tuple[int, ...], data: _Whole) -> Optional[Iterator[Tuple[int, int]]]:
         """The start and the length of each range that a call writes. None where there is no such part."""
         room, count, place = FEW_RANGES, ctypes.c_size_t(), ctypes.c_size_t()
         while True:
             out = (ctypes.c_size_t * (2 * room))()
-            status = call(*which, data, len(data), out, room, ctypes.byref(count), ctypes.byref(place))
+            status = call(*which, *_given(data), out, room, ctypes.byref(count), ctypes.byref(place))
             if status == NORMAL:
                 return zip(out[0 : 2 * count.value : 2], out[1 : 2 * count.value : 2])
             if status in (UNKNOWN_KIND, NO_PART):
@@ -796,11 +851,11 @@ class Library:
             _raise_for_range(status, place.value)
             room = count.value
 
-    def bags(self, data: Bytes) -> Iterator[Bag]:
+    def bags(self, data: Bytes) -> Tuple[Bag, ...]:
         """All bags of a PKCS #12 store that aren't encrypted, in order, those in a bag after it, in one reading or two.
 
-        The parts are memoryviews of data, and of a copy where data aren't bytes. What is encrypted is of kind
-        BagKind.UNREAD. Raises Refused, before the first of them, where data are no store, or a part doesn't read as its
+        The parts are memoryviews of data, and of a copy where data can be written. What is encrypted is of kind
+        BagKind.UNREAD. Raises Refused where data are no store, or a part doesn't read as its
         type; its reason is "no range" where a part isn't in them as its value is written.
         """
         octets = _octets(data)
@@ -808,18 +863,18 @@ class Library:
         while True:
             rows = (_BagParts * room)()
             status = self._library.der_bag_rows(
-                octets, len(octets), rows, room, ctypes.byref(count), ctypes.byref(place)
+                *_given(octets), rows, room, ctypes.byref(count), ctypes.byref(place)
             )
             if status == NORMAL:
                 whole = memoryview(octets)
-                return (row.of(whole) for row in rows[: count.value])
+                return tuple(row.of(whole) for row in rows[: count.value])
             _raise_for_range(status, place.value)
             room = count.value
 
     def store(self, data: Bytes) -> Store:
         """The bags of a PKCS #12 store, by what they hold. Raises Refused as bags does."""
         octets = _octets(data)
-        return Store(self, octets, list(self.bags(octets)))
+        return Store(self, octets, self.bags(octets))
 
     def signed(self, data: Bytes) -> SignedData:
         """Signed data, with all that is in them. Raises Refused as signers does."""
@@ -834,7 +889,7 @@ class Library:
 
         A BadAttributes is in the place of a signer that breaks RFC 5652: ask isinstance(it, Signer) of each. Where
         there are no signers the list is empty, and nothing is signed. The parts are memoryviews of data, and of a copy
-        where data aren't bytes. Raises Refused where they are no signed data; its reason is "no range" where a part
+        where data can be written. Raises Refused where they are no signed data; its reason is "no range" where a part
         isn't in them as its value is written, of which no case is known.
         """
         return list(self.signed(data).signers)
@@ -855,11 +910,11 @@ class Library:
             raise found
         return found
 
-    def _signer_rows(self, data: bytes, first: int, room: int) -> Tuple[List[_SignerParts], int]:
+    def _signer_rows(self, data: _Whole, first: int, room: int) -> Tuple[List[_SignerParts], int]:
         """The parts of signers from one on, at most so many, and how many signers there are in all."""
         rows, count, place = (_SignerParts * room)(), ctypes.c_size_t(), ctypes.c_size_t()
         status = self._library.der_signer_rows(
-            data, len(data), first, rows, room, ctypes.byref(count), ctypes.byref(place)
+            *_given(data), first, rows, room, ctypes.byref(count), ctypes.byref(place)
         )
         _raise_for_range(status, place.value)
         return rows[: min(room, max(count.value - first, 0))], count.value
@@ -872,7 +927,7 @@ class Library:
         if part not in MAC_PARTS:
             raise ValueError(f"{part.name} is no part of a MAC")
         data = _octets(data)
-        status, octets = _written(self._library.der_mac_part_ber, (part.value, data, len(data)), len(data) + 64)
+        status, octets = _written(self._library.der_mac_part_ber, (part.value, *_given(data)), len(data) + 64)
         if status == NO_PART:
             return None
         if status in REASONS:
@@ -894,7 +949,7 @@ class Library:
         None where the library knows none.
         """
         data = _octets(contents)
-        status, name = _written(self._library.der_oid_name, (data, len(data)), 64)
+        status, name = _written(self._library.der_oid_name, _given(data), 64)
         return name.decode() if status == NORMAL else None
 
     def integer_text(self, contents: Bytes) -> str:
@@ -913,7 +968,7 @@ class Library:
     def _text(self, call: Call, data: Bytes) -> str:
         """What a call writes as text of some octets."""
         data = _octets(data)
-        status, text = _written(call, (data, len(data)), 4 * len(data) + 16)
+        status, text = _written(call, _given(data), 4 * len(data) + 16)
         _raise_for(status, "", 0)
         return text.decode()
 
@@ -943,47 +998,16 @@ def attribute_oid(attribute: memoryview) -> str:
     return _first_oid(attribute)
 
 
-def attribute_values(attribute: memoryview) -> Iterator[memoryview]:
+def attribute_values(attribute: memoryview) -> Tuple[memoryview, ...]:
     """The values of an Attribute of a signer or of a bag, each an element."""
     _, values = _inside(attribute)
-    return (it.whole for it in _elements(values.contents))
+    return tuple(it.whole for it in _elements(values.contents))
 
 
 def digest_name(oid: str) -> Optional[str]:
     """The name in hashlib of a digest, where it has that digest."""
     name = DIGESTS.get(oid)
     return name if name in hashlib.algorithms_available else None
-
-
-def password_octets(password: str) -> Iterator[bytes]:
-    """The octets of a password: a BMPString with a zero at its end (RFC 7292, B.1). No password may also be no octets at
-    all.
-    """
-    yield password.encode("utf-16-be") + b"\0\0"
-    if not password:
-        yield b""
-
-
-def derived(digest: str, password: bytes, salt: bytes, iterations: int, purpose: int, length: int) -> bytes:
-    """A key of a password's octets (RFC 7292, B.2)."""
-    block = hashlib.new(digest).block_size
-    mixed, made = _filled(salt, block) + _filled(password, block), b""
-    while True:
-        octets = bytes([purpose]) * block + mixed
-        for _ in range(iterations):
-            octets = hashlib.new(digest, octets).digest()
-        made += octets
-        if len(made) >= length:
-            return made[:length]
-        add, bound = int.from_bytes(_filled(octets, block)[:block], "big") + 1, 1 << 8 * block
-        pieces = (mixed[at : at + block] for at in range(0, len(mixed), block))
-        mixed = b"".join(((int.from_bytes(it, "big") + add) % bound).to_bytes(block, "big") for it in pieces)
-
-
-def _filled(octets: bytes, block: int) -> bytes:
-    """The octets again and again, up to a whole number of blocks."""
-    size = -(-len(octets) // block) * block
-    return (octets * (size // len(octets) + 1))[:size] if octets else b""
 
 
 def _elements(octets: memoryview) -> Iterator[_Element]:
@@ -1019,9 +1043,37 @@ def _time(element: _Element) -> datetime.datetime:
     return datetime.datetime.strptime(text, "%Y%m%d%H%M%SZ").replace(tzinfo=datetime.timezone.utc)
 
 
-def _octets(data: Bytes) -> bytes:
-    """The octets of an input, whatever its items are; TypeError where it has none."""
-    return data if isinstance(data, bytes) else bytes(memoryview(data))
+def _octets(data: Bytes) -> _Whole:
+    """The octets of an input, whatever its items are; of a copy where another thread could write into it, or where they
+    don't follow one another. TypeError where it has none.
+    """
+    if isinstance(data, bytes):
+        return data
+    view = memoryview(data)
+    is_kept = view.readonly and view.c_contiguous and hasattr(ctypes, "pythonapi")
+    return view.cast("B") if is_kept else bytes(view)
+
+
+class _Buffer(ctypes.Structure):
+    """A Py_buffer of Python's C API."""
+
+    _fields_ = [
+        *(("buf", ctypes.c_void_p), ("obj", ctypes.c_void_p), ("len", ctypes.c_ssize_t)),
+        *(("itemsize", ctypes.c_ssize_t), ("readonly", ctypes.c_int), ("ndim", ctypes.c_int)),
+        *((name, ctypes.c_void_p) for name in ("format", "shape", "strides", "suboffsets", "internal")),
+    ]
+    buf: Optional[int]
+
+
+def _given(data: _Whole) -> Tuple[object, int]:
+    """An input as the calls take it: a pointer, and a length. The memoryview keeps its octets where they are."""
+    if isinstance(data, bytes):
+        return data, len(data)
+    buffer = _Buffer()
+    ctypes.pythonapi.PyObject_GetBuffer(ctypes.py_object(data), ctypes.byref(buffer), 0)
+    at = buffer.buf
+    ctypes.pythonapi.PyBuffer_Release(ctypes.byref(buffer))
+    return at or b"", len(data)
 
 
 def _written(call: Call, given: Tuple[object, ...], room: int, *place: object) -> Tuple[int, bytes]:
@@ -1035,18 +1087,18 @@ def _written(call: Call, given: Tuple[object, ...], room: int, *place: object) -
         room = written.value
 
 
-def _input(kind: str, data: bytes, limit: int) -> Tuple[bytes, int, int, bytes, int]:
+def _input(kind: str, data: _Whole, limit: int) -> Tuple[object, ...]:
     """The arguments that say what is asked of which input."""
     if limit < 0:
         raise ValueError(f"a limit of {limit} levels")
     word = kind.encode()
-    return word, len(word), min(limit, MAX_NESTING), data, len(data)
+    return word, len(word), min(limit, MAX_NESTING), *_given(data)
 
 
 def _raise_for_range(status: int, place: int) -> None:
     """The same of a call that looks for parts in the input."""
     if status == NO_RANGE:
-        raise Refused("no range", 0)
+        raise Refused(Reason.NO_RANGE, 0)
     _raise_for(status, "", place)
 
 

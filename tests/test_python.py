@@ -1,0 +1,110 @@
+"""What the module for Python hands to its callers: lists that can be counted, objects that say what they are and can be
+sent to another process, reasons that are texts, and octets that aren't copied where nobody can write into them."""
+import copy
+import mmap
+import pickle
+import re
+import tempfile
+import unittest
+
+from support import built
+from support.containers import bare_bag, content_info, long_signers, store_of
+from support.elements import integer, octet_string, sequence
+from vuyhanip import der
+from vuyhanip.der import BadAttributes, Part, Reason, Refused, Signer
+
+STORE = store_of(
+    bare_bag("certificate bag", content_info("X.509 certificate", octet_string(b"C"))),
+    bare_bag("safe contents bag", sequence()),
+)
+# Some of its signers have bad attributes.
+SIGNED = next(long_signers())[0]
+
+
+def library():
+    return built.library()
+
+
+class TestPython(unittest.TestCase):
+    """The objects of the module."""
+
+    def test_lists_can_be_counted_and_are_the_same_at_each_look(self):
+        store, signed = library().store(STORE), library().signed(SIGNED)
+        lists = [store.bags, store.certificates, store.unread, store.bags[0].attributes, library().bags(STORE)]
+        lists += [signed.signers, signed.signer_infos, signed.certificates, signed.crls, library().certificates(SIGNED)]
+        good = next(it for it in signed.signers if isinstance(it, Signer))
+        lists += [good.attributes, good.unsigned_attributes, der.attribute_values(good.attributes[0])]
+        for number, it in enumerate(lists):
+            self.assertIsInstance(it, tuple, number)
+        self.assertEqual([len(it) for it in lists[:5]], [2, 1, 0, 0, 2])
+        self.assertIs(signed.signers, signed.signers)
+        self.assertEqual(len(good.attributes), len(library().attributes(SIGNED, good.index)))
+
+    def test_objects_say_what_they_are_without_addresses(self):
+        store, signed = library().store(STORE), library().signed(SIGNED)
+        good = next(it for it in signed.signers if isinstance(it, Signer))
+        self.assertEqual(repr(store), f"Store(data={len(STORE)} octets, bags=2)")
+        self.assertIn("Bag(kind=<BagKind.CERTIFICATE: 3>, level=0, element=", repr(store.bags[0]))
+        self.assertRegex(repr(signed), r"^SignedData\(data=\d+ octets, content_type='[\d.]+', signers=\d+\)$")
+        self.assertRegex(repr(good), r"^Signer\(index=\d+, is_over_attributes=True, digest_oid='[\d.]+', ")
+        for it in (library(), store, signed, good, *store.bags, *signed.signer_infos[:1]):
+            self.assertIsNone(re.search(r"0x|memory at", repr(it)), repr(it))
+
+    def test_objects_go_to_another_process_and_are_equal_there(self):
+        store, signed = library().store(STORE), library().signed(SIGNED)
+        good = next(it for it in signed.signers if isinstance(it, Signer))
+        for it in (good, store.bags[0], library().mac(STORE)):
+            self.assertEqual(pickle.loads(pickle.dumps(it)), it)
+        self.assertEqual(copy.copy(store.bags[0]), store.bags[0])
+        self.assertEqual(pickle.loads(pickle.dumps(store)).bags, store.bags)
+        again = pickle.loads(pickle.dumps(signed))
+        self.assertEqual([type(it) for it in again.signers], [type(it) for it in signed.signers])
+        self.assertEqual(bytes(pickle.loads(pickle.dumps(signed.signer_infos[0])).element), bytes(signed.signer_infos[0].element))
+        self.assertEqual(len({good, pickle.loads(pickle.dumps(good))}), 1)
+
+    def test_reasons_are_texts_and_one_of_a_few(self):
+        with self.assertRaises(Refused) as caught:
+            library().check("pfx", b"")
+        self.assertIs(caught.exception.reason, Reason.MISSING)
+        self.assertEqual((caught.exception.reason, f"{caught.exception}"), ("missing", "missing at 0"))
+        self.assertEqual([str(it) for it in Reason], [it.value for it in Reason])
+
+    def test_a_part_is_taken_by_its_number_too(self):
+        self.assertEqual(library().part(9, STORE), library().part(Part.STORE_CERTIFICATE, STORE))
+        with self.assertRaisesRegex(ValueError, "99 is not a valid Part"):
+            library().part(99, STORE)
+
+    def test_a_signer_that_breaks_the_rules_has_no_part_of_a_signer(self):
+        bad = next(it for it in library().signers(SIGNED) if isinstance(it, BadAttributes))
+        for name in ("digest", "signature", "covered", "certificate", "index"):
+            self.assertFalse(hasattr(bad, name), name)
+
+    def test_a_mapped_file_is_not_copied(self):
+        with tempfile.TemporaryFile() as file:
+            file.write(STORE)
+            file.flush()
+            with mmap.mmap(file.fileno(), 0, access=mmap.ACCESS_READ) as mapped:
+                bags = library().bags(mapped)
+                self.assertEqual(bags, library().bags(STORE))
+                self.assertIs(bags[0].element.obj, mapped)
+                part = memoryview(mapped)[0 : len(STORE)]
+                self.assertEqual(library().check("pfx", part), library().check("pfx", STORE))
+                # else the file can't be closed
+                del bags, part
+
+    def test_what_can_be_written_is_copied(self):
+        octets = bytearray(STORE)
+        bags = library().bags(octets)
+        octets[:] = bytes(len(octets))
+        self.assertEqual(bags, library().bags(STORE))
+
+    def test_octets_that_do_not_follow_one_another(self):
+        spread = bytes(octet for pair in zip(STORE, bytes(len(STORE))) for octet in pair)
+        self.assertEqual(library().check("pfx", memoryview(spread)[::2]), library().check("pfx", STORE))
+        numbers = memoryview(integer(3) + integer(4)[:1]).cast("I")
+        with self.assertRaises(Refused):
+            library().check("pfx", numbers)
+
+
+if __name__ == "__main__":
+    unittest.main()
