@@ -1,7 +1,7 @@
 """`vuyhanip verify` over files of openssl and other tools, beside what openssl says of their signatures and MACs."""
-import hashlib
 import os
 import re
+import unittest
 import unittest.mock
 
 from support.command import MANY, Command
@@ -9,12 +9,17 @@ from support.containers import attribute, content_info
 from support.elements import explicit, integer, octet_string, part, sequence, set_of
 from support.making import image
 from support.oids import oid
-from support.tools import needs, run, skip_without
+from support import tools
+from support.tools import needs, run
 
-from vuyhanip import verifying
+from vuyhanip import tool, verifying
+from vuyhanip.judging import Terms
 
 # How many times as long as a check a verb over a long file may take.
 TIMES = 50
+# What is said of signatures.
+RIGHT, WRONG = "signature right", "signature not right"
+BAD_ATTRIBUTES = "refused: signed attributes that RFC 5652 forbids"
 
 
 def issuer_and_serial(certificate):
@@ -41,117 +46,120 @@ def signed_by_ed25519(folder, change):
 
 
 class Verify(Command):
-    def compare(self, name, said, *words, options=()):
-        """Asks for a word of each signer, and that openssl finds the same."""
+    def compare(self, name, said, *words, options=(), by="cms"):
+        """Asks for a word of each signer, and that openssl says yes exactly where it is that they are right."""
         ended, lines, complaints = self.command("verify", *words, name)
         form = "PEM" if name.endswith(".pem") else "DER"
         given = ["-inform", form, "-in", name, "-noverify", "-out", "out", *options]
-        self.assertEqual(self.succeeds("cms", "-verify", "-binary", *given), ended == 0, lines)
-        self.assertEqual(complaints, "")
-        self.assertNotEqual(lines, "")
-        for line in lines.splitlines():
-            self.assertRegex(line, rf"^{re.escape(name)}: signer \d: {said}( by .*)?, certificate not judged$")
+        is_right = said == RIGHT
+        if not said.startswith("refused"):
+            self.assertEqual(self.succeeds(by, "-verify", "-binary", *given), is_right, lines)
+        self.assertEqual((ended, complaints), (4 if is_right else 1, ""))
+        *signers, openssl = lines.splitlines()
+        self.assertRegex(openssl, rf"^{re.escape(name)}: openssl: CMS Verification {'success' if is_right else ''}")
+        self.assertNotEqual(signers, [])
+        for line in signers:
+            self.assertRegex(line, rf"^{re.escape(name)}: signer \d: {re.escape(said)}(,| \(RFC)")
         return lines
 
     def test_right(self):
         self.sign("sha3.p7s", "-nodetach", "-md", "sha3-256")
         names = "attributes.p7s noattributes.p7s pss.p7s ec.p7s sha3.p7s signed.pem stream.p7s two.p7s".split()
         for name in names:
-            lines = self.compare(name, "signature right")
-            self.assertEqual(len(lines.splitlines()), 2 if name == "two.p7s" else 1)
+            lines = self.compare(name, RIGHT)
+            self.assertEqual(len(lines.splitlines()), 3 if name == "two.p7s" else 2)
 
-    def test_ed25519(self):
+    def test_a_signer_is_told_of(self):
+        """By what openssl prints of the same file and of the certificate."""
+        key = ["-x509", "-newkey", "rsa:2048", "-nodes", "-keyout", "named.key", "-out", "named.pem"]
+        self.openssl("req", *key, "-subj", "/C=DE/O=Büro/CN=one, two", "-utf8")
+        self.sign("named.p7s", "-nodetach", "-md", "sha384", key="named")
+        words = ["-in", "named.pem", "-noout", "-subject", "-nameopt", "RFC2253,-esc_msb"]
+        subject = self.openssl("x509", *words).decode()
+        printed = self.openssl("cms", "-cmsout", "-print", "-noout", "-inform", "DER", "-in", "named.p7s").decode()
+        clock, year = re.search(r"UTCTIME:\w+ +\d+ ([\d:]+) (\d+) GMT", printed).groups()
+        lines = self.command("verify", "named.p7s")[1]
+        wanted = rf"sha384, rsaEncryption, 2048 bits, at {year}-\d\d-\d\d {clock}, by a certificate that calls itself "
+        self.assertRegex(lines, wanted + re.escape(subject.strip().partition("=")[2]))
+
+    def test_no_file_of_ed25519_is_asked_about_that_openssl_cannot_verify(self):
         """Of a file that is put together here, since openssl makes none: it only signs the attributes (RFC 8419)."""
-        for more in ({}, {"VUYHANIP_WITHOUT_CRYPTOGRAPHY": "1"}):
-            for name, change, said in (("ed25519.p7s", 0, "right"), ("wrong25519.p7s", 1, "wrong")):
-                self.put(name, signed_by_ed25519(self, change))
-                self.assertIn(f": signer 1: signature {said} by ", self.command("verify", name, more=more)[1])
+        if "OpenSSL 3.0." in self.openssl("version").decode():
+            self.put("ed25519.p7s", signed_by_ed25519(self, 0))
+            said = "not checked: OpenSSL 3.0.* verifies no signatures of Ed25519 and Ed448 in CMS"
+            self.finds(["verify", "ed25519.p7s"], [f"^ed25519.p7s: signer 1: {said}, sha512, ED25519, by"], 1)
+            self.assertFalse(self.succeeds("cms", "-verify", "-noverify", "-inform", "DER", "-in", "ed25519.p7s"))
 
     def test_detached(self):
         with_data = ("--content", "data")
-        self.compare("detached.p7s", "signature right", *with_data, options=("-content", "data"))
+        self.compare("detached.p7s", RIGHT, *with_data, options=("-content", "data"))
         other = ("--content", "otherdata")
-        self.compare("detached.p7s", "digest differs", *other, options=("-content", "otherdata"))
-        self.assertIn("signer 1: no content, which --content gives", self.command("verify", "detached.p7s")[1])
+        self.compare("detached.p7s", WRONG, *other, options=("-content", "otherdata"))
+        said = self.command("verify", "detached.p7s")
+        self.assertEqual((said[0], "openssl" in said[1]), (1, False))
+        self.assertIn("signer 1: not checked: no content, which --content gives", said[1])
 
     def test_wrong(self):
-        self.compare("digest.p7s", "digest differs")
-        self.compare("wrong.p7s", "signature wrong")
-        self.compare("nodigest.p7s", "no messageDigest")
-        self.compare("nocertificate.p7s", "no certificate")
-        self.compare("type.p7s", "content type differs")
+        self.compare("digest.p7s", WRONG)
+        self.compare("wrong.p7s", WRONG)
+        self.compare("nodigest.p7s", BAD_ATTRIBUTES)
+        self.compare("nocertificate.p7s", "refused: its certificate isn't known")
+        self.compare("type.p7s", BAD_ATTRIBUTES)
 
-    def test_by_the_program_openssl(self):
-        more = {"VUYHANIP_WITHOUT_CRYPTOGRAPHY": "1"}
-        for name in ("attributes.p7s", "pss.p7s", "ec.p7s", "noattributes.p7s"):
-            self.assertIn("signature right", self.command("verify", name, more=more)[1])
-        self.assertIn("signature wrong", self.command("verify", "wrong.p7s", more=more)[1])
-        nothing = {**more, "PATH": "/nowhere"}
-        self.assertIn("not checked: neither", self.command("verify", "ec.p7s", more=nothing)[1])
+    def test_no_openssl_no_yes(self):
+        """Also where it is in a folder of the path that isn't named from the root on."""
+        os.symlink(tools.run("which", "openssl").decode().strip(), self.room / "openssl")
+        for path in ("/nowhere", "", ".", f".{os.pathsep}"):
+            said = "attributes.p7s: not checked: there is no program openssl, whose yes a yes is here"
+            self.says(["verify", "attributes.p7s"], [said], 1, {"PATH": path})
 
-    @needs("cryptography")
-    def test_by_the_package_cryptography(self):
-        """Where the program openssl isn't found."""
-        nothing = {"PATH": "/nowhere"}
-        for name in ("attributes.p7s", "pss.p7s", "ec.p7s", "noattributes.p7s"):
-            self.assertIn("signature right", self.command("verify", name, more=nothing)[1])
-        self.assertIn("signature wrong", self.command("verify", "wrong.p7s", more=nothing)[1])
+    def test_the_environment_does_not_change_what_openssl_does(self):
+        """A configuration without the providers by which openssl verifies anything."""
+        self.put("none.cnf", b"openssl_conf = it\n[it]\nproviders = none\n[none]\nbase = on\n[on]\nactivate = 1\n")
+        more = {"OPENSSL_CONF": str(self.room / "none.cnf")}
+        given = ["openssl", "cms", "-verify", "-noverify", "-inform", "DER", "-in", "attributes.p7s"]
+        self.assertNotEqual(tools.ended(*given, cwd=self.room, env={**os.environ, **more}).returncode, 0)
+        self.assertEqual(self.command("verify", "attributes.p7s", more=more)[0], 4)
 
     def test_signers_by_key_identifier_and_content_of_any_type(self):
         for name in ("keyid.p7s", "keyid-noattributes.p7s", "other.p7s"):
-            self.compare(name, "signature right")
-        detached = ("keyid-detached.p7s", "signature right", "--content", "data")
-        self.compare(*detached, options=("-content", "data"))
-        other = ("keyid-detached.p7s", "digest differs", "--content", "otherdata")
-        self.compare(*other, options=("-content", "otherdata"))
-        self.compare("keyid-digest.p7s", "digest differs")
-        self.compare("keyid-wrong.p7s", "signature wrong")
-        self.compare("keyid-nocertificate.p7s", "no certificate")
-        self.says(
-            ["verify", "keyid-detached.p7s", "other-noattributes.p7s"],
-            [
-                "keyid-detached.p7s: signer 1: no content, which --content gives, certificate not judged",
-                "other-noattributes.p7s: signer 1: no signed attributes, which content of its type needs, "
-                "certificate not judged",
-            ],
-            1,
-        )
+            self.compare(name, RIGHT)
+        self.compare("keyid-detached.p7s", RIGHT, "--content", "data", options=("-content", "data"))
+        self.compare("keyid-detached.p7s", WRONG, "--content", "otherdata", options=("-content", "otherdata"))
+        self.compare("keyid-digest.p7s", WRONG)
+        self.compare("keyid-wrong.p7s", WRONG)
+        self.compare("keyid-nocertificate.p7s", "refused: its certificate isn't known")
+        self.assertTrue(self.succeeds("cms", "-verify", "-noverify", "-inform", "DER", "-in", "other-noattributes.p7s"))
+        self.compare("other-noattributes.p7s", BAD_ATTRIBUTES)
 
     def test_attributes_that_break_rfc_5652(self):
-        self.compare("keyid-nodigest.p7s", "no messageDigest")
-        self.compare("keyid-notype.p7s", "no contentType")
-        self.compare("keyid-type.p7s", "content type differs")
-        self.compare("keyid-twice.p7s", "no messageDigest that is one value")
-        self.compare("empty.p7s", "no messageDigest")
+        for name in "keyid-nodigest.p7s keyid-notype.p7s keyid-type.p7s keyid-twice.p7s empty.p7s".split():
+            self.compare(name, BAD_ATTRIBUTES)
 
     def test_many_signers_take_no_longer_for_each(self):
         def spent():
             """The processor time of this process and of those that it waited for, which what runs beside doesn't change."""
             return sum(os.times()[:4])
 
-        def took(*words):
+        def took(status, *words):
             start = spent()
             ended, said, complaints = self.command(*words, "many.p7s")
-            self.assertEqual((ended, complaints), (0, ""))
+            self.assertEqual((ended, complaints), (status, ""))
             return spent() - start, said
 
-        bound = TIMES * took("check")[0]
-        for verb, pattern, *needed in (("show", "names +issuer"), ("verify", "signature right by", "cryptography")):
+        bound = TIMES * took(0, "check")[0]
+        for verb, status, pattern in (("show", 0, "names +issuer"), ("verify", 4, RIGHT)):
             with self.subTest(verb):
-                skip_without(*needed)
-                seconds, said = took(verb)
+                seconds, said = took(status, verb)
                 self.assertEqual(len(re.findall(pattern, said)), MANY)
                 self.assertLess(seconds, bound)
 
-    def test_content_is_hashed_once_for_many_signers(self):
-        with unittest.mock.patch.object(verifying.hashlib, "new", wraps=hashlib.new) as new:
-            with unittest.mock.patch.object(verifying, "verifies", return_value=True):
-                findings = verifying.signer_findings(self.octets("many.p7s"), None)
-        self.assertEqual((len(findings), new.call_count), (MANY, 1))
-
-    def test_time_stamps(self):
-        for name in ("stamp.tst", "stamp.tsr"):
-            self.says(["verify", name], [f"{name}: signer 1: signature right by CN=clock, certificate not judged"])
+    def test_openssl_is_asked_once_for_many_signers(self):
+        """About the signatures, and about the one certificate."""
+        with unittest.mock.patch.object(tool, "run", wraps=tool.run) as run_of:
+            findings = verifying.verify(self.octets("many.p7s"), Terms())
+        asked = [call.args[0][0] for call in run_of.call_args_list if call.args[0] != ["version"]]
+        self.assertEqual((len(findings), sorted(asked)), (MANY, ["cms", "x509"]))
 
     @needs("osslsigncode")
     def test_authenticode(self):
@@ -164,20 +172,34 @@ class Verify(Command):
             ["extract-signature", "-in", "two.exe", "-out", "program.p7s"],
         ):
             run("osslsigncode", *words, cwd=self.room)
-        said = self.finds(["verify", "program.p7s"], ["^program.p7s: signer 1: signature right"])
-        for inner in ("nested signature", "time stamp"):
-            self.assertIn(f"signer 1, {inner}, signer 1: signature right", said)
+        uncompared = ", certificate not judged, over the digest of a program, which isn't compared, "
+        said = self.finds(["verify", "program.p7s"], [f"^program.p7s: signer 1: {RIGHT}{uncompared}"], 4)
+        self.assertIn(f"signer 1, nested signature, signer 1: {RIGHT}{uncompared}sha384, ", said)
+        self.assertIn(f"signer 1, time stamp, signer 1: {RIGHT}, certificate not judged, sha256, ", said)
         wanted = ["content +SpcIndirectDataContent", "nested signature$", "time stamp$", "subject +CN=clock"]
         self.finds(["show", "program.p7s"], wanted)
+        both = ["nested signature, signer 1: not checked: openssl has no purpose for programs", "--purpose any"]
+        self.finds(["verify", "--ca", "rsa.pem", "program.p7s"], both, 1)
+        self.put("all.pem", b"".join(map(self.octets, ("rsa.pem", "ec.pem", "clock.pem"))))
+        judged = "certificate right, revocation not checked, over the digest of a program"
+        words = ["verify", "--ca", "all.pem", "--purpose", "any", "program.p7s"]
+        self.finds(words, [f"signer 1: {RIGHT}, {judged}"], 4)
+
+    def compare_mac(self, name, password, word):
+        """Asks for a word of a MAC, and that openssl finds the same, whose words are told."""
+        ran = tools.ended("openssl", "pkcs12", "-in", name, "-noout", "-passin", f"file:{password}", cwd=self.room)
+        self.assertEqual(ran.returncode == 0, word == "right")
+        words = [f"{name}: openssl: {it}" for it in ran.stderr.decode().splitlines()[:1]]
+        status = 0 if word == "right" else 1
+        self.says(["verify", "--password-file", password, name], [f"{name}: MAC {word}", *words], status)
 
     def test_macs(self):
         for name in ("store.p12", "plain.p12"):
             for password, word in (("password", "right"), ("other", "wrong")):
-                is_right = self.succeeds("pkcs12", "-in", name, "-noout", "-passin", f"file:{password}")
-                self.assertEqual(is_right, word == "right")
-                self.says(["verify", "--password-file", password, name], [f"{name}: MAC {word}"], 0 if is_right else 1)
+                self.compare_mac(name, password, word)
         self.finds(["verify", "store.p12"], ["MAC not checked: no password"], 1)
-        self.finds(["verify", "nomac.p12"], ["no MAC in the file"], 1)
+        for words in ([], ["--password-file", "password"]):
+            self.says(["verify", *words, "nomac.p12"], ["nomac.p12: no MAC in the file"], 1)
 
     @needs("certutil", "pk12util")
     def test_a_store_of_nss(self):
@@ -192,12 +214,9 @@ class Verify(Command):
             run(tool, *more, cwd=self.room)
         self.finds(["check", "nss.p12"], [r"pfx (normal|loose \d+ ->) \d+ \(from BER\)"], 3)
         wanted = ["friendly name +nss", "encrypted key +PBES2", r"MAC covers +\d+ octets of BER"]
-        self.finds(["show", "nss.p12"], wanted)
+        self.finds(["show", "nss.p12"], wanted, 3)
         for password, word in (("password", "right"), ("other", "wrong")):
-            is_right = self.succeeds("pkcs12", "-in", "nss.p12", "-noout", "-passin", f"file:{password}")
-            self.assertEqual(is_right, word == "right")
-            words = ["verify", "--password-file", password, "nss.p12"]
-            self.says(words, [f"nss.p12: MAC {word}"], 0 if is_right else 1)
+            self.compare_mac("nss.p12", password, word)
 
     def test_macs_by_each_digest(self):
         plain = ["-keypbe", "NONE", "-certpbe", "NONE", "-inkey", "ec.key", "-in", "ec.pem"]

@@ -1,6 +1,6 @@
 """verify.py FILE [CONTENT] says of each signer of signed data what verify.c says, by the package cryptography. CONTENT
-has the octets that are signed where the signature is detached. That a certificate is to be trusted isn't looked at.
-Exits with 0 where there are signers and each is verified."""
+has the octets that are signed where the signature is detached; a file that has content has to have the same. That a
+certificate is to be trusted isn't looked at. Exits with 0 where there are signers and each is verified."""
 import hashlib
 import sys
 
@@ -19,6 +19,8 @@ def verify(signer, content):
         return "bad attributes"
     if signer.certificate is None:
         return "no certificate"
+    if content is not None and signer.content is not None and signer.content != content:
+        return "another content"
     if (content := content if signer.content is None else signer.content) is None:
         return "no content"
     if signer.digest_oid != "2.16.840.1.101.3.4.2.1" or signer.signature_oid not in HOW:

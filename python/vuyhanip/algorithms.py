@@ -32,11 +32,6 @@ def algorithm(element: Element) -> str:
     return f"{name} {said}" if said else name
 
 
-def algorithm_of(encoding: bytes) -> str:
-    """The same by its encoding."""
-    return algorithm(whole(encoding))
-
-
 def _details(which: str, given: Optional[Element]) -> str:
     """What parameters say of an algorithm, or nothing."""
     if given is None:
@@ -52,7 +47,7 @@ def _details(which: str, given: Optional[Element]) -> str:
         salt, count = given.children()[:2]
         return f"({integer(count)} iterations, salt of {len(salt.contents)} octets)"
     if which in (PSS, OAEP):
-        return f"with {name_of(pss(given)[0])}"
+        return f"with {name_of(_digest_of(given))}"
     return name_of(oid(given)) if given.tag == OBJECT_IDENTIFIER else ""
 
 
@@ -64,18 +59,9 @@ def _pbkdf2(given: Element) -> str:
     return f"({prf}, {integer(count)} iterations{length})"
 
 
-def pss(given: Optional[Element]) -> "tuple[str, str, int]":
-    """The digest, the digest of the mask and the length of the salt of RSASSA-PSS-params (RFC 8017, A.2.3)."""
-    digest, mask, salt = SHA1, SHA1, 20
-    for part in given.children() if given is not None else ():
-        if part.tag == 0xA0:
-            digest = algorithm_oid(part.inside())
-        elif part.tag == 0xA1:
-            of_mask = parameters(part.inside())
-            mask = algorithm_oid(of_mask) if of_mask is not None else SHA1
-        elif part.tag == 0xA2 and part.inside().tag == INTEGER:
-            salt = integer(part.inside())
-    return digest, mask, salt
+def _digest_of(given: Element) -> str:
+    """The digest in RSASSA-PSS-params or RSAES-OAEP-params, SHA-1 where they name none (RFC 8017, A.2.1 and A.2.3)."""
+    return next((algorithm_oid(it.inside()) for it in given.children() if it.tag == 0xA0), SHA1)
 
 
 def public_key(element: Element) -> str:

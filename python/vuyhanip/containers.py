@@ -1,4 +1,4 @@
-"""The parts of containers that are shown, extracted and verified: certificates, bags, signed data, signers, attributes.
+"""The parts of containers that are shown and extracted: certificates, bags, signed data, signers, attributes.
 
 What a verification of signers needs, the library for C says of all of them in one reading. The rest is found in what it
 accepted, element by element.
@@ -21,7 +21,6 @@ from .elements import (
 from .values import name, oid, serial, time
 
 DATA, SIGNED_DATA, TST_INFO = "1.2.840.113549.1.7.1", "1.2.840.113549.1.7.2", "1.2.840.113549.1.9.16.1.4"
-CONTENT_TYPE, MESSAGE_DIGEST = "1.2.840.113549.1.9.3", "1.2.840.113549.1.9.4"
 SIGNING_TIME, COUNTER_SIGNATURE = "1.2.840.113549.1.9.5", "1.2.840.113549.1.9.6"
 TIME_STAMPS = ("1.2.840.113549.1.9.16.2.14", "1.3.6.1.4.1.311.3.3.1")
 NESTED_SIGNATURE = "1.3.6.1.4.1.311.2.4.1"
@@ -49,7 +48,7 @@ def attributes(inside: Element) -> List[Attribute]:
 
 
 class Certificate(NamedTuple):
-    """What is shown of an X.509 certificate (RFC 5280, 4.1), and what a verifier takes of it."""
+    """What is shown of an X.509 certificate (RFC 5280, 4.1)."""
 
     encoding: bytes
     serial: bytes
@@ -221,7 +220,7 @@ def refused_as_signed(octets: bytes, refused: der.Refused) -> str:
 def time_stamp_token(octets: bytes) -> Optional[bytes]:
     """The token in a TimeStampResp (RFC 3161, 2.4.2), where the octets are one that has a token."""
     try:
-        status, token = whole(octets).children()
+        status, token = whole(octets).first(3)
         if status.tag == SEQUENCE and status.inside().tag == INTEGER and oid(token.inside()) == SIGNED_DATA:
             return token.encoding
     except (NotThere, ValueError):

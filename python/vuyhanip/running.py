@@ -1,16 +1,23 @@
 """Work over many files: in several processes, with a line of progress, and in colours where a terminal is there."""
+import errno
 import os
+import re
 import sys
 import time
 from concurrent.futures import ProcessPoolExecutor
 from concurrent.futures.process import BrokenProcessPool
 from typing import Callable, Iterator, Sequence, TextIO, TypeVar
 
+from .files import is_stream
+
 T = TypeVar("T")
 
 # How long work takes before progress is shown, and how long it is shown before it is shown anew.
 PATIENCE, PAUSE = 1.0, 0.1
-COLOURS = {"normal": "32", "right": "32", "loose": "33", "refused": "31", "wrong": "31", "differs": "31"}
+COLOURS = {"normal": "32", "right": "32", "loose": "33", "weak": "33", "refused": "31", "wrong": "31"}
+COLOURS.update({"not right": "31", "not checked": "33"})
+# Those words, the longer ones first.
+COLOURED = re.compile(rf"(?<!\S)({'|'.join(sorted(COLOURS, key=len, reverse=True))})(?=[:,]?(?:\s|$))")
 
 
 class Progress:
@@ -40,8 +47,8 @@ class Progress:
 
 
 def over(names: Sequence[str], job: Callable[[str], T], processes: int) -> Iterator[T]:
-    """What a job says of each file, in their order. Standard input is read in this process."""
-    if processes <= 1 or len(names) < 2 or "-" in names:
+    """What a job says of each file, in their order. Standard input and pipes are read in this process."""
+    if processes <= 1 or len(names) < 2 or any(map(is_stream, names)):
         yield from map(job, names)
         return
     with ProcessPoolExecutor(min(processes, len(names))) as pool:
@@ -49,7 +56,7 @@ def over(names: Sequence[str], job: Callable[[str], T], processes: int) -> Itera
         try:
             yield from pool.map(job, names, chunksize=pieces)
         except BrokenProcessPool:
-            raise OSError("a process of -j was ended: the files that are left are not done") from None
+            raise OSError(errno.ECHILD, "a process of -j ended, so files are left", "vuyhanip") from None
 
 
 def is_coloured(stream: TextIO) -> bool:
@@ -61,10 +68,4 @@ def coloured(line: str, stream: TextIO) -> str:
     """A line with the words of verdicts in colours."""
     if not is_coloured(stream):
         return line
-    return " ".join(_word(it) for it in line.split(" "))
-
-
-def _word(word: str) -> str:
-    """A word, in its colour."""
-    found = COLOURS.get(word.rstrip(":,"))
-    return f"\x1b[{found}m{word}\x1b[0m" if found else word
+    return COLOURED.sub(lambda word: f"\x1b[{COLOURS[word[0]]}m{word[0]}\x1b[0m", line)

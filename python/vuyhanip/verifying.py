@@ -1,218 +1,325 @@
-"""The verb verify: signatures of signers, and the MAC of a store. No certificate is judged."""
-import hashlib
-import hmac
-from typing import Dict, List, NamedTuple, Optional, Tuple
+"""The verb verify: signatures of signers, time stamps and nested signatures, and the MAC of a store.
 
-from . import der
-from .algorithms import algorithm_oid
-from .checking import SIGNED_KINDS, Accepted, judge
+A file is read by the library first. Then its octets as they are go to openssl, whose yes a yes is, and rules.RULES may
+refuse what it said yes to.
+"""
+import datetime
+import os
+from typing import Callable, Iterator, List, NamedTuple, Optional, Sequence, Tuple, Union
+
+from . import der, library, tool
+from .checking import NORMAL, REFUSED, SIGNED_KINDS, Accepted, NoKind, judge_given
 from .containers import (
-    CONTENT_TYPE,
-    COUNTER_SIGNATURE,
     DATA,
-    MESSAGE_DIGEST,
     NESTED_SIGNATURE,
     TIME_STAMPS,
     TST_INFO,
-    Attribute,
-    Certificate,
-    Signer,
     is_signed,
     refused_as_signed,
-    signed,
-    stamp,
     time_stamp_token,
 )
-from .elements import OBJECT_IDENTIFIER, OCTET_STRING, Element, NotThere, whole
-from .files import Given
-from .keys import NotChecked, scheme_of, verifies
+from .elements import OCTET_STRING
+from .files import Given, NoPem, TooMany, allow, held, iterations_in
+from .findings import Finding, Said, of_signer
+from .judging import Answer, Terms, facts, of_mac, of_signatures, of_stamp, stamp_facts, token_of
 from .names import name_of
-from .showing import MOST_LEVELS
-from .values import name, oid
+from .rules import INDIRECT_DATA, SEGMENTS, Case, Effect, Of, found
+from .values import printable
 
-RIGHT, WRONG = "signature right", "signature wrong"
+# How many levels of nested signatures and time stamps are judged, and with how many certificates each.
+MOST_LEVELS, MOST_CERTIFICATES = 8, 100
+NEWLINE = "without the newline after its DER"
+ED25519, ED448 = "1.3.101.112", "1.3.101.113"
 
 
-class Finding(NamedTuple):
-    """What is said of a signer or of a MAC."""
+class Around(NamedTuple):
+    """Where signed data are: what is told before their signers, how deep, and with which certificates around them."""
+
+    before: str = ""
+    level: int = 0
+    certificates: Tuple[bytes, ...] = ()
+    # whether they have to be a time stamp, and the response in which it is
+    is_stamp: bool = False
+    response: Optional[bytes] = None
+
+    @property
+    def whole(self) -> str:
+        """What they are themselves."""
+        return self.before.rstrip(", ") or "file"
+
+
+# How signed data are asked about
+
+
+def read_signed(octets: bytes, is_strict: bool) -> der.SignedData:
+    """Signed data, of which what is BER is converted, also in content and attributes, where the library looks at no
+    form; taken strictly it is refused. Raises der.Refused."""
+    try:
+        made = library().from_ber(octets)
+    except der.Refused:
+        made = octets
+    if made == octets:
+        return library().signed(octets)
+    if is_strict:
+        raise der.Refused(der.Reason.MALFORMED, len(os.path.commonprefix([octets, made])))
+    return library().signed(made)
+
+
+def case_of(data: der.SignedData, terms: Terms, around: Around) -> Case:
+    """Signed data as the rules ask of them."""
+    is_stamp = around.is_stamp or data.content_type == TST_INFO
+    own = None if data.content is None else bytes(data.content)
+    return Case(
+        data,
+        list(data.signers),
+        list(data.signer_infos),
+        terms.content,
+        terms.content if is_stamp or own is None else own,
+        is_stamp,
+        list(map(bytes, data.certificates)),
+        [*around.certificates, *terms.certificates],
+    )
+
+
+def by_library(case: Case) -> List[List[bytes]]:
+    """Of each signer the certificate that the library finds, or else those with its serial number."""
+    return [_by_library(case, number) for number in range(len(case.signers))]
+
+
+def _by_library(case: Case, number: int) -> List[bytes]:
+    """The same of one signer."""
+    signer, info = case.signers[number], case.infos[number]
+    if isinstance(signer, der.Signer) and signer.certificate is not None:
+        return [bytes(signer.certificate)]
+    if info.serial_number is None:
+        return []
+    held = ((it, facts(it)) for it in (*case.certificates, *case.others))
+    return [it for it, what in held if what is not None and what.number == info.serial_number]
+
+
+def _own(case: Case, answer: Answer) -> Sequence[Sequence[bytes]]:
+    """Of each signer its certificate as openssl says it, or as the library does where openssl says none. No certificate
+    where it says other numbers of them: it has read the file otherwise."""
+    if not answer.signers:
+        return case.own
+    is_so = len(answer.signers) == len(case.signers)
+    return [[it] for it in answer.signers] if is_so else [[] for _ in case.signers]
+
+
+def is_of_cms(case: Case) -> bool:
+    """Whether openssl reads signed data by cms; else it does by smime or ts, as PKCS #7 has them."""
+    is_string = case.data.content_tag in (None, OCTET_STRING, SEGMENTS)
+    return not case.is_stamp and (is_string or case.data.content_type == DATA)
+
+
+class Unable(NamedTuple):
+    """What openssl can't do, up to a version, or in all of them."""
 
     what: str
-    said: str
-    is_right: bool
-    # the subject of the certificate that a signature was checked with
-    certificate: str = ""
-
-    @property
-    def line(self) -> str:
-        """The words after the file's name."""
-        if self.what == "file":
-            return self.said
-        if self.what.endswith("MAC"):
-            return f"{self.what} {self.said}"
-        by = f" by {self.certificate}" if self.certificate else ""
-        return f"{self.what}: {self.said}{by}, certificate not judged"
+    version: Optional[Tuple[int, int]]
+    is_so: Callable[[Case], bool]
 
 
-class Wrong(ValueError):
-    """Why a signature is not right, in words."""
+def is_edwards(case: Case) -> bool:
+    """Whether a signature is of Ed25519 or Ed448."""
+    return any(isinstance(it, der.Signer) and it.signature_oid in (ED25519, ED448) for it in case.signers)
 
 
-def only_value(those: List[Attribute], which: str, tag: int) -> Element:
-    """The one value of the one attribute with an object identifier (RFC 5652, 11). Raises Wrong."""
-    word = name_of(which)
-    found = [it for it in those if it.oid == which]
-    if not found:
-        raise Wrong(f"no {word}")
-    if len(found) > 1 or len(found[0].values) != 1 or found[0].values[0].tag != tag:
-        raise Wrong(f"no {word} that is one value")
-    return found[0].values[0]
+def is_by_key(case: Case) -> bool:
+    """Whether a signer is named by a key identifier, which PKCS #7 doesn't have."""
+    return not is_of_cms(case) and any(it.key_identifier is not None for it in case.infos)
 
 
-def fault_of(signer: Signer, content_type: str) -> str:
-    """Why the signed attributes of a signer break RFC 5652 (11.1 and 11.2), in words."""
-    try:
-        only_value(signer.signed, MESSAGE_DIGEST, OCTET_STRING)
-        if oid(only_value(signer.signed, CONTENT_TYPE, OBJECT_IDENTIFIER)) != content_type:
-            return "content type differs"
-    except Wrong as fault:
-        return str(fault)
-    return str(signer.parts)
+UNABLE = (
+    Unable("signatures of Ed25519 and Ed448 in CMS", (3, 0), is_edwards),
+    Unable("signers by key identifier over such content", None, is_by_key),
+)
 
 
-class Content:
-    """Content that is signed. It is hashed once by each algorithm, and not once for each signer."""
-
-    def __init__(self, content_type: str, octets: Optional[bytes]) -> None:
-        self.type = content_type
-        self._octets = octets
-        self._digests: Dict[str, bytes] = {}
-
-    @property
-    def octets(self) -> bytes:
-        """Its octets. Raises Wrong where there are none."""
-        if self._octets is None:
-            raise Wrong("no content, which --content gives")
-        return self._octets
-
-    def digest(self, algorithm: str) -> bytes:
-        """Its digest, by the object identifier of an algorithm. Raises Wrong."""
-        octets, hashed = self.octets, der.digest_name(algorithm)
-        if hashed is None:
-            raise Wrong(f"not checked: the digest {name_of(algorithm)} is not known")
-        if hashed not in self._digests:
-            self._digests[hashed] = hashlib.new(hashed, octets).digest()
-        return self._digests[hashed]
+def unasked(case: Case, terms: Terms) -> str:
+    """Why openssl isn't asked, or nothing. Raises tool.NoTool."""
+    if case.content is None:
+        return "no content, which --content gives"
+    if case.data.content_type == INDIRECT_DATA and terms.anchors is not None and terms.purpose is None:
+        return "openssl has no purpose for programs, so --ca asks for --purpose any"
+    for it in UNABLE:
+        if it.is_so(case) and (it.version is None or tool.is_of(*it.version)):
+            return f"{tool.version()} verifies no {it.what}"
+    return ""
 
 
-def covered_by(parts: der.Signer, content: Content) -> bytes:
-    """The octets that a signature covers, once what they say of the content is so (RFC 5652, 5.4). Raises Wrong."""
-    if parts.digest is None or parts.covered is None:
-        if content.type != DATA:
-            raise Wrong("no signed attributes, which content of its type needs")
-        return content.octets
-    if not hmac.compare_digest(content.digest(parts.digest_oid), parts.digest):
-        raise Wrong("digest differs")
-    return bytes(parts.covered)
+def asked(octets: bytes, case: Case, terms: Terms, response: Optional[bytes]) -> Answer:
+    """What openssl says of signed data."""
+    content = case.content or b""
+    if case.is_stamp:
+        signers, others = [it for those in case.own for it in those], [*case.certificates, *case.others]
+        return of_stamp(response or octets, response is None, content, signers, others, terms)
+    if is_of_cms(case):
+        return of_signatures("cms", octets, content if case.data.content_tag is None else None, terms)
+    return of_signatures("smime", octets, content, terms)
 
 
-def signature_said(signer: Signer, content: Content) -> Tuple[str, Optional[Certificate]]:
-    """What is said of a signer's signature, and the certificate that it was checked with."""
-    parts, found = signer.parts, None
-    if isinstance(parts, der.BadAttributes):
-        return fault_of(signer, content.type), None
-    try:
-        covered = covered_by(parts, content)
-        found = signer.certificate
-        if found is None:
-            return "no certificate", None
-        scheme = scheme_of(whole(bytes(parts.signature_algorithm)), parts.digest_oid)
-        is_so = verifies(found.key, scheme, bytes(parts.signature), covered)
-    except Wrong as fault:
-        return str(fault), found
-    except (NotChecked, NotThere) as fault:
-        return f"not checked: {fault}", found
-    return (RIGHT if is_so else WRONG), found
+# What is found in them
 
 
-def signer_findings(data: bytes, content: Optional[bytes], before: str = "", level: int = 0) -> List[Finding]:
-    """What is said of each signer, and of the time stamps and nested signatures in it. Raises der.Refused."""
-    it, findings = signed(data), []
-    hashed = Content(it.content_type, content if it.content is None else it.content)
-    for number, signer in enumerate(it.signers, 1):
-        what = f"{before}signer {number}"
-        said, found = signature_said(signer, hashed)
-        by = name(found.subject) if found and said in (RIGHT, WRONG) else ""
-        findings.append(Finding(what, said, said == RIGHT, by))
-        for attribute in signer.unsigned:
-            findings += _unsigned(signer, attribute, what, level + 1)
-    if not it.signers:
-        findings.append(Finding(f"{before}signers", "none", False))
-    return findings
+def signed_findings(octets: bytes, terms: Terms, around: Around) -> List[Finding]:
+    """What is said of each signer, and of the time stamps and nested signatures in it.
 
-
-def _unsigned(signer: Signer, attribute: Attribute, what: str, level: int) -> List[Finding]:
-    """What is said of an unsigned attribute that holds signatures."""
-    is_stamp = attribute.oid in TIME_STAMPS
-    if attribute.oid == COUNTER_SIGNATURE:
-        return [Finding(f"{what}, counter signature", "not checked", False)]
-    if not is_stamp and attribute.oid != NESTED_SIGNATURE:
-        return []
+    Raises der.Refused, and tool.NoTool.
+    """
+    case = case_of(read_signed(octets, terms.strict), terms, around)
+    if len({*case.certificates, *case.others}) > MOST_CERTIFICATES:
+        return [Finding(around.whole, f"not checked: more than {MOST_CERTIFICATES} certificates")]
+    case = case._replace(own=by_library(case))
+    why, answer = unasked(case, terms), None
+    if not why:
+        answer = asked(octets, case, terms, around.response)
+        case = case._replace(own=_own(case, answer), stamp=stamp_facts(octets) if case.is_stamp else None)
+    said, of_file = Said(answer, why, terms.anchors is not None, terms.allows_weak), found(Of.FILE, case)
     findings: List[Finding] = []
-    for value in attribute.values:
-        inner = f"{what}, {'time stamp' if is_stamp else 'nested signature'}, "
-        try:
-            if level > MOST_LEVELS:
-                raise NotThere(f"more than {MOST_LEVELS} levels")
-            if is_stamp:
-                findings += _imprint(value.encoding, signer.signature, inner)
-            findings += signer_findings(value.encoding, None, inner, level)
-        except (der.Refused, NotThere) as fault:
-            findings.append(Finding(inner.rstrip(", "), f"refused: {fault}", False))
+    for number in range(len(case.signers)):
+        what = f"{around.before}signer {number + 1}"
+        it = of_signer(what, said, [*of_file, *found(Of.SIGNER, case, number)])
+        findings.append(described(it, case, number))
+        findings += inside(case, number, terms, around._replace(before=f"{what}, ", response=None))
+    return findings or [of_signer(f"{around.before}signers", said, of_file)]
+
+
+def described(it: Finding, case: Case, number: int) -> Finding:
+    """A finding with what the signer is."""
+    signer, info, certificate = case.signers[number], case.infos[number], next(iter(case.facts_of(number)), None)
+    if isinstance(signer, der.Signer):
+        it = it._replace(digest=name_of(signer.digest_oid), scheme=name_of(signer.signature_oid))
+    if certificate is not None:
+        it = it._replace(bits=certificate.bits, by=printable(certificate.subject))
+    if case.stamp is not None:
+        return it._replace(time=printable(moment(case.stamp.time)))
+    try:
+        return it._replace(time=None if info.signing_time is None else f"{info.signing_time:%Y-%m-%d %H:%M:%S}")
+    except ValueError:
+        return it
+
+
+def moment(text: str) -> str:
+    """A time as openssl writes it, as other times are written; as it is where it has a fraction of a second."""
+    try:
+        return f"{datetime.datetime.strptime(text, '%b %d %H:%M:%S %Y GMT'):%Y-%m-%d %H:%M:%S}"
+    except ValueError:
+        return text
+
+
+def inside(case: Case, number: int, terms: Terms, around: Around) -> List[Finding]:
+    """What is said of the time stamps and nested signatures of a signer."""
+    signer, findings = case.signers[number], []
+    certificates = (*around.certificates, *case.certificates)
+    for attribute in case.infos[number].unsigned_attributes:
+        which = der.attribute_oid(attribute)
+        is_stamp = which in TIME_STAMPS
+        if not is_stamp and which != NESTED_SIGNATURE or isinstance(signer, der.BadAttributes):
+            continue
+        word = "time stamp" if is_stamp else "nested signature"
+        within = Around(f"{around.before}{word}, ", around.level + 1, certificates if is_stamp else (), is_stamp)
+        for value in der.attribute_values(attribute):
+            content = bytes(signer.signature) if is_stamp else None
+            findings += _inside(bytes(value), terms._replace(content=content), within)
     return findings
 
 
-def _imprint(token: bytes, stamped: bytes, before: str) -> List[Finding]:
-    """What is wrong with what a time stamp says that it stamps (RFC 3161, 2.4.2), if anything is."""
-    it = signed(token)
-    if it.content_type != TST_INFO or it.content is None:
-        return [Finding(before.rstrip(", "), "no TSTInfo", False)]
-    said = stamp(it.content)
-    digest = der.digest_name(algorithm_oid(said.digest_algorithm))
-    if digest is None:
-        return [Finding(before.rstrip(", "), "not checked: its digest is not known", False)]
-    if not hmac.compare_digest(hashlib.new(digest, stamped).digest(), said.digest):
-        return [Finding(before.rstrip(", "), "it stamps other octets than this signature", False)]
-    return []
+def _inside(octets: bytes, terms: Terms, around: Around) -> List[Finding]:
+    """What is said of a time stamp or of a nested signature. Raises tool.NoTool."""
+    if around.level > MOST_LEVELS:
+        return [Finding(around.whole, f"not checked: more than {MOST_LEVELS} levels")]
+    return _signed(octets, octets, terms, around)
 
 
-def mac_finding(it: Given, password: Optional[str]) -> Finding:
-    """What is said of a store's MAC."""
-    mac = it.mac
-    if mac is None:
-        return Finding("no MAC", "in the file", False)
+# Stores
+
+
+def mac_finding(store: bytes, mac: Optional[der.Mac], password: Optional[str]) -> Finding:
+    """What is said of a store's MAC. Raises tool.NoTool."""
+    for rule, why in found(Of.STORE, mac):
+        said = f"refused: {why} ({rule.section})" if rule.effect is Effect.REFUSES else f"not checked: {why}"
+        what, said = ("no MAC", why) if mac is None else ("MAC", said)
+        return Finding(what, said, rule=rule.name)
     if password is None:
-        return Finding("MAC", "not checked: no password, which --password-file gives", False)
-    try:
-        is_so = mac.is_right(password)
-    except ValueError as fault:
-        return Finding("MAC", f"not checked: {fault}", False)
-    return Finding("MAC", "right" if is_so else "wrong", is_so)
+        return Finding("MAC", "not checked: no password, which --password-file or --ask-password gives")
+    octets = password.encode("utf-8", "replace")
+    if len(octets) > tool.MOST_OF_PASSWORD or octets.decode() != password or "\0" in password or "\n" in password:
+        return Finding("MAC", "not checked: openssl takes no such password")
+    answer = of_mac(store, octets)
+    it = Finding("MAC", "right", NORMAL, tool=tool.version(), words=answer.words or None)
+    it = it._replace(digest=None if mac is None else name_of(mac.digest_algorithm))
+    if answer.is_right:
+        return it
+    return it._replace(said="not checked" if answer.is_right is None else "wrong", status=REFUSED)
 
 
-def verify(data: bytes, content: Optional[bytes], password: Optional[str], strict: bool = False) -> List[Finding]:
-    """What is said of a file. Raises files.NoPem; der.Refused where nothing in it can be verified."""
-    said = judge(data, None, strict)
-    if not isinstance(said, Accepted):
-        token = time_stamp_token(said.given.octets)
-        if token is None:
-            return [Finding("file", f"{said.furthest.kind} {said}", False)]
-        return verify(token, content, password, True)
+def mac_verdict(store: bytes, password: str) -> Finding:
+    """What is said of the MAC of a PKCS #12 file, in DER or BER. Raises der.Refused, and tool.NoTool."""
+    return mac_finding(store, library().mac_ber(library().from_ber(store)), password)
+
+
+# Files
+
+
+def without_newline(it: Given, is_strict: bool) -> Optional[Given]:
+    """A file that ends with a newline after its DER, without that. None where it is none such."""
+    if is_strict or it.forms:
+        return None
+    for newline in (b"\n", b"\r\n"):
+        shorter = Given(it.octets[: -len(newline)], ("DER before a newline",))
+        if it.octets.endswith(newline) and not isinstance(read(shorter, is_strict), NoKind):
+            return shorter
+    return None
+
+
+def read(it: Given, is_strict: bool) -> Union[Accepted, NoKind, bytes]:
+    """What octets are by the library; of a response the time stamp in it, by openssl. Raises tool.NoTool."""
+    said = judge_given(it, None, is_strict)
+    if isinstance(said, NoKind) and time_stamp_token(it.octets) is not None:
+        return token_of(it.octets) or said
+    return said
+
+
+def block_findings(it: Given, terms: Terms, before: str) -> List[Finding]:
+    """What is said of one block. Raises tool.NoTool."""
+    said, around = read(it, terms.strict), Around(before)
+    if isinstance(said, bytes):
+        return _signed(said, said, terms, around._replace(is_stamp=True, response=it.octets))
+    if isinstance(said, NoKind):
+        shorter = without_newline(it, terms.strict)
+        if shorter is None:
+            return [Finding(around.whole, said.line)]
+        return [each._replace(notes=(NEWLINE, *each.notes)) for each in block_findings(shorter, terms, before)]
     if said.kind in ("pfx", "rawpfx"):
-        return [mac_finding(said.given, password)]
-    octets = said.given.octets
-    if said.kind not in SIGNED_KINDS or not is_signed(octets):
-        return [Finding("file", f"{said.kind}: nothing in it is verified", False)]
+        of_mac = mac_finding(it.octets, said.given.mac, terms.password)
+        return [of_mac._replace(what=f"{before}{of_mac.what}")]
+    if said.kind not in SIGNED_KINDS or not is_signed(said.given.octets):
+        return [Finding(around.whole, f"{said.kind}: nothing in it is verified")]
+    return _signed(it.octets, said.given.octets, terms, around)
+
+
+def _signed(octets: bytes, in_der: bytes, terms: Terms, around: Around) -> List[Finding]:
+    """What is said of signed data. Raises tool.NoTool."""
     try:
-        return signer_findings(octets, content)
+        return signed_findings(octets, terms, around)
     except der.Refused as refused:
-        return [Finding("file", refused_as_signed(octets, refused), False)]
+        return [Finding(around.whole, refused_as_signed(in_der, refused))]
+
+
+def verify(data: bytes, terms: Terms) -> List[Finding]:
+    """What is said of a file."""
+    try:
+        allow(0 if terms.password is None else iterations_in(data, terms.strict))
+    except TooMany as fault:
+        return [Finding("MAC", f"not checked: {fault}")]
+    parts = list(held(data, terms.strict))
+    findings: List[Finding] = []
+    for number, it in enumerate(parts, 1):
+        before = f"block {number} of {len(parts)}, " if len(parts) > 1 else ""
+        try:
+            findings += [Finding(Around(before).whole, f"refused: {it}")] if isinstance(it, NoPem) else []
+            findings += block_findings(it, terms, before) if isinstance(it, Given) else []
+        except tool.NoTool as fault:
+            findings.append(Finding(Around(before).whole, f"not checked: {fault}"))
+    return findings
