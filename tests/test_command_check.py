@@ -7,7 +7,13 @@ import subprocess
 import sys
 import unittest
 
-from support.command import EMPTY, LOOSE, Command
+from support.command import EMPTY, LOOSE, SIGNERS, Command
+from support.containers import NULL, content_info
+from support.elements import octet_string, sequence, within
+from support.oids import oid
+
+# The content of signed data, which is data.
+STRING = octet_string(b"some content\n" * 10)
 
 
 class Check(Command):
@@ -67,6 +73,50 @@ class Check(Command):
         ended, said, complaints = self.command("check", "nothere", "empty.p12", ".")
         self.assertEqual((ended, said), (1, "empty.p12: pfx normal 24\n"))
         self.assertEqual(complaints, "nothere: No such file or directory\n.: Is a directory\n")
+
+    def test_what_is_in_content_of_a_known_type_is_looked_into(self):
+        """The kind contentinfo takes any element there."""
+        whole, by_key = self.octets("attributes.p7s"), self.octets("keyid.p7s")
+        version = whole.index(b"\x02\x01\x01")
+        junk = sequence(bytes.fromhex("DEADBEEF"))
+        for name, octets, place in (
+            ("version.p7s", whole[:version] + b"\x13" + whole[version + 1 :], version),
+            ("junk.p7s", content_info("signed data", junk), 17),
+            ("junk.p7m", content_info("1.2.840.113549.1.7.3", junk), 17),
+            ("junk.data", content_info("data", junk), 15),
+            ("string.p7s", whole.replace(STRING, b"\x0c" + STRING[1:]), whole.index(STRING)),
+            ("string3.p7s", by_key.replace(STRING, b"\x0c" + STRING[1:]), by_key.index(STRING)),
+        ):
+            self.put(name, octets)
+            self.assertFalse(self.succeeds("cms", "-cmsout", "-noout", "-inform", "DER", "-in", name), name)
+            self.finds(["check", name], [rf"^{name}: \w+ refused: \w+ at {place} \("], 1)
+            for verb in (["show"], ["verify"], ["extract", "--into", "parts"]):
+                self.assertIn("refused: ", self.command(*verb, name)[1], verb)
+            self.finds(["check", "--kind", "contentinfo", name], [": normal"])
+
+    def test_ber_in_der_is_converted_before_content_is_taken_as_it_is(self):
+        """A length of two octets in an attribute, which openssl verifies as DER has it."""
+        longer = lambda it: it.replace(b"\x31\x0b", b"\x31\x81\x0b", 1)
+        self.put("length.p7s", within(self.octets("attributes.p7s"), [*SIGNERS, 0, 0xA0, 0], longer))
+        words = ["-noverify", "-binary", "-inform", "DER", "-out", "out"]
+        self.assertTrue(self.succeeds("cms", "-verify", *words, "-in", "length.p7s"))
+        size = len(self.octets("attributes.p7s"))
+        self.says(["check", "length.p7s"], [f"length.p7s: pkcs7certificate normal {size} (from BER)"], 3)
+        self.assertEqual(self.command("to-der", "length.p7s", "-o", "made")[0], 0)
+        self.assertEqual(self.octets("made"), self.octets("attributes.p7s"))
+
+    def test_content_that_only_its_type_refuses_is_said_and_accepted(self):
+        """A cabinet's (1.3.6.1.4.1.311.2.1.25), where the type reads a program's."""
+        cabinet = sequence(sequence(oid("1.3.6.1.4.1.311.2.1.25"), sequence(octet_string(b""))), sequence(NULL))
+        whole = self.signed_over("1.3.6.1.4.1.311.2.1.4", cabinet)
+        self.put("cabinet.p7s", whole)
+        place = whole.index(cabinet)
+        unread = r"its content isn't read: \w+ at (\d+) \(SEQUENCE > .*\)"
+        wanted = rf"^cabinet\.p7s: contentinfo normal {len(whole)}, {unread}$"
+        said = self.finds(["check", "cabinet.p7s"], [wanted])
+        self.assertIn(int(re.search(wanted, said)[1]), range(place, place + len(cabinet) + 1))
+        told = json.loads(self.command("check", "--json", "cabinet.p7s")[1])
+        self.assertEqual((told["verdict"], told["unread"].split()[1]), ("normal", "at"))
 
     def test_statuses(self):
         self.put("digest.der", LOOSE)

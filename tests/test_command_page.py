@@ -1,4 +1,6 @@
 """`vuyhanip page`: what is in a page, and what a browser shows of it."""
+import base64
+import hashlib
 import html
 import html.parser
 import re
@@ -36,6 +38,11 @@ log("folded: " + all("#tree .row").length);
 """
 
 
+def source(text):
+    """What a policy has for a script or for looks (Content Security Policy, 6.7.3)."""
+    return f"'sha256-{base64.b64encode(hashlib.sha256(text.encode()).digest()).decode()}'"
+
+
 class Addresses(html.parser.HTMLParser):
     """What a page asks others for, and how many scripts it has."""
 
@@ -49,24 +56,55 @@ class Addresses(html.parser.HTMLParser):
 
 
 class Page(Command):
-    def page(self, name, *words):
-        ended, _, complaints = self.command("page", name, "-o", "page.html", *words)
-        self.assertEqual((ended, complaints), (0, ""))
+    def page(self, name, *words, status=0):
+        """The text of a page, with the status of what it shows."""
+        ended, _, complaints = self.command("page", name, "-o", "page.html", "--overwrite", *words)
+        self.assertEqual((ended, complaints), (status, ""))
         return self.octets("page.html").decode()
 
+    def test_a_name_that_looks_like_a_place_of_the_page_is_shown_as_it_is(self):
+        for name in ("{{data}}", "{{said}}", "{{title}}", "{{script}}"):
+            text = self.page(self.put(name, self.octets("plain.p12")))
+            self.assertIn(f"<title>{name}</title>", text)
+            self.assertIn(f"<h1>{name}</h1>", text)
+            self.assertEqual(text.count(base64.b64encode(self.octets("plain.p12")).decode()), 1)
+
+    def test_its_policy_allows_its_own_script_and_looks_by_their_digests(self):
+        text = self.page("store.p12")
+        policy = re.search(r'content="([^"]*)"', text)[1]
+        self.assertNotIn("unsafe", policy)
+        for word in ("style", "script"):
+            its = re.search(rf"<{word}>(.*?)</{word}>", text, re.S)[1]
+            self.assertIn(f"{word}-src {source(its)}", policy)
+
+    @needs("chromium")
+    def test_no_other_script_is_run(self):
+        text = self.page("store.p12")
+        self.put("page.html", (text + '<script>document.title = "changed";</script>').encode())
+        shown = self.dom()
+        self.assertIn("data-ready=", shown)
+        self.assertIn("<title>store.p12</title>", shown)
+
     def test_it_asks_no_server_and_escapes_strings(self):
-        for name in ("store.p12", "broken.p7s", self.put("<script>.p12", self.octets("store.p12"))):
-            text = self.page(name)
+        script = self.put("<script>.p12", self.octets("store.p12"))
+        for name, status in (("store.p12", 0), ("broken.p7s", 1), (script, 0), ("stream.p7s", 3)):
+            text = self.page(name, status=status)
             found = Addresses()
             found.feed(text)
             self.assertEqual((found.asked, found.scripts), ([], 2))
             self.assertNotIn("alert(1)</script>", text)
             self.assertNotRegex(text, r"url\(|@import|fetch\(|XMLHttpRequest|https?://")
 
-    def opened(self, name, *words):
+    def opened(self, name, *words, status=0):
         """What chromium has of a page, with what the actions below it find."""
         skip_without("chromium")
-        self.put("page.html", (self.page(name, *words) + ACTIONS).encode())
+        own = source(ACTIONS[ACTIONS.index("<script>") + len("<script>") : -len("</script>\n")])
+        text = self.page(name, *words, status=status).replace("script-src ", f"script-src {own} ") + ACTIONS
+        self.put("page.html", text.encode())
+        return self.dom()
+
+    def dom(self):
+        """What chromium has of the page."""
         words = ["--headless=new", "--no-sandbox", "--disable-gpu", "--window-size=1400,800", "--dump-dom", "page.html"]
         ran = subprocess.run(["chromium", *words], capture_output=True, check=True, cwd=self.room, timeout=120)
         return html.unescape(ran.stdout.decode())
@@ -86,7 +124,7 @@ class Page(Command):
         self.put("bad.p12", self.octets("plain.p12").replace(name + b"\x31", name + b"\x30"))
         place = int(re.search(r"refused: \w+ at (\d+)", self.command("check", "--kind", "pfx", "bad.p12")[1])[1])
         self.assertEqual(place, self.octets("bad.p12").index(name) + len(name))
-        self.assertIn(f"place: {place} SEQUENCE", self.opened("bad.p12", "--kind", "pfx"))
+        self.assertIn(f"place: {place} SEQUENCE", self.opened("bad.p12", "--kind", "pfx", status=1))
 
     @needs("chromium")
     def test_a_page_of_a_megabyte_opens_in_two_seconds(self):

@@ -3,7 +3,8 @@ import re
 import time
 import unittest
 
-from support.command import Command
+from support.command import SIGNERS, Command
+from support.elements import sequence, within
 from support.oids import oid
 
 NAME_OPTIONS = ["-nameopt", "RFC2253,utf8,-esc_msb,-esc_ctrl"]
@@ -49,11 +50,12 @@ class Show(Command):
         wanted = [r"^smile\.p12: .*\(rawpfx normal", "^  key +rsaEncryption$", "^    friendly name +Schlü😀el$"]
         self.finds(["show", "smile.p12"], [*wanted, f"^    subject +{subject}$"])
         at = self.octets("half.p12").index(oid("friendlyName")) - 2
-        self.finds(["show", "half.p12"], [rf"^  bags +refused: invalid at {at} \(SEQUENCE > .*\)$"])
+        self.finds(["show", "half.p12"], [rf"^  bags +refused: invalid at {at} \(SEQUENCE > .*\)$"], 1)
 
     def test_bags_in_bags(self):
         wanted = ["^  bags in a bag +2$", "^    bags in a bag +2$", "^      bags in a bag +2$"]
-        said = self.finds(["show", "nested.p12"], wanted)
+        # it has a revocation list that is none
+        said = self.finds(["show", "nested.p12"], [*wanted, "^    not read  +2 octets, which"], 1)
         levels = [len(it) for it in re.findall("^( *)friendly name +Schlü😀el$", said, re.MULTILINE)]
         self.assertEqual((min(levels), max(levels), len(levels)), (4, 10, 16))
 
@@ -80,9 +82,9 @@ class Show(Command):
         self.finds(["show", "other.p7s"], ["content +1.2.3.4, 130 octets", "contentType +1.2.3.4$"])
 
     def test_attributes_that_break_rfc_5652(self):
-        for name, count in (("nodigest.p7s", 4), ("keyid-type.p7s", 4), ("empty.p7s", 0)):
+        for name, count, status in (("nodigest.p7s", 4, 0), ("keyid-type.p7s", 4, 0), ("empty.p7s", 0, 3)):
             wanted = ["^    not valid +signed attributes that RFC 5652 forbids$", f"covers +{count} signed"]
-            self.finds(["show", name], wanted)
+            self.finds(["show", name], wanted, status)
 
     def test_signed_data_that_are_none(self):
         signed = self.octets("attributes.p7s")
@@ -109,8 +111,17 @@ class Show(Command):
             self.finds(["show", name], rows)
 
     def test_ber_and_pem_are_shown(self):
-        for name in ("stream.p7s", "signed.pem"):
-            self.finds(["show", name], ["content +pkcs7-data, 130 octets"])
+        for name, status in (("stream.p7s", 3), ("signed.pem", 0)):
+            self.finds(["show", name], ["content +pkcs7-data, 130 octets"], status)
+
+    def test_what_cant_be_shown_has_the_status_of_a_refusal(self):
+        """In place of the words of a fault in Python."""
+        certificates, junk = [*SIGNERS[:-1], 0xA0], sequence(sequence(), sequence())
+        self.put("certificate.p7s", within(self.octets("attributes.p7s"), certificates, lambda _: junk))
+        wanted = "^    not read +6 octets, which aren't as RFC 5280 has them$"
+        self.finds(["show", "certificate.p7s"], [wanted], 1)
+        self.sign("token.p7s", "-nodetach", "-econtent_type", "1.2.840.113549.1.9.16.1.4")
+        self.finds(["show", "token.p7s"], ["^  not shown +what follows, since it isn't as its type has it$"], 1)
 
 
 if __name__ == "__main__":

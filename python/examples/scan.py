@@ -2,9 +2,11 @@
 """Checks all files of a folder, or of a list of names, and appends a line of JSON for each to a file: the fields of
 `vuyhanip check --json`. A second run goes on where the first was broken off.
 
-Usage: scan.py [--kind KIND] [-j N] [--scheduler ADDRESS] FROM OUT
+Usage: scan.py [--kind KIND] [--most-octets N] [-j N] [--scheduler ADDRESS] FROM OUT
 
-FROM is a folder, of which all files are checked, or a file of names, one a line; - is standard input.
+FROM is a folder, of which all regular files are checked, in folders in it too but for links to folders, or a file of
+names, one a line; - is standard input. What isn't a regular file isn't opened, and no file is read that is longer than
+the octets of --most-octets, 1 GiB by default. It takes --most-iterations as the command does, and derives no key.
 The work is done by N processes here, as many as there are processors by default, or by the workers of a scheduler of
 dask, as tcp://host:8786. These need the package vuyhanip, and the files under the same names. Work of a worker or a
 process that ends is done again by another; a file at which that happens some times is answered with an error.
@@ -20,10 +22,10 @@ from concurrent.futures.process import BrokenProcessPool
 from typing import IO, Any, Callable, Dict, Iterable, Iterator, List, Set, Tuple
 
 try:
-    from vuyhanip import checking, library
+    from vuyhanip import checking, files, library
 except ImportError:
     sys.path.insert(0, os.path.dirname(os.path.dirname(os.path.realpath(__file__))))
-    from vuyhanip import checking, library
+    from vuyhanip import checking, files, library
 
 # How many lists of names are under way at once for each process, how many names one has at most, and how often a file
 # is tried whose process ends.
@@ -33,9 +35,17 @@ Fields = Dict[str, Any]
 Job = Callable[[List[str]], List[Fields]]
 
 
-def answer(kind: "str | None", names: List[str]) -> List[Fields]:
+def answer(kind: "str | None", limits: files.Limits, names: List[str]) -> List[Fields]:
     """What is said of some files."""
-    return [dict(checking.check(name, kind, False).fields) for name in names]
+    files.LIMITS.set(limits)
+    return [_answer(kind, name) for name in names]
+
+
+def _answer(kind: "str | None", name: str) -> Fields:
+    """What is said of a file, which is only opened if it is a regular one."""
+    if os.path.exists(name) and not os.path.isfile(name):
+        return ended(name, "not a regular file")
+    return dict(checking.check(name, kind, False).fields)
 
 
 def ended(name: str, why: str) -> Fields:
@@ -46,9 +56,7 @@ def ended(name: str, why: str) -> Fields:
 def names_in(source: str) -> Iterator[str]:
     """The names of files: of a folder, or of a list."""
     if os.path.isdir(source):
-        for folder, folders, files in os.walk(source):
-            folders.sort()
-            yield from filter(os.path.isfile, (os.path.join(folder, it) for it in sorted(files)))
+        yield from files.under(source)
         return
     with sys.stdin if source == "-" else open(source, encoding="utf-8", errors="surrogateescape") as lines:
         yield from filter(None, (line.rstrip("\n") for line in lines))
@@ -194,12 +202,14 @@ def main() -> int:
     words.add_argument("source", metavar="FROM")
     words.add_argument("out", metavar="OUT")
     words.add_argument("--kind")
+    words.add_argument("--most-octets", type=int, default=files.Limits().octets, metavar="N")
+    words.add_argument("--most-iterations", type=int, default=files.Limits().iterations, metavar="N")
     words.add_argument("-j", type=int, default=os.cpu_count() or 1, metavar="N")
     words.add_argument("--scheduler", metavar="ADDRESS")
     asked = words.parse_args()
     if asked.kind is not None and asked.kind not in library().kinds():
         words.error(f"{asked.kind} is no kind")
-    job = functools.partial(answer, asked.kind)
+    job = functools.partial(answer, asked.kind, files.Limits(asked.most_octets, asked.most_iterations))
     if asked.scheduler:
         answers: Callable[[Iterable[str]], Iterator[Fields]] = lambda it: of_scheduler(job, it, asked.scheduler)
     else:

@@ -1,26 +1,41 @@
 """The words of the command, and what each verb prints."""
 import argparse
+import calendar
+import errno
 import functools
-import getpass
 import io
 import json
 import os
 import sys
-import tempfile
+import time
 from typing import Callable, Dict, List, Mapping, NamedTuple, Optional, Sequence
 
-from . import __version__, der, library
-from .checking import LOOSE, NORMAL, REFUSED, Accepted, Answer, NoKind, check, judge, unreadable, worst
+from . import __version__, der, library, passwords, tool
+from .checking import NORMAL, REFUSED, Answer, NoKind, check, judge, unreadable, worst
 from .extracting import Nothing, extract
-from .files import NoPem, converted, given, read
+from .files import LIMITS, STANDARD_INPUT, Limits, NoPem, TooMany, all_of, converted, given, read
+from .findings import lines
+from .judging import Terms, certificates_in, pem
 from .page import page
+from .rewriting import KEEPING, rewritten
 from .running import Progress, coloured, over
 from .showing import show, table
 from .trees import of_dertree, own_lines
 from .values import printable
 from .verifying import verify
+from .writing import mode_like, write
 
 EXIT = "exit status: the worst of 0 (normal), 3 (accepted, not normal), 1 (refused or not read), 2 (wrong words)"
+VERIFY_EXIT = (
+    "exit status: the worst of 0 (right, and the certificate judged; a MAC right), 4 (right, and the certificate\n"
+    "not judged, or a program not compared), 1 (wrong, weak, refused or not checked), 2 (wrong words)"
+)
+
+
+# How many of the signatures that a rewriting would break are named.
+MOST_NAMED = 3
+# What work on a file may raise, of which why has a sentence.
+FAULTS = (OSError, MemoryError, ValueError, IndexError, OverflowError, RecursionError, ImportError)
 
 
 class Said(NamedTuple):
@@ -32,15 +47,37 @@ class Said(NamedTuple):
     complaint: str = ""
 
 
-def complain(name: str, why: str) -> None:
+def complain(name: str, said: str) -> None:
     """Says on standard error why a file isn't read."""
-    print(f"{printable(name)}: {why}", file=sys.stderr)
+    print(f"{printable(name)}: {said}", file=sys.stderr)
+
+
+def why(fault: BaseException) -> str:
+    """What is said of a fault: a sentence of this package or of the system, and none of Python's."""
+    if isinstance(fault, (NoPem, der.Refused)):
+        return f"refused: {fault}"
+    if isinstance(fault, (TooMany, ImportError)):
+        return str(fault)
+    if isinstance(fault, MemoryError):
+        return "no memory"
+    if isinstance(fault, OSError) and fault.strerror:
+        return fault.strerror
+    return "not read, since it isn't as its type has it"
+
+
+def loaded() -> der.Library:
+    """The library. Raises OSError where it isn't there, and ImportError where it is of another version."""
+    try:
+        return library()
+    except (OSError, AttributeError):
+        raise OSError(errno.ELIBACC, "the library isn't there; VUYHANIP_LIBRARY names another", "vuyhanip") from None
 
 
 def print_all(names: Sequence[str], job: Callable[[str], Said], asked: argparse.Namespace) -> int:
     """Prints what a job says of each file, in their order, and returns the exit status."""
     progress, statuses = Progress(len(names)), []
-    for name, said in zip(names, over(names, job, asked.j)):
+    limited: Callable[[str], Said] = functools.partial(_limited, LIMITS.get(), job)
+    for name, said in zip(names, over(names, limited, asked.j)):
         progress.step()
         if said.complaint or sys.stdout.isatty():
             progress.clear()
@@ -53,6 +90,12 @@ def print_all(names: Sequence[str], job: Callable[[str], Said], asked: argparse.
         statuses.append(said.status)
     progress.clear()
     return worst(statuses)
+
+
+def _limited(limits: Limits, job: Callable[[str], Said], name: str) -> Said:
+    """A job, in a process that keeps these limits."""
+    LIMITS.set(limits)
+    return job(name)
 
 
 # Each verb's work on one file
@@ -84,14 +127,10 @@ def guarded(work: Callable[[str], Said]) -> Callable[[str], Said]:
 def _guarded(work: Callable[[str], Said], name: str) -> Said:
     try:
         return work(name)
-    except OSError as fault:
-        return failed(name, fault.strerror or str(fault))
-    except NoPem as fault:
-        return Said([f"{printable(name)}: refused: {fault}"], {"file": name, "error": str(fault)}, REFUSED)
-    except MemoryError:
-        return failed(name, "no memory")
-    except (ValueError, IndexError, RecursionError) as fault:
-        return failed(name, f"not read: {fault}")
+    except (NoPem, der.Refused) as fault:
+        return Said([f"{printable(name)}: {why(fault)}"], {"file": name, "error": str(fault)}, REFUSED)
+    except FAULTS as fault:
+        return failed(name, why(fault))
 
 
 def show_one(kind: Optional[str], strict: bool, name: str) -> Said:
@@ -99,60 +138,30 @@ def show_one(kind: Optional[str], strict: bool, name: str) -> Said:
     said = show(read(name), kind, strict)
     head = f"{printable(name)}: {said.refused or said.title}"
     fields = {"file": name, "title": said.title, "refused": said.refused, "rows": [list(it) for it in said.rows]}
-    return Said([head, *table(said.rows)], fields, REFUSED if said.refused else NORMAL)
+    return Said([head, *table(said.rows)], fields, said.status)
 
 
-def verify_one(content: Optional[bytes], password: Optional[str], strict: bool, name: str) -> Said:
+def verify_one(terms: Terms, name: str) -> Said:
     """The verb verify, of one file."""
-    findings = verify(read(name), content, password, strict)
-    made = [f"{printable(name)}: {it.line}" for it in findings]
-    fields = [{"what": it.what, "said": it.said, "right": it.is_right, "by": it.certificate} for it in findings]
-    status = NORMAL if all(it.is_right for it in findings) else REFUSED
-    return Said(made, {"file": name, "findings": fields}, status)
+    findings = verify(read(name), terms)
+    said = [f"{printable(name)}: {it}" for it in lines(findings)]
+    fields = {"file": name, "findings": [it.fields for it in findings]}
+    return Said(said, fields, worst([it.status for it in findings]))
 
 
 def extract_one(folder: str, strict: bool, name: str) -> Said:
     """The verb extract, of one file."""
     try:
-        paths = extract(read(name), folder, strict)
+        paths, left = extract(read(name), folder, strict)
     except FileExistsError as fault:
         return failed(name, f"{printable(str(fault.filename))} is there already")
     except Nothing as fault:
         return Said([f"{printable(name)}: {fault}"], {"file": name, "error": str(fault)}, REFUSED)
-    return Said([printable(it) for it in paths], {"file": name, "written": paths}, NORMAL)
+    complaint = f"left in the file: {', '.join(left)}" if left else ""
+    return Said([printable(it) for it in paths], {"file": name, "written": paths, "left": left}, NORMAL, complaint)
 
 
 # Verbs that write a file
-
-
-def written(octets: bytes, out: Optional[str]) -> None:
-    """Writes octets to a file, whole or not at all, or to standard output."""
-    if out is None:
-        sys.stdout.buffer.write(octets)
-        sys.stdout.buffer.flush()
-    elif os.path.exists(out) and not os.path.isfile(out):
-        with open(out, "wb") as file:
-            file.write(octets)
-    else:
-        _replace(os.path.realpath(out), octets)
-
-
-def _replace(path: str, octets: bytes) -> None:
-    """Writes a file beside another, and then puts it in its place."""
-    umask = os.umask(0)
-    os.umask(umask)
-    try:
-        handle, new = tempfile.mkstemp(dir=os.path.dirname(path))
-    except OSError as fault:
-        raise OSError(fault.errno, fault.strerror, path) from None
-    try:
-        with open(handle, "wb") as file:
-            file.write(octets)
-        os.chmod(new, 0o666 & ~umask)
-        os.replace(new, path)
-    except BaseException:
-        os.unlink(new)
-        raise
 
 
 def to_der(asked: argparse.Namespace) -> int:
@@ -161,27 +170,36 @@ def to_der(asked: argparse.Namespace) -> int:
     made = converted(it)
     if made is None:
         library().from_ber(it.octets)
-    written((made or it).octets, asked.o)
+    octets = (made or it).octets
+    write(octets, asked.o, asked.overwrite, mode_like(asked.file, judge(octets, None, True)))
     return NORMAL
 
 
 def rewrite(asked: argparse.Namespace) -> int:
     """The verb rewrite."""
-    said = accepted(asked)
+    said = judge(read(asked.file), asked.kind, asked.strict, KEEPING)
     if isinstance(said, NoKind):
         return refuse(asked.file, said)
-    written(library().rewrite(said.kind, said.given.octets), asked.o)
+    made = rewritten(said)
+    for names, is_asked, word in (
+        (made.macs, asked.break_mac, "--break-mac"),
+        (made.signatures, asked.break_signature, "--break-signature"),
+    ):
+        if names and not is_asked:
+            covered = ", ".join(names[:MOST_NAMED])
+            more = f" and {len(names) - MOST_NAMED} more" if len(names) > MOST_NAMED else ""
+            said_of_it = f"not written, as it would change what is covered by {covered}{more}; {word} allows it"
+            complain(asked.file, said_of_it)
+            return REFUSED
+    write(made.octets, asked.o, asked.overwrite, mode_like(asked.file, said))
+    if made.keeps_ber:
+        complain(asked.file, "the contents stay in BER, as the MAC covers them")
     return NORMAL
-
-
-def accepted(asked: argparse.Namespace) -> "Accepted | NoKind":
-    """What a file is, as the words ask for it."""
-    return judge(read(asked.file), asked.kind, asked.strict)
 
 
 def refuse(name: str, said: NoKind) -> int:
     """Says on standard error that a file is refused."""
-    complain(name, f"{said.furthest.kind} {said}")
+    complain(name, said.line)
     return REFUSED
 
 
@@ -198,24 +216,22 @@ def tree(asked: argparse.Namespace) -> int:
         print(said)
     if isinstance(said, NoKind):
         return REFUSED
-    return NORMAL if said.verdict.is_normal else LOOSE
+    return said.status
 
 
 def page_of(asked: argparse.Namespace) -> int:
     """The verb page."""
-    text = page(asked.file, read(asked.file), asked.kind, asked.strict)
-    written(text.encode("utf-8", "backslashreplace"), asked.o)
-    return NORMAL
+    made = page(asked.file, read(asked.file), asked.kind, asked.strict)
+    mode = None if made.of is None else mode_like(asked.file, made.of)
+    write(made.text.encode("utf-8", "backslashreplace"), asked.o, asked.overwrite, mode)
+    return REFUSED if made.of is None or isinstance(made.of, NoKind) else made.of.status
 
 
 def password_of(asked: argparse.Namespace) -> Optional[str]:
     """The password of a store: the first line of a file, or what is typed where a terminal asks. None without one."""
     if asked.password_file is not None:
-        text = read(asked.password_file).decode("utf-8")
-        return text.split("\n", 1)[0].rstrip("\r")
-    if asked.ask_password:
-        return getpass.getpass("password: ", sys.stderr)
-    return None
+        return passwords.in_file(asked.password_file)
+    return passwords.typed() if asked.ask_password else None
 
 
 # Verbs over many files
@@ -223,7 +239,8 @@ def password_of(asked: argparse.Namespace) -> Optional[str]:
 
 def checks(asked: argparse.Namespace) -> int:
     """The verb check."""
-    return print_all(asked.files, functools.partial(check_one, asked.kind, asked.strict, asked.verbose), asked)
+    job = functools.partial(check_one, asked.kind, asked.strict, asked.verbose)
+    return print_all(asked.files, guarded(job), asked)
 
 
 def shows(asked: argparse.Namespace) -> int:
@@ -233,15 +250,44 @@ def shows(asked: argparse.Namespace) -> int:
 
 def verifies(asked: argparse.Namespace) -> int:
     """The verb verify."""
-    content = None if asked.content is None else read(asked.content)
-    job = functools.partial(verify_one, content, password_of(asked), asked.strict)
-    return print_all(asked.files, guarded(job), asked)
+    terms = Terms(
+        None if asked.content is None else read(asked.content),
+        tuple(it for name in asked.certificate for it in certificates_of(name)),
+        None if asked.ca is None else anchors_of(read(asked.ca)),
+        asked.purpose,
+        asked.at,
+        asked.allow_weak,
+        password_of(asked),
+        asked.strict,
+    )
+    with tool.ending_in_order():
+        return print_all(asked.files, guarded(functools.partial(verify_one, terms)), asked)
+
+
+def anchors_of(data: bytes) -> bytes:
+    """What is trusted, in PEM: a file that is one certificate in DER becomes that."""
+    return pem((data,)) if data[:1] == b"\x30" else data
+
+
+def certificates_of(name: str) -> Sequence[bytes]:
+    """The certificates in a file, of PEM or one of DER. Raises OSError, and NoPem."""
+    data = read(name)
+    found = certificates_in(data) or ((data,) if data[:1] == b"\x30" else ())
+    if not found:
+        raise NoPem(f"no certificate in {printable(name)}")
+    return found
 
 
 def extracts(asked: argparse.Namespace) -> int:
     """The verb extract."""
     asked.j = 1
     return print_all([asked.file], guarded(functools.partial(extract_one, asked.into, asked.strict)), asked)
+
+
+def lists_kinds(_: argparse.Namespace) -> int:
+    """The verb kinds."""
+    print("\n".join(loaded().kinds()))
+    return NORMAL
 
 
 class Verb(NamedTuple):
@@ -278,24 +324,47 @@ VERBS: Dict[str, Verb] = {
     "tree": Verb(tree, "list the elements of a file, as dertree does", False, False, "vuyhanip tree store.p12"),
     "verify": Verb(
         verifies,
-        "check the signatures of signed files and the MACs of stores, but no certificate",
+        "check the signatures of signed files and the MACs of stores, by openssl",
         True,
         False,
-        "vuyhanip verify signed.p7s\nvuyhanip verify --content data detached.p7s\n"
+        "vuyhanip verify --ca root.pem signed.p7s\nvuyhanip verify --content data detached.p7s\n"
         "vuyhanip verify --password-file password store.p12",
     ),
     "page": Verb(
         page_of, "write one page of HTML, the elements beside the octets", False, True, "vuyhanip page f.p12 -o f.html"
     ),
+    "kinds": Verb(lists_kinds, "list the kinds that --kind takes", False, False, "vuyhanip kinds"),
 }
+# The verb that reads no file.
+KINDS_VERB = "kinds"
 # Verbs that name no kind: what they find decides.
 WITHOUT_KIND = ("extract", "to-der", "verify")
 
 
 def kind_word(text: str) -> str:
     """A word that is a kind's."""
-    if text not in library().kinds():
-        raise argparse.ArgumentTypeError(f"{text} is no kind: docs/API.md lists them")
+    kinds = loaded().kinds()
+    if text.lower() in kinds and text not in kinds:
+        raise argparse.ArgumentTypeError(f"{printable(text)} is no kind, but {text.lower()} is one")
+    if text not in kinds:
+        raise argparse.ArgumentTypeError(f"{printable(text)} is no kind; vuyhanip kinds lists them")
+    return text
+
+
+def moment(text: str) -> int:
+    """A time as seconds since 1970."""
+    try:
+        if text.isascii() and text.isdecimal():
+            return int(text)
+        return calendar.timegm(time.strptime(text, "%Y-%m-%dT%H:%M:%SZ"))
+    except ValueError:
+        raise argparse.ArgumentTypeError(f"{text} is no time, as 2026-11-29T00:00:00Z or seconds since 1970") from None
+
+
+def purpose_word(text: str) -> str:
+    """A word that may be a purpose that openssl knows."""
+    if not (text.isascii() and text.isalnum()):
+        raise argparse.ArgumentTypeError(f"{text} is no purpose: openssl cms -help says more")
     return text
 
 
@@ -306,12 +375,39 @@ def at_least_one(text: str) -> int:
     return int(text)
 
 
+def count(text: str) -> int:
+    """A number that bounds something."""
+    if not text.isdecimal():
+        raise argparse.ArgumentTypeError(f"{text} is no number")
+    return int(text)
+
+
+def add_reading(words: argparse.ArgumentParser, is_many: bool) -> None:
+    """The words of each verb that say what is read."""
+    usual = Limits()
+    words.add_argument(
+        "--most-octets", type=count, default=usual.octets, metavar="N", help=f"read no file longer than {usual.octets}"
+    )
+    words.add_argument(
+        "--most-iterations",
+        type=count,
+        default=usual.iterations,
+        metavar="N",
+        help=f"of a file take no more iterations to derive keys, in sum, than {usual.iterations}",
+    )
+    if is_many:
+        words.add_argument("-r", "--recursive", action="store_true", help="of a folder read all files under it")
+
+
 def add_verb(name: str, verb: Verb, into: "argparse._SubParsersAction[argparse.ArgumentParser]") -> None:
     """The words of a verb."""
-    shape, epilog = argparse.RawDescriptionHelpFormatter, f"example:\n  {verb.example}\n\n{EXIT}"
+    shape, status = argparse.RawDescriptionHelpFormatter, VERIFY_EXIT if name == "verify" else EXIT
+    epilog = f"example:\n  {verb.example}\n\n{status}"
     epilog = epilog.replace("\nvuyhanip", "\n  vuyhanip")
     words = into.add_parser(name, help=verb.help, description=verb.help, epilog=epilog, formatter_class=shape)
-    words.set_defaults(work=verb.work, json=False, kind=None, strict=False)
+    words.set_defaults(work=verb.work, json=False, kind=None, strict=False, recursive=False)
+    if name == KINDS_VERB:
+        return
     if name not in WITHOUT_KIND:
         words.add_argument("--kind", type=kind_word, help="the kind, as pfx; without it some are tried")
     if name != "to-der":
@@ -323,16 +419,33 @@ def add_verb(name: str, verb: Verb, into: "argparse._SubParsersAction[argparse.A
         words.add_argument("file", metavar="FILE", help="a file, or - for standard input")
     if verb.is_many or name == "extract":
         words.add_argument("--json", action="store_true", help="a line of JSON for each file")
+    add_reading(words, verb.is_many)
     if verb.writes:
-        words.add_argument("-o", metavar="OUT", help="write there, and not to standard output")
+        words.add_argument("-o", metavar="OUT", help="write there, where no file is, and not to standard output")
+        words.add_argument("--overwrite", action="store_true", help="of -o: also where a file is, in its place")
+    if name == "rewrite":
+        words.add_argument("--break-mac", action="store_true", help="also where the MAC becomes wrong")
+        words.add_argument("--break-signature", action="store_true", help="also where a signature becomes wrong")
     if name == "check":
         words.add_argument("-v", "--verbose", action="store_true", help="say why the kinds tried before were refused")
     if name == "extract":
         words.add_argument("--into", required=True, metavar="FOLDER", help="where to; nothing there is overwritten")
     if name == "verify":
-        words.add_argument("--content", metavar="FILE", help="the content of a detached signature")
-        words.add_argument("--password-file", metavar="FILE", help="its first line is the password of a store")
-        words.add_argument("--ask-password", action="store_true", help="ask for the password of a store")
+        add_terms(words)
+
+
+def add_terms(words: argparse.ArgumentParser) -> None:
+    """The words of verify alone."""
+    words.add_argument("--content", metavar="FILE", help="the content of a detached signature or of a time stamp")
+    words.add_argument(
+        "--certificate", metavar="FILE", action="append", default=[], help="certificates beside those of files"
+    )
+    words.add_argument("--ca", metavar="FILE", help="judge the certificates: trust those of FILE, and no others")
+    words.add_argument("--purpose", type=purpose_word, metavar="P", help="what for: smimesign is the default")
+    words.add_argument("--at", type=moment, metavar="TIME", help="when, as 2026-11-29T00:00:00Z or in seconds")
+    words.add_argument("--allow-weak", action="store_true", help="take MD5, SHA-1, DSA and RSA under 2,048 bits")
+    words.add_argument("--password-file", metavar="FILE", help="its first line is the password of a store")
+    words.add_argument("--ask-password", action="store_true", help="ask for the password of a store")
 
 
 def parser() -> argparse.ArgumentParser:
@@ -349,24 +462,31 @@ def parser() -> argparse.ArgumentParser:
     return made
 
 
+def parsed(words: Optional[Sequence[str]]) -> argparse.Namespace:
+    """What the words ask for. Standard input is read once, so it is named once at most."""
+    made = parser()
+    asked = made.parse_args(words)
+    named = [*getattr(asked, "files", ()), *(getattr(asked, it, None) for it in ("file", "content", "password_file"))]
+    if sum(it in STANDARD_INPUT for it in named) > 1:
+        made.error("standard input is named more than once, and can be read once")
+    return asked
+
+
 def run(words: Optional[Sequence[str]]) -> int:
     """The work that the words ask for, and its exit status."""
     name = "vuyhanip"
     try:
-        asked = parser().parse_args(words)
-        library()
+        asked = parsed(words)
+        loaded()
         name = getattr(asked, "file", name)
+        LIMITS.set(Limits(getattr(asked, "most_octets", 0), getattr(asked, "most_iterations", 0)))
+        if asked.recursive:
+            asked.files = list(all_of(asked.files))
         return int(asked.work(asked))
     except BrokenPipeError:
         raise
-    except OSError as fault:
-        complain(str(fault.filename or name), fault.strerror or str(fault))
-    except (NoPem, der.Refused) as fault:
-        complain(name, f"refused: {fault}")
-    except (ImportError, UnicodeDecodeError) as fault:
-        complain(name, str(fault))
-    except MemoryError:
-        complain(name, "no memory")
+    except FAULTS as fault:
+        complain(str(getattr(fault, "filename", None) or name), why(fault))
     return REFUSED
 
 

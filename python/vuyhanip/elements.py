@@ -3,7 +3,8 @@
 What is accepted as a container is said by the library for C. This reader only finds what is to be shown in what was
 accepted, and the way to a place.
 """
-from typing import Iterator, List, NamedTuple, Optional
+import itertools
+from typing import Iterator, List, NamedTuple, Optional, Tuple
 
 BOOLEAN, INTEGER, BIT_STRING, OCTET_STRING, NULL, OBJECT_IDENTIFIER = 0x01, 0x02, 0x03, 0x04, 0x05, 0x06
 UTF8_STRING, UTC_TIME, GENERALIZED_TIME, BMP_STRING, SEQUENCE, SET = 0x0C, 0x17, 0x18, 0x1E, 0x30, 0x31
@@ -74,6 +75,10 @@ class Element(NamedTuple):
     def children(self) -> List["Element"]:
         """The elements that it consists of, up to where none begins."""
         return list(elements(self.data, self.start, self.end))
+
+    def first(self, count: int) -> List["Element"]:
+        """The first of them, at most so many: of what isn't known to be short."""
+        return list(itertools.islice(elements(self.data, self.start, self.end), count))
 
     def inside(self) -> "Element":
         """The one element in it, under an explicit tag or in an OCTET STRING."""
@@ -151,7 +156,7 @@ def _step(element: Element, index: int) -> str:
     return word if element.offset == 0 else f"{word} {index}"
 
 
-def _leading(data: bytes, at: int, end: int, place: int, reason: str) -> Optional["tuple[int, Element]"]:
+def _leading(data: bytes, at: int, end: int, place: int, reason: str) -> Optional[Tuple[int, Element]]:
     """The element among those between two offsets in which the place is, and its index."""
     for index, element in enumerate(elements(data, at, end)):
         if element.offset <= place < element.end:

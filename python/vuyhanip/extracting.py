@@ -1,14 +1,17 @@
 """The verb extract: the parts of a container as files of their own."""
 import os
-from typing import Iterable, Iterator, List, NamedTuple, Union
+from typing import Dict, Iterable, Iterator, List, NamedTuple, Union
 
-from . import der
+from . import der, library
 from .checking import SIGNED_KINDS, Accepted, NoKind, judge
 from .containers import (
     CERT_BAG,
+    COUNTER_SIGNATURE,
     CRL_BAG,
     KEY_BAG,
+    NESTED_SIGNATURE,
     SHROUDED_KEY_BAG,
+    TIME_STAMPS,
     X509_CERTIFICATE,
     X509_CRL,
     bag_values,
@@ -32,6 +35,28 @@ class Piece(NamedTuple):
     mode: int = OPEN
 
 
+# What is left in a store, by the kind of its bags, and in a signed file by the attribute that it is in.
+LEFT_IN_STORES = {
+    der.BagKind.UNREAD: "encrypted contents",
+    der.BagKind.SECRET: "secrets",
+    der.BagKind.OTHER_CERTIFICATE: "certificates that aren't of X.509",
+    der.BagKind.OTHER_CRL: "revocation lists that aren't of X.509",
+    der.BagKind.OTHER: "bags of an unknown type",
+}
+LEFT_IN_SIGNED = {
+    **dict.fromkeys(TIME_STAMPS, "time stamps"),
+    NESTED_SIGNATURE: "nested signatures",
+    COUNTER_SIGNATURE: "counter signatures",
+}
+
+
+class Extracted(NamedTuple):
+    """The names of the files that were written, and what was left, each with how many there are."""
+
+    paths: List[str]
+    left: List[str]
+
+
 class Nothing(ValueError):
     """A file that nothing can be taken out of, and why."""
 
@@ -48,7 +73,7 @@ def pieces(said: Union[Accepted, NoKind]) -> List[Piece]:
     if isinstance(said, NoKind):
         token = time_stamp_token(data)
         if token is None:
-            raise Nothing(f"{said.furthest.kind} {said}")
+            raise Nothing(said.line)
         return pieces(judge(token, None, True))
     if said.kind in ("pfx", "rawpfx"):
         return _store_pieces(data, said.kind)
@@ -87,10 +112,35 @@ def _write(path: str, piece: Piece) -> None:
         file.write(piece.octets)
 
 
-def extract(data: bytes, folder: str, strict: bool = False) -> List[str]:
-    """Writes what is in a container into a folder, and returns the names. Raises Nothing, files.NoPem and OSError;
-    FileExistsError before anything is written where a file is there that would be overwritten."""
-    found = pieces(judge(data, None, strict))
+def left(said: Union[Accepted, NoKind]) -> List[str]:
+    """What of a container isn't written."""
+    octets, counts = said.given.octets, dict.fromkeys([*LEFT_IN_STORES.values(), *LEFT_IN_SIGNED.values()], 0)
+    if isinstance(said, NoKind):
+        octets = time_stamp_token(octets) or octets
+    try:
+        if isinstance(said, Accepted) and said.kind in ("pfx", "rawpfx"):
+            for bag in library().bags(octets):
+                _count(counts, LEFT_IN_STORES.get(bag.kind))
+        else:
+            for info in library().signed(octets).signer_infos:
+                for attribute in info.unsigned_attributes:
+                    _count(counts, LEFT_IN_SIGNED.get(der.attribute_oid(attribute)))
+    except der.Refused:
+        return []
+    return [f"{words}: {count}" for words, count in counts.items() if count]
+
+
+def _count(counts: Dict[str, int], words: "str | None") -> None:
+    """Counts one more, if it has words."""
+    if words is not None:
+        counts[words] += 1
+
+
+def extract(data: bytes, folder: str, strict: bool = False) -> Extracted:
+    """Writes what is in a container into a folder. Raises Nothing, files.NoPem and OSError; FileExistsError before
+    anything is written where a file is there that would be overwritten."""
+    said = judge(data, None, strict)
+    found = pieces(said)
     if not found:
         raise Nothing("nothing in it can be taken out: what it holds is encrypted or elsewhere")
     paths = [os.path.join(folder, it.name) for it in found]
@@ -100,4 +150,4 @@ def extract(data: bytes, folder: str, strict: bool = False) -> List[str]:
     os.makedirs(folder, exist_ok=True)
     for path, piece in zip(paths, found):
         _write(path, piece)
-    return paths
+    return Extracted(paths, left(said))

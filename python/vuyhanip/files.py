@@ -1,24 +1,75 @@
-"""Files as they are given: names, standard input, PEM, BER."""
+"""Files as they are given: names, folders, standard input, how much of them is read, PEM, BER."""
 import base64
 import binascii
+import contextvars
+import errno
+import os
 import re
 import sys
-from typing import NamedTuple, Optional, Tuple
+from typing import BinaryIO, Iterable, Iterator, List, NamedTuple, Optional, Tuple, Union
 
 from . import der, library
 from .elements import OCTET_STRING, SEQUENCE, Element, encoded, whole
-from .values import oid
+from .foreign import by_first_octets, by_label
+from .values import integer, oid
 
-# A block of PEM (RFC 7468), with its label.
-BLOCK = re.compile(rb"-----BEGIN ([^\r\n-]*)-----[ \t]*\r?\n(.*?)-----END \1-----", re.S)
-# The content type data (RFC 5652, 4).
-DATA = "1.2.840.113549.1.7.1"
+# How much is read at a time of what doesn't say its length, as a pipe.
+PIECE = 1 << 20
+# What begins and ends the lines around a block of PEM (RFC 7468, 3), what is left out of the lines in it, and what may
+# be the last octet of a line that begins it.
+BEGIN, END, DASHES, BLANK = b"-----BEGIN ", b"-----END ", b"-----", b" \t\n\v\f\r"
+LAST_OF_LINE = b"- \t\r"
 # A header line in it (RFC 1421, 4.6).
 HEADER = re.compile(rb"^[A-Za-z0-9-]+:.*(?:\n[ \t].*)*\n?", re.M)
+# The content type data (RFC 5652, 4), and the algorithm whose parameters say how a MAC's key is derived (RFC 9579, 3).
+DATA, PBMAC1 = "1.2.840.113549.1.7.1", "1.2.840.113549.1.5.14"
+# Names of standard input, and of others of this process's files, that another process reads as others.
+STANDARD_INPUT, DESCRIPTORS = ("-", "/dev/stdin"), ("/dev/fd/", "/proc/self/fd/")
+
+
+class Limits(NamedTuple):
+    """What a file may cost."""
+
+    # how many octets are read of it
+    octets: int = 1 << 30
+    # how often a hash is taken to derive keys, over all of the file
+    iterations: int = 1_000_000
+
+
+# What files may cost in this process: the command sets it once, and in each process of -j.
+LIMITS: "contextvars.ContextVar[Limits]" = contextvars.ContextVar("LIMITS", default=Limits())
 
 
 class NoPem(ValueError):
     """PEM that holds no octets."""
+
+
+class TooMany(ValueError):
+    """More iterations than a file may ask for."""
+
+
+class Block(NamedTuple):
+    """A block of PEM (RFC 7468, 2): its label, and the text up to where it ends."""
+
+    label: str
+    text: bytes
+    # whether a line with its label ends it
+    is_ended: bool
+
+    @property
+    def octets(self) -> bytes:
+        """What it holds. Raises NoPem."""
+        text = self.text
+        if not self.is_ended:
+            raise NoPem("PEM without its END line")
+        if b":" in text:
+            if b"ENCRYPTED" in b"".join(HEADER.findall(text)):
+                raise NoPem("PEM that is encrypted")
+            text = HEADER.sub(b"", text)
+        try:
+            return base64.b64decode(text.translate(None, BLANK), validate=True)
+        except binascii.Error:
+            raise NoPem("PEM without base64 in it") from None
 
 
 class Given(NamedTuple):
@@ -29,6 +80,8 @@ class Given(NamedTuple):
     forms: Tuple[str, ...] = ()
     # of a store whose contents were converted too: its DER before that, with the octets that its MAC covers
     store: Optional[bytes] = None
+    # the label of the block of PEM that they were in
+    label: str = ""
 
     @property
     def mac(self) -> Optional[der.Mac]:
@@ -46,37 +99,173 @@ class Given(NamedTuple):
         return f" (from {' and '.join(self.forms)})" if self.forms else ""
 
 
+# Reading
+
+
 def read(name: str) -> bytes:
-    """The octets of a file, or of standard input, whose name is -. Raises OSError."""
+    """The octets of a file, a pipe or another, or of standard input, whose name is -. Raises OSError, also where there
+    are more than the limits have it."""
     if name == "-":
-        return sys.stdin.buffer.read()
+        if sys.stdin is None:
+            raise OSError(errno.EBADF, os.strerror(errno.EBADF), name)
+        return _up_to_the_limit(name, sys.stdin.buffer, 0)
     with open(name, "rb") as file:
-        return file.read()
+        return _up_to_the_limit(name, file, os.fstat(file.fileno()).st_size)
 
 
-def decoded(data: bytes) -> Optional[bytes]:
-    """The octets in the first block of PEM, where there is one and the file isn't DER. Raises NoPem."""
-    if data[:1] == b"\x30":
-        return None
-    block = BLOCK.search(data)
-    if block is None:
-        return None
-    if b"ENCRYPTED" in b"".join(HEADER.findall(block[2])):
-        raise NoPem("PEM that is encrypted")
-    text = b"".join(HEADER.sub(b"", block[2]).split())
+def _up_to_the_limit(name: str, file: BinaryIO, length: int) -> bytes:
+    """The octets of a file that is as long as it says, or goes on. Raises OSError where there are too many."""
+    pieces: List[bytes] = []
+    count, most = 0, LIMITS.get().octets
+    while max(count, length) <= most:
+        piece = file.read(min(most + 1 - count, max(length + 1 - count, PIECE)))
+        if not piece:
+            return b"".join(pieces)
+        pieces.append(piece)
+        count += len(piece)
+    raise OSError(errno.EFBIG, f"longer than the {most} octets that --most-octets allows", name)
+
+
+def under(folder: str) -> Iterator[str]:
+    """The regular files in a folder and in those in it, in order of names. Links to folders aren't followed. A folder
+    that can't be listed is among them, since reading it says why."""
+    left = [folder]
+    while left:
+        name = left.pop()
+        if os.path.isdir(name) and (name == folder or not os.path.islink(name)):
+            try:
+                left += (os.path.join(name, it) for it in sorted(os.listdir(name), reverse=True))
+            except OSError:
+                yield name
+        elif os.path.isfile(name):
+            yield name
+
+
+def all_of(names: Iterable[str]) -> Iterator[str]:
+    """The names, and for each that is a folder's those of the files under it."""
+    for name in names:
+        if name != "-" and os.path.isdir(name):
+            yield from under(name)
+        else:
+            yield name
+
+
+def is_stream(name: str) -> bool:
+    """Whether a name has to be read in this process: standard input, or what is there to be read once, as a pipe."""
+    if name in STANDARD_INPUT or name.startswith(DESCRIPTORS):
+        return True
+    return os.path.exists(name) and not os.path.isfile(name) and not os.path.isdir(name)
+
+
+# What the check of a MAC costs
+
+
+def iterations_of(store: bytes) -> int:
+    """How many iterations the check of a store's MAC takes, by the DER of the store; 0 where it has no MAC. Raises
+    der.Refused where the octets are no store."""
+    mac = library().mac_ber(store)
+    if mac is None:
+        return 0
+    if mac.digest_algorithm != PBMAC1:
+        return mac.iterations
     try:
-        return base64.b64decode(text, validate=True)
-    except binascii.Error:
-        raise NoPem("PEM without base64 in it") from None
+        # of MacData the DigestInfo, its algorithm, and in the parameters of that the function that derives the key
+        parameters = whole(store).children()[2].inside().inside().children()[1]
+        return integer(parameters.inside().children()[1].children()[1])
+    except (ValueError, IndexError):
+        return mac.iterations
+
+
+def iterations_in(data: bytes, strict: bool) -> int:
+    """The same in sum of all that a file holds, also in PEM or BER; 0 of what is no store."""
+    return sum(_iterations(it, strict) for it in held(data, strict) if isinstance(it, Given))
+
+
+def _iterations(it: Given, strict: bool) -> int:
+    """The same of some octets."""
+    try:
+        return iterations_of((it if strict else converted(it) or it).octets)
+    except der.Refused:
+        return 0
+
+
+def allow(iterations: int) -> None:
+    """Raises TooMany where a file asks for more iterations, in sum, than the limits have it."""
+    most = LIMITS.get().iterations
+    if iterations > most:
+        raise TooMany(f"{iterations} iterations, more than the {most} that --most-iterations allows")
+
+
+# PEM
+
+
+def _begin(data: bytes, at: int) -> Optional[Tuple[int, int]]:
+    """Where the label of the next line that begins a block is, and where that line ends. None where there is none."""
+    while (begin := data.find(BEGIN, at)) >= 0 and (line := data.find(b"\n", begin)) >= 0:
+        if data[line - 1] in LAST_OF_LINE and data[begin:line].rstrip(BLANK).endswith(DASHES):
+            return data.rfind(BEGIN, begin, line) + len(BEGIN), line + 1
+        at = line
+    return None
+
+
+def _places(data: bytes) -> Iterator[Tuple[bytes, int, int]]:
+    """The blocks of PEM in a text: what follows BEGIN, where the text of the block begins, and where it ends, or -1."""
+    at = 0
+    while (found := _begin(data, at)) is not None:
+        label, start = found
+        end, named = data.find(END, start), data[label:start].rstrip(BLANK)
+        is_ended = data.startswith(named, end + len(END)) and data.find(BEGIN, start, end) < 0 <= end
+        yield named, start, end if is_ended else -1
+        if end < 0:
+            return
+        at = end + len(END)
+
+
+def blocks(data: bytes) -> Iterator[Block]:
+    """The blocks of PEM in a text, in order, also one that no line ends before the next one begins, or one of another
+    label. The time grows as the text does, whatever is in it."""
+    for named, start, end in _places(data):
+        label = named[: -len(DASHES)].decode("ascii", "backslashreplace")
+        yield Block(label, data[start : max(start, end)], end >= 0)
+
+
+def is_der(data: bytes) -> bool:
+    """Whether octets begin as a SEQUENCE whose length isn't in one octet, or are one from the first octet to the last, so
+    that no text is before a block of PEM in them."""
+    if len(data) < 2 or data[0] != SEQUENCE:
+        return False
+    return 0x80 <= data[1] <= 0x88 or len(data) == 2 + data[1]
 
 
 def given(data: bytes, strict: bool) -> Given:
-    """What a file holds, out of PEM unless it is taken strictly. Raises NoPem."""
-    octets = None if strict else decoded(data)
-    if octets is None:
+    """What a file holds, out of the first block of PEM unless it is taken strictly. Raises NoPem where that has no
+    octets, unless something else is known of the file."""
+    if strict or is_der(data):
         return Given(data)
-    count = len(BLOCK.findall(data))
-    return Given(octets, ("PEM" if count == 1 else f"PEM block 1 of {count}",))
+    first = next(blocks(data), None)
+    if first is None:
+        return Given(data)
+    try:
+        octets = first.octets
+    except NoPem:
+        if by_first_octets(data) is None and not (first.is_ended and by_label(first.label)):
+            raise
+        return Given(data, label=first.label)
+    count = sum(1 for _ in _places(data))
+    return Given(octets, ("PEM" if count == 1 else f"PEM block 1 of {count}",), label=first.label)
+
+
+def held(data: bytes, strict: bool) -> Iterator[Union[Given, NoPem]]:
+    """What a file holds: its octets, or those of each block of PEM, or why a block has none."""
+    found = [] if strict or is_der(data) else list(blocks(data))
+    for number, it in enumerate(found, 1):
+        try:
+            form = "PEM" if len(found) == 1 else f"PEM block {number} of {len(found)}"
+            yield Given(it.octets, (form,), label=it.label)
+        except NoPem as fault:
+            yield fault
+    if not found:
+        yield Given(data)
 
 
 def converted(it: Given) -> Optional[Given]:
@@ -85,7 +274,7 @@ def converted(it: Given) -> Optional[Given]:
         octets = library().from_ber(it.octets)
     except der.Refused:
         return None
-    return None if octets == it.octets else Given(octets, (*it.forms, "BER"))
+    return None if octets == it.octets else it._replace(octets=octets, forms=(*it.forms, "BER"))
 
 
 def converted_store(it: Given) -> Optional[Given]:
@@ -94,8 +283,8 @@ def converted_store(it: Given) -> Optional[Given]:
     None where it is no such file.
     """
     try:
-        version, safe, *mac = whole(it.octets).children()
-        kind, content = safe.children()
+        version, safe, *mac = whole(it.octets).first(4)
+        kind, content = safe.first(3)
         string = content.inside()
         if oid(kind) != DATA or string.tag != OCTET_STRING:
             return None
@@ -106,7 +295,7 @@ def converted_store(it: Given) -> Optional[Given]:
         return None
     new = encoded(SEQUENCE, kind.encoding + encoded(content.tag, encoded(OCTET_STRING, bags)))
     octets = encoded(SEQUENCE, b"".join([version.encoding, new, *(part.encoding for part in mac)]))
-    return Given(octets, it.forms if "BER" in it.forms else (*it.forms, "BER"), it.octets)
+    return Given(octets, it.forms if "BER" in it.forms else (*it.forms, "BER"), it.octets, it.label)
 
 
 def _content(info: Element) -> bytes:

@@ -1,5 +1,6 @@
 """The verb page: a file as one page of HTML, its elements beside its octets."""
 import base64
+import hashlib
 import html
 import json
 import re
@@ -12,6 +13,10 @@ from .template import TEMPLATE
 from .trees import Line, lines
 from .values import printable
 
+# The places in the page that are filled, and what its policy allows by their digests: its looks and its script, which
+# are the same in each page. Data are no script of a browser.
+PLACE = re.compile(r"\{\{(\w+)\}\}")
+STYLE, SCRIPT = (re.compile(rf"<{it}>(.*?)</{it}>", re.S) for it in ("style", "script"))
 OBJECT_IDENTIFIER = re.compile(r"OBJECT IDENTIFIER \d+: ([\d.]+)")
 
 
@@ -29,7 +34,7 @@ def judged(said: Union[Accepted, NoKind]) -> Judged:
     if isinstance(said, Accepted):
         return Judged(f"{said.kind} {said}", None if is_ber else said.kind, None if is_ber else said.verdict.loose_end)
     last = said.furthest
-    return Judged(f"{last.kind} {said}", None if is_ber else last.kind, None if is_ber else last.place)
+    return Judged(said.line, None if is_ber else last.kind, None if is_ber else last.place)
 
 
 def named(text: str) -> str:
@@ -55,10 +60,26 @@ def packed(those: List[Line]) -> Tuple[List[int], List[int], List[str]]:
     return [it.offset for it in those], [it.depth for it in those], [named(it.text) for it in those]
 
 
-def page(name: str, data: bytes, kind: Optional[str] = None, strict: bool = False) -> str:
+def source(element: "re.Pattern[str]") -> str:
+    """What a policy has for an element of the page whose text is of its author (Content Security Policy, 6.7.3)."""
+    found = element.search(TEMPLATE)
+    assert found is not None
+    return f"'sha256-{base64.b64encode(hashlib.sha256(found[1].encode()).digest()).decode()}'"
+
+
+class Page(NamedTuple):
+    """A page, and what the file is that it shows; None where PEM holds no octets."""
+
+    text: str
+    of: Union[Accepted, NoKind, None]
+
+
+def page(name: str, data: bytes, kind: Optional[str] = None, strict: bool = False) -> Page:
     """A file as a page."""
+    found: Union[Accepted, NoKind, None] = None
     try:
-        octets, said = given(data, strict).octets, judged(judge(data, kind, strict))
+        found = judge(data, kind, strict)
+        octets, said = given(data, strict).octets, judged(found)
     except NoPem as fault:
         octets, said = data, Judged(f"refused: {fault}", None, None)
     offsets, depths, texts = packed(lines(octets, said.kind, said.place))
@@ -70,5 +91,11 @@ def page(name: str, data: bytes, kind: Optional[str] = None, strict: bool = Fals
         "place": said.place,
         "refused": "refused" in said.said,
     }
-    whole = TEMPLATE.replace("{{title}}", html.escape(printable(name))).replace("{{said}}", html.escape(said.said))
-    return whole.replace("{{data}}", script_data(told))
+    filled = {
+        "style": source(STYLE),
+        "script": source(SCRIPT),
+        "title": html.escape(printable(name)),
+        "said": html.escape(said.said),
+        "data": script_data(told),
+    }
+    return Page(PLACE.sub(lambda it: filled[it[1]], TEMPLATE), found)

@@ -3,7 +3,7 @@ from typing import Callable, Dict, Iterator, List, NamedTuple, Optional, Tuple
 
 from . import der, library
 from .algorithms import algorithm, algorithm_oid, public_key
-from .checking import SIGNED_KINDS, Accepted, judge
+from .checking import REFUSED, SIGNED_KINDS, Accepted, judge
 from .containers import (
     CERT_BAG,
     COUNTER_SIGNATURE,
@@ -40,6 +40,8 @@ from .values import hexadecimal, name, oid, printable, serial, string, time, val
 MOST_REVOKED, MOST_LEVELS = 20, 8
 ENVELOPED_DATA, ENCRYPTED_DATA = "1.2.840.113549.1.7.3", "1.2.840.113549.1.7.6"
 CRL_NUMBER, REASON = "2.5.29.20", "2.5.29.21"
+# Labels of rows in the place of what can't be shown.
+NOT_SHOWN = ("bags", "not read", "not shown", "refused")
 REASONS = "unspecified keyCompromise cACompromise affiliationChanged superseded cessationOfOperation certificateHold"
 RECIPIENTS = {0xA1: "key agreement", 0xA2: "key encryption key", 0xA3: "password", 0xA4: "other"}
 
@@ -81,18 +83,22 @@ def _any_rows(rows_of: Callable[[bytes], Rows], encoding: bytes) -> Rows:
     """The rows of what is in the place of a certificate or of a revocation list."""
     try:
         rows = list(rows_of(encoding))
-    except (ValueError, IndexError, RecursionError) as fault:
-        rows = [Row(0, "not read", f"{octets(len(encoding))}: {fault}")]
+    except (ValueError, IndexError, RecursionError):
+        rows = [Row(0, "not read", f"{octets(len(encoding))}, which aren't as RFC 5280 has them")]
     yield from rows
 
 
 def any_certificate_rows(encoding: bytes) -> Rows:
-    """The rows of what is in the place of a certificate."""
+    """The rows of what is in the place of a certificate: one, or another choice (RFC 5652, 10.2.2)."""
+    if encoding[:1] != bytes([SEQUENCE]):
+        return iter([Row(0, "of another form", octets(len(encoding)))])
     return _any_rows(lambda it: certificate_rows(certificate(it)), encoding)
 
 
 def any_crl_rows(encoding: bytes) -> Rows:
-    """The rows of what is in the place of a revocation list."""
+    """The rows of what is in the place of a revocation list: one, or another choice (RFC 5652, 10.2.1)."""
+    if encoding[:1] != bytes([SEQUENCE]):
+        return iter([Row(0, "of another form", octets(len(encoding)))])
     return _any_rows(crl_rows, encoding)
 
 
@@ -367,6 +373,8 @@ class Shown(NamedTuple):
     title: str
     rows: List[Row]
     refused: Optional[str] = None
+    # the exit status of the verb: also of what is accepted, and has rows that can't be shown
+    status: int = REFUSED
 
 
 def collected(rows: Rows) -> List[Row]:
@@ -375,8 +383,8 @@ def collected(rows: Rows) -> List[Row]:
     try:
         for row in rows:
             made.append(row)
-    except (ValueError, IndexError, RecursionError) as fault:
-        made.append(Row(0, "not shown", f"what follows: {fault}"))
+    except (ValueError, IndexError, RecursionError):
+        made.append(Row(0, "not shown", "what follows, since it isn't as its type has it"))
     return made
 
 
@@ -386,15 +394,22 @@ def show(data: bytes, kind: Optional[str] = None, strict: bool = False) -> Shown
     if not isinstance(said, Accepted):
         token = time_stamp_token(said.given.octets)
         if token is None:
-            return Shown("", [], f"{said.furthest.kind} {said}")
+            return Shown("", [], said.line)
         return show(token, None, True)._replace(title="time stamp response, of which the token is signed data")
     if said.kind in SIGNED_KINDS and is_signed(said.given.octets):
         return _signed(said)
     title = _title(said, said.kind)
-    if said.kind in ("pfx", "rawpfx"):
-        return Shown(title, collected(store_rows(said.given, said.kind)))
     reader = READERS.get(said.kind)
-    return Shown(title, collected(reader(said.given.octets)) if reader else [])
+    if said.kind in ("pfx", "rawpfx"):
+        rows = collected(store_rows(said.given, said.kind))
+    else:
+        rows = collected(reader(said.given.octets)) if reader else []
+    return Shown(title, rows, None, _status(said, rows))
+
+
+def _status(said: Accepted, rows: List[Row]) -> int:
+    """The exit status of an accepted file."""
+    return REFUSED if any(it.label in NOT_SHOWN for it in rows) else said.status
 
 
 def _title(said: Accepted, kind: str) -> str:
@@ -409,7 +424,8 @@ def _signed(said: Accepted) -> Shown:
         library().signers(data)
     except der.Refused as refused:
         return Shown("", [], refused_as_signed(data, refused))
-    return Shown(_title(said, "pkcs7certificate"), collected(signed_rows(data)))
+    rows = collected(signed_rows(data))
+    return Shown(_title(said, "pkcs7certificate"), rows, None, _status(said, rows))
 
 
 def table(rows: List[Row]) -> Iterator[str]:

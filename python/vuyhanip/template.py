@@ -5,7 +5,7 @@ TEMPLATE = r"""<!doctype html>
 <head>
 <meta charset="utf-8">
 <meta http-equiv="Content-Security-Policy"
-  content="default-src 'none'; style-src 'unsafe-inline'; script-src 'unsafe-inline'">
+  content="default-src 'none'; style-src {{style}}; script-src {{script}}">
 <meta name="viewport" content="width=device-width">
 <title>{{title}}</title>
 <style>

@@ -1,4 +1,5 @@
 """The elements of a file as lines, of the program dertree where it is installed, or else of a reader here."""
+import errno
 import os
 import re
 import shutil
@@ -55,7 +56,7 @@ def of_dertree(data: bytes, kind: Optional[str]) -> Optional[List[str]]:
     words = ["--open", "--ber", kind] if kind else ["--open"]
     ran = subprocess.run([found, *words], input=data, capture_output=True, check=False)
     if ran.returncode not in (0, 1, 3) or ran.stderr:
-        raise OSError(f"{found}: {ran.stderr.decode(errors='replace').strip() or ran.returncode}")
+        raise OSError(errno.EIO, f"the program ended with status {ran.returncode}", found)
     return ran.stdout.decode().split("\n")[:-1]
 
 

@@ -10,7 +10,7 @@ import unittest
 from pathlib import Path
 
 from . import built, tools
-from .containers import bare_bag, content_info
+from .containers import RSA_ENCRYPTION, SHA256, attribute, bare_bag, content_info
 from .elements import contents, element, explicit, integer, octet_string, part, parts, sequence, set_of, within
 from .oids import oid
 
@@ -71,6 +71,19 @@ class Folder:
     def succeeds(self, *words):
         """Whether openssl succeeds."""
         return tools.ended("openssl", *words, cwd=self.room).returncode == 0
+
+    def signed_over(self, content_type, content):
+        """Signed data over content of a type that openssl signs none of, with attributes, by the RSA key."""
+        digest = self.openssl("dgst", "-sha256", "-binary", text=contents(content))
+        attributes = attribute("contentType", oid(content_type)) + attribute("messageDigest", octet_string(digest))
+        signature = self.openssl("dgst", "-sha256", "-sign", "rsa.key", text=set_of(attributes))
+        certificate = self.octets("rsa.der")
+        named = sequence(part(certificate, 0, 3), part(certificate, 0, 1))
+        algorithms = SHA256, explicit(0, attributes), RSA_ENCRYPTION
+        signer = sequence(integer(1), named, *algorithms, octet_string(signature))
+        info = sequence(oid(content_type), explicit(0, content))
+        fields = integer(1), set_of(SHA256), info, explicit(0, certificate), set_of(signer)
+        return content_info("signed data", sequence(*fields))
 
     def sign(self, name, *words, key="rsa", out="DER"):
         given = ["-in", "data", "-binary", "-signer", f"{key}.pem", "-inkey", f"{key}.key"]
@@ -251,9 +264,9 @@ class Command(Folder, unittest.TestCase):
         ran = tools.ended(*words, text=text, cwd=self.room, env=self.environment(**(more or {})))
         return ran.returncode, ran.stdout.decode("utf-8", "replace"), ran.stderr.decode("utf-8", "replace")
 
-    def says(self, words, wanted, status=0):
+    def says(self, words, wanted, status=0, more=None):
         """Asks that the command says these lines, and nothing on standard error."""
-        ended, said, complaints = self.command(*words)
+        ended, said, complaints = self.command(*words, more=more)
         self.assertEqual((ended, said, complaints), (status, "".join(f"{it}\n" for it in wanted), ""))
 
     def finds(self, words, wanted, status=0):
