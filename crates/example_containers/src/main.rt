@@ -7,6 +7,7 @@ mod check;
 mod enveloped;
 mod list;
 mod rename;
+mod repeat;
 mod revoked;
 mod signed_contents;
 mod signers;
@@ -92,6 +93,9 @@ fn build(rt: &HostRuntime, verb: &str, words: &[String]) -> Result<(), ExampleEr
         [store, digest, salt] if verb == "mac" => stores::send_with_mac(rt, store, digest, salt),
         [key, certificate, key_id, name] if verb == "store" => {
             stores::send_store(rt, key, certificate, key_id, name)
+        }
+        [word, operation, count, file] if verb == "repeat" => {
+            repeat::repeat(rt.alloc(), word, operation, count, &fs::read(rt, file)?)
         }
         [key_id, wrapped_key, vector, ciphertext] if verb == "enveloped" => {
             enveloped::send_enveloped(rt, key_id, wrapped_key, vector, ciphertext)
