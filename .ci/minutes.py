@@ -137,6 +137,14 @@ class Watch:
                 "seconds": (top.own + top.ended) / TICKS, "units": [[*unit, seconds[unit], self.memory[unit]] for unit in sorted(seconds)]}
 
 
+def write(seen, began, file):
+    """Writes what was seen. Where the gate has ended before it was told, what was written last stays."""
+    try:
+        file.write_text(json.dumps(seen.result(began)), "utf-8")
+    except FileNotFoundError:
+        pass
+
+
 def watch(top, file):
     ended = []
     signal.signal(signal.SIGTERM, lambda *_: ended.append(True))
@@ -145,9 +153,9 @@ def watch(top, file):
         seen.look()
         looks += 1
         if looks % 100 == 0:
-            file.write_text(json.dumps(seen.result(began)), "utf-8")
+            write(seen, began, file)
         time.sleep(INTERVAL)
-    file.write_text(json.dumps(seen.result(began)), "utf-8")
+    write(seen, began, file)
 
 
 def phases(result):

@@ -185,16 +185,20 @@ fn signers_of_versions_1_and_3() {
     }
 }
 
+/// Its content has to be data, since no attributes are signed.
 #[test]
 fn a_detached_signature_covers_what_is_passed() {
-    let signer = vuyhanip::signers(DETACHED).unwrap()[0].unwrap();
+    let info = element(0x30, &[&[6, 9, 0x2A, 0x86, 0x48, 0x86, 0xF7, 0x0D, 1, 7, 1]]);
+    let data = element(0x30, &[&DETACHED[17..22], &info, &DETACHED[29..]]);
+    let file = element(0x30, &[&DETACHED[2..13], &element(0xA0, &[&data])]);
+    let signer = vuyhanip::signers(&file).unwrap()[0].unwrap();
     assert_eq!((signer.content, signer.message_digest, signer.certificate), (None, None, None));
     assert_eq!(signer.covered(b"content").as_ref(), b"content");
     assert_eq!(signer.signature_algorithm, &DETACHED[45..52]);
     assert!(signer.signature.is_empty());
 }
 
-/// RFC 5652, 5.3: contentType is the content's, and is one, as messageDigest is.
+/// RFC 5652, 5.3: contentType is the content's, and is one, as messageDigest is. Content that isn't data needs them.
 #[test]
 fn bad_attributes_leave_nothing_to_verify() {
     // contentType's value, its own type, and that of messageDigest
@@ -203,6 +207,7 @@ fn bad_attributes_leave_nothing_to_verify() {
         file[at] ^= 1;
         assert_eq!(vuyhanip::signers(&file).unwrap(), [Err(BadAttributes)]);
     }
+    assert_eq!(vuyhanip::signers(DETACHED).unwrap(), [Err(BadAttributes)]);
 }
 
 #[test]
