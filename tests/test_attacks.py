@@ -32,10 +32,6 @@ from vuyhanip.rules import RULES
 MODULES = (attacks, attacks_on_keys, attacks_on_trust, attacks_on_stores)
 # How many attacks, and good files, there are at least.
 LEAST = 200
-# Attacks that are right, and why.
-DIFFERENCES = {
-    "PSS-with-a-salt-of-4294967328.file": "openssl takes the last 32 bits of the number, which are those of the salt",
-}
 # Good files that aren't right, and why.
 NOT_RIGHT = {
     "good-Ed25519.file": "openssl 3.0 verifies no Ed25519 in CMS",
@@ -90,12 +86,11 @@ class Attacks(Comparing):
     def none_right(self, *makes):
         for make in makes:
             for attack in those_of(make):
-                is_accepted, is_known = verdicts.accepts(*attack.questions), attack.name in DIFFERENCES
-                fault = fault_of(attack)
+                is_accepted, fault = verdicts.accepts(*attack.questions), fault_of(attack)
                 openssls = f"openssl {'accepts' if is_accepted else 'refuses'} it"
-                if bool(fault) != is_known:
-                    self.differ(f"{make.__name__}, {attack.name}: {fault or 'not right'}; {openssls}")
-                if is_accepted and attack.rule is None and not is_known:
+                if fault:
+                    self.differ(f"{make.__name__}, {attack.name}: {fault}; {openssls}")
+                if is_accepted and attack.rule is None:
                     self.differ(f"{make.__name__}, {attack.name}: {openssls}, and no rule is named")
                 self.compared += 1
 
@@ -213,7 +208,6 @@ class GoodFiles(Comparing):
         names = {it.name for make in made for it in those_of(make)}
         self.same({*NOT_RIGHT, *NOT_UNDER_A_ROOT} - names, set(), "reasons of no file")
         attacked = {attack.name for make in attack_classes() for attack in those_of(make)}
-        self.same(set(DIFFERENCES) - attacked, set(), "differences of no file")
         unused = {it for it in NOT_LOOKED_AT if not any(name.startswith(it) for name in attacked)}
         self.same(unused, set(), "reasons of no file")
 

@@ -8,9 +8,10 @@ from typing import Callable, List, NamedTuple, Optional, Sequence, Tuple, Union
 
 from . import der, library
 from .containers import COUNTER_SIGNATURE, DATA
-from .elements import OCTET_STRING
+from .elements import OCTET_STRING, NotThere, whole
 from .judging import Facts, StampFacts, facts
 from .names import name_of
+from .values import integer
 
 INDIRECT_DATA = "1.3.6.1.4.1.311.2.1.4"
 # The encoding of the type messageDigest, and the tag of an OCTET STRING in segments.
@@ -29,6 +30,8 @@ LEAST_RSA, LEAST_CURVE, MOST_EXPONENT, SMALL_RSA = 2048, 224, 64, 3072
 # What a signer's algorithm may be for a key, as openssl names its algorithm. ECDSA, DSA and RSA may be named without a
 # digest; a key for RSASSA-PSS takes that alone (RFC 4055, 1.2).
 CURVE, PSS, NIST = "id-ecPublicKey", "1.2.840.113549.1.1.10", "2.16.840.1.101.3.4.3"
+# The tag of saltLength in the parameters of RSASSA-PSS.
+SALT_LENGTH = 0xA2
 ALGORITHMS = {
     "rsaEncryption": (
         *(f"1.2.840.113549.1.1.{it}" for it in (1, 2, 3, 4, 5, 10, 11, 12, 13, 14, 15, 16)),
@@ -186,6 +189,19 @@ def algorithm_of_key(case: Case, number: int) -> str:
     return ""
 
 
+def salt_length(case: Case, number: int) -> str:
+    """openssl takes the last 32 bits of the length of a salt, whatever is before them."""
+    signer = case.signers[number]
+    if isinstance(signer, der.BadAttributes) or signer.signature_oid != PSS:
+        return ""
+    try:
+        parameters = whole(bytes(signer.signature_algorithm)).children()[1:]
+        lengths = [integer(it.inside()) for those in parameters for it in those.children() if it.tag == SALT_LENGTH]
+    except NotThere:
+        return "parameters of RSASSA-PSS that aren't read"
+    return "a salt length that isn't a number of 31 bits" if any(not 0 <= it < 1 << 31 for it in lengths) else ""
+
+
 def exponent(case: Case, number: int) -> str:
     """An exponent of RSA is odd and at least 3; a long one beside a long modulus takes hours."""
     for it in _rsa(case, number):
@@ -275,6 +291,7 @@ RULES: Tuple[Rule, ...] = (
     Rule("unread-certificate", "RFC 5652, 10.2.2", unread_certificate, Of.SIGNER),
     Rule("same-issuer-and-serial", "RFC 5280, 4.1.2.2", same_issuer_and_serial, Of.SIGNER),
     Rule("algorithm-of-key", "RFC 5652, 5.3", algorithm_of_key, Of.SIGNER),
+    Rule("salt-length", "RFC 8017, A.2.3", salt_length, Of.SIGNER),
     Rule("exponent", "RFC 8017, 3.1", exponent, Of.SIGNER),
     Rule("weak-digest", "RFC 6151, 2.1 and RFC 6194, 3.1", weak_digest, Of.SIGNER, Effect.WEAK),
     Rule("weak-rsa", "NIST SP 800-131A, 3", weak_rsa, Of.SIGNER, Effect.WEAK),

@@ -108,6 +108,10 @@ def by_ed25519():
 # ---- RSASSA-PSS
 
 
+# The salts of pss_declared whose length isn't a number of 31 bits. openssl accepts the second.
+NOT_OF_31_BITS = {f"a salt of {it}" for it in (2**31, 2**32 + 32, 2**64 + 32, -1, -2, -3, -4, -32)}
+
+
 def pss_declared():
     """By name: what is said of a signature whose digest and mask are by SHA-256, and whose salt has 32 octets."""
     yield "another mask function", pss_parameters(function="1.2.3.4")
@@ -139,7 +143,8 @@ def parameters_of_pss():
     parameters say; the digest isn't another than the signer's (RFC 4056, 3)."""
     sign = functools.partial(by_pss, "rsa")
     for name, of in pss_declared():
-        yield attack(f"PSS with {name}", Signer("rsa", algorithm=of, sign=sign).file())
+        rule = "salt-length" if name in NOT_OF_31_BITS else None
+        yield attack(f"PSS with {name}", Signer("rsa", algorithm=of, sign=sign).file(), rule)
     for name, of in list(pss_declared())[:8:2]:
         yield attack(f"PSS key with {name}", Signer("pss", algorithm=of, sign=functools.partial(by_pss, "pss")).file())
     for name, how in (

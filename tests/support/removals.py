@@ -25,6 +25,8 @@ REMOVALS = (
     Removal("unread-certificate", "if facts(it) is None:", "if not it:"),
     Removal("same-issuer-and-serial", "if len(those) > len(names) else", "if len(those) < len(names) else"),
     Removal("algorithm-of-key", "if signer.signature_oid not in ALGORITHMS.get(it.key, ()):", "if not it.key:"),
+    Removal("salt-length", "any(not 0 <= it < 1 << 31 for it in lengths)", "any(it < 0 for it in lengths)"),
+    Removal("salt-length", "any(not 0 <= it < 1 << 31 for it in lengths)", "any(it >= 1 << 31 for it in lengths)"),
     Removal("exponent", "if it.exponent < 3 or it.exponent % 2 == 0:", "if it.exponent < 0:"),
     Removal("exponent", "if it.exponent < 3 or it.exponent % 2 == 0:", "if it.exponent % 2 == 0:"),
     Removal("exponent", "if it.exponent < 3 or it.exponent % 2 == 0:", "if it.exponent < 2:"),
