@@ -1,4 +1,5 @@
-"""What the command says of changed files: a sentence of its manual page, on standard error and in each line of a check."""
+"""What the command says of changed files: a sentence of its manual page, on standard error and in each line of a check
+and of a verdict."""
 import contextlib
 import errno
 import io
@@ -25,8 +26,40 @@ COVERED = r"(the MAC|(the signatures?|counter signature \d+)( of (the list|(revo
 OTHERS = ("an empty file", "a mail", "base64 without the lines of PEM", "OpenPGP", "a request of OCSP")
 OTHERS += ("a response of OCSP", "a request for a time stamp", "a time stamp response without a token")
 PARTS = "|".join({*extracting.LEFT_IN_STORES.values(), *extracting.LEFT_IN_SIGNED.values()})
+# What the rules of verdicts say, those that --allow-weak allows, and why openssl isn't asked.
+RULES = (
+    *("no signers", "0 iterations", "a time stamp with more than one signer"),
+    "its content is no OCTET STRING of one piece",
+    *("the content in the file isn't that which is given", "signed attributes that RFC 5652 forbids"),
+    *("its content may be the signed attributes of another signature", r"openssl doesn't read certificate \d+"),
+    *("its certificate isn't known", "two certificates that differ have its issuer and serial number"),
+    *(r"[\w.-]+ by a key of [\w.-]+", "parameters of RSASSA-PSS that aren't read", "an RSA key that isn't read"),
+    *("a salt length that isn't a number of 31 bits", "an RSA key whose exponent is even, or below 3"),
+    r"an RSA key whose exponent has more than \d+ bits",
+)
+WEAK = r"(the (digest|signature algorithm) [\w.-]+( of what is stamped)?|RSA of \d+ bits|a curve of \d+ bits|DSA)"
+CAUSES = (
+    *("no content, which --content gives", "no password, which --password-file or --ask-password gives"),
+    *("openssl takes no such password", r"more than \d+ (certificates|levels)", r"the digest [\w.-]+ is not known"),
+    "there is no program openssl, whose yes a yes is here",
+    "openssl has no purpose for programs, so --ca asks for --purpose any",
+    r"OpenSSL [^,]+ verifies no (signatures of Ed25519 and Ed448 in CMS|signers by key identifier over such content)",
+    r"\d+ iterations, more than the \d+ that --most-iterations allows",
+)
+# What follows on a verdict: what isn't compared or checked, and what the signer is.
+DESCRIPTION = (
+    r"(, without the newline after its DER)?(, over the digest of a program, which isn't compared)?"
+    r"(, counter signature not checked)?(, [\w.-]+(, [\w.-]+)?)?(, \d+ bits)?(, at [^,]+)?"
+    r"(, by a certificate that calls itself .+)?"
+)
 WORDS = {
     "N": r"\d+",
+    "WHO": r"(block \d+ of \d+|signers?( \d+)?|time stamp|nested signature)"
+    r"(, (signers?( \d+)?|time stamp|nested signature))*",
+    "RULE": rf"({'|'.join(RULES)}) \([^()]+\)",
+    "WEAK": WEAK,
+    "CAUSE": "|".join(CAUSES),
+    "KIND": "[a-z0-9]+",
     "REASON": REASON,
     "PATH": PATH,
     "FORM": r"(PEM|PEM block \d+ of \d+|BER|PEM and BER|PEM block \d+ of \d+ and BER)",
@@ -39,7 +72,7 @@ WORDS = {
 
 
 def sentences():
-    """The patterns of the manual page: those of standard output, and those of standard error."""
+    """The patterns of the manual page: those of standard output, those of verdicts, and those of standard error."""
     page = (built.TOP / "docs/vuyhanip.1").read_text("utf-8")
     section = re.search(r"^\.SH DIAGNOSTICS$(.*?)^\.SH", page, re.M | re.S)[1].replace("\\-", "-")
     return [block.strip().splitlines() for block in re.findall(r"^\.nf$(.*?)^\.fi$", section, re.M | re.S)]
@@ -51,6 +84,9 @@ def pattern(sentence, kinds):
     made = re.escape(sentence).replace(r"\ ", " ")
     made = re.sub(r" \\\((PATH|from FORM)\\\)", r"( \\(\1\\))?", made)
     made = re.sub(r"[A-Z]+", lambda it: f"({WORDS[it[0]]})" if it[0] in WORDS else it[0], made)
+    made = made.replace(f", but weak: ({WEAK})", f"(, but weak: ({WEAK}))?")
+    if sentence.startswith("WHO: "):
+        return f"({WORDS['WHO']}: )?{made[made.index(': ') + 2:]}{DESCRIPTION}"
     if sentence.startswith(("normal N", "loose N", "refused: REASON")):
         made = rf"(({kinds}) )?{made}" + ("" if "FORM" in sentence else rf"( \(from {WORDS['FORM']}\))?")
     return made
@@ -95,7 +131,7 @@ class Sentences(Command):
                     yield self.put(f"{number}-{way}-{name}", mutant)
 
     def test_each_line_is_a_sentence_of_the_manual_page(self):
-        said, complaints = (
+        said, verdicts, complaints = (
             re.compile("|".join(f"({pattern(it, self.kinds)})" for it in group)) for group in sentences()
         )
         self.assertLessEqual(sum(map(len, sentences())), MOST)
@@ -103,6 +139,7 @@ class Sentences(Command):
         _, out, errors = self.ran("check", *names)
         for line in out:
             self.assertRegex(line, rf"^[^ ]+: ({said.pattern})$")
+        self.verified(names, said, verdicts)
         for verb in (["show"], ["extract", "--into", "parts"], ["rewrite"], ["to-der"], ["tree"], ["page"]):
             for name in names:
                 into = [*verb[:2], f"of-{name}"] if verb[0] == "extract" else verb
@@ -116,6 +153,16 @@ class Sentences(Command):
             seen += 1
         self.assertGreater(seen + len(out), LEAST)
 
+    def verified(self, names, said, verdicts):
+        """Asks that each line of a verdict is a sentence, or has words of openssl."""
+        for words in ([], ["--ca", "rsa.pem"], ["--password-file", "password", "--content", "data"]):
+            status, out, errors = self.ran("verify", *words, *names, *FILES)
+            self.assertEqual((status, errors), (1, []))
+            self.assertGreaterEqual(len(out), len(names))
+            self.assertGreater(sum(": signature right, " in line for line in out), 4)
+            for line in out:
+                self.assertRegex(line, rf"^[^ ]+: ({verdicts.pattern}|{said.pattern}|openssl: [^\x00-\x1f]+)$")
+
     def test_no_pattern_takes_a_sentence_that_isnt_there(self):
         groups = sentences()
         all_of = re.compile("|".join(f"({pattern(it, self.kinds)})" for group in groups for it in group))
@@ -128,6 +175,10 @@ class Sentences(Command):
             "refused: some words at 3",
             "left in the file: what else",
             "normal 12 (from here on)",
+            "signer 1: not checked: list index out of range",
+            "signer 1: refused: anything (RFC 5652, 5.3)",
+            "signer 1: signature right, and so on",
+            "MAC not checked: something",
         ):
             self.assertIsNone(all_of.fullmatch(line), line)
 

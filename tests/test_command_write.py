@@ -10,7 +10,7 @@ import unittest
 import unittest.mock
 from concurrent.futures import ThreadPoolExecutor
 
-from support import built
+from support import built, tools
 from support.command import EMPTY_LIST, LOOSE, SIGNERS, Command, nested_store
 from support.containers import attribute
 from support.elements import contents, element, sequence, within
@@ -254,6 +254,17 @@ class Tree(Command):
             self.assertEqual(ended, 0)
             field = " -- Pfx.authSafe.contentType" if dertree else ""
             self.assertIn(f"      7   2     OBJECT IDENTIFIER 9: 1.2.840.113549.1.7.1 (pkcs7-data){field}\n", said)
+
+    def test_no_program_of_the_current_folder_is_run(self):
+        """An empty folder in PATH is the current one."""
+        for name in ("dertree", "openssl"):
+            self.put(name, b"#!/bin/sh\ntouch ran\n")
+            os.chmod(self.room / name, 0o755)
+        environment = self.environment(PATH=f":.:{os.environ['PATH']}")
+        del environment["VUYHANIP_DERTREE"]
+        for words in (["tree", "empty.p12"], ["verify", "attributes.p7s"]):
+            tools.ended(sys.executable, "-m", "vuyhanip", *words, cwd=self.room, env=environment)
+            self.assertFalse((self.room / "ran").exists(), words)
 
     def test_trees_are_those_of_dertree(self):
         files = "store.p12 attributes.p7s stream.p7s list.crl broken.p7s enveloped.p7m stamp.tst".split()

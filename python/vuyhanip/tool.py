@@ -67,11 +67,17 @@ class Ran(NamedTuple):
         return printable(said[:MOST_OF_WORDS])
 
 
+def path_of(name: str) -> Optional[str]:
+    """The full path of a program, the first in a folder of PATH that is named from the root on, so that none of the
+    current folder is run. None where there is none."""
+    folders = os.environ.get("PATH", os.defpath).split(os.pathsep)
+    return shutil.which(name, path=os.pathsep.join(filter(os.path.isabs, folders)))
+
+
 @functools.lru_cache(maxsize=None)
 def program() -> str:
-    """The full path of openssl, the first in a folder of PATH that is named from the root on. Raises NoTool."""
-    folders = os.environ.get("PATH", os.defpath).split(os.pathsep)
-    found = shutil.which("openssl", path=os.pathsep.join(filter(os.path.isabs, folders)))
+    """The full path of openssl. Raises NoTool."""
+    found = path_of("openssl")
     if found is None:
         raise NoTool("there is no program openssl, whose yes a yes is here")
     return found

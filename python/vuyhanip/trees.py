@@ -2,11 +2,11 @@
 import errno
 import os
 import re
-import shutil
 import subprocess
 from typing import Iterator, List, NamedTuple, Optional, Tuple
 
 from .elements import OCTET_STRING, Element, header, tag_word
+from .tool import path_of
 from .values import octets_text, value
 
 # The environment's word for the program.
@@ -33,7 +33,7 @@ def program() -> Optional[str]:
         return os.environ[DERTREE] or None
     here = os.path.dirname(os.path.realpath(__file__))
     built = os.path.join(here, "..", "..", "crates", "dertree", "out", "dertree")
-    return shutil.which("dertree") or (built if os.access(built, os.X_OK) else None)
+    return path_of("dertree") or (built if os.access(built, os.X_OK) else None)
 
 
 def lines(data: bytes, kind: Optional[str], place: Optional[int]) -> List[Line]:
