@@ -82,13 +82,19 @@ class Rules(Command):
         for name, octets in (
             ("mask.p7s", whole.replace(oid(MGF1), oid("1.2.840.113549.1.1.99"))),
             ("mask-digest.p7s", with_parameters(with_part(1, sequence(oid(MGF1), sequence(oid("SHA-512")))))),
-            ("salt.p7s", with_parameters(with_part(2, element(0x02, b"\xff")))),
             ("shorter-salt.p7s", with_parameters(with_part(2, integer(20)))),
             ("trailer.p7s", with_parameters(with_part(3, integer(2)))),
             ("digest.p7s", with_parameters(with_part(0, sequence(oid("SHA-1"))))),
         ):
             with self.subTest(name):
                 self.same(name, put=octets)
+        # openssl refuses these numbers, and takes the last 32 bits of others
+        said = "refused: a salt length that isn't a number of 31 bits (RFC 8017, A.2.3)"
+        for salt in (element(0x02, b"\xff"), element(0x02, b"\xfe"), integer(1 << 31), integer((1 << 32) + 32)):
+            with self.subTest(salt):
+                self.put("salt.p7s", with_parameters(with_part(2, salt)))
+                ended, [found] = self.findings("salt.p7s")
+                self.assertEqual((ended, found["right"], found["said"]), (1, False, said))
 
     def test_the_digest_of_a_signer_is_that_which_is_signed(self):
         """Where the set of digest algorithms has another, and where a signature over SHA-1 is said to be by SHA-256."""
