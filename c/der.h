@@ -52,7 +52,8 @@
 extern "C" {
 #endif
 
-/* That the status is looked at, and that no pointer is null, where the compiler can say so. */
+/* A compiler that knows these attributes warns where a status isn't looked at, or a null pointer is passed to a call of
+ * the library. */
 #if defined(__GNUC__) || defined(__clang__)
 #define DER_LOOK __attribute__((warn_unused_result))
 #define DER_CALL __attribute__((warn_unused_result, nonnull))
@@ -519,7 +520,7 @@ static inline der_status der_bags(const uint8_t *input, size_t input_len, der_ba
 
 /* Copies what the signature of a signer covers to out, which has room for covered.len bytes. */
 static inline void der_covered(const der_signer_parts *signer, const uint8_t *input, uint8_t *out) {
-  memcpy(out, input + signer->covered.start, signer->covered.len);
+  if (signer->covered.len) memcpy(out, input + signer->covered.start, signer->covered.len);
   if (signer->over_attributes) out[0] = 0x31;
 }
 

@@ -93,10 +93,12 @@ class TestPython(unittest.TestCase):
                 del bags, part
 
     def test_what_can_be_written_is_copied(self):
-        octets = bytearray(STORE)
-        bags = library().bags(octets)
-        octets[:] = bytes(len(octets))
-        self.assertEqual(bags, library().bags(STORE))
+        """Also by another name than that by which it is given."""
+        for given in (lambda it: it, memoryview, lambda it: memoryview(it).toreadonly()):
+            octets = bytearray(STORE)
+            bags = library().bags(given(octets))
+            octets[:] = bytes(len(octets))
+            self.assertEqual(bags, library().bags(STORE))
 
     def test_octets_that_do_not_follow_one_another(self):
         spread = bytes(octet for pair in zip(STORE, bytes(len(STORE))) for octet in pair)

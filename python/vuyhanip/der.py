@@ -35,6 +35,7 @@ import datetime
 import enum
 import functools
 import hashlib
+import mmap
 import os
 import re
 from typing import Callable, Dict, Iterable, Iterator, List, NamedTuple, Optional, Tuple, Union
@@ -525,7 +526,7 @@ class _BagParts(ctypes.Structure):
 class Store:
     """A PKCS #12 store, whose bags that aren't encrypted Library.store found in one reading.
 
-    Octets are memoryviews of the file, and of a copy where that can be written. Nothing is decrypted: unread are contents
+    Octets are memoryviews of the file, and of a copy where that could be written. Nothing is decrypted: unread are contents
     that would have to be, and no MAC is made.
     """
 
@@ -610,7 +611,7 @@ class Store:
 class SignedData:
     """Signed data of any CMSVersion and over content of any type (RFC 5652, 5.1), that Library.signed accepted.
 
-    Octets are memoryviews of the file, and of a copy where that can be written. What a verification needs of signers and of
+    Octets are memoryviews of the file, and of a copy where that could be written. What a verification needs of signers and of
     certificates the library says; the rest is found, element by element, in what it accepted.
     """
 
@@ -854,7 +855,7 @@ class Library:
     def bags(self, data: Bytes) -> Tuple[Bag, ...]:
         """All bags of a PKCS #12 store that aren't encrypted, in order, those in a bag after it, in one reading or two.
 
-        The parts are memoryviews of data, and of a copy where data can be written. What is encrypted is of kind
+        The parts are memoryviews of data, and of a copy where data could be written. What is encrypted is of kind
         BagKind.UNREAD. Raises Refused where data are no store, or a part doesn't read as its
         type; its reason is "no range" where a part isn't in them as its value is written.
         """
@@ -1044,14 +1045,15 @@ def _time(element: _Element) -> datetime.datetime:
 
 
 def _octets(data: Bytes) -> _Whole:
-    """The octets of an input, whatever its items are; of a copy where another thread could write into it, or where they
-    don't follow one another. TypeError where it has none.
+    """The octets of an input, whatever its items are: of a copy unless it is bytes, or mapped to be read alone, or a view
+    of one of these whose octets follow one another, so that no other thread can write into it. TypeError where it has
+    none.
     """
     if isinstance(data, bytes):
         return data
     view = memoryview(data)
-    is_kept = view.readonly and view.c_contiguous and hasattr(ctypes, "pythonapi")
-    return view.cast("B") if is_kept else bytes(view)
+    is_kept = isinstance(view.obj, (bytes, mmap.mmap)) and view.readonly and view.c_contiguous
+    return view.cast("B") if is_kept and hasattr(ctypes, "pythonapi") else bytes(view)
 
 
 class _Buffer(ctypes.Structure):
