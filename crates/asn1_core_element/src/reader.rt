@@ -1,7 +1,7 @@
 //! A reader, which goes over the elements of an input.
 
 ghost use Rattle.std.specs.Prelude.{◌≡◌, ◌+◌, ◌≤◌, ◌<◌, [], ◌++◌, length, take, drop, false, true, slice_get};
-ghost use Rattle.asn1_core_element.specs.Reading.{HeaderGives, HasReadContents, WholeElementGives, Opened, EndGives};
+ghost use Rattle.asn1_core_element.specs.Reading.{HeaderGives, HasReadContents, WholeElementGives, Opened, Closed, EndGives};
 
 use crate::error::Error;
 use crate::front::front;
@@ -134,9 +134,22 @@ impl<'a> Reader<'a> {
             self.refused = true;
             return Err(Error::Malformed);
         }
+        self.close(outer);
+        Ok(())
+    }
+
+    /// Goes out of the open contents, which were read to their end. It refuses nothing, as `end` may, so that a caller
+    /// has no branch on which it drops a value that it has read: for that branch the compiled code copies large values
+    /// once more at each call.
+    pub fn close(&mut self, outer: usize)
+        requires sound { self.old.refused ≡ false }
+        requires done { self.old.left ≡ [] }
+        requires low { self.old.end ≤ outer }
+        requires high { outer ≤ self.old.end + length self.old.beyond }
+        ensures { Closed self.old self.new outer }
+    {
         self.room = outer - self.end;
         self.end = outer;
-        Ok(())
     }
 
     /// How many bytes are left in the open contents.

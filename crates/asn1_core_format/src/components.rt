@@ -64,6 +64,7 @@ impl WriteComponents for End {
 }
 
 impl ReadComponents for End {
+    #[inline(always)]
     fn read_components(_alloc: Global, r: &mut Reader<'_>, _nest: u8) -> Result<Self, Error> {
         if r.left() > 0 {
             return Err(Error::Malformed);
@@ -97,6 +98,7 @@ impl<A: DerSerialize, R: WriteComponents> WriteComponents for Part<A, R> {
 impl<A: DerDeserialize, R: ReadComponents> ReadComponents for Part<A, R> {
     ghost distinct = { R.distinct };
 
+    #[inline(always)]
     fn read_components(alloc: Global, r: &mut Reader<'_>, nest: u8) -> Result<Self, Error> {
         let first = A::read(alloc, r, nest)?;
         let rest = R::read_components(alloc, r, nest)?;
@@ -157,6 +159,7 @@ impl<A: DerSerialize, R: WriteComponents> WriteComponents for MaybeRef<'_, A, R>
 impl<A: DerDeserialize, R: ReadComponents> ReadComponents for Maybe<A, R> {
     ghost distinct = { R.distinct && are_distinct A.format R.format };
 
+    #[inline(always)]
     fn read_components(alloc: Global, r: &mut Reader<'_>, nest: u8) -> Result<Self, Error> {
         if next_is::<A>(r) {
             let first = A::read(alloc, r, nest)?;
@@ -211,6 +214,7 @@ impl<A: HasDefault, R: WriteComponents> WriteComponents for Omitted<A, R> {
 impl<A: HasDefault, R: ReadComponents> ReadComponents for Omitted<A, R> {
     ghost distinct = { R.distinct && are_distinct A.format R.format };
 
+    #[inline(always)]
     fn read_components(alloc: Global, r: &mut Reader<'_>, nest: u8) -> Result<Self, Error> {
         if next_is::<A>(r) {
             let first = A::read(alloc, r, nest)?;
@@ -270,6 +274,7 @@ impl<T: DerSerialize> WriteComponents for Alone<T> {
 }
 
 impl<T: DerDeserialize> ReadComponents for Alone<T> {
+    #[inline(always)]
     fn read_components(alloc: Global, r: &mut Reader<'_>, nest: u8) -> Result<Self, Error> {
         let value = T::read(alloc, r, nest)?;
         if r.left() > 0 {

@@ -104,7 +104,7 @@ pub fn read_list_with<
 {
     let outer = open_element(r, tag)?;
     let items = read_items::<L, T, F>(alloc, r, nest, NESTED_STEP, by)?;
-    r.end(outer)?;
+    r.close(outer);
     Ok(items)
 }
 
@@ -144,6 +144,6 @@ pub fn read_below_within<T: DerSerialize + Drop, F: Fn(&mut Reader<'_>, u8) -> R
     if r.left() > 0 {
         return Err(Error::Malformed);
     }
-    r.end(outer)?;
+    r.close(outer);
     Ok(value)
 }

@@ -55,6 +55,7 @@ impl<T: Sequence> TaggedType for T {
         self.with_components(&mut Test { limit })
     }
 
+    #[inline(always)]
     fn read_open_contents(alloc: Global, r: &mut Reader<'_>, nest: u8) -> Result<Self, Error> {
         T::read_fields(alloc, r, nest)
     }

@@ -1,5 +1,8 @@
 //! Types that are declared once: all traits of a type that reads and writes, made of one impl. It is of `Sequence`, of
 //! `TaggedType` if encodings have one tag, as of a primitive type or a set, else of `Asn1Type`, as of a CHOICE.
+//!
+//! Methods that only pass a result on are always inlined, here and in the other modules: around each call that isn't, the
+//! compiled code fills the room of its result with zeros, and copies it out of there.
 
 ghost use Rattle.std.specs.Prelude.{◌≡◌, ◌↔◌, ℕ, List, IsTrue, false};
 ghost use Rattle.asn1_core_element.specs.Element.{retag};
@@ -65,6 +68,7 @@ impl<T: Asn1Type> DerSerialize for T {
 }
 
 impl<T: Asn1Type> DerDeserialize for T {
+    #[inline(always)]
     fn read(alloc: Global, r: &mut Reader<'_>, nest: u8) -> Result<Self, Error> {
         T::read_encoded(alloc, r, nest)
     }
@@ -149,10 +153,11 @@ impl<T: TaggedType> Asn1Type for T {
         task.run(&Own(self))
     }
 
+    #[inline(always)]
     fn read_encoded(alloc: Global, r: &mut Reader<'_>, nest: u8) -> Result<Self, Error> {
         let outer = open_element(r, <T as TaggedType>::TAG)?;
         let value = T::read_open_contents(alloc, r, nest)?;
-        r.end(outer)?;
+        r.close(outer);
         Ok(value)
     }
 

@@ -29,6 +29,21 @@ fn an_element_in_another(_rt: HostRuntime) -> Result<(), Fail> {
     expect(r.left() == 2 && r.headers_read() == 2, "other contents")
 }
 
+/// A reader that goes out of an element, whose contents it has read to their end.
+#[test]
+fn an_element_that_is_closed(_rt: HostRuntime) -> Result<(), Fail> {
+    let mut r = Reader::new(TWO);
+    let (_, len) = r.header()?;
+    let outer = r.open(len);
+    let item = r.whole_element()?;
+    expect(item == b"\x02\x01\x07".as_slice(), "another item")?;
+    if r.left() > 0 {
+        return Err(Fail::new("other bytes are left"));
+    }
+    r.close(outer);
+    expect(r.left() == 2 && r.headers_read() == 2, "other contents")
+}
+
 #[test]
 fn contents_after_a_header(_rt: HostRuntime) -> Result<(), Fail> {
     let mut r = Reader::new(TWO);

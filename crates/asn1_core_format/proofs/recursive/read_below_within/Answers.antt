@@ -18,4 +18,4 @@ returns-then-left-gt0 g c =
 pub returns : goal.returns
 returns g c =
     within_has_read (less g.T.DerSerialize.format) c.args.nest c.args.tag c.in_ok-outer.ensures
-    (alone_has_read (less g.T.DerSerialize.format) c.args.nest c.in_ok-value.ensures (omega (arith, c.left.ensures))) c.in_ok-end.ensures
+    (alone_has_read (less g.T.DerSerialize.format) c.args.nest c.in_ok-value.ensures (omega (arith, c.left.ensures))) c.close.ensures

@@ -13,4 +13,4 @@ returns-in_err-items g c =
     has_refused (λ v. map g.T.DerSerialize.value v.items) (within c.args.tag (each (less_if g.L.ItemLevel.below g.T.DerSerialize.format))) c.args.nest (err_from_is_err_and c.from_residual-in_err-items.result c.from_residual-in_err-items.ensures.1) r
 
 pub returns : goal.returns
-returns g c = within_has_read (each (less_if g.L.ItemLevel.below g.T.DerSerialize.format)) c.args.nest c.args.tag c.in_ok-outer.ensures c.in_ok-items.ensures c.in_ok-end.ensures
+returns g c = within_has_read (each (less_if g.L.ItemLevel.below g.T.DerSerialize.format)) c.args.nest c.args.tag c.in_ok-outer.ensures c.in_ok-items.ensures c.close.ensures

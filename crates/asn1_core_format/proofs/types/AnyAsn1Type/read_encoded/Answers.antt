@@ -13,4 +13,4 @@ returns-in_err-value g c =
     search rules
 
 pub returns : goal.returns
-returns g c = own_has_read g.T.TaggedType.asn1.format g.T.TaggedType.asn1.law g.T.TaggedType.TAG c.TAG.result c.TAG.ensures g.met.T.TaggedType.tagged c.args.nest c.in_ok-outer.ensures c.in_ok-value.ensures c.in_ok-end.ensures
+returns g c = own_has_read g.T.TaggedType.asn1.format g.T.TaggedType.asn1.law g.T.TaggedType.TAG c.TAG.result c.TAG.ensures g.met.T.TaggedType.tagged c.args.nest c.in_ok-outer.ensures c.in_ok-value.ensures c.close.ensures
