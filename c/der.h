@@ -95,11 +95,12 @@ typedef enum der_status {
 
 /* The parts of containers. Each is of the type that the input is read as, which is said before it. */
 typedef enum der_part_number {
-  /* signed data with its content type, of any CMSVersion, with signers of version 1 or 3, and over content of any type
-   * (RawPkcs7Certificate; RFC 5652, 5) */
+  /* signed data with its content type, of any CMSVersion, with signers of any CMSVersion, which isn't compared with how
+   * they are named, and over content of any type (RawPkcs7Certificate; RFC 5652, 5) */
   DER_PART_HASHED_CONTENT = 0,      /* contents octets of the content, which are hashed; the index isn't looked at */
   DER_PART_CERTIFICATE = 1,         /* a certificate, or another choice, as it is in certificates */
-  DER_PART_SIGNED_ATTRIBUTES = 2,   /* of a signer: signedAttrs under the tag of a SET OF, which the signature covers */
+  DER_PART_SIGNED_ATTRIBUTES = 2,   /* of a signer: signedAttrs under the tag of a SET OF, which the signature covers; in
+                                     * the file's order, also where that isn't DER's */
   DER_PART_ISSUER = 3,              /* of a signer: the encoding of the issuer's Name */
   DER_PART_SERIAL_NUMBER = 4,       /* of a signer: the contents octets of serialNumber, an INTEGER */
   DER_PART_KEY_IDENTIFIER = 5,      /* of a signer: the octets of subjectKeyIdentifier */
@@ -274,10 +275,11 @@ uint32_t der_mac_range(const uint8_t *input, size_t input_len, size_t *start, si
 DER_CALL
 uint32_t der_mac(const uint8_t *input, size_t input_len, size_t *start, size_t *len, size_t *iterations);
 
-/* Writes the DER (X.690, 10) of an input in BER (X.690, 8) to the front of out, with at most DER_MAX_NESTING levels of
- * nesting. Lengths become definite, in the fewest octets, and an OCTET STRING in segments becomes one piece of the
- * same octets: so the octets of content that a digest or a MAC covers stay. All else stays as it is, and DER that is
- * not refused comes out as it went in.
+/* Writes the DER of an input in BER (X.690, 8) to the front of out, as far as lengths and the form of OCTET STRINGs go
+ * (X.690, 10.1 and 10.2), with at most DER_MAX_NESTING levels of nesting. Lengths become definite, in the fewest octets,
+ * and an OCTET STRING in segments becomes one piece of the same octets, which is proved of an OCTET STRING by itself: so
+ * the octets of content that is one, which a digest or a MAC covers, stay. All else stays as it is: contents of
+ * primitive elements and the order of sets aren't looked at. DER that is not refused comes out as it went in.
  *  - DER_NORMAL: *written bytes were written, and the rest of out is as it was.
  *  - DER_NO_ROOM: *written bytes are needed, and out_len is less. Where contents are long, that may be some bytes more
  *    than the input has.
@@ -293,10 +295,11 @@ uint32_t der_mac(const uint8_t *input, size_t input_len, size_t *start, size_t *
  * DER_NO_ROOM *written is 0. At these two *place is 0. That it is at most input_len is proved; which place it is, is
  * tested.
  *
- * It looks into each constructed element, and so it may refuse what a kind keeps as it is. One element has two
- * readings: in a SEQUENCE that begins with an OBJECT IDENTIFIER and a SEQUENCE, a third element [0] of indefinite
- * length. It is taken as an OCTET STRING under an implicit tag, which it is in EncryptedContentInfo (RFC 5652, 6.1),
- * though it could be an explicit tag around an OCTET STRING. */
+ * It looks into each constructed element, and so it may refuse what a kind keeps as it is. A constructed element under
+ * a context tag that holds OCTET STRINGs may be an explicit tag around one, or an OCTET STRING in segments under an
+ * implicit tag. One of these is taken as the second: in a SEQUENCE that begins with an OBJECT IDENTIFIER and a SEQUENCE,
+ * a third element [0] of indefinite length, as in EncryptedContentInfo (RFC 5652, 6.1). All others, also of a definite
+ * length, are taken as explicit tags and keep their segments. */
 DER_CALL
 uint32_t der_from_ber(const uint8_t *input, size_t input_len, uint8_t *out, size_t out_len, size_t *written,
                       size_t *place);
@@ -304,7 +307,8 @@ uint32_t der_from_ber(const uint8_t *input, size_t input_len, uint8_t *out, size
 /* As der_mac, of a PKCS #12 file that der_from_ber wrote: its authSafe may hold BER, which der_from_ber keeps as it is,
  * since the MAC covers it, and which der_mac and "rawpfx" refuse unless it is one element. Of what the OCTET STRING
  * holds nothing is asked. The *len octets from input + *start on are in what der_from_ber wrote, and in the same order in
- * the file that it was given, though there they may be in pieces. The statuses are those of der_mac. */
+ * the file that it was given, though there they may be in pieces: that is proved of the OCTET STRING by itself, and of
+ * one in a file tested. The statuses are those of der_mac. */
 DER_CALL
 uint32_t der_mac_ber(const uint8_t *input, size_t input_len, size_t *start, size_t *len, size_t *iterations);
 
@@ -319,7 +323,8 @@ uint32_t der_mac_part_ber(size_t number, const uint8_t *input, size_t input_len,
  * attribute first, as openssl -nameopt RFC2253 orders them. Types have the short names CN, L, ST, O, OU, C, STREET, DC
  * and UID; another type is dotted, and its value # and hexadecimal. So is the value of one of these where it is no
  * UTF8String, BMPString, or PrintableString, TeletexString or IA5String in ASCII. A control character, but for NUL, is
- * written as it is.
+ * written as it is. A RelativeDistinguishedName without an attribute, which a Name here may have, is written as nothing,
+ * which RFC 4514 has no text for.
  *  - DER_NORMAL: *written bytes were written, and the rest of out is as it was.
  *  - DER_NO_ROOM: *written bytes are needed, and out_len is less.
  *  - DER_MALFORMED to DER_TOO_DEEP: the input is no encoding of a Name, or, at DER_INVALID, a dotted type in it has a
@@ -330,14 +335,14 @@ DER_CALL
 uint32_t der_name_text(const uint8_t *input, size_t input_len, uint8_t *out, size_t out_len, size_t *written);
 
 /* Writes an object identifier, by its contents octets, as "1.2.840.113549.1.1.11" to the front of out. What it answers
- * is as of der_name_text: DER_INVALID, and no other refusal, where the octets are no object identifier's, or have a
- * number that 64 bits don't hold. */
+ * is as of der_name_text, and the refusal, by tests alone, always DER_INVALID: where the octets are no object
+ * identifier's, or have a number that 64 bits don't hold. */
 DER_CALL
 uint32_t der_oid_text(const uint8_t *octets, size_t octets_len, uint8_t *out, size_t out_len, size_t *written);
 
 /* Writes the name of an object identifier, by its contents octets, as "sha256WithRSAEncryption" to the front of out, in
- * ASCII without a zero byte after it: the long name that openssl prints, of some 400 that people meet in containers and
- * certificates. It takes no memory.
+ * ASCII without a zero byte after it: the long name that openssl 3.0 prints, or where it has none that of the document
+ * that defines it, of some 400 that people meet in containers and certificates. It takes no memory.
  *  - DER_NORMAL: *written bytes were written, and the rest of out is as it was.
  *  - DER_NO_ROOM: *written bytes are needed, and out_len is less.
  *  - DER_NO_PART: the library knows no name for these octets, and *written is 0.
@@ -347,14 +352,15 @@ uint32_t der_oid_name(const uint8_t *octets, size_t octets_len, uint8_t *out, si
 
 /* Writes the number that the contents octets of an INTEGER hold (X.690, 8.3), as a serial number, in decimal, after a
  * minus where it is negative, to the front of out. Octets that DER would leave out are taken too. What it answers is as
- * of der_name_text: DER_INVALID, and no other refusal, where there are no octets or more than 1,024, since the time
- * that a text takes grows by the square of their count. */
+ * of der_name_text, and the refusal, by tests alone, always DER_INVALID: where there are no octets or more than 1,024,
+ * since the time that a text takes grows by the square of their count. */
 DER_CALL
 uint32_t der_integer_text(const uint8_t *octets, size_t octets_len, uint8_t *out, size_t out_len, size_t *written);
 
 /* Writes UTF-16, two octets for each unit, the high one first, as friendly_name of der_bag_parts has it, as UTF-8 to
- * the front of out, without a zero byte after it. What it answers is as of der_name_text: DER_INVALID, and no other
- * refusal, where the octets are no UTF-16: an odd number of them, or a surrogate without its other half. */
+ * the front of out, without a zero byte after it. What it answers is as of der_name_text, and the refusal, by tests
+ * alone, always DER_INVALID: where the octets are no UTF-16: an odd number of them, or a surrogate without its other
+ * half. */
 DER_CALL
 uint32_t der_utf16_text(const uint8_t *octets, size_t octets_len, uint8_t *out, size_t out_len, size_t *written);
 

@@ -945,9 +945,10 @@ class Library:
         return self._text(self._library.der_oid_text, contents)
 
     def oid_name(self, contents: Bytes) -> Optional[str]:
-        """The name that openssl prints for an object identifier, as "sha256", by its contents octets.
+        """The name of an object identifier, as "sha256", by its contents octets.
 
-        None where the library knows none.
+        It is the long name that openssl 3.0 prints, or where it has none that of the document that defines it. None where
+        the library knows none.
         """
         data = _octets(contents)
         status, name = _written(self._library.der_oid_name, _given(data), 64)

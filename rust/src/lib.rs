@@ -332,8 +332,8 @@ pub fn oid_text(octets: &[u8]) -> Result<String, Error> {
     text_written(octets, calls::der_oid_text)
 }
 
-/// The name that openssl prints for an object identifier, as `sha256`, by its contents octets. `None` where the library
-/// knows none.
+/// The name of an object identifier, as `sha256`, by its contents octets: the long name that openssl 3.0 prints, or where
+/// it has none that of the document that defines it. `None` where the library knows none.
 pub fn oid_name(octets: &[u8]) -> Option<String> {
     let (status, name) = written(64, |out, out_len, written| {
         // SAFETY: as above
