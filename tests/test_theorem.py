@@ -42,6 +42,12 @@ class Theorem(unittest.TestCase):
     def test_a_name_that_no_file_brings_is_told(self):
         self.assertIn(f"{PFXS}.PfxValue: AuthSafeValue", self.missing(PFXS, "{AuthSafeValue, ", "{"))
 
+    def test_a_type_whose_impl_no_page_has_is_told(self):
+        had = theorem.ROOTS["mac"]
+        theorem.ROOTS["mac"] = had[0], [root for root in had[1] if "AuthenticatedSafeContentInfo" not in root]
+        self.addCleanup(theorem.ROOTS.update, mac=had)
+        self.assertTrue(any("AuthenticatedSafeContentInfo" in one for one in theorem.made_of("mac")[1].missing))
+
     def test_nothing_is_missing_and_each_definition_is_there_once(self):
         sources = {}
         for name in theorem.ROOTS:
