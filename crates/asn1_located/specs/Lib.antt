@@ -1,0 +1,5 @@
+pub mod Places
+pub mod WalkLaws
+pub mod Finding
+pub mod Routes
+pub mod LocatedLaws
