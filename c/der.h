@@ -254,9 +254,12 @@ uint32_t der_bag_rows(const uint8_t *input, size_t input_len, der_bag_parts *out
 
 /* Which octets of a PKCS #12 file a MAC covers: the contents octets of the OCTET STRING that is the content of
  * authSafe, without its tag and length.
- *  - DER_NORMAL: they are the *len octets from input + *start on, all of them inside of the input. That doesn't say
- *    that there is a MAC: a file without macData answers so too, as `openssl pkcs12 -export -nomac` makes it. Nor does
- *    it say that a MAC is right.
+ *  - DER_NORMAL: they are the *len octets from input + *start on, all of them inside of the input. Proved is that they
+ *    are this part itself, and not equal octets elsewhere: these steps lead there from the input's first octet. Into the
+ *    file's element, past the version; into authSafe, past its object identifier; into [0]; into the OCTET STRING. Of
+ *    30 16 02 01 03 30 11 06 09 2A 86 48 86 F7 0D 01 07 01 A0 04 04 02 30 00 they are the last two octets, and *start is
+ *    22. That doesn't say that there is a MAC: a file without macData answers so too, as `openssl pkcs12 -export -nomac`
+ *    makes it. Nor does it say that a MAC is right.
  *  - DER_NO_RANGE: the file is a PFX, and its authSafe isn't data, but signed, say.
  *  - DER_MALFORMED to DER_TOO_DEEP: it is no PFX, read as "rawpfx", which asks of what the OCTET STRING holds only that
  *    it is one element.

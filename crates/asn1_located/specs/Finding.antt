@@ -1,6 +1,7 @@
 -- What walks find in the encodings that a format reads: one lemma for each combinator.
 use Rattle.std.specs.Prelude.{◌≡◌, ◌⊎◌, ◌+◌, ℕ, zero, suc, List, [], ◌∷◌, ◌++◌, length, Option, None, Some}
-use Rattle.std.proofs.Common.{refl, sym, ap, ◌∙◌, subst, inl, inr, append-nil}
+use Rattle.std.proofs.Common.{refl, sym, ap, ◌∙◌, subst, inl, inr, append_assoc, append-nil}
+use Rattle.asn1_core_element.specs.ElementLaws.{element_cut}
 use Rattle.asn1_core_element.specs.Element.{IsElement, IsTagByte, element, head}
 use Rattle.asn1_core_format.specs.Format.{Format, IsLawful, IsLawfulComponents}
 use Rattle.asn1_core_format.specs.Laws.{NextIs, begins_next, next_distinct}
@@ -9,7 +10,7 @@ use Rattle.asn1_core_format.specs.Lists.{ReadsAll}
 use Rattle.asn1_located.specs.Places.{Begins, Contains, Follows, FollowsMany, HasFirst, Leads, Walk}
 use Rattle.asn1_located.specs.WalkLaws.{walk_on}
 use Rattle.asn1_located.specs.declared.walks.Step.{Step}
-use Rattle.asn1_located.specs.declared.walks.Step.TheVariants.{Past}
+use Rattle.asn1_located.specs.declared.walks.Step.TheVariants.{Inside, Past}
 
 -- the walk leads from the octets x, which begin at m, to octets that meet B
 abbrev pub Found : List Step → ℕ → List ℕ → (List ℕ → Type 0) → Type 0
@@ -27,6 +28,28 @@ any_element S b e = record { tag = e.tag; contents = e.contents; is_tag = e.is_t
 
 pub contains_element : (m tag : ℕ) (x c : List ℕ) → IsTagByte tag → x ≡ element tag c → Contains m x (m + length (head tag (length c))) c
 contains_element m tag x c h e = record { tag = tag; rest = []; is_tag = h; split = e ∙ ap (λ b. head tag (length c) ++ b) (sym (append-nil c)); place = refl }
+
+pub follows_element : (m tag : ℕ) (c y : List ℕ) → IsTagByte tag → Follows m (element tag c ++ y) (m + length (element tag c)) y
+follows_element m tag c y h = record { element = element tag c; is = record { tag = tag; contents = c; is_tag = h; is = refl; allowed = tt }; split = refl; place = refl }
+
+pub begins_element : (m tag : ℕ) (c y : List ℕ) → IsTagByte tag → Begins m (element tag c ++ y) m (element tag c)
+begins_element m tag c y h = record { rest = y; is = record { tag = tag; contents = c; is_tag = h; is = refl; allowed = tt }; split = refl; place = refl }
+
+same_size : (t u n : ℕ) → length (head t n) ≡ length (head u n)
+unfolding head
+same_size t u n = refl
+
+-- a walk into an element, under another tag
+pub walk_under : (tag inner : ℕ) → IsTagByte tag → (rest : List Step) (m : ℕ) (x c : List ℕ) (n : ℕ) (y : List ℕ) → x ≡ element tag c → Walk (Inside ∷ rest) m (element inner c) n y → Walk (Inside ∷ rest) m x n y
+walk_under tag inner h rest m x c n y is (l, z, into, on) =
+    let cut = element_cut inner into.tag c z [] into.rest (append-nil (element inner c) ∙ into.split ∙ sym (append_assoc (head into.tag (length z)) z into.rest)) in
+    let place : l ≡ m + length (head tag (length c)) = into.place ∙ ap (λ s. m + s) (same_size into.tag tag (length z) ∙ ap (λ d. length (head tag (length d))) (sym cut.1)) in
+    (
+      m + length (head tag (length c)),
+      c,
+      contains_element m tag x c h is,
+      subst (λ d. Walk rest (m + length (head tag (length c))) d n y) (sym cut.1) (subst (λ j. Walk rest j z n y) place on),
+    )
 
 has_first : (tag : ℕ) (S : ℕ → Type 0) (x : List ℕ) → ((t : ℕ) → S t → t ≡ tag) → NextIs S x → HasFirst tag x
 has_first tag S [] only h = absurd h

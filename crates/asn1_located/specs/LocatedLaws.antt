@@ -16,12 +16,15 @@ one_walk (s ∷ steps) m x n o y z (l, u, f, a) (j, v, g, b) =
     one_walk steps l u n o y z a (subst (λ i. Walk steps i u o z) (sym e.0) (subst (λ t. Walk steps j t o z) (sym e.1) b))
 
 module _ {V W : Type 0} {R : Reading V} {S : Reading W} (route : Route R S) (k : ℕ) (b : List ℕ) (v : V) (reads : R k b v) (w : W) (is : route.IsPart v w) where
+  pub place_of : (n : ℕ) (y : List ℕ) → Walk route.steps 0 b n y → IsPlaceOf route k b v w n y
+  place_of n y walk =
+      let a = route.found k v w is 0 b reads in
+      let e = one_walk route.steps 0 b a.0 n a.1 y a.2 walk in
+      record { walk = walk; is_part = is; reads = subst (λ z. S k z w) e.1 a.3 }
+
   there : (r : Option Place) → Finds (λ n y. Walk route.steps 0 b n y) 0 b r → IsSomeAnd r (λ p. IsPlaceOf route k b v w p.start p.octets.now)
   there None f = let a = route.found k v w is 0 b reads in absurd (f a.0 a.1 a.2)
-  there (Some p) f =
-      let a = route.found k v w is 0 b reads in
-      let e = one_walk route.steps 0 b a.0 p.start a.1 p.octets.now a.2 f.0 in
-      record { walk = f.0; is_part = is; reads = subst (λ y. S k y w) e.1 a.3 }
+  there (Some p) f = place_of p.start p.octets.now f.0
 
 pub located : {V W : Type 0} {F : Format V} {S : Reading W} (route : Route F.Reads S) {k : ℕ} {b : List ℕ} {v : V} {r : Option Place} → IsValueOf F k b v → Finds (λ n y. Walk route.steps 0 b n y) 0 b r → Locates route k b v r
 located {V} {W} {F} {S} route {k} {b} {v} {r} is f = record { part = λ w o. there route k b v is.reads w o r f }

@@ -4,16 +4,16 @@ use Rattle.std.specs.Prelude.{◌≡◌, ◌⊎◌, ◌+◌, ℕ, zero, suc, Boo
 use Rattle.std.proofs.Common.{refl, sym, ap, ◌∙◌, subst, inl, inr, arith}
 use Rattle.asn1_core_element.specs.Element.{IsTagByte, element, head}
 use Rattle.asn1_core_format.specs.Format.{Format, IsLawful, IsLawfulComponents, are_distinct, distinct_tags}
-use Rattle.asn1_core_format.specs.Asn1.{Asn1, Asn1Default, ComponentTypes, Distinct, all_distinct, not_distinct_part, one_later, distinct_if, ◌then◌, ◌OPTIONAL◌, ◌DEFAULT◌}
+use Rattle.asn1_core_format.specs.Asn1.{Asn1, Asn1Default, ComponentTypes, Distinct, HasTag, all_distinct, not_distinct_part, one_later, distinct_if, ◌then◌, ◌OPTIONAL◌, ◌DEFAULT◌}
 use Rattle.asn1_core_format.specs.Components.{part, within}
 use Rattle.asn1_core_format.specs.Leaf.{leaf, verbatim}
 use Rattle.asn1_core_format.specs.Lists.{each, ReadsAll}
 use Rattle.asn1_core_format.specs.Choices.{Choice, known}
-use Rattle.asn1_core_format.specs.Tagged.{IsTagged}
+use Rattle.asn1_core_format.specs.Tagged.{IsTagged, implicit}
 use Rattle.asn1_core.specs.Raw.{raw}
-use Rattle.asn1_located.specs.Places.{Reading, Route}
+use Rattle.asn1_located.specs.Places.{Reading, Route, Walk}
 use Rattle.asn1_located.specs.WalkLaws.{AreOne}
-use Rattle.asn1_located.specs.Finding.{Found, Skips, begins_part, contains_element, any_element, first_step, follows_many, follows_part, found_on, past_omitted, past_optional}
+use Rattle.asn1_located.specs.Finding.{Found, Skips, begins_part, contains_element, any_element, first_step, follows_many, follows_part, found_on, walk_under, past_omitted, past_optional}
 use Rattle.asn1_located.specs.declared.walks.Step.{Step}
 use Rattle.asn1_located.specs.declared.walks.Step.TheVariants.{Inside, Element, After, Past, Nth}
 
@@ -61,6 +61,9 @@ pub record Tagged : Type 1 where
   pub tag : ℕ
   pub tagged : IsTagged tag type.format
 
+abbrev pub with_tag : (tag : ℕ) (type : Asn1) → type.tag ≡ Some tag → Tagged
+with_tag tag type is = record { type = type; tag = tag; tagged = subst (λ t. HasTag t type.format) is type.tagged }
+
 pub maybe_found : (a : Tagged) (r : Mark) → (a.type OPTIONAL r.components).distinct ≡ all_distinct → (k : ℕ) (v : Option a.type.Value × r.components.Value) (w : r.part.Value) → r.IsPart v.1 w → (m : ℕ) (x : List ℕ) → (a.type OPTIONAL r.components).format.Reads k x v → Found (Past a.tag ∷ r.steps) m x (λ y. r.part.format.Reads k y w)
 maybe_found a r e k v w o m x s =
     let d = both_distinct (are_distinct a.type.format r.components.format) r.components.distinct e in
@@ -76,6 +79,9 @@ pub record TaggedDefault : Type 1 where
   pub type : Asn1Default
   pub tag : ℕ
   pub tagged : IsTagged tag type.type.format
+
+abbrev pub default_with_tag : (tag : ℕ) (type : Asn1Default) → type.type.tag ≡ Some tag → TaggedDefault
+default_with_tag tag type is = record { type = type; tag = tag; tagged = subst (λ t. HasTag t type.type.format) is type.type.tagged }
 
 pub default_found : (a : TaggedDefault) (r : Mark) → (a.type DEFAULT r.components).distinct ≡ all_distinct → (k : ℕ) (v : a.type.type.Value × r.components.Value) (w : r.part.Value) → r.IsPart v.1 w → (m : ℕ) (x : List ℕ) → (a.type DEFAULT r.components).format.Reads k x v → Found (Past a.tag ∷ r.steps) m x (λ y. r.part.format.Reads k y w)
 default_found a r e k v w o m x s =
@@ -135,6 +141,17 @@ module _ {V : Type 0} (tag : ℕ) (h : IsTagByte tag) (F : Format V) (f : IsLawf
     IsPart = λ vs w. (rest : List V) × Skips i vs (w ∷ rest);
     found = λ k vs w o m x s. into tag h (each F) k m x vs (Nth i ∷ Element ∷ []) (λ z. F.Reads k z w) (λ n y t. item_found k vs w o n y t) s;
   }
+
+-- To a part of what is under an IMPLICIT tag: by the same steps, of which the first leads into the element.
+module _ {V W : Type 0} {S : Reading W} (tag inner : ℕ) (h : IsTagByte tag) (F : Format V) (route : Route F.Reads S) (rest : List Step) (e : route.steps ≡ Inside ∷ rest) where
+  under_found : (k : ℕ) (v : V) (w : W) → route.IsPart v w → (m : ℕ) (x : List ℕ) → (implicit tag inner F).Reads k x v → Found route.steps m x (λ y. S k y w)
+  under_found k v w o m x (c, is, s) =
+      let f = route.found k v w o m (element inner c) s in
+      let walk : Walk (Inside ∷ rest) m (element inner c) f.0 f.1 = subst (λ steps. Walk steps m (element inner c) f.0 f.1) e f.2 in
+      subst (λ steps. Found steps m x (λ y. S k y w)) (sym e) (f.0, f.1, walk_under tag inner h rest m x c f.0 f.1 is walk, f.3)
+
+  abbrev pub under : Route (implicit tag inner F).Reads S
+  under = record { steps = route.steps; IsPart = route.IsPart; found = under_found }
 
 -- to the value itself
 abbrev pub self : {V : Type 0} {R : Reading V} → Route R R

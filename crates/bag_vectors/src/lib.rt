@@ -1,9 +1,11 @@
-//! Tests of where the bags of PKCS #12 stores are, by public calls.
+//! Tests of where the bags of PKCS #12 stores and the parts of a caller's own type are, by public calls.
 #![tactic(auto)]
 
 #[cfg(test)]
 mod bags_in_place;
 #[cfg(test)]
 mod content_infos;
+#[cfg(test)]
+mod parcels_in_place;
 #[cfg(test)]
 mod stores;

@@ -6,10 +6,10 @@ ghost use Rattle.x509_pkcs12.specs.MacRanges.{IsMacRangeIn};
 ghost use Rattle.pkcs12_ber.specs.Pfxs.{ber_pfx};
 
 use crate::pfxs::BerPfx;
-use asn1_core::{DerSerialize, Error, from_bytes};
+use asn1_core::{Error, from_bytes};
 use std::alloc::Global;
 use std::ops::Range;
-use x509_pkcs12::mac_ranges::{VERSION_SIZE, header_size};
+use x509_pkcs12::mac_ranges::contents_range;
 
 /// Where the octets that a MAC covers are in a file in DER, which `ber_der::to_der` wrote of one in BER: those that
 /// `mac_octets` gives of the `BerPfx` that it is. `x509_pkcs12::mac_range` is the same for a `RawPfx`, of which these
@@ -21,11 +21,7 @@ pub fn ber_mac_range(alloc: Global, der: &[u8]) -> Result<Option<Range<usize>>, 
 {
     let file: BerPfx = from_bytes(alloc, der)?;
     match file.mac_octets() {
-        Some(octets) => {
-            // data have one spelling, and the octets end them
-            let end = header_size(der[1]) + VERSION_SIZE + file.auth_safe.encoded_len()?;
-            Ok(Some(end - octets.len()..end))
-        }
+        Some(_) => Ok(contents_range(der)),
         None => Ok(None),
     }
 }

@@ -1,113 +1,106 @@
--- Where the octets that a MAC covers are, by the lengths of what precedes them.
-use Rattle.std.proofs.Common.{◌≡◌, ℕ, ◌+◌, ◌-◌, ◌<◌, ◌≤◌, List, [], ◌∷◌, ◌++◌, length, take, drop, get_or, None, Some, slice_range, refl, sym, ap, ◌∙◌, arith, inl, inr, ⊎_elim, append_assoc, length-append}
-use Rattle.std.proofs.lemmas.Bool.{cases_lt}
-use Rattle.std.proofs.lemmas.List.{take_at, drop_at}
-use Rattle.std.specs.Int.Digits.{digits_of}
-use Rattle.asn1_core.specs.Der.{Format, Octets, raw, element, octets_short, octets_long, IsValueOf, integer_octets}
-use Rattle.asn1_core_element.specs.Element.{head, length_octets}
+-- Where steps lead in an input that has octets that a MAC covers.
+use Rattle.std.specs.Prelude.{◌≡◌, ◌+◌, ◌-◌, ◌≤◌, ℕ, List, [], ◌∷◌, ◌++◌, length, drop, Option, None, Some, MatchOption, slice_range}
+use Rattle.std.specs.declared.ops.Range.{Range}
+use Rattle.std.proofs.Common.{refl, sym, ap, ◌∙◌, subst, arith, append_assoc, length-append}
+use Rattle.std.proofs.lemmas.List.{drop_at}
+use Rattle.std.proofs.lemmas.List.Edits.{length-between}
+use Rattle.asn1_core.specs.Der.{Format, Octets, element, option_value, IsValueOf}
+use Rattle.asn1_core_element.specs.Element.{head}
+use Rattle.asn1_located.specs.Finding.{begins_element, contains_element, follows_element}
+use Rattle.asn1_located.specs.LocatedLaws.{one_walk}
+use Rattle.asn1_located.specs.Places.{IsRangeAt, Walk}
 use Rattle.pkcs12_bags.specs.Oids.{data_oid}
-use Rattle.x509_pkcs12.specs.AuthSafes.{auth_safe}
-use Rattle.x509_pkcs12.specs.MacOctets.{mac_octets, auth_safe_of, Covers, input_is, same_some}
-use Rattle.x509_pkcs12.specs.MacRanges.{IsMacRangeIn}
-use Rattle.x509_pkcs12.specs.Pfxs.{PfxValue, pfx}
+use Rattle.x509_pkcs12.specs.MacOctets.{mac_octets, auth_safe_of, Covers}
+use Rattle.x509_pkcs12.specs.MacRanges.{IsMacPlace, IsMacRangeIn, mac_steps}
+use Rattle.x509_pkcs12.specs.Pfxs.{PfxValue}
 
-abbrev EndsBy : List ℕ → List ℕ → Type 0
-EndsBy b y = (p : List ℕ) × (b ≡ p ++ y)
+-- an input with these octets in its authSafe, between a version and what follows authSafe
+module _ (v o mac : List ℕ) where
+  authenticated : List ℕ
+  authenticated = element 0x06 data_oid ++ element 0xA0 (element 0x04 o)
 
-ends_after : (a c y : List ℕ) → EndsBy c y → EndsBy (a ++ c) y
-ends_after a c y e = (a ++ e.0, ap (λ z. a ++ z) e.1 ∙ sym (append_assoc a e.0 y))
+  components : List ℕ
+  components = element 0x02 v ++ (auth_safe_of o ++ mac)
 
-ends_within : (tag : ℕ) (c y : List ℕ) → EndsBy c y → EndsBy (element tag c) y
-ends_within tag c y e = ends_after (head tag (length c)) c y e
+  abbrev input : List ℕ
+  input = element 0x30 components
 
-auth_safe_ends : (o : List ℕ) → EndsBy (auth_safe_of o) o
-auth_safe_ends o =
-    let string = ends_within 0x04 o o ([], refl) in
-    let content = ends_within 0xA0 (element 0x04 o) o string in
-    let parts = ends_after (element 0x06 data_oid) (element 0xA0 (element 0x04 o)) o content in
-    ends_within 0x30 (element 0x06 data_oid ++ element 0xA0 (element 0x04 o)) o parts
+  -- what precedes the octets: four headers and two elements
+  to_auth_safe : ℕ
+  to_auth_safe = 0 + length (head 0x30 (length components)) + length (element 0x02 v)
 
-pub three : length (element 0x02 (integer_octets 3)) ≡ 3
-unfolding head length_octets
-three = refl
+  to_content : ℕ
+  to_content = to_auth_safe + length (head 0x30 (length authenticated)) + length (element 0x06 data_oid)
 
--- the first byte of a length says how long the header is
-header_length : (tag n size : ℕ) (c : List ℕ) → (get_or (head tag n ++ c) 1 0 < 128 → size ≡ 2) → (128 ≤ get_or (head tag n ++ c) 1 0 → size + 126 ≡ get_or (head tag n ++ c) 1 0) → length (head tag n) ≡ size
-unfolding head
-header_length tag n size c short long =
-    ⊎_elim
-    (λ (h : n < 128).
-    let e : get_or (head tag n ++ c) 1 0 ≡ n = ap (λ l. get_or ((tag ∷ l) ++ c) 1 0) (octets_short n h) in
-    omega (arith, short (omega (arith, e, h)), ap length (octets_short n h)))
-    (λ (h : 128 ≤ n).
-    let e : get_or (head tag n ++ c) 1 0 ≡ 128 + length (digits_of 256 n) = ap (λ l. get_or ((tag ∷ l) ++ c) 1 0) (octets_long n h) in
-    omega (arith, long (omega (arith, e)), e, ap length (octets_long n h)))
-    (cases_lt n 128)
+  abbrev first : ℕ
+  first = to_content + length (head 0xA0 (length (element 0x04 o))) + length (head 0x04 (length o))
 
--- the octets are in the input, after a version of three bytes, and end the encoding of authSafe
-pub record IsMacInput (b o : List ℕ) (w : PfxValue (List ℕ)) : Type 0 where
-  pub covers : Covers b o
-  pub version : length (element 0x02 covers.version_octets) ≡ 3
-  pub text : (auth_safe raw).text w.1.0 ≡ auth_safe_of o
+  walk_there : Walk mac_steps 0 input first o
+  walk_there = (
+    _,
+    components,
+    contains_element 0 0x30 input components (omega arith) refl,
+    (_, auth_safe_of o ++ mac, follows_element _ 0x02 v (auth_safe_of o ++ mac) (omega arith), (_, auth_safe_of o, begins_element _ 0x30 authenticated mac (omega arith), (
+      _,
+      authenticated,
+      contains_element _ 0x30 (auth_safe_of o) authenticated (omega arith) refl,
+      (_, element 0xA0 (element 0x04 o), follows_element _ 0x06 data_oid (element 0xA0 (element 0x04 o)) (omega arith), (
+        _,
+        element 0x04 o,
+        contains_element _ 0xA0 (element 0xA0 (element 0x04 o)) (element 0x04 o) (omega arith) refl,
+        (_, o, contains_element _ 0x04 (element 0x04 o) o (omega arith) refl, (refl, refl)),
+      )),
+    ))),
+  )
 
-pub mac_input_in : (b o : List ℕ) (w : PfxValue (List ℕ)) → (pfx raw).Reads 64 b w → mac_octets w ≡ Some o → IsMacInput b o w
-mac_input_in b o (n, (inl d, x)) s e = record {
-  covers = record {
-    version_octets = integer_octets n;
-    mac = s.2.4.1;
-    is = input_is 64 n b d x s ∙ ap (λ z. element 0x30 (element 0x02 (integer_octets n) ++ (auth_safe_of z ++ s.2.4.1))) (same_some d o e);
-  };
-  version = ap (λ v. length (element 0x02 (integer_octets v))) s.2.3.1 ∙ three;
-  text = ap auth_safe_of (same_some d o e);
-}
-mac_input_in b o (n, (inr p, x)) s e = absurd (let f : None ≡ Some o = e in cc)
+  up_to_mac : List ℕ
+  up_to_mac = head 0x30 (length components) ++ (element 0x02 v ++ auth_safe_of o)
 
-module _ {b o : List ℕ} {w : PfxValue (List ℕ)} (p : IsMacInput b o w) where
-  ends : EndsBy b (o ++ p.covers.mac)
-  ends =
-      let a = auth_safe_ends o in
-      let t : auth_safe_of o ++ p.covers.mac ≡ a.0 ++ (o ++ p.covers.mac) = ap (λ z. z ++ p.covers.mac) a.1 ∙ append_assoc a.0 o p.covers.mac in
-      let components = ends_after (element 0x02 p.covers.version_octets) (auth_safe_of o ++ p.covers.mac) (o ++ p.covers.mac) (a.0, t) in
-      let e = ends_within 0x30 (element 0x02 p.covers.version_octets ++ (auth_safe_of o ++ p.covers.mac)) (o ++ p.covers.mac) components in
-      (e.0, p.covers.is ∙ e.1)
+  before_mac : input ≡ up_to_mac ++ mac
+  before_mac =
+      ap (λ z. head 0x30 (length components) ++ z) (sym (append_assoc (element 0x02 v) (auth_safe_of o) mac))
+      ∙ sym (append_assoc (head 0x30 (length components)) (element 0x02 v ++ auth_safe_of o) mac)
 
-  size_is : length b ≡ length ends.0 + (length o + length p.covers.mac)
-  size_is = omega (arith, ap length ends.1, length-append ends.0 (o ++ p.covers.mac), length-append o p.covers.mac)
+  long : length up_to_mac ≡ first + length o
+  long = omega (
+    arith,
+    length-append (head 0x30 (length components)) (element 0x02 v ++ auth_safe_of o),
+    length-append (element 0x02 v) (auth_safe_of o),
+    length-append (head 0x30 (length authenticated)) authenticated,
+    length-append (element 0x06 data_oid) (element 0xA0 (element 0x04 o)),
+    length-append (head 0xA0 (length (element 0x04 o))) (element 0x04 o),
+    length-append (head 0x04 (length o)) o,
+  )
 
-  pub octets_fit : {size : ℕ} → size ≡ length ((auth_safe raw).text w.1.0) → length o ≤ size
-  octets_fit e =
-      let a = auth_safe_ends o in
-      omega (arith, e, ap length p.text, ap length a.1, length-append a.0 o)
+  after_them : drop (first + length o) input ≡ mac
+  after_them = ap (drop (first + length o)) before_mac ∙ drop_at up_to_mac mac (first + length o) long
 
-  -- the end of authSafe, by the header and its own length
-  pub end_at : {header size : ℕ} → (get_or b 1 0 < 128 → header ≡ 2) → (128 ≤ get_or b 1 0 → header + 126 ≡ get_or b 1 0) → size ≡ length ((auth_safe raw).text w.1.0) → header + 3 + size + length p.covers.mac ≡ length b
-  end_at {header} short long e =
-      let components : List ℕ = element 0x02 p.covers.version_octets ++ (auth_safe_of o ++ p.covers.mac) in
-      let first : get_or b 1 0 ≡ get_or (head 0x30 (length components) ++ components) 1 0 = ap (λ l. get_or l 1 0) p.covers.is in
-      let h : length (head 0x30 (length components)) ≡ header =
-      header_length 0x30 (length components) header components (λ l. short (omega (arith, first, l))) (λ l. omega (arith, first, long (omega (arith, first, l)))) in
-      omega (arith, h, p.version, e, ap length p.text, ap length p.covers.is, length-append (head 0x30 (length components)) components, length-append (element 0x02 p.covers.version_octets) (auth_safe_of o ++ p.covers.mac), length-append (auth_safe_of o) p.covers.mac)
+module _ {b o : List ℕ} (c : Covers b o) where
+  there : Walk mac_steps 0 b (first c.version_octets o c.mac) o
+  there = subst (λ x. Walk mac_steps 0 x (first c.version_octets o c.mac) o) (sym c.is) (walk_there c.version_octets o c.mac)
 
-  there : (start end : ℕ) → length ends.0 ≡ start → length o ≡ end - start → slice_range b start end ≡ o
-  there start end s e =
-      ap (λ l. take (end - start) (drop start l)) ends.1
-      ∙ ap (take (end - start)) (drop_at ends.0 (o ++ p.covers.mac) start s)
-      ∙ take_at o p.covers.mac (end - start) e
+  module _ {start end : ℕ} (r : IsRangeAt mac_steps b start end) where
+    same : slice_range b start end ≡ o
+    same = (one_walk mac_steps 0 b start (first c.version_octets o c.mac) (slice_range b start end) o r.walk there).1
 
-  pub range_found : {F : Format (PfxValue Octets)} {end : ℕ} → IsValueOf F 64 b w → mac_octets w ≡ Some o → end + length p.covers.mac ≡ length b → IsMacRangeIn F b (Some (end - length o, end))
-  range_found {F} {end} v e q =
-      let is : slice_range b (end - length o) end ≡ o = there (end - length o) end (omega (arith, q, size_is)) (omega (arith, q, size_is)) in
-      record {
-        value = w;
-        is_value = v;
-        octets = ap Some is ∙ sym e;
-        place = record {
-          covers = record {
-            version_octets = p.covers.version_octets;
-            mac = p.covers.mac;
-            is = p.covers.is ∙ ap (λ z. element 0x30 (element 0x02 p.covers.version_octets ++ (auth_safe_of z ++ p.covers.mac))) (sym is);
-          };
-          after = ap (drop end) (ends.1 ∙ sym (append_assoc ends.0 o p.covers.mac)) ∙ drop_at (ends.0 ++ o) p.covers.mac end (omega (arith, length-append ends.0 o, q, size_is));
-          inside = (omega arith, omega (arith, q));
-        };
-      }
+    ends : end ≡ first c.version_octets o c.mac + length o
+    ends =
+        let begins = (one_walk mac_steps 0 b start (first c.version_octets o c.mac) (slice_range b start end) o r.walk there).0 in
+        omega (arith, begins, r.inside.0, ap length same, length-between b start end r.inside.1)
+
+    is_place : IsMacPlace b start end
+    is_place = record {
+      walk = r.walk;
+      covers = record {
+        version_octets = c.version_octets;
+        mac = c.mac;
+        is = c.is ∙ ap (λ z. element 0x30 (element 0x02 c.version_octets ++ (auth_safe_of z ++ c.mac))) (sym same);
+      };
+      after = ap (drop end) c.is ∙ ap (λ n. drop n (input c.version_octets o c.mac)) ends ∙ after_them c.version_octets o c.mac;
+      inside = r.inside;
+    }
+
+  -- what steps find in the input is the range of the octets that its MAC covers
+  pub range_found : {F : Format (PfxValue Octets)} {w : PfxValue Octets} (r : Option (Range ℕ)) → IsValueOf F 64 b w → mac_octets w ≡ Some o → MatchOption r ((n : ℕ) (y : List ℕ) → Walk mac_steps 0 b n y → ⊥) (λ r. IsRangeAt mac_steps b r.start r.end) → IsMacRangeIn F b (option_value (λ r. (r.start, r.end)) r)
+  range_found None is e none = absurd (none (first c.version_octets o c.mac) o there)
+  range_found {F} {w} (Some r) is e f = record { value = w; is_value = is; octets = ap Some (same f) ∙ sym e; place = is_place f }

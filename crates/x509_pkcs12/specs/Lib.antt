@@ -5,6 +5,7 @@ pub mod Pfxs
 pub mod MacOctets
 pub mod Agree
 pub mod MacRanges
+pub mod MacRoutes
 pub mod Parsed
 pub mod SeenAs
 pub mod Walks

@@ -1,28 +1,36 @@
 //! Where the octets that a MAC covers are in an input.
 
-ghost use Rattle.std.specs.Prelude.{◌≡◌, ◌+◌, ◌<◌, ◌≤◌, MatchResult};
+ghost use Rattle.std.specs.Prelude.{ℕ, List, MatchOption, MatchResult};
 ghost use Rattle.asn1_core.specs.Der.{raw, option_value, HasNoValue};
-ghost use Rattle.x509_pkcs12.specs.MacRanges.{IsMacRange};
+ghost use Rattle.asn1_located.specs.Places.{IsRangeAt, Walk};
+ghost use Rattle.x509_pkcs12.specs.MacRanges.{IsMacRange, mac_steps};
 ghost use Rattle.x509_pkcs12.specs.Pfxs.{pfx};
 
 use crate::raw::RawPfx;
-use asn1_core::{DerSerialize, Error, from_bytes};
+use asn1_core::{Error, from_bytes};
+use asn1_located::{Step, range_at};
 use std::alloc::Global;
 use std::ops::Range;
 
-/// How many bytes the version takes, which is 3 in every PFX.
-pub const VERSION_SIZE: usize = 3;
-
-/// How many bytes a header takes, by the first byte of its length. A length has one spelling, so this byte says it.
-pub fn header_size(first: u8) -> usize
-    ensures short { first < 128 → result ≡ 2 }
-    ensures long { 128 ≤ first → result + 126 ≡ first }
+/// Where the contents of the OCTET STRING in `authSafe` are: the octets after the header of the element that the steps
+/// lead to. The input is a PFX whose `authSafe` is data; of any other input nothing is said.
+pub fn contents_range(bytes: &[u8]) -> Option<Range<usize>>
+    ensures { MatchOption result
+        ((n : ℕ) (y : List ℕ) → Walk mac_steps 0 bytes.now n y → ⊥)
+        (λ r. IsRangeAt mac_steps bytes.now r.start r.end) }
 {
-    if first < 128 {
-        2
-    } else {
-        usize::from(first) - 126
-    }
+    range_at(
+        bytes,
+        &[
+            Step::Inside,
+            Step::After,
+            Step::Element,
+            Step::Inside,
+            Step::After,
+            Step::Inside,
+            Step::Inside,
+        ],
+    )
 }
 
 /// Where the octets that a MAC covers are in an input: those that `mac_octets` gives of the `RawPfx` that the input is,
@@ -35,11 +43,7 @@ pub fn mac_range(alloc: Global, bytes: &[u8]) -> Result<Option<Range<usize>>, Er
 {
     let file: RawPfx = from_bytes(alloc, bytes)?;
     match file.mac_octets() {
-        Some(octets) => {
-            // data have one spelling, and the octets end them
-            let end = header_size(bytes[1]) + VERSION_SIZE + file.auth_safe.encoded_len()?;
-            Ok(Some(end - octets.len()..end))
-        }
+        Some(_) => Ok(contents_range(bytes)),
         None => Ok(None),
     }
 }
