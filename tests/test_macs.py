@@ -8,8 +8,8 @@ from pathlib import Path
 
 from support import built, foreign, inputs, macs
 from support.cases import Comparing
-from support.containers import in_ber, mac_data, store
-from support.elements import octet_string
+from support.containers import NULL, in_ber, mac_data, store
+from support.elements import octet_string, sequence
 from support.parts import covered, mac_parts, over_any_octets
 from support.rooms import InRooms
 from support.statuses import LOOSE, NORMAL, answered, checked, outcome
@@ -85,6 +85,20 @@ class TestMacs(InRooms):
             place = covered(text)
             answer = answered(built.library().mac_range, text)
             self.same(answer, (NORMAL, place and range(*place), 0), text)
+
+    def test_equal_octets_elsewhere_are_not_the_range(self):
+        """Digest and salt of a MAC have the octets that it covers, which are as short as octets of other parts."""
+        library = built.library()
+        for octets in (sequence(), sequence(sequence()), sequence(NULL), sequence(octet_string(sequence() * 8))):
+            text = store("data", octet_string(octets), 3, mac_data(octets, octets, 1))
+            place = range(*covered(text))
+            self.assertGreater(text.count(octets), 2)
+            self.same(answered(library.mac_range, text), (NORMAL, place, 0), text)
+            for call in (library.mac, library.mac_ber):
+                self.same(call(text).covered, place, text)
+        for octets in (b"", b"\x30", b"\x02\x01\x03"):
+            text = store("data", octet_string(octets), 3, mac_data(octets, octets, 1))
+            self.same(library.mac_ber(text).covered, range(*covered(text)), text)
 
     def example_agrees(self, program):
         """Compares what c/examples/mac.c writes of each store."""

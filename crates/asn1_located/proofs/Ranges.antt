@@ -1,5 +1,5 @@
 -- What a walk finds is in that range of the input.
-use Rattle.std.specs.Prelude.{◌≡◌, ◌+◌, ◌-◌, ◌≤◌, ℕ, List, ◌++◌, length, take, drop, slice_range}
+use Rattle.std.specs.Prelude.{◌≡◌, ◌+◌, ◌-◌, ℕ, List, ◌++◌, length, take, drop, slice_range}
 use Rattle.std.proofs.Common.{ap, sym, ◌∙◌, subst, arith}
 use Rattle.std.proofs.lemmas.List.{drop_at, take_at}
 use Rattle.asn1_located.specs.Places.{IsRangeAt, Walk}

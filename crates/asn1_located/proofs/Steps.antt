@@ -1,17 +1,17 @@
 -- What the front of some octets says of the steps from there.
-use Rattle.std.specs.Prelude.{◌≡◌, ◌↔◌, ◌⊎◌, ◌≤◌, ◌<◌, ◌+◌, ◌-◌, ℕ, zero, suc, Bool, true, false, IsTrue, List, [], ◌∷◌, ◌++◌, length, take, drop, get_or, slice_range, Option, None, Some}
+use Rattle.std.specs.Prelude.{◌≡◌, ◌↔◌, ◌≤◌, ◌<◌, ◌+◌, ◌-◌, ℕ, zero, suc, Bool, false, IsTrue, List, ◌∷◌, ◌++◌, length, take, drop, get_or, slice_range, Option, None, Some}
 use Rattle.std.proofs.lemmas.Slice.{between_to_end}
 use Rattle.std.proofs.Common.{refl, sym, ap, ◌∙◌, subst, inl, inr, arith, length-append, append_assoc, true≢false, take-append-drop, drop-cons, ⊎_elim}
 use Rattle.std.proofs.lemmas.Bool.{cases_lt}
 use Rattle.std.proofs.lemmas.List.{length-take, length-drop}
 use Rattle.std.proofs.Math.ListN.{drop_of_length-le}
-use Rattle.asn1_core_element.specs.Element.{HasNoFront, IsElement, IsFront, IsTagByte, element, head}
+use Rattle.asn1_core_element.specs.Element.{HasNoFront, IsElement, IsFront, element, head}
 use Rattle.asn1_core_element.specs.ElementLaws.{same_parts}
 use Rattle.asn1_located.specs.Places.{Begins, Contains, Finds, Follows, FollowsMany, HasFirst, Leads, Stays, Walk}
-use Rattle.asn1_located.specs.WalkLaws.{AreOne, fits, one_after, one_many, one_step, step_lies_in}
+use Rattle.asn1_located.specs.WalkLaws.{fits, one_many, one_step, step_lies_in}
 use Rattle.asn1_located.specs.declared.walks.Place.{Place}
 use Rattle.asn1_located.specs.declared.walks.Step.{Step}
-use Rattle.asn1_located.specs.declared.walks.Step.TheVariants.{Inside, Element, After, Past, Nth}
+use Rattle.asn1_located.specs.declared.walks.Step.TheVariants.{Inside, Element, After, Past}
 
 module _ (m : ℕ) (x : List ℕ) (tag n size : ℕ) (f : IsFront x tag n size) where
   abbrev contents : List ℕ
@@ -81,9 +81,9 @@ many_none zero i m x l z h f none n y g = omega (arith, h)
 many_none (suc c) i m x l z h f none n y (k, u, g, a) = ⊎_elim
     (λ (less : i < c). many_none c i m x l z less f none k u g)
     (λ (more : c ≤ i).
-        (let e : i ≡ c = omega (arith, h, more) in
-        let o = one_many c m x l k z u (subst (λ j. FollowsMany j m x l z) e f) g in
-        none n y (subst (λ j. Follows j z n y) (sym o.0) (subst (λ w. Follows k w n y) (sym o.1) a))))
+    (let e : i ≡ c = omega (arith, h, more) in
+    let o = one_many c m x l k z u (subst (λ j. FollowsMany j m x l z) e f) g in
+    none n y (subst (λ j. Follows j z n y) (sym o.0) (subst (λ w. Follows k w n y) (sym o.1) a))))
     (cases_lt i c)
 
 pub many_more : (i j m : ℕ) (x : List ℕ) (l : ℕ) (z : List ℕ) (n : ℕ) (y : List ℕ) → j ≡ suc i → FollowsMany i m x l z → Follows l z n y → FollowsMany j m x n y

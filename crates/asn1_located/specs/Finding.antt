@@ -43,8 +43,7 @@ same_size t u n = refl
 pub walk_under : (tag inner : ℕ) → IsTagByte tag → (rest : List Step) (m : ℕ) (x c : List ℕ) (n : ℕ) (y : List ℕ) → x ≡ element tag c → Walk (Inside ∷ rest) m (element inner c) n y → Walk (Inside ∷ rest) m x n y
 walk_under tag inner h rest m x c n y is (l, z, into, on) =
     let cut = element_cut inner into.tag c z [] into.rest (append-nil (element inner c) ∙ into.split ∙ sym (append_assoc (head into.tag (length z)) z into.rest)) in
-    let place : l ≡ m + length (head tag (length c)) = into.place ∙ ap (λ s. m + s) (same_size into.tag tag (length z) ∙ ap (λ d. length (head tag (length d))) (sym cut.1)) in
-    (
+    let place : l ≡ m + length (head tag (length c)) = into.place ∙ ap (λ s. m + s) (same_size into.tag tag (length z) ∙ ap (λ d. length (head tag (length d))) (sym cut.1)) in (
       m + length (head tag (length c)),
       c,
       contains_element m tag x c h is,
@@ -96,8 +95,7 @@ module _ {V : Type 0} where
   follows_many F f k zero m x vs us e s = (m, x, (refl, refl), subst (ReadsAll (F.Reads k) x) e s)
   follows_many F f k (suc i) m x vs us (v, e) s =
       let r = follows_many F f k i m x vs (v ∷ us) e s in
-      let t = r.3 in
-      (
+      let t = r.3 in (
         r.0 + length t.0,
         t.1,
         (r.0, r.1, r.2, record { element = t.0; is = any_element F.IsTag t.0 (f.element k t.0 v t.3); split = t.2; place = refl }),

@@ -1,9 +1,9 @@
 -- A walk by the steps of a route finds that part.
-use Rattle.std.specs.Prelude.{◌≡◌, ◌≤◌, ◌+◌, ℕ, List, [], ◌∷◌, length, Option, None, Some, IsSomeAnd}
-use Rattle.std.proofs.Common.{refl, sym, ap, ◌∙◌, subst}
+use Rattle.std.specs.Prelude.{ℕ, List, [], ◌∷◌, Option, None, Some, IsSomeAnd}
+use Rattle.std.proofs.Common.{sym, ◌∙◌, subst}
 use Rattle.asn1_core_format.specs.Format.{Format}
 use Rattle.asn1_core_format.specs.Whole.{IsValueOf}
-use Rattle.asn1_located.specs.Places.{Finds, IsPlaceOf, Leads, Locates, Reading, Route, Walk}
+use Rattle.asn1_located.specs.Places.{Finds, IsPlaceOf, Locates, Reading, Route, Walk}
 use Rattle.asn1_located.specs.WalkLaws.{AreOne, one_step, walk_on}
 use Rattle.asn1_located.specs.Routes.{◌▸◌}
 use Rattle.asn1_located.specs.declared.walks.Place.{Place}

@@ -1,18 +1,17 @@
 -- Routes to the parts of a value, in the words of X.680: a list of components with a mark at one of them, and routes one
 -- after another. Each word computes the steps of the walk, and proves that they lead to that part.
-use Rattle.std.specs.Prelude.{◌≡◌, ◌⊎◌, ◌+◌, ℕ, zero, suc, Bool, true, false, List, [], ◌∷◌, ◌++◌, length, Option, None, Some}
-use Rattle.std.proofs.Common.{refl, sym, ap, ◌∙◌, subst, inl, inr, arith}
+use Rattle.std.specs.Prelude.{◌≡◌, ◌⊎◌, ◌+◌, ℕ, Bool, true, false, List, [], ◌∷◌, ◌++◌, length, Option, None, Some}
+use Rattle.std.proofs.Common.{refl, sym, subst, inl, inr, arith}
 use Rattle.asn1_core_element.specs.Element.{IsTagByte, element, head}
-use Rattle.asn1_core_format.specs.Format.{Format, IsLawful, IsLawfulComponents, are_distinct, distinct_tags}
+use Rattle.asn1_core_format.specs.Format.{Format, IsLawful, are_distinct, distinct_tags}
 use Rattle.asn1_core_format.specs.Asn1.{Asn1, Asn1Default, ComponentTypes, Distinct, HasTag, all_distinct, not_distinct_part, one_later, distinct_if, ◌then◌, ◌OPTIONAL◌, ◌DEFAULT◌}
 use Rattle.asn1_core_format.specs.Components.{part, within}
 use Rattle.asn1_core_format.specs.Leaf.{leaf, verbatim}
-use Rattle.asn1_core_format.specs.Lists.{each, ReadsAll}
+use Rattle.asn1_core_format.specs.Lists.{each}
 use Rattle.asn1_core_format.specs.Choices.{Choice, known}
 use Rattle.asn1_core_format.specs.Tagged.{IsTagged, implicit}
 use Rattle.asn1_core.specs.Raw.{raw}
 use Rattle.asn1_located.specs.Places.{Reading, Route, Walk}
-use Rattle.asn1_located.specs.WalkLaws.{AreOne}
 use Rattle.asn1_located.specs.Finding.{Found, Skips, begins_part, contains_element, any_element, first_step, follows_many, follows_part, found_on, walk_under, past_omitted, past_optional}
 use Rattle.asn1_located.specs.declared.walks.Step.{Step}
 use Rattle.asn1_located.specs.declared.walks.Step.TheVariants.{Inside, Element, After, Past, Nth}
@@ -39,7 +38,6 @@ infixr 5 ◌maybe◌
 infixr 5 ◌default◌
 infixr 5 ◌there◌
 infixr 5 ◌given◌
-
 pub here_found : (a : Asn1) (r : ComponentTypes) (k : ℕ) (v : a.Value × r.Value) (w : a.Value) → w ≡ v.0 → (m : ℕ) (x : List ℕ) → (part a.format r.format).Reads k x v → Found (Element ∷ []) m x (λ y. a.format.Reads k y w)
 here_found a r k v w o m x s = (m, s.0, (m, s.0, begins_part a.format r.format a.law k m x v s, (refl, refl)), subst (a.format.Reads k s.0) (sym o) s.3)
 
@@ -144,7 +142,7 @@ module _ {V : Type 0} (tag : ℕ) (h : IsTagByte tag) (F : Format V) (f : IsLawf
 
 -- To a part of what is under an IMPLICIT tag: by the same steps, of which the first leads into the element.
 module _ {V W : Type 0} {S : Reading W} (tag inner : ℕ) (h : IsTagByte tag) (F : Format V) (route : Route F.Reads S) (rest : List Step) (e : route.steps ≡ Inside ∷ rest) where
-  under_found : (k : ℕ) (v : V) (w : W) → route.IsPart v w → (m : ℕ) (x : List ℕ) → (implicit tag inner F).Reads k x v → Found route.steps m x (λ y. S k y w)
+  pub under_found : (k : ℕ) (v : V) (w : W) → route.IsPart v w → (m : ℕ) (x : List ℕ) → (implicit tag inner F).Reads k x v → Found route.steps m x (λ y. S k y w)
   under_found k v w o m x (c, is, s) =
       let f = route.found k v w o m (element inner c) s in
       let walk : Walk (Inside ∷ rest) m (element inner c) f.0 f.1 = subst (λ steps. Walk steps m (element inner c) f.0 f.1) e f.2 in

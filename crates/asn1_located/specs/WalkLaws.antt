@@ -1,9 +1,9 @@
 -- What a walk finds lies in the octets that it began with, and is one place.
-use Rattle.std.specs.Prelude.{◌≡◌, ◌⊎◌, ◌↔◌, ◌≤◌, ◌<◌, ◌+◌, ℕ, zero, suc, List, [], ◌∷◌, ◌++◌, length}
-use Rattle.std.proofs.Common.{refl, sym, ap, ◌∙◌, subst, inl, inr, arith, length-append, append_assoc, append-nil}
-use Rattle.asn1_core_element.specs.Element.{IsElement, IsTagByte, head, element}
+use Rattle.std.specs.Prelude.{◌≡◌, ◌≤◌, ◌+◌, ℕ, zero, suc, List, [], ◌∷◌, ◌++◌, length}
+use Rattle.std.proofs.Common.{sym, ap, ◌∙◌, subst, inl, inr, arith, length-append, append_assoc, append-nil}
+use Rattle.asn1_core_element.specs.Element.{head}
 use Rattle.asn1_core_element.specs.ElementLaws.{element_cut, elements_cut}
-use Rattle.asn1_located.specs.Places.{Begins, Contains, Follows, FollowsMany, HasFirst, Leads, Stays, Walk}
+use Rattle.asn1_located.specs.Places.{Begins, Contains, Follows, FollowsMany, Leads, Stays, Walk}
 use Rattle.asn1_located.specs.declared.walks.Step.{Step}
 use Rattle.asn1_located.specs.declared.walks.Step.TheVariants.{Inside, Element, After, Past, Nth}
 

@@ -3,7 +3,6 @@
 
 ghost use Rattle.std.specs.Prelude.{◌≤◌, ◌+◌, ◌<◌, ◌^◌, ◌↔◌, ℕ, length, IsTrue, List, MatchOption};
 ghost use Rattle.asn1_located.specs.Places.{Begins, Contains, Finds, Follows, FollowsMany, HasFirst, IsRangeAt, Leads, Walk};
-
 ghost use Rattle.asn1_located.specs.declared.walks.Step.TheVariants.{Past};
 
 use asn1_core_element::front::front;

@@ -1,13 +1,12 @@
 -- The ways to parts of a parcel.
 -- Parcel ::= SEQUENCE { code OBJECT IDENTIFIER, fragile BOOLEAN DEFAULT FALSE, floor INTEGER (0..255) DEFAULT 3,
 --   note [30] EXPLICIT OCTET STRING OPTIONAL, stamps [5] IMPLICIT SEQUENCE OF Stamp }
-use Rattle.std.specs.Prelude.{◌≡◌, ◌^◌, ℕ, List, [], ◌∷◌}
+use Rattle.std.specs.Prelude.{◌≡◌, ◌^◌, ℕ, [], ◌∷◌}
 use Rattle.std.proofs.Common.{refl, arith}
 use Rattle.asn1_core.specs.Asn1.{Asn1, BOOLEAN_or_FALSE, INTEGER_BELOW, INTEGER_or, ◌then◌, ◌OPTIONAL◌, end, OBJECT_IDENTIFIER, OCTET_STRING, EXPLICIT, IMPLICIT, SEQUENCE, SEQUENCE_OF}
 use Rattle.asn1_core.specs.Der.{octet_string}
 use Rattle.asn1_located.specs.Places.{Route}
-use Rattle.asn1_located.specs.Routes.{Tagged, TaggedDefault, as_is, component, enclosed, item, octets, default_with_tag, under, with_tag, ◌before◌, ◌default◌, ◌here◌, ◌maybe◌, ◌there◌, ◌▸◌}
-use Rattle.asn1_located.specs.declared.walks.Step.{Step}
+use Rattle.asn1_located.specs.Routes.{TaggedDefault, as_is, component, enclosed, item, octets, default_with_tag, under, with_tag, ◌before◌, ◌default◌, ◌here◌, ◌maybe◌, ◌there◌, ◌▸◌}
 use Rattle.asn1_located.specs.declared.walks.Step.TheVariants.{Inside, Element, After, Past, Nth}
 use Rattle.example_stamp.specs.Parcels.{parcel}
 use Rattle.example_stamp.specs.Stamps.{stamp}
