@@ -1,5 +1,5 @@
 -- Where steps lead in an input that has octets that a MAC covers.
-use Rattle.std.specs.Prelude.{◌≡◌, ◌+◌, ◌-◌, ◌≤◌, ℕ, List, [], ◌∷◌, ◌++◌, length, drop, Option, None, Some, MatchOption, slice_range}
+use Rattle.std.specs.Prelude.{◌≡◌, ◌+◌, ℕ, List, ◌++◌, length, drop, Option, None, Some, MatchOption, slice_range}
 use Rattle.std.specs.declared.ops.Range.{Range}
 use Rattle.std.proofs.Common.{refl, sym, ap, ◌∙◌, subst, arith, append_assoc, length-append}
 use Rattle.std.proofs.lemmas.List.{drop_at}
@@ -16,20 +16,20 @@ use Rattle.x509_pkcs12.specs.Pfxs.{PfxValue}
 
 -- an input with these octets in its authSafe, between a version and what follows authSafe
 module _ (v o mac : List ℕ) where
-  authenticated : List ℕ
+  abbrev authenticated : List ℕ
   authenticated = element 0x06 data_oid ++ element 0xA0 (element 0x04 o)
 
-  components : List ℕ
+  abbrev components : List ℕ
   components = element 0x02 v ++ (auth_safe_of o ++ mac)
 
   abbrev input : List ℕ
   input = element 0x30 components
 
   -- what precedes the octets: four headers and two elements
-  to_auth_safe : ℕ
+  abbrev to_auth_safe : ℕ
   to_auth_safe = 0 + length (head 0x30 (length components)) + length (element 0x02 v)
 
-  to_content : ℕ
+  abbrev to_content : ℕ
   to_content = to_auth_safe + length (head 0x30 (length authenticated)) + length (element 0x06 data_oid)
 
   abbrev first : ℕ
@@ -40,20 +40,35 @@ module _ (v o mac : List ℕ) where
     _,
     components,
     contains_element 0 0x30 input components (omega arith) refl,
-    (_, auth_safe_of o ++ mac, follows_element _ 0x02 v (auth_safe_of o ++ mac) (omega arith), (_, auth_safe_of o, begins_element _ 0x30 authenticated mac (omega arith), (
+    (
       _,
-      authenticated,
-      contains_element _ 0x30 (auth_safe_of o) authenticated (omega arith) refl,
-      (_, element 0xA0 (element 0x04 o), follows_element _ 0x06 data_oid (element 0xA0 (element 0x04 o)) (omega arith), (
+      auth_safe_of o ++ mac,
+      follows_element _ 0x02 v (auth_safe_of o ++ mac) (omega arith),
+      (
         _,
-        element 0x04 o,
-        contains_element _ 0xA0 (element 0xA0 (element 0x04 o)) (element 0x04 o) (omega arith) refl,
-        (_, o, contains_element _ 0x04 (element 0x04 o) o (omega arith) refl, (refl, refl)),
-      )),
-    ))),
+        auth_safe_of o,
+        begins_element _ 0x30 authenticated mac (omega arith),
+        (
+          _,
+          authenticated,
+          contains_element _ 0x30 (auth_safe_of o) authenticated (omega arith) refl,
+          (
+            _,
+            element 0xA0 (element 0x04 o),
+            follows_element _ 0x06 data_oid (element 0xA0 (element 0x04 o)) (omega arith),
+            (
+              _,
+              element 0x04 o,
+              contains_element _ 0xA0 (element 0xA0 (element 0x04 o)) (element 0x04 o) (omega arith) refl,
+              (_, o, contains_element _ 0x04 (element 0x04 o) o (omega arith) refl, (refl, refl)),
+            ),
+          ),
+        ),
+      ),
+    ),
   )
 
-  up_to_mac : List ℕ
+  abbrev up_to_mac : List ℕ
   up_to_mac = head 0x30 (length components) ++ (element 0x02 v ++ auth_safe_of o)
 
   before_mac : input ≡ up_to_mac ++ mac

@@ -1,5 +1,5 @@
 -- The octets that a MAC covers are a part of a PFX, by a route through its components.
-use Rattle.std.specs.Prelude.{◌≡◌, ℕ, List, Option, None, Some, slice_range}
+use Rattle.std.specs.Prelude.{◌≡◌, ℕ, List, None, Some, slice_range}
 use Rattle.std.proofs.Common.{refl, sym, arith, inl, inr}
 use Rattle.asn1_core.specs.Asn1.{asn1, end, ◌OPTIONAL◌, SEQUENCE}
 use Rattle.asn1_core.specs.Der.{IsValueOf, lawful_raw, lawful_version_3, raw, within}
@@ -32,5 +32,5 @@ is_part (n, (inl d, x)) o e = (inl d, refl, (d, refl, (d, refl, sym (same_some d
 is_part (n, (inr p, x)) o e = absurd (let f : None ≡ Some o = e in cc)
 
 -- a place of the MAC's octets is the place of that part of the PFX
-pub mac_place_of : (b : List ℕ) (v : PfxValue (List ℕ)) (start end : ℕ) → IsValueOf (pfx raw) 64 b v → mac_octets v ≡ Some (slice_range b start end) → IsMacPlace b start end → IsPlaceOf mac_route 64 b v (slice_range b start end) start (slice_range b start end)
-mac_place_of b v start end is e p = place_of mac_route 64 b v (slice_range b start end) is.reads (is_part v (slice_range b start end) e) start (slice_range b start end) p.walk
+pub mac_place_of : (b : List ℕ) (v : PfxValue (List ℕ)) (start stop : ℕ) → IsValueOf (pfx raw) 64 b v → mac_octets v ≡ Some (slice_range b start stop) → IsMacPlace b start stop → IsPlaceOf mac_route 64 b v (slice_range b start stop) start (slice_range b start stop)
+mac_place_of b v start stop is e p = place_of mac_route 64 b v is.reads (slice_range b start stop) (is_part v (slice_range b start stop) e) start (slice_range b start stop) p.walk
