@@ -1,3 +1,1 @@
-pub mod Lines
-pub mod Within
 pub mod Verdicts

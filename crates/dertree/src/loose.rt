@@ -1,7 +1,7 @@
 //! Where a loose input isn't canonical, and why: it is compared, element by element, with the encoding of its value.
 
-use crate::lines::{Line, Opening};
-use crate::walk::Walk;
+use ber_lines::lines::{Line, Opening};
+use ber_lines::walk::Walk;
 use std::alloc::{AllocError, Global};
 use std::fmt;
 

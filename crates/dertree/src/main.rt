@@ -5,16 +5,13 @@
 #![tactic(auto)]
 
 mod fields;
-mod lines;
 mod loose;
 mod names;
-mod tags;
 mod tree;
 mod values;
 mod verdict;
-mod walk;
 
-use lines::Opening;
+use ber_lines::lines::Opening;
 use loose::{Place, loose_places};
 use names::{Names, Table};
 use std::alloc::{AllocError, Global};

@@ -1,8 +1,8 @@
 //! The fields that elements are, by the table of types. Where it doesn't fit an element, that has no name.
 
 use crate::fields::FIELDS;
-use crate::lines::Line;
 use ber_der::contexts::Role;
+use ber_lines::lines::Line;
 use std::alloc::{AllocError, Global};
 use std::io::{self, Write};
 

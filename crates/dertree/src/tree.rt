@@ -1,13 +1,13 @@
 //! A tree, written line by line.
 
-use crate::lines::{Front, Line, Opening};
 use crate::loose::Place;
 use crate::names::Names;
-use crate::tags::Tag;
 use crate::values::{octets_text, value_text};
 use crate::verdict::Verdict;
-use crate::walk::{Step, Walk};
 use ber_der::contexts::Role;
+use ber_lines::lines::{Front, Line, Opening};
+use ber_lines::tags::Tag;
+use ber_lines::walk::{Step, Walk};
 use std::alloc::Global;
 use std::io::{self, Write};
 

@@ -3,8 +3,8 @@
 ghost use Rattle.std.specs.Prelude.{◌≡◌, ◌<◌, ◌≤◌, ◌+◌, ◌↔◌, ◌≢◌, ◌⊎◌, length, IsSome, IsTrue};
 ghost use Rattle.std.specs.Option.{IsSomeAnd};
 ghost use Rattle.asn1_core_element.specs.Element.{HasNoFront};
-ghost use Rattle.dertree.specs.declared.lines.Front.TheVariants.{Nothing};
-ghost use Rattle.dertree.specs.Lines.{IsItem, IsElementItem, IsBerItem, BeginsWithEnd, HoldsIndefinite, is_end, tag_of, is_indefinite};
+ghost use Rattle.ber_lines.specs.declared.lines.Front.TheVariants.{Nothing};
+ghost use Rattle.ber_lines.specs.Lines.{IsItem, IsElementItem, IsBerItem, BeginsWithEnd, HoldsIndefinite, is_end, tag_of, is_indefinite};
 
 use crate::tags::Tag;
 use asn1_core_element::front::front;
@@ -158,7 +158,7 @@ pub struct Opening {
 }
 
 impl Opening {
-    ghost use Rattle.dertree.specs.Lines.{Opens, OpensTagged, OpensOctets, LeadsInto};
+    ghost use Rattle.ber_lines.specs.Lines.{Opens, OpensTagged, OpensOctets, LeadsInto};
 
     /// DER, with each octet string open that is one whole element.
     pub const EACH_WHOLE: Opening = Opening {

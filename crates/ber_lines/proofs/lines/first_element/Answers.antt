@@ -1,6 +1,6 @@
 use Rattle.std.proofs.Common.{arith}
-use Rattle.dertree.proofs.Items.{begins, some_header}
-use Rattle.dertree.proofs.lines.first_element.Goals as goal
+use Rattle.ber_lines.proofs.Items.{begins, some_header}
+use Rattle.ber_lines.proofs.lines.first_element.Goals as goal
 
 pub returns-in-Some-clause-item : goal.returns-in-Some-clause-item
 returns-in-Some-clause-item c = begins _ _ _ _ c.in-Some.ensures.found

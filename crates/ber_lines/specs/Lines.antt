@@ -4,11 +4,11 @@ use Rattle.std.specs.List.{All}
 use Rattle.std.specs.Option.{IsSomeAnd}
 use Rattle.asn1_core_element.specs.Element.{head, element, IsTagByte, IsElement, HasNoFront}
 use Rattle.ber_der.specs.Ber.{IsLength, IsDefinite, IsIndefinite}
-use Rattle.dertree.specs.declared.lines.Front.{Front}
-use Rattle.dertree.specs.declared.lines.Front.TheVariants.{Nothing, Element, Longer, Indefinite, EndOfContents}
-use Rattle.dertree.specs.declared.lines.Line.{Line}
-use Rattle.dertree.specs.declared.walk.Open.{Open}
-use Rattle.dertree.specs.declared.lines.Opening.{Opening}
+use Rattle.ber_lines.specs.declared.lines.Front.{Front}
+use Rattle.ber_lines.specs.declared.lines.Front.TheVariants.{Nothing, Element, Longer, Indefinite, EndOfContents}
+use Rattle.ber_lines.specs.declared.lines.Line.{Line}
+use Rattle.ber_lines.specs.declared.walk.Open.{Open}
+use Rattle.ber_lines.specs.declared.lines.Opening.{Opening}
 
 -- the bytes begin with an element of that tag and those contents, whose header takes so many bytes
 pub record Begins (bytes : List ℕ) (tag header_len : ℕ) (contents : List ℕ) : Type 0 where

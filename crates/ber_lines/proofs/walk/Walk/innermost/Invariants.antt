@@ -1,6 +1,6 @@
 use Rattle.std.proofs.Common.{◌≡◌, length}
-use Rattle.dertree.specs.Lines.{LeavesEnded}
-use Rattle.dertree.proofs.walk.Walk.innermost.Given as goal
+use Rattle.ber_lines.specs.Lines.{LeavesEnded}
+use Rattle.ber_lines.proofs.walk.Walk.innermost.Given as goal
 
 abbrev pub invariant-loop-contents : goal.invariant-loop-contents
 invariant-loop-contents l =

@@ -1,8 +1,8 @@
 -- What holds of a walk between two lines.
 use Rattle.std.specs.Prelude.{ℕ, ◌<◌, ◌≤◌, List}
 use Rattle.std.specs.List.{All}
-use Rattle.dertree.specs.declared.walk.Open.{Open}
-use Rattle.dertree.specs.declared.walk.Step.{Step}
+use Rattle.ber_lines.specs.declared.walk.Open.{Open}
+use Rattle.ber_lines.specs.declared.walk.Step.{Step}
 
 -- A walk over n bytes is at a place in them or at their end, as are the ends of the contents that are open, and each
 -- index of its path is below the place.

@@ -6,8 +6,8 @@ use Rattle.std.proofs.lemmas.Option.{get_or_from_slice_get}
 use Rattle.std.proofs.lemmas.List.Elements.{All-cons}
 use Rattle.std.specs.Prelude.{get_or, slice_get, Option, None, Some}
 use Rattle.std.specs.Option.{option_to_list}
-use Rattle.dertree.specs.Lines.{LeavesEnded}
-use Rattle.dertree.specs.declared.walk.Open.{Open}
+use Rattle.ber_lines.specs.Lines.{LeavesEnded}
+use Rattle.ber_lines.specs.declared.walk.Open.{Open}
 
 -- the last of them is left, if it doesn't end after the place
 pub leaves_last : (opened left rest : List Open) (at : ℕ) (last : Open) (r : Option Open) → LeavesEnded opened at left → left ≡ rest ++ option_to_list r → Some last ≡ slice_get left (length left - 1) → last.end ≤ at → LeavesEnded opened at rest

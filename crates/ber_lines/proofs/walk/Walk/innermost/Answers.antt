@@ -1,6 +1,6 @@
 use Rattle.std.proofs.Common.{arith}
-use Rattle.dertree.proofs.Ends.{leaves_last}
-use Rattle.dertree.proofs.walk.Walk.innermost.Goals as goal
+use Rattle.ber_lines.proofs.Ends.{leaves_last}
+use Rattle.ber_lines.proofs.walk.Walk.innermost.Goals as goal
 
 pub loop-contents-preserved : goal.loop-contents-preserved
 loop-contents-preserved c =

@@ -1,7 +1,7 @@
 //! From an input to the lines of its tree, by a list of the contents that are open.
 
 ghost use Rattle.std.specs.Prelude.{◌≡◌, ◌<◌, ◌≤◌, [], length, IfOk, MatchOption};
-ghost use Rattle.dertree.specs.Within.{IsWithin};
+ghost use Rattle.ber_lines.specs.Within.{IsWithin};
 
 use crate::lines::{Front, Line, Opening, first_item};
 use ber_der::contexts::{Context, Role};
@@ -60,7 +60,7 @@ pub struct Walk<'a> {
 }
 
 impl<'a> Walk<'a> {
-    ghost use Rattle.dertree.specs.Lines.{IsLine, Shows, IsOpenedAfter, LeavesEnded, innermost};
+    ghost use Rattle.ber_lines.specs.Lines.{IsLine, Shows, IsOpenedAfter, LeavesEnded, innermost};
 
     pub fn new(alloc: Global, input: &'a [u8], opening: Opening) -> Self
         ensures input { result.input.now ≡ input.now }

@@ -1,7 +1,7 @@
 use Rattle.std.proofs.Common.{rules}
-use Rattle.dertree.proofs.Items.{opens_there, opens_nowhere}
-use Rattle.dertree.proofs.lines.Opening.opens_octets.Goals as goal
-use Rattle.dertree.proofs.lines.Opening.opens_octets.Goals.{then-self, else-self}
+use Rattle.ber_lines.proofs.Items.{opens_there, opens_nowhere}
+use Rattle.ber_lines.proofs.lines.Opening.opens_octets.Goals as goal
+use Rattle.ber_lines.proofs.lines.Opening.opens_octets.Goals.{then-self, else-self}
 
 pub returns-else-size-len : goal.returns-else-size-len
 returns-else-size-len c =

@@ -1,6 +1,6 @@
 use Rattle.std.proofs.Common.{rules}
-use Rattle.dertree.proofs.Items.{begins_longer}
-use Rattle.dertree.proofs.lines.first_of_ber.Goals as goal
+use Rattle.ber_lines.proofs.Items.{begins_longer}
+use Rattle.ber_lines.proofs.lines.first_of_ber.Goals as goal
 
 pub returns-in-Some-len-clause-item : goal.returns-in-Some-len-clause-item
 returns-in-Some-len-clause-item c =

@@ -4,9 +4,9 @@ use Rattle.std.proofs.Math.Seq.{drop-append_seam}
 use Rattle.std.proofs.lemmas.List.{take-append-drop, take_rest, drop-drop, length-take-le}
 use Rattle.asn1_core_element.specs.Element.{head, element, IsTagByte, IsElement, IsFront, HasNoFront}
 use Rattle.asn1_core_element.specs.ElementLaws.{element_cut, element_long}
-use Rattle.dertree.specs.Lines.{Begins, BeginsLonger, HoldsIndefinite, LeadsInto, OpensOctets}
+use Rattle.ber_lines.specs.Lines.{Begins, BeginsLonger, HoldsIndefinite, LeadsInto, OpensOctets}
 use Rattle.ber_der.specs.Lengths.{BeginsWithLength}
-use Rattle.dertree.specs.declared.lines.Opening.{Opening}
+use Rattle.ber_lines.specs.declared.lines.Opening.{Opening}
 
 module _ (bytes : List ℕ) (tag n size : ℕ) (f : IsFront bytes tag n size) where
   contents_len : length (take n (drop size bytes)) ≡ n
