@@ -40,10 +40,19 @@ import os
 import re
 from typing import Callable, Dict, Iterable, Iterator, List, NamedTuple, Optional, Tuple, Union
 
-# The most levels of nesting that an input may have.
-MAX_NESTING = 64
+from . import _calls
 
-NORMAL, LOOSE, UNKNOWN_KIND, TOO_LONG, NO_MEMORY, NO_ROOM, NO_RANGE, NO_PART = 0, 1, 2, 7, 8, 9, 10, 11
+# The most levels of nesting that an input may have.
+MAX_NESTING = _calls.MAX_NESTING
+
+NORMAL = _calls.NORMAL
+LOOSE = _calls.LOOSE
+UNKNOWN_KIND = _calls.UNKNOWN_KIND
+TOO_LONG = _calls.TOO_LONG
+NO_MEMORY = _calls.NO_MEMORY
+NO_ROOM = _calls.NO_ROOM
+NO_RANGE = _calls.NO_RANGE
+NO_PART = _calls.NO_PART
 # How many signers are asked for at first: where there are more, the input is read a second time.
 FEW_SIGNERS = 64
 # How many ranges there is room for at first, alike.
@@ -92,7 +101,12 @@ class Reason(str, enum.Enum):
 
 
 # The reasons by their statuses in der.h.
-REASONS = {3: Reason.MALFORMED, 4: Reason.MISSING, 5: Reason.INVALID, 6: Reason.TOO_DEEP}
+REASONS = {
+    _calls.MALFORMED: Reason.MALFORMED,
+    _calls.MISSING: Reason.MISSING,
+    _calls.INVALID: Reason.INVALID,
+    _calls.TOO_DEEP: Reason.TOO_DEEP,
+}
 
 
 class Refused(ValueError):
@@ -145,32 +159,32 @@ class Part(enum.Enum):
     """A part of a container, by its number in der.h."""
 
     # of signed data, whatever the index is: the octets of its content that are hashed, none where that is detached
-    HASHED_CONTENT = 0
+    HASHED_CONTENT = _calls.PART_HASHED_CONTENT
     # certificate number index, or another choice, as it is
-    CERTIFICATE = 1
+    CERTIFICATE = _calls.PART_CERTIFICATE
     # of signer number index: what its signature covers where there are signed attributes, their encoding as a SET OF
-    SIGNED_ATTRIBUTES = 2
+    SIGNED_ATTRIBUTES = _calls.PART_SIGNED_ATTRIBUTES
     # the encoding of its issuer's Name, and the contents octets of the serial number, an INTEGER
-    ISSUER = 3
-    SERIAL_NUMBER = 4
+    ISSUER = _calls.PART_ISSUER
+    SERIAL_NUMBER = _calls.PART_SERIAL_NUMBER
     # the octets of its key identifier, where it is named by that
-    KEY_IDENTIFIER = 5
+    KEY_IDENTIFIER = _calls.PART_KEY_IDENTIFIER
     # the contents octets of the object identifier (dotted makes text of them)
-    DIGEST_ALGORITHM = 6
+    DIGEST_ALGORITHM = _calls.PART_DIGEST_ALGORITHM
     # the encoding of its signature algorithm, and the octets of its signature
-    SIGNATURE_ALGORITHM = 7
-    SIGNATURE = 8
+    SIGNATURE_ALGORITHM = _calls.PART_SIGNATURE_ALGORITHM
+    SIGNATURE = _calls.PART_SIGNATURE
     # of a PKCS #12 file, without what is encrypted: X.509 certificate number index
-    STORE_CERTIFICATE = 9
+    STORE_CERTIFICATE = _calls.PART_STORE_CERTIFICATE
     # PrivateKeyInfo number index, and EncryptedPrivateKeyInfo number index
-    STORE_KEY = 10
-    STORE_ENCRYPTED_KEY = 11
+    STORE_KEY = _calls.PART_STORE_KEY
+    STORE_ENCRYPTED_KEY = _calls.PART_STORE_ENCRYPTED_KEY
     # bag number index, with all that it holds
-    STORE_BAG = 12
+    STORE_BAG = _calls.PART_STORE_BAG
     # of its MAC, whatever the index is
-    MAC_DIGEST_ALGORITHM = 13
-    MAC_DIGEST = 14
-    MAC_SALT = 15
+    MAC_DIGEST_ALGORITHM = _calls.PART_MAC_DIGEST_ALGORITHM
+    MAC_DIGEST = _calls.PART_MAC_DIGEST
+    MAC_SALT = _calls.PART_MAC_SALT
 
 
 # The parts of a MAC.
@@ -181,11 +195,11 @@ class EnvelopePart(enum.Enum):
     """A part of enveloped data under its content type, a ContentInfo, whose items ranges lists."""
 
     # each RecipientInfo, as it is
-    RECIPIENT = 16
+    RECIPIENT = _calls.PART_RECIPIENT
     # contentEncryptionAlgorithm, with its parameters: one range
-    ENCRYPTION_ALGORITHM = 17
+    ENCRYPTION_ALGORITHM = _calls.PART_ENCRYPTION_ALGORITHM
     # the octets of encryptedContent: one range, or none where they are elsewhere
-    ENCRYPTED_CONTENT = 18
+    ENCRYPTED_CONTENT = _calls.PART_ENCRYPTED_CONTENT
 
 
 class Mac(NamedTuple):
@@ -384,20 +398,20 @@ class BagKind(enum.Enum):
     4.2).
     """
 
-    OTHER = 0
-    KEY = 1
-    SHROUDED_KEY = 2
+    OTHER = _calls.BAG_OTHER
+    KEY = _calls.BAG_KEY
+    SHROUDED_KEY = _calls.BAG_SHROUDED_KEY
     # of X.509
-    CERTIFICATE = 3
-    CRL = 4
-    SECRET = 5
+    CERTIFICATE = _calls.BAG_CERTIFICATE
+    CRL = _calls.BAG_CRL
+    SECRET = _calls.BAG_SECRET
     # bags, which follow it one level down
-    SAFE_CONTENTS = 6
+    SAFE_CONTENTS = _calls.BAG_SAFE_CONTENTS
     # no bag, but a whole ContentInfo that isn't data: encrypted bags, say
-    UNREAD = 7
+    UNREAD = _calls.BAG_UNREAD
     # of another type than X.509, as SDSI
-    OTHER_CERTIFICATE = 8
-    OTHER_CRL = 9
+    OTHER_CERTIFICATE = _calls.BAG_OTHER_CERTIFICATE
+    OTHER_CRL = _calls.BAG_OTHER_CRL
 
 
 # What a local key identifier connects.
@@ -441,86 +455,43 @@ class Bag(NamedTuple):
         return tuple(it.whole for part in list(_inside(self.element))[2:] for it in _elements(part.contents))
 
 
-class _Octets(ctypes.Structure):
-    """A der_range."""
-
-    _fields_ = [("start", ctypes.c_size_t), ("len", ctypes.c_size_t)]
-    start: int
-    len: int
-
-    def of(self, data: memoryview) -> memoryview:
-        """The octets of the input in it."""
-        return data[self.start : self.start + self.len]
+def _taken(it: _calls.Range, data: memoryview) -> memoryview:
+    """The octets of the input in a range."""
+    return data[it.start : it.start + it.len]
 
 
-class _SignerParts(ctypes.Structure):
-    """A der_signer_parts."""
-
-    _fields_ = [
-        *((name, ctypes.c_size_t) for name in ("status", "over_attributes", "has_content", "has_certificate")),
-        *((name, _Octets) for name in ("covered", "digest", "content", "digest_algorithm", "signature_algorithm")),
-        *((name, _Octets) for name in ("signature", "certificate")),
-    ]
-    status: int
-    over_attributes: int
-    has_content: int
-    has_certificate: int
-    covered: _Octets
-    digest: _Octets
-    content: _Octets
-    digest_algorithm: _Octets
-    signature_algorithm: _Octets
-    signature: _Octets
-    certificate: _Octets
-
-    def of(self, file: _SignedFile, index: int) -> Union[Signer, BadAttributes]:
-        """The signer of the input that has these parts."""
-        if self.status != NORMAL:
-            return BadAttributes()
-        data = file.octets
-        content = self.content.of(data) if self.has_content else None
-        covered = b"\x31" + self.covered.of(data)[1:] if self.over_attributes else content
-        return Signer(
-            file,
-            index,
-            bool(self.over_attributes),
-            covered,
-            self.digest.of(data) if self.over_attributes else None,
-            content,
-            self.digest_algorithm.of(data),
-            self.signature_algorithm.of(data),
-            self.signature.of(data),
-            self.certificate.of(data) if self.has_certificate else None,
-        )
+def _signer(row: _calls.SignerParts, file: _SignedFile, index: int) -> Union[Signer, BadAttributes]:
+    """The signer of the input that has these parts."""
+    if row.status != NORMAL:
+        return BadAttributes()
+    data = file.octets
+    content = _taken(row.content, data) if row.has_content else None
+    covered = b"\x31" + _taken(row.covered, data)[1:] if row.over_attributes else content
+    return Signer(
+        file,
+        index,
+        bool(row.over_attributes),
+        covered,
+        _taken(row.digest, data) if row.over_attributes else None,
+        content,
+        _taken(row.digest_algorithm, data),
+        _taken(row.signature_algorithm, data),
+        _taken(row.signature, data),
+        _taken(row.certificate, data) if row.has_certificate else None,
+    )
 
 
-class _BagParts(ctypes.Structure):
-    """A der_bag_parts."""
-
-    _fields_ = [
-        *((name, ctypes.c_size_t) for name in ("kind", "level", "has_friendly_name", "has_local_key_id")),
-        *((name, _Octets) for name in ("element", "value", "friendly_name", "local_key_id")),
-    ]
-    kind: int
-    level: int
-    has_friendly_name: int
-    has_local_key_id: int
-    element: _Octets
-    value: _Octets
-    friendly_name: _Octets
-    local_key_id: _Octets
-
-    def of(self, data: memoryview) -> Bag:
-        """The bag of the store that has these parts."""
-        name = bytes(self.friendly_name.of(data)).decode("utf-16-be") if self.has_friendly_name else None
-        return Bag(
-            BagKind(self.kind),
-            self.level,
-            self.element.of(data),
-            self.value.of(data),
-            name,
-            self.local_key_id.of(data) if self.has_local_key_id else None,
-        )
+def _bag(row: _calls.BagParts, data: memoryview) -> Bag:
+    """The bag of the store that has these parts."""
+    name = bytes(_taken(row.friendly_name, data)).decode("utf-16-be") if row.has_friendly_name else None
+    return Bag(
+        BagKind(row.kind),
+        row.level,
+        _taken(row.element, data),
+        _taken(row.value, data),
+        name,
+        _taken(row.local_key_id, data) if row.has_local_key_id else None,
+    )
 
 
 class Store:
@@ -616,7 +587,7 @@ class SignedData:
     """
 
     def __init__(
-        self, library: "Library", file: _SignedFile, data: _Whole, rows: List[_SignerParts]
+        self, library: "Library", file: _SignedFile, data: _Whole, rows: List[_calls.SignerParts]
     ) -> None:
         self._library, self._file, self._data, self._rows = library, file, data, rows
 
@@ -636,7 +607,7 @@ class SignedData:
         """The contents octets of the content, which are hashed. None where the signature is detached."""
         for row in self._rows:
             if row.status == NORMAL:
-                return row.content.of(self._file.octets) if row.has_content else None
+                return _taken(row.content, self._file.octets) if row.has_content else None
         _, *explicit = _inside(self._file.fields[2].whole)
         return next(_inside(explicit[0].whole)).contents if explicit else None
 
@@ -659,7 +630,7 @@ class SignedData:
     @functools.cached_property
     def signers(self) -> Tuple[Union[Signer, BadAttributes], ...]:
         """All signers, as Library.signers gives them."""
-        return tuple(row.of(self._file, index) for index, row in enumerate(self._rows))
+        return tuple(_signer(row, self._file, index) for index, row in enumerate(self._rows))
 
     @functools.cached_property
     def signer_infos(self) -> Tuple[SignerInfo, ...]:
@@ -673,30 +644,9 @@ class Library:
     def __init__(self, path: Union[str, "os.PathLike[str]"]) -> None:
         self._path = os.path.realpath(path)
         self._library = ctypes.CDLL(self._path)
-        octets, size, number = ctypes.c_void_p, ctypes.c_size_t, ctypes.POINTER(ctypes.c_size_t)
-        word = [octets, size, ctypes.c_uint8, octets, size]
-        for name, arguments in (
-            ("der_check_word_limited", [*word, number, number]),
-            ("der_rewrite_word_limited", [*word, octets, size, number]),
-            ("der_mac_range", [octets, size, number, number]),
-            ("der_signer_rows", [octets, size, size, ctypes.POINTER(_SignerParts), size, number, number]),
-            ("der_bag_rows", [octets, size, ctypes.POINTER(_BagParts), size, number, number]),
-            ("der_part_ranges", [size, octets, size, number, size, number, number]),
-            ("der_attribute_ranges", [size, size, octets, size, number, size, number, number]),
-            ("der_kind_word", [size, octets, size, number]),
-            ("der_mac", [octets, size, number, number, number]),
-            ("der_part_octets", [size, size, octets, size, octets, size, number, number]),
-            ("der_from_ber", [octets, size, octets, size, number, number]),
-            ("der_mac_ber", [octets, size, number, number, number]),
-            ("der_mac_part_ber", [size, octets, size, octets, size, number]),
-            ("der_name_text", [octets, size, octets, size, number]),
-            ("der_oid_text", [octets, size, octets, size, number]),
-            ("der_oid_name", [octets, size, octets, size, number]),
-            ("der_integer_text", [octets, size, octets, size, number]),
-            ("der_utf16_text", [octets, size, octets, size, number]),
-        ):
+        for name, arguments in _calls.ARGUMENTS.items():
             call = getattr(self._library, name)
-            call.argtypes, call.restype = arguments, ctypes.c_uint32
+            call.argtypes, call.restype = arguments, _calls.STATUS
 
     def __repr__(self) -> str:
         return _shown(self, path=self._path)
@@ -843,8 +793,10 @@ class Library:
         """The start and the length of each range that a call writes. None where there is no such part."""
         room, count, place = FEW_RANGES, ctypes.c_size_t(), ctypes.c_size_t()
         while True:
+            # numbers are taken out of an array of them in one step, and out of ranges one by one
             out = (ctypes.c_size_t * (2 * room))()
-            status = call(*which, *_given(data), out, room, ctypes.byref(count), ctypes.byref(place))
+            ranges = ctypes.cast(out, ctypes.POINTER(_calls.Range))
+            status = call(*which, *_given(data), ranges, room, ctypes.byref(count), ctypes.byref(place))
             if status == NORMAL:
                 return zip(out[0 : 2 * count.value : 2], out[1 : 2 * count.value : 2])
             if status in (UNKNOWN_KIND, NO_PART):
@@ -862,13 +814,13 @@ class Library:
         octets = _octets(data)
         room, count, place = FEW_BAGS, ctypes.c_size_t(), ctypes.c_size_t()
         while True:
-            rows = (_BagParts * room)()
+            rows = (_calls.BagParts * room)()
             status = self._library.der_bag_rows(
                 *_given(octets), rows, room, ctypes.byref(count), ctypes.byref(place)
             )
             if status == NORMAL:
                 whole = memoryview(octets)
-                return tuple(row.of(whole) for row in rows[: count.value])
+                return tuple(_bag(row, whole) for row in rows[: count.value])
             _raise_for_range(status, place.value)
             room = count.value
 
@@ -906,14 +858,14 @@ class Library:
         rows, _ = self._signer_rows(octets, min(index, (1 << 64) - 1), 1)
         if not rows:
             return None
-        found = rows[0].of(_SignedFile(octets), index)
+        found = _signer(rows[0], _SignedFile(octets), index)
         if isinstance(found, BadAttributes):
             raise found
         return found
 
-    def _signer_rows(self, data: _Whole, first: int, room: int) -> Tuple[List[_SignerParts], int]:
+    def _signer_rows(self, data: _Whole, first: int, room: int) -> Tuple[List[_calls.SignerParts], int]:
         """The parts of signers from one on, at most so many, and how many signers there are in all."""
-        rows, count, place = (_SignerParts * room)(), ctypes.c_size_t(), ctypes.c_size_t()
+        rows, count, place = (_calls.SignerParts * room)(), ctypes.c_size_t(), ctypes.c_size_t()
         status = self._library.der_signer_rows(
             *_given(data), first, rows, room, ctypes.byref(count), ctypes.byref(place)
         )

@@ -1,5 +1,57 @@
-//! The calls, as `der.h` declares them.
+//! The calls, as `der.h` declares them. Made by tools/calls of c/calls.txt.
+// not each number is used
+#![allow(dead_code)]
 use std::os::raw::c_char;
+
+pub const MAX_NESTING: u8 = 64;
+
+// der_status
+pub const NORMAL: u32 = 0;
+pub const LOOSE: u32 = 1;
+pub const UNKNOWN_KIND: u32 = 2;
+pub const MALFORMED: u32 = 3;
+pub const MISSING: u32 = 4;
+pub const INVALID: u32 = 5;
+pub const TOO_DEEP: u32 = 6;
+pub const TOO_LONG: u32 = 7;
+pub const NO_MEMORY: u32 = 8;
+pub const NO_ROOM: u32 = 9;
+pub const NO_RANGE: u32 = 10;
+pub const NO_PART: u32 = 11;
+pub const BAD_ATTRIBUTES: u32 = 12;
+
+// der_part_number
+pub const PART_HASHED_CONTENT: usize = 0;
+pub const PART_CERTIFICATE: usize = 1;
+pub const PART_SIGNED_ATTRIBUTES: usize = 2;
+pub const PART_ISSUER: usize = 3;
+pub const PART_SERIAL_NUMBER: usize = 4;
+pub const PART_KEY_IDENTIFIER: usize = 5;
+pub const PART_DIGEST_ALGORITHM: usize = 6;
+pub const PART_SIGNATURE_ALGORITHM: usize = 7;
+pub const PART_SIGNATURE: usize = 8;
+pub const PART_STORE_CERTIFICATE: usize = 9;
+pub const PART_STORE_KEY: usize = 10;
+pub const PART_STORE_ENCRYPTED_KEY: usize = 11;
+pub const PART_STORE_BAG: usize = 12;
+pub const PART_MAC_DIGEST_ALGORITHM: usize = 13;
+pub const PART_MAC_DIGEST: usize = 14;
+pub const PART_MAC_SALT: usize = 15;
+pub const PART_RECIPIENT: usize = 16;
+pub const PART_ENCRYPTION_ALGORITHM: usize = 17;
+pub const PART_ENCRYPTED_CONTENT: usize = 18;
+
+// der_bag_kind
+pub const BAG_OTHER: usize = 0;
+pub const BAG_KEY: usize = 1;
+pub const BAG_SHROUDED_KEY: usize = 2;
+pub const BAG_CERTIFICATE: usize = 3;
+pub const BAG_CRL: usize = 4;
+pub const BAG_SECRET: usize = 5;
+pub const BAG_SAFE_CONTENTS: usize = 6;
+pub const BAG_UNREAD: usize = 7;
+pub const BAG_OTHER_CERTIFICATE: usize = 8;
+pub const BAG_OTHER_CRL: usize = 9;
 
 /// `der_range`
 #[repr(C)]
@@ -71,6 +123,42 @@ extern "C" {
         written: *mut usize,
         place: *mut usize,
     ) -> u32;
+    pub fn der_part_ranges(
+        number: usize,
+        input: *const u8,
+        input_len: usize,
+        out: *mut Range,
+        out_len: usize,
+        count: *mut usize,
+        place: *mut usize,
+    ) -> u32;
+    pub fn der_attribute_ranges(
+        is_signed: usize,
+        index: usize,
+        input: *const u8,
+        input_len: usize,
+        out: *mut Range,
+        out_len: usize,
+        count: *mut usize,
+        place: *mut usize,
+    ) -> u32;
+    pub fn der_signer_rows(
+        input: *const u8,
+        input_len: usize,
+        first: usize,
+        out: *mut SignerParts,
+        out_len: usize,
+        count: *mut usize,
+        place: *mut usize,
+    ) -> u32;
+    pub fn der_bag_rows(
+        input: *const u8,
+        input_len: usize,
+        out: *mut BagParts,
+        out_len: usize,
+        count: *mut usize,
+        place: *mut usize,
+    ) -> u32;
     pub fn der_mac_range(input: *const u8, input_len: usize, start: *mut usize, len: *mut usize) -> u32;
     pub fn der_mac(
         input: *const u8,
@@ -102,63 +190,9 @@ extern "C" {
         out_len: usize,
         written: *mut usize,
     ) -> u32;
-    pub fn der_signer_rows(
-        input: *const u8,
-        input_len: usize,
-        first: usize,
-        out: *mut SignerParts,
-        out_len: usize,
-        count: *mut usize,
-        place: *mut usize,
-    ) -> u32;
-    pub fn der_part_ranges(
-        number: usize,
-        input: *const u8,
-        input_len: usize,
-        out: *mut Range,
-        out_len: usize,
-        count: *mut usize,
-        place: *mut usize,
-    ) -> u32;
-    pub fn der_bag_rows(
-        input: *const u8,
-        input_len: usize,
-        out: *mut BagParts,
-        out_len: usize,
-        count: *mut usize,
-        place: *mut usize,
-    ) -> u32;
-    pub fn der_attribute_ranges(
-        is_signed: usize,
-        index: usize,
-        input: *const u8,
-        input_len: usize,
-        out: *mut Range,
-        out_len: usize,
-        count: *mut usize,
-        place: *mut usize,
-    ) -> u32;
-    pub fn der_name_text(
-        input: *const u8,
-        input_len: usize,
-        out: *mut u8,
-        out_len: usize,
-        written: *mut usize,
-    ) -> u32;
-    pub fn der_oid_text(
-        octets: *const u8,
-        octets_len: usize,
-        out: *mut u8,
-        out_len: usize,
-        written: *mut usize,
-    ) -> u32;
-    pub fn der_oid_name(
-        octets: *const u8,
-        octets_len: usize,
-        out: *mut u8,
-        out_len: usize,
-        written: *mut usize,
-    ) -> u32;
+    pub fn der_name_text(input: *const u8, input_len: usize, out: *mut u8, out_len: usize, written: *mut usize) -> u32;
+    pub fn der_oid_text(octets: *const u8, octets_len: usize, out: *mut u8, out_len: usize, written: *mut usize) -> u32;
+    pub fn der_oid_name(octets: *const u8, octets_len: usize, out: *mut u8, out_len: usize, written: *mut usize) -> u32;
     pub fn der_integer_text(
         octets: *const u8,
         octets_len: usize,

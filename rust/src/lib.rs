@@ -24,18 +24,13 @@ pub use bags::{bags, Bag, BagKind};
 pub use ranges::{attributes, certificates, encrypted_content, encryption_algorithm, recipients};
 pub use signers::{signers, BadAttributes, Signer};
 
+use calls::{LOOSE, NORMAL, NO_PART, NO_RANGE, NO_ROOM};
 use std::ffi::CStr;
 use std::fmt;
 use std::ops::Range;
 
 /// The most levels of nesting that an input may have.
-pub const MAX_NESTING: u8 = 64;
-
-const NORMAL: u32 = 0;
-const LOOSE: u32 = 1;
-const NO_ROOM: u32 = 9;
-const NO_RANGE: u32 = 10;
-const NO_PART: u32 = 11;
+pub const MAX_NESTING: u8 = calls::MAX_NESTING;
 
 /// Why an input is refused.
 #[derive(Debug, Clone, Copy, PartialEq, Eq)]
@@ -99,13 +94,13 @@ impl std::error::Error for Error {}
 
 fn error(status: u32, place: usize) -> Error {
     let reason = match status {
-        2 => return Error::UnknownKind,
-        3 => Reason::Malformed,
-        4 => Reason::Missing,
-        5 => Reason::Invalid,
-        6 => Reason::TooDeep,
-        7 => return Error::TooLong,
-        8 => return Error::NoMemory,
+        calls::UNKNOWN_KIND => return Error::UnknownKind,
+        calls::MALFORMED => Reason::Malformed,
+        calls::MISSING => Reason::Missing,
+        calls::INVALID => Reason::Invalid,
+        calls::TOO_DEEP => Reason::TooDeep,
+        calls::TOO_LONG => return Error::TooLong,
+        calls::NO_MEMORY => return Error::NoMemory,
         NO_RANGE => return Error::NoRange,
         _ => return Error::Unknown(status),
     };
@@ -192,22 +187,22 @@ pub fn from_ber(input: &[u8]) -> Result<Vec<u8>, Error> {
 #[derive(Debug, Clone, Copy, PartialEq, Eq)]
 #[allow(missing_docs)]
 pub enum Part {
-    HashedContent,
-    Certificate,
-    SignedAttributes,
-    Issuer,
-    SerialNumber,
-    KeyIdentifier,
-    DigestAlgorithm,
-    SignatureAlgorithm,
-    Signature,
-    StoreCertificate,
-    StoreKey,
-    StoreEncryptedKey,
-    StoreBag,
-    MacDigestAlgorithm,
-    MacDigest,
-    MacSalt,
+    HashedContent = calls::PART_HASHED_CONTENT as isize,
+    Certificate = calls::PART_CERTIFICATE as isize,
+    SignedAttributes = calls::PART_SIGNED_ATTRIBUTES as isize,
+    Issuer = calls::PART_ISSUER as isize,
+    SerialNumber = calls::PART_SERIAL_NUMBER as isize,
+    KeyIdentifier = calls::PART_KEY_IDENTIFIER as isize,
+    DigestAlgorithm = calls::PART_DIGEST_ALGORITHM as isize,
+    SignatureAlgorithm = calls::PART_SIGNATURE_ALGORITHM as isize,
+    Signature = calls::PART_SIGNATURE as isize,
+    StoreCertificate = calls::PART_STORE_CERTIFICATE as isize,
+    StoreKey = calls::PART_STORE_KEY as isize,
+    StoreEncryptedKey = calls::PART_STORE_ENCRYPTED_KEY as isize,
+    StoreBag = calls::PART_STORE_BAG as isize,
+    MacDigestAlgorithm = calls::PART_MAC_DIGEST_ALGORITHM as isize,
+    MacDigest = calls::PART_MAC_DIGEST as isize,
+    MacSalt = calls::PART_MAC_SALT as isize,
 }
 
 /// A part of a container, as octets: of certificates, signers, keys and bags that with the index, from 0 on. `None`

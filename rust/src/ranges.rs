@@ -2,11 +2,6 @@
 use crate::calls::{self, Range};
 use crate::{error, Error, Part, NORMAL, NO_PART, NO_ROOM};
 
-/// The numbers of parts of enveloped data in der.h.
-const RECIPIENT: usize = 16;
-const ENCRYPTION_ALGORITHM: usize = 17;
-const ENCRYPTED_CONTENT: usize = 18;
-
 /// The certificates of signed data, or other choices, in their order, each as it is in the file. Signed data are of any
 /// CMSVersion, with signers of any version and over content of any type. Up to 64 certificates are found in one reading,
 /// more in two.
@@ -25,17 +20,17 @@ pub fn certificates(input: &[u8]) -> Result<Vec<&[u8]>, Error> {
 
 /// The recipients of enveloped data under its content type, a `ContentInfo`, in their order, each as it is in the file.
 pub fn recipients(input: &[u8]) -> Result<Vec<&[u8]>, Error> {
-    items(RECIPIENT, input)
+    items(calls::PART_RECIPIENT, input)
 }
 
 /// The algorithm by which the content of enveloped data is encrypted, with its parameters.
 pub fn encryption_algorithm(input: &[u8]) -> Result<Option<&[u8]>, Error> {
-    Ok(items(ENCRYPTION_ALGORITHM, input)?.pop())
+    Ok(items(calls::PART_ENCRYPTION_ALGORITHM, input)?.pop())
 }
 
 /// The octets of the encrypted content. `None` where they aren't in the file.
 pub fn encrypted_content(input: &[u8]) -> Result<Option<&[u8]>, Error> {
-    Ok(items(ENCRYPTED_CONTENT, input)?.pop())
+    Ok(items(calls::PART_ENCRYPTED_CONTENT, input)?.pop())
 }
 
 /// Each `Attribute` of the signer with an index, with its type and values: signed ones, or unsigned ones, as time stamps.

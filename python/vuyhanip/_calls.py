@@ -1,0 +1,143 @@
+"""The numbers and structs of the calls of the library for C, and what the calls take: der.h says what they are.
+Made by tools/calls of c/calls.txt."""
+import ctypes
+from typing import Dict, Final, Tuple
+
+MAX_NESTING: Final = 64
+
+# der_status
+NORMAL: Final = 0
+LOOSE: Final = 1
+UNKNOWN_KIND: Final = 2
+MALFORMED: Final = 3
+MISSING: Final = 4
+INVALID: Final = 5
+TOO_DEEP: Final = 6
+TOO_LONG: Final = 7
+NO_MEMORY: Final = 8
+NO_ROOM: Final = 9
+NO_RANGE: Final = 10
+NO_PART: Final = 11
+BAD_ATTRIBUTES: Final = 12
+
+# der_part_number
+PART_HASHED_CONTENT: Final = 0
+PART_CERTIFICATE: Final = 1
+PART_SIGNED_ATTRIBUTES: Final = 2
+PART_ISSUER: Final = 3
+PART_SERIAL_NUMBER: Final = 4
+PART_KEY_IDENTIFIER: Final = 5
+PART_DIGEST_ALGORITHM: Final = 6
+PART_SIGNATURE_ALGORITHM: Final = 7
+PART_SIGNATURE: Final = 8
+PART_STORE_CERTIFICATE: Final = 9
+PART_STORE_KEY: Final = 10
+PART_STORE_ENCRYPTED_KEY: Final = 11
+PART_STORE_BAG: Final = 12
+PART_MAC_DIGEST_ALGORITHM: Final = 13
+PART_MAC_DIGEST: Final = 14
+PART_MAC_SALT: Final = 15
+PART_RECIPIENT: Final = 16
+PART_ENCRYPTION_ALGORITHM: Final = 17
+PART_ENCRYPTED_CONTENT: Final = 18
+
+# der_bag_kind
+BAG_OTHER: Final = 0
+BAG_KEY: Final = 1
+BAG_SHROUDED_KEY: Final = 2
+BAG_CERTIFICATE: Final = 3
+BAG_CRL: Final = 4
+BAG_SECRET: Final = 5
+BAG_SAFE_CONTENTS: Final = 6
+BAG_UNREAD: Final = 7
+BAG_OTHER_CERTIFICATE: Final = 8
+BAG_OTHER_CRL: Final = 9
+
+
+class Range(ctypes.Structure):
+    """A der_range."""
+
+    _fields_ = [
+        ("start", ctypes.c_size_t),
+        ("len", ctypes.c_size_t),
+    ]
+    start: int
+    len: int
+
+
+class SignerParts(ctypes.Structure):
+    """A der_signer_parts."""
+
+    _fields_ = [
+        ("status", ctypes.c_size_t),
+        ("over_attributes", ctypes.c_size_t),
+        ("has_content", ctypes.c_size_t),
+        ("has_certificate", ctypes.c_size_t),
+        ("covered", Range),
+        ("digest", Range),
+        ("content", Range),
+        ("digest_algorithm", Range),
+        ("signature_algorithm", Range),
+        ("signature", Range),
+        ("certificate", Range),
+    ]
+    status: int
+    over_attributes: int
+    has_content: int
+    has_certificate: int
+    covered: Range
+    digest: Range
+    content: Range
+    digest_algorithm: Range
+    signature_algorithm: Range
+    signature: Range
+    certificate: Range
+
+
+class BagParts(ctypes.Structure):
+    """A der_bag_parts."""
+
+    _fields_ = [
+        ("kind", ctypes.c_size_t),
+        ("level", ctypes.c_size_t),
+        ("has_friendly_name", ctypes.c_size_t),
+        ("has_local_key_id", ctypes.c_size_t),
+        ("element", Range),
+        ("value", Range),
+        ("friendly_name", Range),
+        ("local_key_id", Range),
+    ]
+    kind: int
+    level: int
+    has_friendly_name: int
+    has_local_key_id: int
+    element: Range
+    value: Range
+    friendly_name: Range
+    local_key_id: Range
+
+
+# What calls answer, and what they take.
+STATUS = ctypes.c_uint32
+_BYTE, _SIZE = ctypes.c_uint8, ctypes.c_size_t
+_OCTETS, _NUMBER = ctypes.c_void_p, ctypes.POINTER(ctypes.c_size_t)
+ARGUMENTS: Dict[str, Tuple[object, ...]] = {
+    "der_check_word_limited": (_OCTETS, _SIZE, _BYTE, _OCTETS, _SIZE, _NUMBER, _NUMBER),
+    "der_rewrite_word_limited": (_OCTETS, _SIZE, _BYTE, _OCTETS, _SIZE, _OCTETS, _SIZE, _NUMBER),
+    "der_kind_word": (_SIZE, _OCTETS, _SIZE, _NUMBER),
+    "der_part_octets": (_SIZE, _SIZE, _OCTETS, _SIZE, _OCTETS, _SIZE, _NUMBER, _NUMBER),
+    "der_part_ranges": (_SIZE, _OCTETS, _SIZE, ctypes.POINTER(Range), _SIZE, _NUMBER, _NUMBER),
+    "der_attribute_ranges": (_SIZE, _SIZE, _OCTETS, _SIZE, ctypes.POINTER(Range), _SIZE, _NUMBER, _NUMBER),
+    "der_signer_rows": (_OCTETS, _SIZE, _SIZE, ctypes.POINTER(SignerParts), _SIZE, _NUMBER, _NUMBER),
+    "der_bag_rows": (_OCTETS, _SIZE, ctypes.POINTER(BagParts), _SIZE, _NUMBER, _NUMBER),
+    "der_mac_range": (_OCTETS, _SIZE, _NUMBER, _NUMBER),
+    "der_mac": (_OCTETS, _SIZE, _NUMBER, _NUMBER, _NUMBER),
+    "der_from_ber": (_OCTETS, _SIZE, _OCTETS, _SIZE, _NUMBER, _NUMBER),
+    "der_mac_ber": (_OCTETS, _SIZE, _NUMBER, _NUMBER, _NUMBER),
+    "der_mac_part_ber": (_SIZE, _OCTETS, _SIZE, _OCTETS, _SIZE, _NUMBER),
+    "der_name_text": (_OCTETS, _SIZE, _OCTETS, _SIZE, _NUMBER),
+    "der_oid_text": (_OCTETS, _SIZE, _OCTETS, _SIZE, _NUMBER),
+    "der_oid_name": (_OCTETS, _SIZE, _OCTETS, _SIZE, _NUMBER),
+    "der_integer_text": (_OCTETS, _SIZE, _OCTETS, _SIZE, _NUMBER),
+    "der_utf16_text": (_OCTETS, _SIZE, _OCTETS, _SIZE, _NUMBER),
+}
