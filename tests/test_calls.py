@@ -1,0 +1,215 @@
+"""tools/calls over copies of a tree in which something is turned: a number, two fields, the type of a parameter, a call
+that is left out, in each of C, Python, Rust and what is proved, or in c/calls.txt. Each has to be told, with its file,
+its line and its name; --write makes right what is made, and keeps what is said in the header."""
+import sys
+import tempfile
+import unittest
+from pathlib import Path
+
+from support import built
+
+sys.path.insert(0, str(built.TOP / "tools"))
+from loaded import script  # noqa: E402
+
+calls = script(built.TOP / "tools/calls")
+C, PYTHON, RUST, FILE = calls.HEADER, calls.PYTHON, calls.RUST, calls.FILE
+NAMES, CHECK = "python/vuyhanip/der.py", "rust/tests/check.rs"
+STATUS, BAGS, LISTS, MACS, LIB = (f"crates/der_c/src/{name}.rt" for name in ("status", "bags", "lists", "macs", "lib"))
+SIGNERS, PARTS, PARTS_IN_SPECS = "crates/der_c/src/signers.rt", *(path for path, *_ in calls.LISTED)
+RANGES_IN_SPECS = "crates/der_c/specs/Ranges.antt"
+# What tools/calls reads.
+READ = (FILE, C, PYTHON, NAMES, "rust/src/*.rs", CHECK, "crates/der_c/src/*.rt", "crates/der_c/specs/*.antt", PARTS,
+        PARTS_IN_SPECS, *calls.LEVELS)
+RANGE_IN_C = """DER_CALL
+uint32_t der_mac_range(const uint8_t *input, size_t input_len, size_t *start, size_t *len);
+"""
+RANGE_IN_PYTHON = '    "der_mac_range": (_OCTETS, _SIZE, _NUMBER, _NUMBER),\n'
+RANGE_IN_RUST = """\
+    pub fn der_mac_range(input: *const u8, input_len: usize, start: *mut usize, len: *mut usize) -> u32;
+"""
+KIND_IN_C = "  size_t kind;              /* a der_bag_kind */\n"
+LEVEL_IN_C = "  size_t level;             /* in how many bags it is, at most 64 */\n"
+IN_CHECK = "        limit: {},\n        input: *const u8,\n        input_len: usize,\n        out"
+# What --write makes right: a file, a text of it, what is in its place, and the name that has to be told.
+MADE = {
+    "C, a status": (C, "DER_NO_ROOM = 9,", "DER_NO_ROOM = 8,", "DER_NO_ROOM"),
+    "C, two fields": (C, KIND_IN_C + LEVEL_IN_C, LEVEL_IN_C + KIND_IN_C, "level"),
+    "C, a type": (C, "der_kind_word(size_t index,", "der_kind_word(uint32_t index,", "index"),
+    "C, what is returned": (C, "uint32_t der_mac(", "size_t der_mac(", "der_mac"),
+    "C, a part": (C, "DER_PART_ISSUER = 3,", "DER_PART_ISSUER = 4,", "DER_PART_ISSUER"),
+    "C, levels": (C, "#define DER_MAX_NESTING 64", "#define DER_MAX_NESTING 65", "DER_MAX_NESTING"),
+    "C, blanks": (C, "size_t out_len, size_t *written);", "size_t out_len,  size_t *written);", "size_t out_len"),
+    "Python, a status": (PYTHON, "NO_ROOM: Final = 9", "NO_ROOM: Final = 8", "DER_NO_ROOM"),
+    "Python, two fields": (
+        PYTHON, '("kind", ctypes.c_size_t),\n        ("level", ctypes.c_size_t)',
+        '("level", ctypes.c_size_t),\n        ("kind", ctypes.c_size_t)', "kind"),
+    "Python, a type": (PYTHON, '"der_kind_word": (_SIZE,', '"der_kind_word": (_BYTE,', "der_kind_word"),
+    "Python, a call": (PYTHON, RANGE_IN_PYTHON, "", "der_mac_range"),
+    "Rust, a status": (RUST, "NO_ROOM: u32 = 9;", "NO_ROOM: u32 = 8;", "DER_NO_ROOM"),
+    "Rust, two fields": (
+        RUST, "pub kind: usize,\n    pub level: usize,", "pub level: usize,\n    pub kind: usize,", "kind"),
+    "Rust, a type": (RUST, "der_kind_word(index: usize,", "der_kind_word(index: u32,", "der_kind_word"),
+    "Rust, a call": (RUST, RANGE_IN_RUST, "", "der_mac_range"),
+}
+# What is written by hand. A fifth word is the place that is told, where that isn't the line that is turned.
+BY_HAND = {
+    "C, a call": (C, RANGE_IN_C, "", "der_mac_range", f"{C}:1"),
+    "C, the word of a status": (C, '"no room",', '"no place",', "DER_NO_ROOM", C),
+    "C, the last status": (C, "<= DER_BAD_ATTRIBUTES ?", "<= DER_NO_PART ?", "DER_BAD_ATTRIBUTES"),
+    "Python, a name": (NAMES, " ISSUER = _calls.PART_ISSUER", " ISSUER = _calls.PART_SIGNATURE", "ISSUER", NAMES),
+    "Python, no name": (NAMES, "    OTHER_CRL = _calls.BAG_OTHER_CRL\n", "", "DER_BAG_OTHER_CRL", f"{NAMES}:1"),
+    "Rust, a name": ("rust/src/lib.rs", "Issuer = calls::PART_ISSUER", "Issuer = calls::PART_SIGNATURE", "Issuer"),
+    "Rust, a kind": ("rust/src/bags.rs", "BAG_CRL => BagKind::Crl", "BAG_CRL => BagKind::OtherCrl", "OtherCrl"),
+    "Rust, no name": ("rust/src/ranges.rs", "calls::PART_RECIPIENT", "16", "DER_PART_RECIPIENT", "rust/src/bags.rs:1"),
+    "Rust, a caller": (CHECK, IN_CHECK.format("u8"), IN_CHECK.format("u32"), "limit"),
+    "proved, a status": (STATUS, "NO_ROOM: u32 = 9;", "NO_ROOM: u32 = 8;", "DER_NO_ROOM"),
+    "proved, two fields": (
+        BAGS, "    kind: usize,\n    /// In how many bags it is.\n    level: usize,",
+        "    level: usize,\n    /// In how many bags it is.\n    kind: usize,", "level"),
+    "proved, the type of a field": (BAGS, "    value: Octets,", "    value: usize,", "value"),
+    "proved, a layout": (SIGNERS, "#[repr(C)]\n", "", "der_signer_parts", SIGNERS),
+    "proved, a type": (LIB, "der_kind_word(index: usize,", "der_kind_word(index: u32,", "index"),
+    "proved, a slice": (BAGS, "    input: &[u8],", "    input: &mut [u8],", "input"),
+    "proved, two parameters": (
+        LISTS, "    signed: usize,\n    index: usize,", "    index: usize,\n    signed: usize,", "index"),
+    "proved, a call": (MACS, 'pub extern "C" fn der_mac_range(', "fn range_of(", "der_mac_range", f"{LIB}:1"),
+    "proved, another call": (MACS, '"C" fn der_mac(', '"C" fn der_any_mac(', "der_any_mac"),
+    "proved, a kind": (BAGS, "BagKind::Crl => 4,", "BagKind::Crl => 5,", "DER_BAG_CRL"),
+    "specs, a kind": ("crates/der_c/specs/Bags.antt", "kind_number Crl = 4", "kind_number Crl = 5", "DER_BAG_CRL"),
+    "proved, a part": (LISTS, "16 => Some(", "19 => Some(", "DER_PART_RECIPIENT"),
+    "specs, a part": (RANGES_IN_SPECS, "number_of Recipients = 16", "number_of Recipients = 19", "DER_PART_RECIPIENT"),
+    "proved, a number": (LISTS, "CERTIFICATES: usize = 1;", "CERTIFICATES: usize = 2;", "DER_PART_CERTIFICATE", LISTS),
+    "specs, a number": (
+        RANGES_IN_SPECS, "\ncertificates = 1", "\ncertificates = 2", "DER_PART_CERTIFICATE", RANGES_IN_SPECS),
+    "proved, two parts": (
+        PARTS, "StorePart::Key),\n            ContainerPart::Store(StorePart::EncryptedKey)",
+        "StorePart::EncryptedKey),\n            ContainerPart::Store(StorePart::Key)", "DER_PART_STORE_ENCRYPTED_KEY"),
+    "specs, two parts": (
+        PARTS_IN_SPECS, "OfStore.Key ∷ Store OfStore.EncryptedKey", "OfStore.EncryptedKey ∷ Store OfStore.Key",
+        "DER_PART_STORE_ENCRYPTED_KEY"),
+    "proved, levels": (calls.LEVELS[1], "MAX_NESTING: u8 = 64;", "MAX_NESTING: u8 = 63;", "DER_MAX_NESTING"),
+    "specs, levels": ("crates/der_c/specs/Calls.antt", "min limit 64", "min limit 63", "DER_MAX_NESTING"),
+}
+# A text of c/calls.txt, what is in its place, and what is said.
+NO_CALLS = {
+    "a number twice": ("  DER_LOOSE 1\n", "  DER_LOOSE 0\n", "DER_LOOSE: der_status has the name, or the number"),
+    "no number": ("  DER_LOOSE 1\n", "  DER_LOOSE one\n", "DER_LOOSE one: isn't what a line of enum has"),
+    "an entry twice": ("struct der_range", "struct der_status", "der_status: is there twice"),
+    "no kind of entry": ("struct der_range", "union der_range", "union der_range: isn't a constant"),
+    "a name that is needed": ("enum der_status\n", "enum der_state\n", "der_status: isn't there"),
+    "no entry": ("constant DER_MAX_NESTING 64\n", "  size_t start\n", "size_t start: belongs to nothing"),
+    "an array without a length": ("*word, size_t word_len\n", "*word\n", "word: an array has its length"),
+    "another length": ("*word, size_t word_len\n", "*word, size_t word_size\n", "word: an array has its length"),
+    "a type of a field": ("  der_range covered\n", "  der_rows covered\n", "covered: has the type der_rows"),
+    "a type of a parameter": ("  uint8_t limit\n", "  int limit\n", "limit: has the type int"),
+    "what is returned": ("call uint32_t der_mac\n", "call size_t der_mac\n", "der_mac: returns size_t, and not"),
+}
+
+
+class Copy(unittest.TestCase):
+    """A copy of what tools/calls reads."""
+
+    def setUp(self):
+        room = tempfile.TemporaryDirectory()
+        self.addCleanup(room.cleanup)
+        self.top = Path(room.name)
+        self.had = calls.sources(built.TOP, *READ)
+        for path, text in self.had.items():
+            (self.top / path).parent.mkdir(parents=True, exist_ok=True)
+            self.put(path, text)
+
+    def put(self, path, text):
+        (self.top / path).write_text(text, "utf-8")
+
+    def text(self, path):
+        return (self.top / path).read_text("utf-8")
+
+    def turn(self, path, text, other):
+        """Has another text in place of one that is in a file, and says on which line that begins."""
+        had = self.text(path)
+        self.assertIn(text, had)
+        self.put(path, had.replace(text, other, 1))
+        same = next((i for i, (one, two) in enumerate(zip(text, other)) if one != two), 0)
+        return calls.line_at(had, had.index(text) + same)
+
+    def faults(self):
+        return list(calls.faults(self.top))
+
+    def told(self, path, text, other, name, place=None):
+        """Turns a text, and asks that its place and its name are told."""
+        line = self.turn(path, text, other)
+        begin, found = place or f"{path}:{line}: ", self.faults()
+        self.assertTrue(any(fault.startswith(begin) and name in fault for fault in found), (begin, name, found))
+
+
+class Calls(Copy):
+    """What is told, and what is written."""
+
+    def test_nothing_differs(self):
+        self.assertEqual([], self.faults())
+        calls.write(self.top)
+        self.assertEqual(self.had, calls.sources(self.top, *READ))
+
+    def test_what_is_turned_is_told_and_what_is_made_is_made_right(self):
+        for what, words in MADE.items():
+            with self.subTest(what=what):
+                self.told(*words)
+                calls.write(self.top)
+                self.assertEqual([], self.faults())
+                self.assertEqual(self.had[words[0]], self.text(words[0]))
+            self.put(words[0], self.had[words[0]])
+
+    def test_what_is_turned_by_hand_is_told(self):
+        for what, words in BY_HAND.items():
+            with self.subTest(what=what):
+                self.told(*words)
+            self.put(words[0], self.had[words[0]])
+
+    def test_a_file_of_calls_that_is_none_is_told(self):
+        for what, (text, other, said) in NO_CALLS.items():
+            with self.subTest(what=what):
+                self.turn(FILE, text, other)
+                with self.assertRaisesRegex(calls.Unread, rf"^c/calls\.txt:\d+: {said}"):
+                    self.faults()
+            self.put(FILE, self.had[FILE])
+
+    def test_a_number_of_the_file_is_told_of_each_language(self):
+        self.turn(FILE, "  DER_BAD_ATTRIBUTES 12", "  DER_BAD_ATTRIBUTES 13")
+        there = {fault.partition(":")[0] for fault in self.faults() if "DER_BAD_ATTRIBUTES" in fault}
+        self.assertEqual({C, PYTHON, RUST, STATUS}, there)
+        calls.write(self.top)
+        # the word of the status is by hand
+        self.assertEqual({C, STATUS}, {fault.partition(":")[0] for fault in self.faults()})
+
+    def test_what_is_said_of_a_field_goes_with_it(self):
+        self.turn(FILE, "  size_t kind\n  size_t level\n", "  size_t level\n  size_t kind\n")
+        calls.write(self.top)
+        self.assertIn(LEVEL_IN_C + KIND_IN_C, self.text(C))
+
+    def test_a_new_status_is_written_after_the_last(self):
+        self.turn(FILE, "  DER_BAD_ATTRIBUTES 12\n", "  DER_BAD_ATTRIBUTES 12\n  DER_NEW 13\n")
+        self.assertTrue(any("DER_NEW: der_status lacks it" in fault for fault in self.faults()))
+        calls.write(self.top)
+        self.assertIn("  DER_BAD_ATTRIBUTES = 12, /* of a signer", self.text(C))
+        self.assertIn("break RFC 5652 */\n  DER_NEW = 13\n} der_status;", self.text(C))
+        self.assertIn("\nNEW: Final = 13\n", self.text(PYTHON))
+
+    def test_a_new_call_is_written_where_it_is_declared(self):
+        row = "call uint32_t der_new\n  const uint8_t *input, size_t input_len\n  size_t *count\n\n"
+        self.turn(FILE, "installed const char *der_version\n", f"{row}installed const char *der_version\n")
+        self.assertTrue(any(fault.startswith("c/der.h:1: der_new: the header lacks it") for fault in self.faults()))
+        self.turn(C, RANGE_IN_C, f"{RANGE_IN_C}\n/* New. */\nDER_CALL\nuint32_t der_new(void);\n")
+        calls.write(self.top)
+        made = "DER_CALL\nuint32_t der_new(const uint8_t *input, size_t input_len, size_t *count);\n"
+        self.assertIn(f"/* New. */\n{made}", self.text(C))
+        self.assertEqual({f"{LIB}:1"}, {fault.split(": ")[0] for fault in self.faults()})
+
+    def test_what_the_file_lacks_stays_in_the_header(self):
+        self.turn(FILE, "  size_t level\n", "")
+        calls.write(self.top)
+        self.assertEqual(self.had[C], self.text(C))
+        self.assertTrue(any(": level: der_bag_parts has it, and c/calls.txt lacks it" in one for one in self.faults()))
+
+
+if __name__ == "__main__":
+    unittest.main()
