@@ -17,6 +17,7 @@ from support.cases import Comparing
 from support.elements import element, integer, sequence, set_of
 from support.oids import oid
 from support.scripts import script
+from support.statuses import INVALID, MALFORMED, MISSING, NO_PART, NO_ROOM, NORMAL
 from support.tools import openssl
 from vuyhanip.der import Refused
 
@@ -40,8 +41,6 @@ IN_HEXADECIMAL = [
 ]
 DOTTED = ["0.0", "0.39", "1.0", "1.39.1", "2.5.4.3", "2.999.1", "2.47", "1.2.840.113549.1.1.11", f"2.{2**64 - 81}",
           f"1.2.{2**64 - 1}"]
-# Statuses of the calls.
-NORMAL, MALFORMED, MISSING, INVALID, NO_ROOM, NO_PART = 0, 3, 4, 5, 9, 11
 
 
 def pair(kind, tag, octets):
