@@ -1,5 +1,5 @@
 -- What signed attributes say of the content.
-use Rattle.std.specs.Prelude.{◌≡◌, ◌≢◌, ◌↔◌, IsTrue, ℕ, Bool, true, false, List, [], ◌∷◌, Option, None, Some}
+use Rattle.std.specs.Prelude.{◌≡◌, ◌≢◌, ◌↔◌, ◌≤◌, ◌<◌, IsTrue, Bool, true, false, List, [], ◌∷◌, Option, None, Some}
 use Rattle.std.proofs.Common.{refl, sym, ap, subst, ◌∙◌, inl, inr, true≢false}
 use Rattle.asn1_core.specs.Der.{Format, object_identifier, lawful_object_identifier, octet_string, option_value, ElementOctets, Octets, OidOctets}
 use Rattle.asn1_core_element.specs.declared.error.Error.{Error}
@@ -8,7 +8,8 @@ use Rattle.asn1_core_format.specs.Whole.{value_of}
 use Rattle.asn1_core_oid.specs.Known.{data_oid}
 use Rattle.pkcs7_attributes.specs.NamedAttributes.{content_type_oid, message_digest_oid}
 use Rattle.signer_ranges.specs.Pieces.{IsDigestOrBroken}
-use Rattle.signer_ranges.specs.Signers.{SignerValue, HasEmptySet, OnlyOrNone, signed_of, SignsOrNone}
+use Rattle.signer_ranges.specs.Signers.{SignerValue, OnlyOrNone, signed_of, SignsOrNone}
+use Rattle.signer_ranges.specs.declared.parts.SignerRow.{SignerRow}
 use Rattle.x509_base.specs.AttributesByOid.{with_oid, IsOnlyOf, HasNoOnly}
 use Rattle.x509_base.specs.Names.{attribute}
 
@@ -47,28 +48,24 @@ module _ (attrs : List attribute.Value) (type : OidOctets) (b : Bool) (s : IsTru
 pub not_empty : (attrs : List attribute.Value) (empty : Bool) → (IsTrue empty ↔ (attrs ≡ [])) → false ≡ empty → attrs ≢ []
 not_empty attrs empty s e h = true≢false (sym (s.1 h) ∙ sym e)
 
--- where no empty set is looked for
-pub is_elsewhere : (b : List ℕ) (s : SignerValue) → IsTrue false → HasEmptySet b s
-is_elsewhere b s f = absurd (true≢false (sym f))
-
 pub signs_no_digest : (attrs : List attribute.Value) (type : OidOctets) {T : Type 0} (f : T → Octets) (d : Option T) → d ≡ None → OnlyOrNone octet_string (with_oid message_digest_oid attrs) (option_value f d) → SignsOrNone attrs type None
 signs_no_digest attrs type f d none n digest r = subst (λ o. OnlyOrNone octet_string (with_oid message_digest_oid attrs) (option_value f o)) none n digest r.message
 
-module _ (b : List ℕ) (s : SignerValue) (type : OidOctets) where
+module _ (row : SignerRow) (s : SignerValue) (type : OidOctets) where
   module _ (empty : Bool) (is : IsTrue empty ↔ (signed_of s ≡ [])) (some : false ≡ empty) where
-    pub is_broken : {T : Type 0} (f : T → Octets) (d : Option T) → d ≡ None → SignsOrNone (signed_of s) type (option_value f d) → IsDigestOrBroken b s type None
+    pub is_broken : {T : Type 0} (f : T → Octets) (d : Option T) → d ≡ None → SignsOrNone (signed_of s) type (option_value f d) → IsDigestOrBroken row s type None
     is_broken f d none n = inl (not_empty (signed_of s) empty is some, subst (λ o. SignsOrNone (signed_of s) type (option_value f o)) none n)
 
-    pub is_signed : (digest : Octets) → SignsOrNone (signed_of s) type (Some digest) → IsDigestOrBroken b s type (Some (Some digest))
+    pub is_signed : (digest : Octets) → SignsOrNone (signed_of s) type (Some digest) → IsDigestOrBroken row s type (Some (Some digest))
     is_signed digest d = (not_empty (signed_of s) empty is some, d)
 
   module _ (is : IsTrue true ↔ (signed_of s ≡ [])) where
     -- content of another type needs them
-    pub is_unsigned : (IsTrue false ↔ (type ≡ data_oid)) → IsDigestOrBroken b s type None
+    pub is_unsigned : (IsTrue false ↔ (type ≡ data_oid)) → IsDigestOrBroken row s type None
     is_unsigned d = inr (is.0 refl, inr (λ e. true≢false (sym (d.1 e))))
 
-    pub is_emptied : (IsTrue true → HasEmptySet b s) → IsDigestOrBroken b s type None
-    is_emptied h = inr (is.0 refl, inl (h refl))
+    pub is_emptied : row.attributes.start < row.signature_algorithm.start → IsDigestOrBroken row s type None
+    is_emptied h = inr (is.0 refl, inl h)
 
-    pub is_plain : (IsTrue true ↔ (type ≡ data_oid)) → IsDigestOrBroken b s type (Some None)
-    is_plain d = (is.0 refl, d.0 refl)
+    pub is_plain : (IsTrue true ↔ (type ≡ data_oid)) → row.signature_algorithm.start ≤ row.attributes.start → IsDigestOrBroken row s type (Some None)
+    is_plain d h = (is.0 refl, d.0 refl, h)

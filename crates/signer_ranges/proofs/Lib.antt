@@ -1,4 +1,9 @@
 pub mod Rows
 pub mod Attributes
-pub mod Pieces
-pub mod Lacks
+pub mod Exact
+pub mod InRanges
+pub mod Between
+pub mod FoundParts
+pub mod Digests
+pub mod Certificates
+pub mod OneSigner

@@ -1,13 +1,16 @@
 -- The ranges of signers, along lists.
-use Rattle.std.specs.Prelude.{◌≡◌, ℕ, ◌+◌, ◌-◌, ◌<◌, ◌≤◌, List, [], ◌∷◌, ◌++◌, Option, length, take, drop, get_or, map}
-use Rattle.std.proofs.Common.{refl, sym, ap, subst, ◌∙◌, add-one, drop-cons, arith, zero, suc}
+use Rattle.std.specs.Prelude.{◌≡◌, ℕ, zero, suc, ◌+◌, ◌-◌, ◌<◌, ◌≤◌, List, [], ◌∷◌, ◌++◌, Option, Some, length, take, drop, get_or, map, slice_get}
+use Rattle.std.proofs.Common.{refl, sym, ap, subst, ◌∙◌, add-one, drop-cons, arith, length-append, length-take}
 use Rattle.std.proofs.Math.ListN.{drop_of_length-le}
-use Rattle.std.proofs.lemmas.List.{append-nil, append_assoc, take_all, length-drop, take-map, drop-map, length-map}
+use Rattle.std.proofs.lemmas.List.{append-nil, append_assoc, get_or-drop, get_or-map, get_or-take, take_all, length-drop, take-map, drop-map, length-map}
+use Rattle.std.proofs.lemmas.Option.{slice_get-get_or}
 use Rattle.asn1_core.specs.Der.{ElementOctets}
+use Rattle.located_rows.proofs.RowLaws.{none_yet, one_more}
+use Rattle.located_rows.specs.Rows.{AllAt}
 use Rattle.pkcs7_signed_crl.specs.Certificates.{certificate_choices_value}
 use Rattle.pkcs7_signed_crl.specs.declared.certificates.CertificateChoices.{CertificateChoices}
 use Rattle.pkcs7_signed_crl.specs.SignerParts.{signer_identifier}
-use Rattle.signer_ranges.specs.Signers.{SignerValue, FileValue, signers_of, AreRangesOrNone, AreRangesOfAll, IsPartOf}
+use Rattle.signer_ranges.specs.Signers.{SignerValue, FileValue, signers_of, ArePlacesOrNone, AreRangesOrNone, AreRangesOfAll, IsPartOf}
 use Rattle.signer_ranges.specs.declared.ranges.SignerRanges.{SignerRanges}
 use Rattle.x509_pkcs7.specs.AllSigners.{AreSigners}
 use Rattle.x509_pkcs7.specs.Matches.{choice_octets, IsSigners, IsFirst}
@@ -62,12 +65,62 @@ certificates_are cs ds xs ys found e g a =
     let same : map (λ c. choice_octets (certificate_choices_value c)) ds ≡ map choice_octets (map certificate_choices_value cs) = ap (map (λ c. choice_octets (certificate_choices_value c))) e ∙ map_twice certificate_choices_value choice_octets cs in
     subst (λ bs. AreSigners bs ys found) same (subst (λ ids. AreSigners (map (λ c. choice_octets (certificate_choices_value c)) ds) ids found) g a)
 
+-- as many certificates as are read
+pub long_certificates : (cs ds : List CertificateChoices) → ds ≡ cs → length ds ≡ length (map choice_octets (map certificate_choices_value cs))
+long_certificates cs ds e = omega (arith, ap length e, length-map (map certificate_choices_value cs) choice_octets, length-map cs certificate_choices_value)
+
 -- at most so many signers from one on
-pub is_part : (b : List ℕ) (v : FileValue) (first most : ℕ) (found : List (Option SignerRanges)) (xs all asked : List RawSignerInfo) → all ≡ xs → asked ≡ take most (drop first all) → signers_of v ≡ map raw_signer_info_value xs → AreRangesOfAll b v (map raw_signer_info_value asked) found → IsPartOf b v first most (length all) found
-is_part b v first most found xs all asked e g s a =
-    let cut : map raw_signer_info_value (take most (drop first all)) ≡ take most (drop first (map raw_signer_info_value all)) = sym (take-map raw_signer_info_value most (drop first all)) ∙ ap (take most) (sym (drop-map raw_signer_info_value first all)) in
-    let same : map raw_signer_info_value all ≡ signers_of v = ap (map raw_signer_info_value) e ∙ sym s in
-    record {
-      all = sym (length-map all raw_signer_info_value) ∙ ap length same;
-      ranges = subst (λ ss. AreRangesOfAll b v ss found) (ap (map raw_signer_info_value) g ∙ cut ∙ ap (λ ss. take most (drop first ss)) same) a;
-    }
+module _ (v : FileValue) (first most : ℕ) (xs all asked : List RawSignerInfo) (e : all ≡ xs) (g : asked ≡ take most (drop first all)) (s : signers_of v ≡ map raw_signer_info_value xs) where
+  same : map raw_signer_info_value all ≡ signers_of v
+  same = ap (map raw_signer_info_value) e ∙ sym s
+
+  pub signers_at : AllAt (λ j x. slice_get (signers_of v) (first + j) ≡ Some (raw_signer_info_value x)) asked
+  signers_at j less d =
+      let lengths = length-take most (drop first all) in
+      let inside : first + j < length all = omega (arith, less, ap length g, lengths, length-drop first all) in
+      let here : get_or asked j d ≡ get_or all (first + j) d = ap (λ l. get_or l j d) g ∙ get_or-take most (drop first all) j d (omega (arith, less, ap length g, lengths)) ∙ get_or-drop first all j d in
+      ap (λ l. slice_get l (first + j)) (sym same)
+      ∙ slice_get-get_or (map raw_signer_info_value all) (first + j) (raw_signer_info_value d) (omega (arith, inside, length-map all raw_signer_info_value))
+      ∙ ap Some (get_or-map raw_signer_info_value all (first + j) d (raw_signer_info_value d) inside ∙ ap raw_signer_info_value (sym here))
+
+  pub is_part : (b : List ℕ) (found : List (Option SignerRanges)) → AreRangesOfAll b v (map raw_signer_info_value asked) found → AllAt (λ j r. ArePlacesOrNone b v (first + j) r) found → IsPartOf b v first most (length all) found
+  is_part b found a places =
+      let cut : map raw_signer_info_value (take most (drop first all)) ≡ take most (drop first (map raw_signer_info_value all)) = sym (take-map raw_signer_info_value most (drop first all)) ∙ ap (take most) (sym (drop-map raw_signer_info_value first all)) in
+      record {
+        all = sym (length-map all raw_signer_info_value) ∙ ap length same;
+        ranges = subst (λ ss. AreRangesOfAll b v ss found) (ap (map raw_signer_info_value) g ∙ cut ∙ ap (λ ss. take most (drop first ss)) same) a;
+        places = places;
+      }
+
+-- the ranges of the signers so far, along a list
+pub record RangedSoFar (b : List ℕ) (v : FileValue) (first : ℕ) (xs : List RawSignerInfo) (i : ℕ) (found : List (Option SignerRanges)) : Type 0 where
+  pub ranges : (rest : List (Option SignerRanges)) → AreRangesOfAll b v (map raw_signer_info_value (drop i xs)) rest → AreRangesOfAll b v (map raw_signer_info_value xs) (found ++ rest)
+  pub many : length found ≡ i
+  pub places : AllAt (λ j r. ArePlacesOrNone b v (first + j) r) found
+
+module _ (b : List ℕ) (v : FileValue) (first : ℕ) (xs : List RawSignerInfo) where
+  pub none_ranged : RangedSoFar b v first xs 0 []
+  none_ranged = record { ranges = λ rest a. a; many = refl; places = none_yet (λ j r. ArePlacesOrNone b v (first + j) r) }
+
+  pub one_ranged : (i : ℕ) (old new : List (Option SignerRanges)) → RangedSoFar b v first xs i old → (x : RawSignerInfo) → i < length xs → x ≡ get_or xs i x → (r : Option SignerRanges) → AreRangesOrNone b v (raw_signer_info_value x) r × ArePlacesOrNone b v (first + i) r → new ≡ old ++ r ∷ [] → RangedSoFar b v first xs (i + 1) new
+  one_ranged i old new so_far x h g r is e =
+      let P : ℕ → Option SignerRanges → Type 0 = λ j q. ArePlacesOrNone b v (first + j) q in
+      record {
+        ranges = ranges_step raw_signer_info_value xs i b v x h g r is.0 old new e so_far.ranges;
+        many = omega (arith, so_far.many, ap length e, length-append old (r ∷ []));
+        places = subst (AllAt P) (sym e) (one_more P old r so_far.places (subst (λ j. P j r) (sym so_far.many) is.1));
+      }
+
+  pub all_ranged : (i : ℕ) (found : List (Option SignerRanges)) → length xs ≤ i → RangedSoFar b v first xs i found → AreRangesOfAll b v (map raw_signer_info_value xs) found × AllAt (λ j r. ArePlacesOrNone b v (first + j) r) found
+  all_ranged i found h so_far = (ranges_all raw_signer_info_value xs i b v found h so_far.ranges, so_far.places)
+
+module _ {X Y : Type 0} (id : X → signer_identifier.Value) (g : Y → Option ElementOctets) (cs : List ElementOctets) where
+  -- a certificate for each signer, or none
+  as_many : (xs : List X) (ys : List Y) → AreSigners cs (map id xs) (map g ys) → length ys ≡ length xs
+  as_many [] [] a = refl
+  as_many [] (y ∷ ys) a = omega (arith, ap length a)
+  as_many (x ∷ xs) [] a = absurd a
+  as_many (x ∷ xs) (y ∷ ys) a = let e : length ys ≡ length xs = as_many xs ys a.1 in omega (arith, e)
+
+  pub none_lacking : (xs : List X) (ys : List Y) (i : ℕ) → AreSigners cs (map id xs) (map g ys) → i < length xs → length ys ≤ i → ⊥
+  none_lacking xs ys i a h l = omega (arith, h, l, as_many xs ys a)

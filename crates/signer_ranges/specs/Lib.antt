@@ -1,3 +1,5 @@
+pub mod SignerRoutes
 pub mod Signers
 pub mod Files
+pub mod SignerRows
 pub mod Pieces

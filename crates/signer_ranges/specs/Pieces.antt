@@ -1,42 +1,66 @@
--- What the parts of a signer are put together of.
-use Rattle.std.specs.Prelude.{◌≡◌, ◌≢◌, ℕ, List, [], Option, None, Some}
+-- What is known of a signer before its ranges are put together.
+use Rattle.std.specs.Prelude.{◌≡◌, ◌≢◌, ◌⊎◌, ◌≤◌, ◌<◌, ℕ, List, [], ◌∷◌, length, get_or, slice_get, slice_range, Option, None, Some}
 use Rattle.std.specs.declared.ops.Range.{Range}
-use Rattle.asn1_core.specs.Der.{Octets, OidOctets}
+use Rattle.asn1_core.specs.Der.{ElementOctets, Octets, OidOctets}
 use Rattle.asn1_core_oid.specs.Known.{data_oid}
-use Rattle.input_ranges.specs.Ranges.{IsAt, IsNowhere}
+use Rattle.input_ranges.specs.Ranges.{IsAt}
+use Rattle.located_rows.specs.Rows.{LeadsTo}
+use Rattle.pkcs7_attributes.specs.NamedAttributes.{message_digest_oid}
+use Rattle.x509_base.specs.AttributesByOid.{with_oid}
 use Rattle.x509_base.specs.Names.{attribute}
-use Rattle.signer_ranges.specs.Signers.{SignerValue, algorithm_text, AreBroken, AreSignedAt, attributes_text, digest_algorithm_of, signature_algorithm_of, signed_of, Signs}
-use Rattle.signer_ranges.specs.declared.ranges.AlgorithmRanges.{AlgorithmRanges}
+use Rattle.signer_ranges.specs.SignerRoutes.{digest_in}
+use Rattle.signer_ranges.specs.Signers.{SignerValue, SignWrongly, signed_of, Signs}
+use Rattle.signer_ranges.specs.declared.parts.CertificateRow.{CertificateRow}
+use Rattle.signer_ranges.specs.declared.parts.SignerRow.{SignerRow}
 use Rattle.signer_ranges.specs.declared.ranges.SignedRanges.{SignedRanges}
 
--- the digest in signed attributes, or none where there are no attributes and none are needed
-abbrev pub IsDigest : List attribute.Value → OidOctets → Option Octets → Type 0
-IsDigest attrs content_type None = (attrs ≡ []) × (content_type ≡ data_oid)
-IsDigest attrs content_type (Some digest) = (attrs ≢ []) × Signs attrs content_type digest
+-- the digest in signed attributes, or none where there are no attributes, none are needed, and no empty set is there
+abbrev pub IsDigest : SignerRow → List attribute.Value → OidOctets → Option Octets → Type 0
+IsDigest row attrs content_type None = (attrs ≡ []) × (content_type ≡ data_oid) × (row.signature_algorithm.start ≤ row.attributes.start)
+IsDigest row attrs content_type (Some digest) = (attrs ≢ []) × Signs attrs content_type digest
 
 -- the same of a signer, or nothing where they aren't as they have to be
-abbrev pub IsDigestOrBroken : List ℕ → SignerValue → OidOctets → Option (Option Octets) → Type 0
-IsDigestOrBroken b s content_type None = AreBroken b s content_type
-IsDigestOrBroken b s content_type (Some digest) = IsDigest (signed_of s) content_type digest
+abbrev pub IsDigestOrBroken : SignerRow → SignerValue → OidOctets → Option (Option Octets) → Type 0
+IsDigestOrBroken row s content_type None =
+    SignWrongly (signed_of s) content_type ⊎ ((signed_of s ≡ []) × ((row.attributes.start < row.signature_algorithm.start) ⊎ (content_type ≢ data_oid)))
+IsDigestOrBroken row s content_type (Some digest) = IsDigest row (signed_of s) content_type digest
 
--- the algorithms of a signer follow one another, with the signed attributes between them
-pub record AreAlgorithmsAt (b : List ℕ) (s : SignerValue) (r : AlgorithmRanges) : Type 0 where
-  pub digest : IsAt b (algorithm_text (digest_algorithm_of s)) r.digest.start r.digest.end
-  pub attributes : IsAt b (attributes_text (signed_of s)) r.attributes.start r.attributes.end
-  pub signature : IsAt b (algorithm_text (signature_algorithm_of s)) r.signature.start r.signature.end
-  pub before : r.attributes.start ≡ r.digest.end
-  pub after : r.signature.start ≡ r.attributes.end
+-- the index of the only messageDigest
+abbrev pub IsDigestIndex : List attribute.Value → ℕ → Type 0
+IsDigestIndex attrs j = (a : attribute.Value) → with_oid message_digest_oid attrs ≡ a ∷ [] → (slice_get attrs j ≡ Some a) × (a.0 ≡ message_digest_oid)
 
--- signed attributes in that range, and the digest among them, or none where there are none
-abbrev pub AreSignedIn : List ℕ → List attribute.Value → OidOctets → Range ℕ → Option SignedRanges → Type 0
-AreSignedIn b attrs content_type place None = (attrs ≡ []) × (content_type ≡ data_oid)
-AreSignedIn b attrs content_type place (Some r) = AreSignedAt b attrs content_type r × (r.attributes ≡ place)
+-- where the steps to the digest lead from signed attributes that are in this range
+pub record IsDigestFound (b : List ℕ) (attrs : List attribute.Value) (place found : Range ℕ) : Type 0 where
+  pub index : ℕ
+  pub is_index : IsDigestIndex attrs index
+  pub leads : place.start ≤ place.end → place.end ≤ length b → LeadsTo (digest_in index).steps place.start (slice_range b place.start place.end) found.start found.end
 
--- there is a digest, and it is nowhere in the input
-abbrev pub LacksDigest : List ℕ → List attribute.Value → OidOctets → Type 0
-LacksDigest b attrs content_type = (digest : Octets) × Signs attrs content_type digest × IsNowhere b digest
+-- signed attributes in that range, with their digest, where there is one
+abbrev pub AreSignedFound : List ℕ → List attribute.Value → Range ℕ → Option Octets → Option SignedRanges → Type 0
+AreSignedFound b attrs place None None = Unit {0}
+AreSignedFound b attrs place None (Some r) = ⊥
+AreSignedFound b attrs place (Some digest) None = ⊥
+AreSignedFound b attrs place (Some digest) (Some r) = (r.attributes ≡ place) × IsDigestFound b attrs place r.message_digest
 
--- there are octets, and they are nowhere in the input
-abbrev pub LacksOctets : List ℕ → Option (List ℕ) → Type 0
-LacksOctets b None = ⊥
-LacksOctets b (Some octets) = IsNowhere b octets
+-- the octets are in none of these ranges from one on
+abbrev pub AreNowhereFrom : List ℕ → List CertificateRow → List ℕ → ℕ → Type 0
+AreNowhereFrom b rows octets from = (j : ℕ) → from ≤ j → j < length rows → (d : CertificateRow) → IsAt b octets (get_or rows j d).range.start (get_or rows j d).range.end → ⊥
+
+-- the octets are in this range, which is one of these
+pub record AreInRow (b : List ℕ) (rows : List CertificateRow) (octets : List ℕ) (r : Range ℕ) : Type 0 where
+  pub index : ℕ
+  pub inside : index < length rows
+  pub same : (d : CertificateRow) → r ≡ (get_or rows index d).range
+  pub at : IsAt b octets r.start r.end
+
+-- the certificate in its range, or none
+abbrev pub IsCertificateFound : List ℕ → List CertificateRow → Option ElementOctets → Option (Range ℕ) → Type 0
+IsCertificateFound b rows None None = Unit {0}
+IsCertificateFound b rows None (Some r) = ⊥
+IsCertificateFound b rows (Some octets) None = ⊥
+IsCertificateFound b rows (Some octets) (Some r) = AreInRow b rows octets r
+
+-- there is a certificate, and it is in none of the ranges
+abbrev pub IsNoCertificateFound : List ℕ → List CertificateRow → Option ElementOctets → Type 0
+IsNoCertificateFound b rows None = ⊥
+IsNoCertificateFound b rows (Some octets) = AreNowhereFrom b rows octets 0

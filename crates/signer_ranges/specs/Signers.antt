@@ -1,14 +1,16 @@
 -- What a verification of a signer needs, as ranges of the file (RFC 5652, 5.3 to 5.6, 11.1 and 11.2).
-use Rattle.std.specs.Prelude.{◌≡◌, ◌≢◌, ◌⊎◌, ℕ, List, [], ◌∷◌, ◌++◌, length, take, drop, map, Option, None, Some}
-use Rattle.std.specs.List.{Any}
+use Rattle.std.specs.Prelude.{◌≡◌, ◌≢◌, ◌⊎◌, ℕ, ◌+◌, List, [], ◌∷◌, ◌++◌, length, take, drop, map, slice_get, Option, None, Some, IfSome}
 use Rattle.std.specs.declared.ops.Range.{Range}
 use Rattle.asn1_core.specs.Asn1.{SEQUENCE}
 use Rattle.asn1_core.specs.Der.{Format, object_identifier, octet_string, ElementOctets, Octets, OidOctets}
 use Rattle.asn1_core_format.specs.Whole.{IsValueOf}
 use Rattle.asn1_core_oid.specs.Known.{data_oid}
+use Rattle.asn1_located.specs.Places.{Walk}
+use Rattle.asn1_located.specs.Routes.{◌▸◌}
 use Rattle.input_ranges.specs.Failures.{IsRefusalOf}
-use Rattle.input_ranges.specs.Ranges.{IsAt, IsAtOrNone, IsNowhere}
+use Rattle.input_ranges.specs.Ranges.{IsAt, IsAtOrNone}
 use Rattle.input_ranges.specs.declared.ranges.Refusal.{Refusal}
+use Rattle.located_rows.specs.Rows.{AllAt, IsRangeOf}
 use Rattle.pkcs7_attributes.specs.Attributes.{attributes}
 use Rattle.pkcs7_attributes.specs.NamedAttributes.{content_type_oid, message_digest_oid}
 use Rattle.pkcs7_signed_crl.specs.SignerParts.{signer_identifier}
@@ -17,20 +19,11 @@ use Rattle.x509_base.specs.AttributesByOid.{with_oid, IsOnlyOf}
 use Rattle.x509_base.specs.Names.{attribute}
 use Rattle.x509_pkcs7.specs.Matches.{choice_octets, IsSigners, IsFirst}
 use Rattle.x509_pkcs7.specs.RawContents.{raw_encapsulated_content_info}
-use Rattle.x509_pkcs7.specs.RawHashed.{content_of, IsNoElement, IsRawHashed}
-use Rattle.x509_pkcs7.specs.RawSigned.{RawCertificateValue, raw_certificate}
-use Rattle.x509_pkcs7.specs.RawSigners.{raw_signer_info}
+use Rattle.x509_pkcs7.specs.RawHashed.{content_of, IsRawHashed}
+use Rattle.signer_ranges.specs.SignerRoutes.{certificate, content, digest_algorithm, message_digest, signature, signature_algorithm, signed_attributes, signer}
 use Rattle.signer_ranges.specs.declared.ranges.SignedRanges.{SignedRanges}
 use Rattle.signer_ranges.specs.declared.ranges.SignerRanges.{SignerRanges}
-
-abbrev pub SignerValue : Type 0
-SignerValue = raw_signer_info.Value
-
-abbrev pub FileValue : Type 0
-FileValue = RawCertificateValue SignerValue
-
-abbrev pub signed_file : Format FileValue
-signed_file = raw_certificate (SEQUENCE raw_signer_info).format
+pub use Rattle.signer_ranges.specs.SignerRoutes.{FileValue, SignerValue, signed_file}
 
 abbrev pub content_info_of : FileValue → raw_encapsulated_content_info.Value
 content_info_of v = v.1.0.1.1.0
@@ -139,10 +132,48 @@ AreRangesOfAll b v [] found = found ≡ []
 AreRangesOfAll b v (s ∷ ss) [] = ⊥
 AreRangesOfAll b v (s ∷ ss) (r ∷ found) = AreRangesOrNone b v s r × AreRangesOfAll b v ss found
 
--- how many signers signed data has, and the ranges of at most `most` of them from one on
+-- signed attributes, with the tag [0], and messageDigest among them, in their places in the signer i
+pub record AreSignedPlaces (b : List ℕ) (v : FileValue) (i : ℕ) (s : SignerValue) (r : SignedRanges) : Type 0 where
+  pub attributes_at : IsRangeOf (signer i ▸ signed_attributes) 64 b v (signed_of s) r.attributes.start r.attributes.end
+  -- which attribute the digest is
+  pub index : ℕ
+  pub digest : Octets
+  pub digest_at : IsRangeOf (signer i ▸ message_digest index) 64 b v digest r.message_digest.start r.message_digest.end
+
+-- the contents octets of the content, in their place
+abbrev pub IsContentPlace : List ℕ → FileValue → Range ℕ → Type 0
+IsContentPlace b v r = (octets : Octets) × IsRangeOf content 64 b v octets r.start r.end
+
+-- one of the certificates, in its place
+abbrev pub IsCertificatePlace : List ℕ → FileValue → Range ℕ → Type 0
+IsCertificatePlace b v r = (j : ℕ) × (octets : ElementOctets) × IsRangeOf (certificate j) 64 b v octets r.start r.end
+
+-- each range of the signer with that index is the place of its part
+pub record ArePlacesOf (b : List ℕ) (v : FileValue) (i : ℕ) (r : SignerRanges) : Type 0 where
+  pub value : SignerValue
+  pub is_value : slice_get (signers_of v) i ≡ Some value
+  pub signed_at : IfSome r.signed (λ s. AreSignedPlaces b v i value s)
+  pub content_at : IfSome r.content (λ c. IsContentPlace b v c)
+  pub digest_algorithm_at : IsRangeOf (signer i ▸ digest_algorithm) 64 b v (digest_algorithm_of value) r.digest_algorithm.start r.digest_algorithm.end
+  pub signature_algorithm_at : IsRangeOf (signer i ▸ signature_algorithm) 64 b v (signature_algorithm_of value) r.signature_algorithm.start r.signature_algorithm.end
+  pub signature_at : IsRangeOf (signer i ▸ signature) 64 b v (signature_of value) r.signature.start r.signature.end
+  pub certificate_at : IfSome r.certificate (λ c. IsCertificatePlace b v c)
+
+-- in the place of the signed attributes of the signer i is an empty set, if it has none and the content is id-data
+pub record IsEmptyPlace (b : List ℕ) (v : FileValue) (i : ℕ) : Type 0 where
+  pub value : SignerValue
+  pub is_value : slice_get (signers_of v) i ≡ Some value
+  pub empty_at : signed_of value ≡ [] → (content_info_of v).0 ≡ data_oid → (n : ℕ) × Walk (signer i ▸ signed_attributes).steps 0 b n (0xA0 ∷ 0x00 ∷ [])
+
+abbrev pub ArePlacesOrNone : List ℕ → FileValue → ℕ → Option SignerRanges → Type 0
+ArePlacesOrNone b v i None = IsEmptyPlace b v i
+ArePlacesOrNone b v i (Some r) = ArePlacesOf b v i r
+
+-- how many signers signed data has, and the ranges of at most `most` of them from one on, which are the places of their parts
 pub record IsPartOf (b : List ℕ) (v : FileValue) (first most count : ℕ) (found : List (Option SignerRanges)) : Type 0 where
   pub all : count ≡ length (signers_of v)
   pub ranges : AreRangesOfAll b v (take most (drop first (signers_of v))) found
+  pub places : AllAt (λ i r. ArePlacesOrNone b v (first + i) r) found
 
 -- the same of the value of the input, the only one
 pub record AreFound (b : List ℕ) (first most count : ℕ) (found : List (Option SignerRanges)) : Type 0 where
@@ -150,39 +181,10 @@ pub record AreFound (b : List ℕ) (first most count : ℕ) (found : List (Optio
   pub is_value : IsValueOf signed_file 64 b value
   pub part : IsPartOf b value first most count found
 
--- signed attributes as the file has them, under the tag [0]: nothing where there are none
-abbrev pub attributes_text : List attribute.Value → List ℕ
-attributes_text [] = []
-attributes_text (a ∷ attrs) = attributes.format.text (a ∷ attrs)
+-- signed data lacks no range: each part has its place
+abbrev pub HasNoRange : List ℕ → ℕ → ℕ → Type 0
+HasNoRange b first most = ⊥
 
--- the algorithms of a signer, with the signed attributes between them (RFC 5652, 5.3)
-abbrev pub algorithms_text : SignerValue → List ℕ
-algorithms_text s = algorithm_text (digest_algorithm_of s) ++ (attributes_text (signed_of s) ++ algorithm_text (signature_algorithm_of s))
-
--- these are the octets of a part of a signer s of signed data v: of both algorithms with the signed attributes between
--- them, of messageDigest, of the signature or of the certificate
-abbrev pub IsSignerPart : FileValue → SignerValue → List ℕ → Type 0
-IsSignerPart v s octets =
-    (octets ≡ algorithms_text s) ⊎ (Signs (signed_of s) (content_info_of v).0 octets ⊎ ((octets ≡ signature_of s) ⊎ IsFirst (IsSigners (sid_of s)) (certificates_of v) (Some octets)))
-
--- a part of a signer is nowhere in the input
-abbrev pub LacksPart : List ℕ → FileValue → SignerValue → Type 0
-LacksPart b v s = (octets : List ℕ) × IsSignerPart v s octets × IsNowhere b octets
-
--- the content is nowhere in the input, or no one element
-abbrev pub LacksContent : List ℕ → FileValue → Type 0
-LacksContent b v = IsNoElement (content_of (content_info_of v)) ⊎ ((octets : Octets) × IsRawHashed (content_of (content_info_of v)) (Some octets) × IsNowhere b octets)
-
--- the content is nowhere in the input, or a part of one of at most `most` signers from one on
-abbrev pub LacksRange : List ℕ → FileValue → ℕ → ℕ → Type 0
-LacksRange b v first most = LacksContent b v ⊎ Any (LacksPart b v) (take most (drop first (signers_of v)))
-
--- the input is signed data that lacks a range
-pub record HasNoRange (b : List ℕ) (first most : ℕ) : Type 0 where
-  pub value : FileValue
-  pub is_value : IsValueOf signed_file 64 b value
-  pub lacks : LacksRange b value first most
-
--- why there are none: the input is no signed data, or memory was refused, or it is signed data that lacks a range
+-- why there are none: the input is no signed data, or memory was refused
 abbrev pub IsRefusal : List ℕ → Type 0 → Refusal → Type 0
 IsRefusal b Lacks = IsRefusalOf signed_file b Lacks

@@ -2,7 +2,7 @@
 //! (RFC 5652, 5.3 to 5.6, 11.1 and 11.2).
 #![tactic(auto)]
 
-mod algorithms;
+mod parts;
 pub mod places;
 pub mod ranges;
 pub mod signers;

@@ -1,11 +1,6 @@
 //! Where the parts of signed data are. Nothing is said of what they are: callers compare.
 
-ghost use Rattle.std.specs.Prelude.{◌≡◌, IfErr};
-ghost use Rattle.asn1_core_element.specs.declared.error.Error.TheVariants.{Memory};
-
-use asn1_core::Error;
-use input_ranges::{Place, nth_from, place_at};
-use std::alloc::Global;
+use input_ranges::{Place, place_at};
 
 /// Where the parts of signed data are.
 #[derive(Clone, Copy)]
@@ -74,34 +69,4 @@ fn places_of_signer(input: &[u8], signer: Option<Place>) -> Option<SignerPlaces>
         attributes: Some(attributes),
         signature: signature_algorithm.after(input),
     })
-}
-
-/// The first value of the attribute with an index.
-pub(crate) fn attribute_value_at(
-    input: &[u8],
-    attributes: Option<Place>,
-    index: usize,
-) -> Option<Place> {
-    let attribute = nth_from(input, attributes?.inside(input), index)?;
-    attribute.inside(input)?.after(input)?.inside(input)
-}
-
-/// Some elements from one on, one after another.
-pub(crate) fn places_from(
-    alloc: Global,
-    input: &[u8],
-    first: Option<Place>,
-    count: usize,
-) -> Result<Vec<Place>, Error>
-    ensures { IfErr result (λ e. e ≡ Memory) }
-{
-    let mut found = Vec::new(alloc);
-    let mut next = first;
-    for _ in 0..count {
-        if let Some(place) = next {
-            found.push(place)?;
-            next = place.after(input);
-        }
-    }
-    Ok(found)
 }

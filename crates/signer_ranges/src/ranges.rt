@@ -39,11 +39,3 @@ pub struct Signers {
     /// of that, and no such signature counts.
     pub found: Vec<Option<SignerRanges>>,
 }
-
-/// Where the algorithms of a signer are, and its signed attributes, which are between them.
-#[derive(Drop)]
-pub(crate) struct AlgorithmRanges {
-    pub digest: Range<usize>,
-    pub attributes: Range<usize>,
-    pub signature: Range<usize>,
-}

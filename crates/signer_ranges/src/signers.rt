@@ -1,31 +1,32 @@
 //! The ranges of each signer's parts, from one reading of the file.
 
-ghost use Rattle.std.specs.List.{Any};
-ghost use Rattle.std.specs.Prelude.{◌≡◌, ◌≢◌, ◌↔◌, IsTrue, Some, MatchResult, map, take, drop};
+ghost use Rattle.std.specs.Prelude.{◌≡◌, ◌≢◌, ◌↔◌, ◌≤◌, ◌<◌, ◌+◌, ◌^◌, [], IsTrue, Some, MatchOption, MatchResult, length, map, slice_get, take, drop};
 ghost use Rattle.asn1_core.specs.Der.{object_identifier, octet_string, octets_of, option_value};
 ghost use Rattle.asn1_core_element.specs.declared.error.Error.TheVariants.{Memory};
-ghost use Rattle.input_ranges.specs.Failures.{IsFailure};
-ghost use Rattle.input_ranges.specs.Ranges.{IsAt, IsAtOrNone, IsNowhere};
+ghost use Rattle.asn1_core_format.specs.Whole.{IsValueOf};
+ghost use Rattle.input_ranges.specs.Ranges.{IsAt};
+ghost use Rattle.located_rows.specs.Rows.{AllAt};
 ghost use Rattle.pkcs7_attributes.specs.Attributes.{attributes_value};
 ghost use Rattle.pkcs7_attributes.specs.NamedAttributes.{content_type_oid, message_digest_oid};
 ghost use Rattle.pkcs7_signed_crl.specs.SignerParts.{signer_identifier_value};
 ghost use Rattle.signer_ranges.specs.Files.{file_value};
-ghost use Rattle.signer_ranges.specs.Pieces.{AreSignedIn, IsDigest, IsDigestOrBroken, LacksDigest, LacksOctets};
-ghost use Rattle.signer_ranges.specs.Signers.{AreFound, AreRangesOfAll, AreRangesOrNone, algorithms_text, attributes_text, certificates_of, HasEmptySet, HasNoRange, IsContentAt, IsPartOf, IsRefusal, LacksContent, LacksPart, LacksRange, OnlyOrNone, SignsOrNone};
+ghost use Rattle.signer_ranges.specs.Pieces.{AreInRow, AreNowhereFrom, AreSignedFound, IsCertificateFound, IsDigestIndex, IsDigestOrBroken, IsNoCertificateFound};
+ghost use Rattle.signer_ranges.specs.SignerRows.{IsContentFound, IsKnown};
+ghost use Rattle.signer_ranges.specs.Signers.{AreFound, ArePlacesOrNone, AreRangesOfAll, AreRangesOrNone, certificates_of, HasNoRange, IsPartOf, IsRefusal, OnlyOrNone, signed_file, signers_of, SignsOrNone};
 ghost use Rattle.x509_base.specs.AttributesByOid.{with_oid, IsOnlyOf};
+ghost use Rattle.x509_base.specs.Names.{attribute_value};
 ghost use Rattle.x509_pkcs7.specs.AllSigners.{AreSigners};
-ghost use Rattle.x509_pkcs7.specs.Matches.{IsFirst, IsSigners};
+ghost use Rattle.x509_pkcs7.specs.Matches.{IsSigners, IsFirst};
 ghost use Rattle.x509_pkcs7.specs.RawSigners.{raw_signer_info_value};
 
-use crate::algorithms::{EMPTY_SET, algorithm_ranges, has_empty_set, is_none};
-use crate::places::{SignerPlaces, attribute_value_at, file_places, places_from, signer_places};
-use crate::ranges::{AlgorithmRanges, SignedRanges, SignerRanges, Signers};
+use crate::parts::{
+    CertificateRow, SignerRow, certificate_rows, content_place, digest_place, signer_rows,
+};
+use crate::ranges::{SignedRanges, SignerRanges, Signers};
 use asn1_core::{Error, ObjectIdentifierAsn1, OctetStringAsn1, from_bytes_located};
 use asn1_core_oid::is_oid_of;
 use asn1_core_oid::known::DATA;
-use input_ranges::{
-    Place, Refusal, contents_of, is_there, nth_from, range_of, refusal_of, start_of,
-};
+use input_ranges::{Refusal, refusal_of};
 use pkcs7_attributes::Attributes;
 use pkcs7_signed_crl::SignerIdentifier;
 use std::alloc::Global;
@@ -122,8 +123,17 @@ fn signed_digest(
     }
 }
 
+/// Whether there are no attributes.
+fn is_none(attributes: &Attributes) -> bool
+    ensures { IsTrue result ↔ (attributes_value attributes.now ≡ []) }
+{
+    attributes.0.0.is_empty()
+}
+
 /// The index of the first messageDigest, or 0.
-fn digest_index(attributes: &[Attribute]) -> usize {
+fn digest_index(attributes: &[Attribute]) -> usize
+    ensures { IsDigestIndex (map attribute_value attributes.now) result }
+{
     for (index, attribute) in attributes.iter().enumerate() {
         if is_oid_of(&attribute.ty.0, &MESSAGE_DIGEST) {
             return index;
@@ -132,72 +142,46 @@ fn digest_index(attributes: &[Attribute]) -> usize {
     0
 }
 
-/// Where signed attributes and their digest are, where there are any.
-#[tactic(auto, using(crate::proofs::Pieces::are_signed_in, crate::proofs::Pieces::lacks_digest))]
+/// Where signed attributes and their digest are, where there are any, in a signer of the input.
 fn signed_ranges(
     input: &[u8],
-    place: Option<Place>,
+    row: &SignerRow,
     attributes: &Attributes,
-    content_type: &ObjectIdentifierAsn1,
-    range: Range<usize>,
     digest: Option<OctetStringAsn1>,
-) -> Result<Option<SignedRanges>, Error>
-    requires digest { IsDigest (attributes_value attributes.now) (octets_of content_type.now.0) (option_value (λ o. o.0.items) digest) }
-    requires range { IsAt input.now (attributes_text (attributes_value attributes.now)) range.start range.end }
-    ensures { MatchResult result
-        (λ r. AreSignedIn input.now (attributes_value attributes.now) (octets_of content_type.now.0) range r)
-        (λ e. IsFailure (LacksDigest input.now (attributes_value attributes.now) (octets_of content_type.now.0)) e) }
+) -> Option<SignedRanges>
+    ensures { AreSignedFound input.now (attributes_value attributes.now) row.now.attributes (option_value (λ o. o.0.items) digest) result }
 {
     match digest {
-        Some(digest) => {
-            let value = attribute_value_at(input, place, digest_index(&attributes.0.0));
-            let message_digest = range_of(input, contents_of(value), digest.0.as_slice())?;
-            Ok(Some(SignedRanges {
-                attributes: range,
+        Some(_digest) => {
+            let index = digest_index(attributes.0.0.as_slice());
+            let message_digest = digest_place(input, &row.attributes, index);
+            Some(SignedRanges {
+                attributes: row.attributes.start..row.attributes.end,
                 message_digest,
-            }))
+            })
         }
-        None => Ok(None),
+        None => None,
     }
-}
-
-/// Whether an empty set is in the place of a signer's signed attributes, which are read as none.
-#[tactic(auto, using(crate::proofs::Attributes::is_elsewhere))]
-fn is_empty_set(
-    alloc: Global,
-    input: &[u8],
-    places: SignerPlaces,
-    signer: &RawSignerInfo,
-) -> Result<bool, Error>
-    ensures { MatchResult result
-        (λ found. IsTrue found → HasEmptySet input.now (raw_signer_info_value signer.now))
-        (λ e. IsFailure (IsNowhere input.now (algorithms_text (raw_signer_info_value signer.now))) e) }
-{
-    if !is_there(input, start_of(places.attributes), &EMPTY_SET) {
-        return Ok(false);
-    }
-    has_empty_set(alloc, input, start_of(places.digest_algorithm), signer)
 }
 
 /// The digest in a signer's signed attributes, where there are any. The outer `None` is said of those that aren't as they
-/// have to be, and of none where the content isn't `id-data` (RFC 5652, 5.3).
-#[tactic(auto, using(input_ranges::specs::Failures::memory_fails, crate::proofs::Attributes::is_broken, crate::proofs::Attributes::is_emptied, crate::proofs::Attributes::is_plain, crate::proofs::Attributes::is_signed, crate::proofs::Attributes::is_unsigned))]
+/// have to be, of an empty set of them, and of none where the content isn't `id-data` (RFC 5652, 5.3).
+#[tactic(auto, using(crate::proofs::Attributes::is_broken, crate::proofs::Attributes::is_emptied, crate::proofs::Attributes::is_plain, crate::proofs::Attributes::is_signed, crate::proofs::Attributes::is_unsigned))]
 fn digest_or_none(
     alloc: Global,
-    input: &[u8],
-    places: SignerPlaces,
+    row: &SignerRow,
     signer: &RawSignerInfo,
     content_type: &ObjectIdentifierAsn1,
 ) -> Result<Option<Option<OctetStringAsn1>>, Error>
     ensures { MatchResult result
-        (λ d. IsDigestOrBroken input.now (raw_signer_info_value signer.now) (octets_of content_type.now.0) (option_value (λ o. option_value (λ s. s.0.items) o) d))
-        (λ e. IsFailure (IsNowhere input.now (algorithms_text (raw_signer_info_value signer.now))) e) }
+        (λ d. IsDigestOrBroken row.now (raw_signer_info_value signer.now) (octets_of content_type.now.0) (option_value (λ o. option_value (λ s. s.0.items) o) d))
+        (λ e. e ≡ Memory) }
 {
     if is_none(&signer.signed_attrs.0) {
         if !is_oid_of(&content_type.0, &DATA) {
             return Ok(None);
         }
-        if is_empty_set(alloc, input, places, signer)? {
+        if row.attributes.start < row.signature_algorithm.start {
             return Ok(None);
         }
         return Ok(Some(None));
@@ -208,20 +192,13 @@ fn digest_or_none(
     }
 }
 
-/// Where the content's octets are. `None` where they aren't in the file.
-#[tactic(auto, using(crate::proofs::Lacks::no_element, crate::proofs::Lacks::no_content))]
-fn content_range(
-    input: &[u8],
-    file: &RawPkcs7Certificate,
-    place: Option<Place>,
-) -> Result<Option<Range<usize>>, Error>
-    ensures { MatchResult result
-        (λ r. IsContentAt input.now (file_value file.now) r)
-        (λ e. IsFailure (LacksContent input.now (file_value file.now)) e) }
+/// Where the content's octets are, in the input that the file was read from. `None` where they aren't in it.
+fn content_range(input: &[u8], file: &RawPkcs7Certificate) -> Option<Range<usize>>
+    ensures { IsValueOf signed_file 64 input.now (file_value file.now) → IsContentFound input.now (file_value file.now) result }
 {
-    match file.signed_data.0.content_info.hashed_octets()? {
-        Some(octets) => Ok(Some(range_of(input, contents_of(place), octets)?)),
-        None => Ok(None),
+    match &file.signed_data.0.content_info.content {
+        Some(_content) => Some(content_place(input)),
+        None => None,
     }
 }
 
@@ -235,29 +212,71 @@ fn copied(range: &Option<Range<usize>>) -> Option<Range<usize>>
     }
 }
 
-/// The place with an index.
-fn place_with(places: &[Place], index: usize) -> Option<Place> {
-    match places.get(index) {
-        Some(place) => Some(*place),
-        None => None,
+/// Whether the octets are in that range.
+fn is_in(input: &[u8], range: &Range<usize>, octets: &[u8]) -> bool
+    ensures { IsTrue result ↔ IsAt input.now octets.now range.now.start range.now.end }
+{
+    if range.start > range.end || range.end > input.len() {
+        return false;
+    }
+    &input[range.start..range.end] == octets
+}
+
+/// The first of some ranges, from one on, that the octets are in.
+fn range_from_on(
+    input: &[u8],
+    rows: &[CertificateRow],
+    from: usize,
+    octets: &[u8],
+) -> Option<Range<usize>>
+    ensures { MatchOption result
+        (AreNowhereFrom input.now rows.now octets.now from)
+        (λ r. AreInRow input.now rows.now octets.now r) }
+{
+    let mut index = from;
+    while index < rows.len() {
+        let range = &rows[index].range;
+        if is_in(input, range, octets) {
+            return Some(range.start..range.end);
+        }
+        index += 1;
+    }
+    None
+}
+
+/// The range with an index, if the octets are in it, and else another that they are in: it isn't promised that the index
+/// of a signer's certificate has its octets.
+fn range_with(
+    input: &[u8],
+    rows: &[CertificateRow],
+    index: usize,
+    octets: &[u8],
+) -> Option<Range<usize>>
+    ensures { MatchOption result
+        (AreNowhereFrom input.now rows.now octets.now 0)
+        (λ r. AreInRow input.now rows.now octets.now r) }
+{
+    match range_from_on(input, rows, index, octets) {
+        Some(range) => Some(range),
+        None => range_from_on(input, rows, 0, octets),
     }
 }
 
 /// Where a signer's certificate is.
 fn certificate_range(
     input: &[u8],
-    places: &[Place],
+    rows: &[CertificateRow],
     certificate: Option<SignerCertificate<'_>>,
 ) -> Result<Option<Range<usize>>, Error>
     ensures { MatchResult result
-        (λ r. IsAtOrNone input.now (option_value (λ f. f.element.now.0.items) certificate.entry) r)
-        (λ e. IsFailure (LacksOctets input.now (option_value (λ f. f.element.now.0.items) certificate.entry)) e) }
+        (λ r. IsCertificateFound input.now rows.now (option_value (λ f. f.element.now.0.items) certificate.entry) r)
+        (λ _. IsNoCertificateFound input.now rows.now (option_value (λ f. f.element.now.0.items) certificate.entry)) }
 {
     match certificate {
-        Some(found) => {
-            let start = start_of(place_with(places, found.index));
-            Ok(Some(range_of(input, start, found.element.0.as_slice())?))
-        }
+        Some(found) => match range_with(input, rows, found.index, found.element.0.as_slice()) {
+            Some(range) => Ok(Some(range)),
+            None => Err(Error::Missing),
+        },
         None => Ok(None),
     }
 }
@@ -268,77 +287,69 @@ struct Known<'a> {
     input: &'a [u8],
     file: &'a RawPkcs7Certificate,
     content: Option<Range<usize>>,
-    certificates: Vec<Place>,
+    certificates: Vec<CertificateRow>,
+    signers: Vec<SignerRow>,
 }
 
-/// The ranges of a signer, whose certificate is known. `None` where its signed attributes aren't as they have to be.
-#[tactic(auto, using(input_ranges::specs::Failures::memory_fails, crate::proofs::Lacks::no_algorithms, crate::proofs::Lacks::no_digest, crate::proofs::Lacks::no_signature, crate::proofs::Lacks::no_certificate, crate::proofs::Lacks::are_ranges))]
+/// The ranges of the signer with an index, whose certificate is known. `None` where its signed attributes aren't as they
+/// have to be.
 fn ranges_of(
     alloc: Global,
     known: &Known<'_>,
+    index: usize,
     signer: &RawSignerInfo,
-    places: SignerPlaces,
     certificate: Option<SignerCertificate<'_>>,
 ) -> Result<Option<SignerRanges>, Error>
-    requires content { IsContentAt known.now.input.now (file_value known.now.file.now) known.now.content }
+    requires known { IsKnown known.now.input.now (file_value known.now.file.now) known.now.content known.now.certificates.items known.now.signers.items }
+    requires signer { slice_get (signers_of (file_value known.now.file.now)) index ≡ Some (raw_signer_info_value signer.now) }
     requires certificate { IsFirst (IsSigners (signer_identifier_value signer.now.sid)) (certificates_of (file_value known.now.file.now)) (option_value (λ f. f.element.now.0.items) certificate) }
     ensures { MatchResult result
-        (λ r. AreRangesOrNone known.now.input.now (file_value known.now.file.now) (raw_signer_info_value signer.now) r)
-        (λ e. IsFailure (LacksPart known.now.input.now (file_value known.now.file.now) (raw_signer_info_value signer.now)) e) }
+        (λ r. AreRangesOrNone known.now.input.now (file_value known.now.file.now) (raw_signer_info_value signer.now) r × ArePlacesOrNone known.now.input.now (file_value known.now.file.now) index r)
+        (λ e. e ≡ Memory) }
 {
-    let input = known.input;
+    let Some(row) = known.signers.get(index) else {
+        return Err(Error::Missing);
+    };
     let content_type = &known.file.signed_data.0.content_info.content_type;
-    let attributes = &signer.signed_attrs.0;
-    let place = places.attributes;
-    let digest = match digest_or_none(alloc, input, places, signer, content_type)? {
+    let digest = match digest_or_none(alloc, row, signer, content_type)? {
         Some(digest) => digest,
         None => return Ok(None),
     };
-    let found = algorithm_ranges(alloc, input, start_of(places.digest_algorithm), signer)?;
-    let AlgorithmRanges {
-        digest: digest_algorithm,
-        attributes: range,
-        signature: signature_algorithm,
-    } = found;
-    let signed = signed_ranges(input, place, attributes, content_type, range, digest)?;
-    let octets = signer.signature.0.0.as_slice();
-    let signature = range_of(input, contents_of(places.signature), octets)?;
-    let certificate = certificate_range(input, &known.certificates, certificate)?;
+    let signed = signed_ranges(known.input, row, &signer.signed_attrs.0, digest);
+    let certificate = certificate_range(known.input, &known.certificates, certificate)?;
     Ok(Some(SignerRanges {
         signed,
         content: copied(&known.content),
-        digest_algorithm,
-        signature_algorithm,
-        signature,
+        digest_algorithm: row.digest_algorithm.start..row.digest_algorithm.end,
+        signature_algorithm: row.signature_algorithm.start..row.signature_algorithm.end,
+        signature: row.signature.start..row.signature.end,
         certificate,
     }))
 }
 
-/// The ranges of each of some signers that follow one another.
-#[tactic(auto, using(input_ranges::specs::Failures::memory_fails, crate::proofs::Lacks::one_lacks, crate::proofs::Lacks::none_lacking))]
+/// The ranges of each of some signers that follow one another, from that index on.
 fn ranges_of_all(
     alloc: Global,
     known: &Known<'_>,
+    first: usize,
     signers: &[RawSignerInfo],
-    first: Option<Place>,
     certificates: &[Option<SignerCertificate<'_>>],
 ) -> Result<Vec<Option<SignerRanges>>, Error>
-    requires content { IsContentAt known.now.input.now (file_value known.now.file.now) known.now.content }
+    requires known { IsKnown known.now.input.now (file_value known.now.file.now) known.now.content known.now.certificates.items known.now.signers.items }
+    requires fits { first + length signers.now < 2 ^ 64 }
+    requires signers { AllAt (λ j x. slice_get (signers_of (file_value known.now.file.now)) (first + j) ≡ Some (raw_signer_info_value x)) signers.now }
     requires certificates { AreSigners (certificates_of (file_value known.now.file.now)) (map (λ s. signer_identifier_value s.sid) signers.now) (map (λ f. option_value (λ e. e.element.now.0.items) f) certificates.now) }
     ensures { MatchResult result
-        (λ found. AreRangesOfAll known.now.input.now (file_value known.now.file.now) (map raw_signer_info_value signers.now) found.items)
-        (λ e. IsFailure (Any (LacksPart known.now.input.now (file_value known.now.file.now)) (map raw_signer_info_value signers.now)) e) }
+        (λ found. AreRangesOfAll known.now.input.now (file_value known.now.file.now) (map raw_signer_info_value signers.now) found.items × AllAt (λ j r. ArePlacesOrNone known.now.input.now (file_value known.now.file.now) (first + j) r) found.items)
+        (λ e. e ≡ Memory) }
 {
     let mut found = Vec::new(alloc);
-    let mut next = first;
     for (index, signer) in signers.iter().enumerate() {
         let Some(certificate) = certificates.get(index) else {
             return Err(Error::Missing);
         };
-        let places = signer_places(known.input, next);
-        let ranges = ranges_of(alloc, known, signer, places, *certificate)?;
+        let ranges = ranges_of(alloc, known, first + index, signer, *certificate)?;
         found.push(ranges)?;
-        next = nth_from(known.input, next, 1);
     }
     Ok(found)
 }
@@ -389,7 +400,6 @@ fn certificates_of_all<'a>(
 }
 
 /// The ranges of some signers of a file that was read.
-#[tactic(auto, using(input_ranges::specs::Failures::memory_fails, crate::proofs::Lacks::content_lacks, crate::proofs::Lacks::signer_lacks))]
 fn ranges_in(
     alloc: Global,
     input: &[u8],
@@ -397,24 +407,23 @@ fn ranges_in(
     first: usize,
     most: usize,
 ) -> Result<Signers, Error>
+    requires value { IsValueOf signed_file 64 input.now (file_value file.now) }
     ensures { MatchResult result
         (λ s. IsPartOf input.now (file_value file.now) first most s.count s.found.items)
-        (λ e. IsFailure (LacksRange input.now (file_value file.now) first most) e) }
+        (λ e. e ≡ Memory) }
 {
-    let places = file_places(input);
     let signed = &file.signed_data.0;
-    let certificates = signed.certificates.0.0.len();
+    let all = signed.signers_infos.0.0.as_slice();
+    let signers = asked(all, first, most);
+    let certificates = certificates_of_all(alloc, file, signers)?;
     let known = Known {
         input,
         file,
-        content: content_range(input, file, places.content)?,
-        certificates: places_from(alloc, input, places.certificate, certificates)?,
+        content: content_range(input, file),
+        certificates: certificate_rows(alloc, input, &signed.certificates.0.0)?,
+        signers: signer_rows(alloc, input)?,
     };
-    let all = signed.signers_infos.0.0.as_slice();
-    let signers = asked(all, first, most);
-    let place = nth_from(input, places.signer, first.min(all.len()));
-    let certificates = certificates_of_all(alloc, file, signers)?;
-    let found = ranges_of_all(alloc, &known, signers, place, &certificates)?;
+    let found = ranges_of_all(alloc, &known, first, signers, &certificates)?;
     Ok(Signers {
         count: all.len(),
         found,
@@ -422,10 +431,9 @@ fn ranges_in(
 }
 
 /// What a verification of signers needs, of at most `most` of them from the one with the index `first` on, in signed data
-/// with signers of every version and content of any type. Reads the input once, and compares the octets of each part
-/// with those in its range. Proved is what is in the ranges, and that `NoRange` is answered only where the octets of a
-/// part are nowhere in the input; that a range is that of the part itself, and not of equal octets, is tested.
-#[tactic(auto, using(crate::proofs::Lacks::refused))]
+/// with signers of every version and content of any type. Reads the input once, and walks over its headers to each part:
+/// proved is that each range is the place of the part itself. `NoRange` is never answered.
+#[tactic(auto, using(crate::proofs::OneSigner::refused))]
 pub fn signer_ranges(
     alloc: Global,
     input: &[u8],

@@ -1,20 +1,14 @@
-use Rattle.std.specs.Prelude.{map}
-use Rattle.std.specs.List.{Any}
 use Rattle.asn1_core.specs.Der.{option_value}
-use Rattle.asn1_core_element.specs.declared.error.Error.TheVariants.{Missing}
 use Rattle.pkcs7_signed_crl.specs.SignerParts.{signer_identifier_value}
-use Rattle.signer_ranges.proofs.Lacks.{none_lacking}
-use Rattle.signer_ranges.proofs.Rows.{certificate_at, ranges_all, ranges_step}
+use Rattle.signer_ranges.proofs.Rows.{all_ranged, certificate_at, none_lacking, one_ranged}
 use Rattle.signer_ranges.specs.Files.{file_value}
-use Rattle.signer_ranges.specs.Signers.{certificates_of, LacksPart}
-use Rattle.x509_pkcs7.specs.RawSigners.{raw_signer_info_value}
+use Rattle.signer_ranges.specs.Signers.{certificates_of}
 use Rattle.signer_ranges.proofs.signers.ranges_of_all.Goals as goal
 
 pub returns-in_default : goal.returns-in_default
 returns-in_default c =
-    none_lacking (λ s. signer_identifier_value s.sid) (λ f. option_value (λ e. e.element.now.0.items) f) (certificates_of (file_value c.args.known.now.file.now))
-    (Any (LacksPart c.args.known.now.input.now (file_value c.args.known.now.file.now)) (map raw_signer_info_value c.args.signers.now)) Missing
-    c.args.signers.now c.args.certificates.now c.loop-index.index c.requires.certificates c.loop-index-test.true c.in_default.ensures.lookup.3
+    absurd (none_lacking (λ s. signer_identifier_value s.sid) (λ f. option_value (λ e. e.element.now.0.items) f) (certificates_of (file_value c.args.known.now.file.now))
+    c.args.signers.now c.args.certificates.now c.loop-index.index c.requires.certificates c.loop-index-test.true c.in_default.ensures.lookup.3)
 
 pub ranges_of-requires-clause-certificate : goal.ranges_of-requires-clause-certificate
 ranges_of-requires-clause-certificate c =
@@ -23,7 +17,7 @@ ranges_of-requires-clause-certificate c =
 
 pub loop-index-preserved : goal.loop-index-preserved
 loop-index-preserved c =
-    ranges_step raw_signer_info_value c.args.signers.now c.loop-index.index c.args.known.now.input.now (file_value c.args.known.now.file.now) c.index-signers-index.result c.loop-index-test.true c.index-signers-index.is c.in_ok-ranges.ranges c.in_ok-ranges.ensures c.loop-index.found.items c.push.new.self.items c.in_ok-push.ensures.items c.loop-index.invariant
+    one_ranged c.args.known.now.input.now (file_value c.args.known.now.file.now) c.args.first c.args.signers.now c.loop-index.index c.loop-index.found.items c.push.new.self.items c.loop-index.invariant c.index-signers-index.result c.loop-index-test.true c.index-signers-index.is c.in_ok-ranges.ranges c.in_ok-ranges.ensures c.in_ok-push.ensures.items
 
 pub returns : goal.returns
-returns c = ranges_all raw_signer_info_value c.args.signers.now c.loop-index.index c.args.known.now.input.now (file_value c.args.known.now.file.now) c.loop-index.found.items c.loop-index-test.false c.loop-index.invariant
+returns c = all_ranged c.args.known.now.input.now (file_value c.args.known.now.file.now) c.args.first c.args.signers.now c.loop-index.index c.loop-index.found.items c.loop-index-test.false c.loop-index.invariant
