@@ -2,6 +2,8 @@
 #![tactic(auto)]
 
 #[cfg(test)]
+mod certificates_in_place;
+#[cfg(test)]
 mod parts_in_place;
 #[cfg(test)]
 mod raw_signers;

@@ -1,0 +1,4 @@
+pub mod PartPlaces
+pub mod KeyPlaces
+pub mod Indices
+pub mod ExtensionPlaces

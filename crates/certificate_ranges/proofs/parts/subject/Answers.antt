@@ -1,0 +1,7 @@
+use Rattle.std.proofs.Common.{refl}
+use Rattle.certificate_ranges.proofs.PartPlaces.{part_at}
+use Rattle.certificate_ranges.specs.CertificateRoutes.{subject}
+use Rattle.certificate_ranges.proofs.parts.subject.Goals as goal
+
+pub returns : goal.returns
+returns c = λ v is. part_at subject v.0.1.1.1.1.1.0 (v.0, refl, refl) is c.range_where.ensures
