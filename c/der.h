@@ -1,11 +1,11 @@
-/* Checks and rewritings of DER, the parts of containers that a verifier needs, as octets, and conversions of BER to
- * DER: the static library der_c. Only der_from_ber takes BER. Pass every other call what it wrote, and der_mac_ber and
- * der_mac_part_ber where the MAC of a PKCS #12 file is to be verified.
+/* Checks and rewritings of DER, the parts of containers that a verifier needs, as octets, those of certificates, and
+ * conversions of BER to DER: the static library der_c. Only der_from_ber takes BER. Pass every other call what it
+ * wrote, and der_mac_ber and der_mac_part_ber where the MAC of a PKCS #12 file is to be verified.
  *
  * What is proved of its calls der_check_word_limited, der_rewrite_word_limited, der_kind_word, der_part_octets,
  * der_signer_rows, der_part_ranges, der_attribute_ranges, der_mac_range, der_mac, der_from_ber, der_mac_ber,
- * der_mac_part_ber, der_name_text, der_oid_text, der_oid_name, der_integer_text, der_utf16_text and der_bag_rows, for
- * all inputs, and what isn't:
+ * der_mac_part_ber, der_name_text, der_oid_text, der_oid_name, der_integer_text, der_utf16_text, der_bag_rows and
+ * der_certificate, for all inputs, and what isn't:
  *  - A call answers no status but those that are listed at it. What it writes into numbers and into out is as said
  *    below.
  *  - DER_NORMAL, DER_LOOSE, DER_UNKNOWN_KIND, DER_NO_ROOM and DER_NO_PART are true where they are answered, and so are
@@ -26,7 +26,8 @@
  *    take null for an input or out of length 0. word and input point to so many bytes that can be read, out to so many
  *    that can be read and written.
  *  - A pointer to a number is aligned as a size_t is, and what it points to can be written. out of der_signer_rows,
- *    der_bag_rows and the calls for ranges points to out_len structs and not bytes, and is aligned so too.
+ *    der_bag_rows and the calls for ranges points to out_len structs and not bytes, that of der_certificate to one, and
+ *    is aligned so too.
  *  - The string kind ends in a zero byte.
  *  - out and each number overlap nothing else that is passed, and not one another.
  *  - While a call runs nothing else reads or writes out or the numbers, and nothing writes word or input: no other
@@ -251,6 +252,40 @@ typedef struct der_bag_parts {
 DER_CALL
 uint32_t der_bag_rows(const uint8_t *input, size_t input_len, der_bag_parts *out, size_t out_len, size_t *count,
                       size_t *place);
+
+/* Where a certificate has its parts (RFC 5280, 4.1). A range that isn't there is 0 and 0. */
+typedef struct der_certificate_parts {
+  size_t has_key;                    /* 1: subject_public_key_info reads as SubjectPublicKeyInfo; unless it does, there
+                                        are none of the three ranges after it */
+  size_t has_key_parameters;         /* 1: the key's algorithm has parameters */
+  size_t has_extensions;             /* 1: there is an element [3] after the key */
+  size_t has_key_identifier;         /* 1: there is a subjectKeyIdentifier that reads as one, in extensions that do */
+  der_range serial_number;           /* the contents octets of the INTEGER: see der_integer_text */
+  der_range issuer;                  /* the element of the Name: see der_name_text */
+  der_range validity;                /* the element with both times, whatever is in it */
+  der_range subject;                 /* the element of the Name */
+  der_range subject_public_key_info; /* the whole element of the key, whatever is in it */
+  der_range key_algorithm;           /* the contents octets of the algorithm's object identifier: see der_oid_text */
+  der_range key_parameters;          /* the element of the algorithm's parameters: of a key of EC its curve */
+  der_range public_key;              /* the octets of the BIT STRING subjectPublicKey after the count of unused bits, as
+                                        RFC 5280, 4.2.1.2, hashes them. The octet before them is the count */
+  der_range extensions;              /* what is in the first [3]: the element of Extensions, where it is one */
+  der_range key_identifier;          /* the octets of the first subjectKeyIdentifier */
+} der_certificate_parts;
+
+/* Where the input, an X.509 certificate of any version, has its parts, in one reading, without a judgement: no
+ * signature and no time is looked at, and a certificate that RFC 5280 forbids may be read.
+ *  - DER_NORMAL: *out has the ranges.
+ *  - DER_MALFORMED to DER_TOO_DEEP: the input is no certificate, and *place says where, as of der_locate. A certificate
+ *    is a SEQUENCE of tbsCertificate, AlgorithmIdentifier and BIT STRING; a tbsCertificate one of a version up to 2 in
+ *    [0], which may be absent, INTEGER, AlgorithmIdentifier, Name, any element for validity, Name, any element for the
+ *    key, and any elements after it.
+ *  - DER_NO_MEMORY: *place is an offset without use.
+ * Unless at DER_NORMAL all of *out is 0, and but for the refusals and DER_NO_MEMORY *place is 0. Proved is that each
+ * range is the place of that part itself, not only of equal octets, and that a range isn't there only where the
+ * certificate has no such part; which place a refusal has is tested. */
+DER_CALL
+uint32_t der_certificate(const uint8_t *input, size_t input_len, der_certificate_parts *out, size_t *place);
 
 /* Which octets of a PKCS #12 file a MAC covers: the contents octets of the OCTET STRING that is the content of
  * authSafe, without its tag and length.

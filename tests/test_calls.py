@@ -15,6 +15,7 @@ calls = script(built.TOP / "tools/calls")
 C, PYTHON, RUST, FILE = calls.HEADER, calls.PYTHON, calls.RUST, calls.FILE
 NAMES, CHECK = "python/vuyhanip/der.py", "rust/tests/check.rs"
 STATUS, BAGS, LISTS, MACS, LIB = (f"crates/der_c/src/{name}.rt" for name in ("status", "bags", "lists", "macs", "lib"))
+CERTIFICATES = "crates/der_c/src/certificates.rt"
 SIGNERS, PARTS, PARTS_IN_SPECS = "crates/der_c/src/signers.rt", *(path for path, *_ in calls.LISTED)
 RANGES_IN_SPECS = "crates/der_c/specs/Ranges.antt"
 # What tools/calls reads.
@@ -70,6 +71,7 @@ BY_HAND = {
     "proved, a layout": (SIGNERS, "#[repr(C)]\n", "", "der_signer_parts", SIGNERS),
     "proved, a type": (LIB, "der_kind_word(index: usize,", "der_kind_word(index: u32,", "index"),
     "proved, a slice": (BAGS, "    input: &[u8],", "    input: &mut [u8],", "input"),
+    "proved, one struct": (CERTIFICATES, "    out: &mut Certificate,", "    out: &mut [Certificate],", "out"),
     "proved, two parameters": (
         LISTS, "    signed: usize,\n    index: usize,", "    index: usize,\n    signed: usize,", "index"),
     "proved, a call": (MACS, 'pub extern "C" fn der_mac_range(', "fn range_of(", "der_mac_range", f"{LIB}:1"),

@@ -44,6 +44,7 @@ WANTED = {
     "ranges": {0, 2, 3, 4, 5, 8, 9},
     "attributes": {0, 3, 4, 5, 8, 9, 11},
     "bags": {0, 3, 4, 5, 6, 8, 9},
+    "certificate": {0, 3, 4, 5, 8},
     "integer_text": {0, 5, 8, 9},
 }
 
@@ -187,6 +188,11 @@ def lines_on_bags(text):
     return listed("bags", len(found)) if status == NORMAL else [("bags", status, 0, where)]
 
 
+def lines_on_a_certificate(text):
+    status, _, where = answers.certificate(text)
+    return [("certificate", status, where)]
+
+
 def lines_on_an_integer(text):
     """The lines on the number that the first octets of an input hold."""
     contents = text[:INTEGER_OCTETS]
@@ -202,7 +208,7 @@ def lines_on(status, size, text):
     lines = [*lines_on_a_kind(status, size), *lines_on_the_mac(text), *lines_on_ber(text), *numbers]
     lines += [*lines_on_parts(text), *mac_lines, *lines_on_texts(text), *lines_on_signers(text)]
     lines += lines_on_ranges(text) + lines_on_attributes(text)
-    return lines + lines_on_bags(text) + lines_on_an_integer(text)
+    return lines + lines_on_bags(text) + lines_on_a_certificate(text) + lines_on_an_integer(text)
 
 
 class TestLimits(Comparing):

@@ -16,12 +16,12 @@ enum { LONGEST_INTEGER = 24 };
 /* The calls, by the word that begins their lines. */
 typedef enum {
   CHECK, LOCATE, LOOSE_END, REWRITE, MAC, MAC_NUMBERS, FROM_BER, MAC_BER, MAC_PART_BER, NAME, OID, OID_NAME, PART, KIND,
-  SIGNERS, SIGNER, RANGES, ATTRIBUTES, BAGS, INTEGER, UTF16
+  SIGNERS, SIGNER, RANGES, ATTRIBUTES, BAGS, CERTIFICATE, INTEGER, UTF16
 } call;
 static const char *const calls[] = {
     "check",     "locate",   "loose_end", "rewrite", "mac",  "mac_numbers", "from_ber", "mac_ber", "mac_part_ber",
     "name_text", "oid_text", "oid_name",  "part",    "kind", "signers",     "signer",   "ranges",
-    "attributes", "bags", "integer_text", "utf16_text"};
+    "attributes", "bags", "certificate", "integer_text", "utf16_text"};
 
 /* What a call is given: the index of a kind or of a signer, or the number of a part, where it takes one, and a limit if
  * there is one. */
@@ -104,6 +104,15 @@ static der_status one_signer(const given *its, uint8_t *out, size_t *place) {
   nothing.status = status;
   if (!memcmp(signer, &nothing, sizeof nothing) != (status != DER_NORMAL))
     fault(SIGNER, "it writes what isn't the signer's, or nothing of it");
+  return status;
+}
+
+/* Makes the call for a certificate. Unless at DER_NORMAL all that it writes is 0. */
+static der_status one_certificate(const given *its, uint8_t *out, size_t *place) {
+  der_certificate_parts *parts = (der_certificate_parts *)(void *)out, nothing = {0};
+  der_status status = (der_status)der_certificate(its->input, its->len, parts, place);
+  if (!memcmp(parts, &nothing, sizeof nothing) != (status != DER_NORMAL))
+    fault(CERTIFICATE, "it writes what isn't the certificate's, or nothing of it");
   return status;
 }
 
@@ -196,6 +205,10 @@ static answer made(call it, const given *its, uint8_t *room, size_t out_len) {
     if (said.status == DER_NORMAL)
       written = first.it * sizeof(der_bag_parts);
     break;
+  case CERTIFICATE:
+    said.status = one_certificate(its, out, &first.it);
+    written = sizeof(der_certificate_parts);
+    break;
   }
   said.first = first.it;
   said.second = second.it;
@@ -216,7 +229,8 @@ static answer made(call it, const given *its, uint8_t *room, size_t out_len) {
 static int is_without_use(call it, const answer *said) {
   const int lists = it == SIGNERS || it == RANGES || it == ATTRIBUTES || it == BAGS;
   const int has_place = it == FROM_BER || it == PART || lists;
-  return (!said->first || it == SIGNER) && (!said->second || has_place) && !said->third;
+  const int begins_with_place = it == SIGNER || it == CERTIFICATE;
+  return (!said->first || begins_with_place) && (!said->second || has_place) && !said->third;
 }
 
 /* Makes a call, says what it answers, and then refuses its requests for memory in turn. */
@@ -361,6 +375,7 @@ int main(int count, char **words) {
   signers(&its, room);
   ranges(&its, room);
   listed(BAGS, &its, room, sizeof(der_bag_parts));
+  tried(CERTIFICATE, &its, room, sizeof(der_certificate_parts));
   its.len = its.len < LONGEST_INTEGER ? its.len : LONGEST_INTEGER;
   text(INTEGER, &its, room);
   return 0;

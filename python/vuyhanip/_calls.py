@@ -117,6 +117,41 @@ class BagParts(ctypes.Structure):
     local_key_id: Range
 
 
+class CertificateParts(ctypes.Structure):
+    """A der_certificate_parts."""
+
+    _fields_ = [
+        ("has_key", ctypes.c_size_t),
+        ("has_key_parameters", ctypes.c_size_t),
+        ("has_extensions", ctypes.c_size_t),
+        ("has_key_identifier", ctypes.c_size_t),
+        ("serial_number", Range),
+        ("issuer", Range),
+        ("validity", Range),
+        ("subject", Range),
+        ("subject_public_key_info", Range),
+        ("key_algorithm", Range),
+        ("key_parameters", Range),
+        ("public_key", Range),
+        ("extensions", Range),
+        ("key_identifier", Range),
+    ]
+    has_key: int
+    has_key_parameters: int
+    has_extensions: int
+    has_key_identifier: int
+    serial_number: Range
+    issuer: Range
+    validity: Range
+    subject: Range
+    subject_public_key_info: Range
+    key_algorithm: Range
+    key_parameters: Range
+    public_key: Range
+    extensions: Range
+    key_identifier: Range
+
+
 # What calls answer, and what they take.
 STATUS = ctypes.c_uint32
 _BYTE, _SIZE = ctypes.c_uint8, ctypes.c_size_t
@@ -130,6 +165,7 @@ ARGUMENTS: Dict[str, Tuple[object, ...]] = {
     "der_attribute_ranges": (_SIZE, _SIZE, _OCTETS, _SIZE, ctypes.POINTER(Range), _SIZE, _NUMBER, _NUMBER),
     "der_signer_rows": (_OCTETS, _SIZE, _SIZE, ctypes.POINTER(SignerParts), _SIZE, _NUMBER, _NUMBER),
     "der_bag_rows": (_OCTETS, _SIZE, ctypes.POINTER(BagParts), _SIZE, _NUMBER, _NUMBER),
+    "der_certificate": (_OCTETS, _SIZE, ctypes.POINTER(CertificateParts), _NUMBER),
     "der_mac_range": (_OCTETS, _SIZE, _NUMBER, _NUMBER),
     "der_mac": (_OCTETS, _SIZE, _NUMBER, _NUMBER, _NUMBER),
     "der_from_ber": (_OCTETS, _SIZE, _OCTETS, _SIZE, _NUMBER, _NUMBER),

@@ -92,6 +92,26 @@ pub struct BagParts {
     pub local_key_id: Range,
 }
 
+/// `der_certificate_parts`
+#[repr(C)]
+#[derive(Clone, Copy, Default)]
+pub struct CertificateParts {
+    pub has_key: usize,
+    pub has_key_parameters: usize,
+    pub has_extensions: usize,
+    pub has_key_identifier: usize,
+    pub serial_number: Range,
+    pub issuer: Range,
+    pub validity: Range,
+    pub subject: Range,
+    pub subject_public_key_info: Range,
+    pub key_algorithm: Range,
+    pub key_parameters: Range,
+    pub public_key: Range,
+    pub extensions: Range,
+    pub key_identifier: Range,
+}
+
 extern "C" {
     pub fn der_check_word_limited(
         word: *const u8,
@@ -159,6 +179,7 @@ extern "C" {
         count: *mut usize,
         place: *mut usize,
     ) -> u32;
+    pub fn der_certificate(input: *const u8, input_len: usize, out: *mut CertificateParts, place: *mut usize) -> u32;
     pub fn der_mac_range(input: *const u8, input_len: usize, start: *mut usize, len: *mut usize) -> u32;
     pub fn der_mac(
         input: *const u8,

@@ -2,7 +2,7 @@
 what is found, and the place of a refusal. It shares nothing with tests/support."""
 import functools
 
-from . import bags, ber, signed
+from . import bags, ber, certificates, signed
 
 STATUSES = {"malformed": 3, "missing": 4, "invalid": 5, "too deep": 6}
 
@@ -36,6 +36,11 @@ def bags_of(check, text):
     """The rows of the bags of a store. `check` takes a kind and octets and returns why and where the kind refuses them,
     or None."""
     return answered([], bags.rows, check, text)
+
+
+def certificate(text):
+    """Where a certificate has its parts."""
+    return answered(certificates.Certificate(), certificates.row, text)
 
 
 def der_of(text):

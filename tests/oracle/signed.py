@@ -147,6 +147,15 @@ def algorithm(fields):
     return element
 
 
+def bits(fields):
+    """The element of a BIT STRING (X.690, 8.6.2): its first octet counts unused bits."""
+    element = fields.one(0x03)
+    octets = fields.octets_of(element)
+    if not octets or octets[0] > 7 or (len(octets) == 1 and octets[0]):
+        raise Refused("invalid", element.at)
+    return element
+
+
 def name(fields):
     """The octets of a Name (RFC 5280, 4.1.2.4)."""
     def value(its):
@@ -212,17 +221,15 @@ def names_of(octets, element):
                 tbs.any()
                 rest = tbs.each(Elements.any)
             algorithm(its)
-            bits = its.octets_of(its.one(0x03))
-            if not bits or bits[0] > 7 or (len(bits) == 1 and bits[0]):
-                return []
+            bits(its)
     except Refused:
         return []
     keys = [key_of(octets, it) for it in rest if it.tag == 0xA3][:1]
-    return [("issuer", issuer, serial), *(("key", key) for key in keys if key is not None)]
+    return [("issuer", issuer, serial), *(("key", octets[key.start : key.end]) for key in keys if key)]
 
 
 def key_of(octets, element):
-    """The octets of the first subjectKeyIdentifier (RFC 5280, 4.2.1.2) of extensions under [3]."""
+    """The element of the first subjectKeyIdentifier (RFC 5280, 4.2.1.2) of extensions under [3]."""
     def extension(its):
         with its.within() as (_, parts):
             oid = identifier(parts)
@@ -237,7 +244,7 @@ def key_of(octets, element):
         for value in found[:1]:
             inner = Elements(octets, *value[2:])
             key = inner.one(0x04)
-            return inner.octets_of(key) if inner.at == inner.end else None
+            return key if inner.at == inner.end else None
     except Refused:
         pass
     return None

@@ -6,7 +6,7 @@ import random
 
 from . import oids, rows
 from .containers import NULL, content_info, long_signed, long_stores, mac_data, nested, store
-from .elements import element, explicit, octet_string, sequence
+from .elements import element, explicit, octet_string, part, parts, sequence
 from .oids import oid
 from .signed_attributes import wrong_attributes
 
@@ -46,6 +46,17 @@ def with_parts():
 def signed_data():
     """Signed data of the worked examples, and what isn't quite that."""
     return [row.octets() for row in rows.examples() if row.type in SIGNED and len(row.spelt) < 9 * LONGEST]
+
+
+@functools.lru_cache(maxsize=None)
+def certificates():
+    """The certificates in signed data of the worked examples, or other choices."""
+    found = []
+    for row in rows.examples():
+        if row.type in SIGNED and row.said.startswith("normal") and len(row.spelt) < 9 * LONGEST:
+            held = [field for field in parts(part(row.octets(), 1, 0))[3:] if field[0] == 0xA0]
+            found += [it for field in held for it in parts(field)]
+    return found
 
 
 def enveloped_data():
@@ -100,12 +111,13 @@ def checked(kinds):
 
 
 def cases(kinds, over_attributes):
-    """Inputs of all kinds, those by hand, what der_name_text and der_oid_text take, which no kind reads, and signed data
-    with signers whose attributes are bad, which `over_attributes` is asked for."""
+    """Inputs of all kinds, those by hand, what der_name_text, der_oid_text and der_certificate take, which no kind reads,
+    and signed data with signers whose attributes are bad, which `over_attributes` is asked for."""
     inputs = of_rows()
     found = by_hand()
     found += [("name", text) for text in inputs["name"]]
     found += [("oid", oids.octets(name)) for name in ("subjectKeyIdentifier", "key bag")]
+    found += [("certificate", text) for text in certificates()[:4]]
     signed = [*inputs["rawpkcs7certificate"], *bad_attributes(over_attributes)][:20]
     found += [("rawpkcs7certificate", text) for text in signed]
     return found + [(kind, text) for kind in kinds for text in inputs[kind][:INPUTS]]

@@ -1,5 +1,5 @@
 //! Checks and rewritings of inputs of all kinds, conversions of BER to DER, what verifiers of signers and of MACs need,
-//! and texts, for callers in C. `der.h` has the declarations, and what a caller has to keep to.
+//! the parts of certificates, and texts, for callers in C. `der.h` has the declarations, and what a caller has to keep to.
 #![tactic(auto)]
 
 ghost use Rattle.std.specs.Prelude.{◌≤◌, length, MatchOption};
@@ -8,6 +8,7 @@ ghost use Rattle.der_c.specs.Calls.{ChecksWord, IsKindAt, NamesKind, RewritesWor
 ghost use Rattle.der_c.specs.Conversions.{ConvertsBer};
 
 pub mod bags;
+pub mod certificates;
 pub mod lists;
 mod macs;
 mod outputs;
