@@ -7,7 +7,7 @@ import re
 import tempfile
 import unittest
 
-from support import built
+from support import built, inputs
 from support.containers import bare_bag, content_info, long_signers, store_of
 from support.elements import integer, octet_string, sequence
 from vuyhanip import der
@@ -47,13 +47,15 @@ class TestPython(unittest.TestCase):
         self.assertIn("Bag(kind=<BagKind.CERTIFICATE: 3>, level=0, element=", repr(store.bags[0]))
         self.assertRegex(repr(signed), r"^SignedData\(data=\d+ octets, content_type='[\d.]+', signers=\d+\)$")
         self.assertRegex(repr(good), r"^Signer\(index=\d+, is_over_attributes=True, digest_oid='[\d.]+', ")
-        for it in (library(), store, signed, good, *store.bags, *signed.signer_infos[:1]):
+        certificate = library().certificate(inputs.certificates()[0])
+        self.assertRegex(repr(certificate), r"^Certificate\(serial_octets=\d+ octets, issuer=\d+ octets, ")
+        for it in (library(), store, signed, good, certificate, *store.bags, *signed.signer_infos[:1]):
             self.assertIsNone(re.search(r"0x|memory at", repr(it)), repr(it))
 
     def test_objects_go_to_another_process_and_are_equal_there(self):
         store, signed = library().store(STORE), library().signed(SIGNED)
         good = next(it for it in signed.signers if isinstance(it, Signer))
-        for it in (good, store.bags[0], library().mac(STORE)):
+        for it in (good, store.bags[0], library().mac(STORE), library().certificate(inputs.certificates()[0])):
             self.assertEqual(pickle.loads(pickle.dumps(it)), it)
         self.assertEqual(copy.copy(store.bags[0]), store.bags[0])
         self.assertEqual(pickle.loads(pickle.dumps(store)).bags, store.bags)

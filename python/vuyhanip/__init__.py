@@ -7,6 +7,7 @@ command `vuyhanip` over files, which is `python -m vuyhanip` too.
     library.check("pfx", data)      Verdict(is_normal=True, length=1010, loose_end=None)
     library.store(data)             a Store: bags, certificates, keys, names, and what its MAC covers
     library.signed(data)            a SignedData: content, certificates, and signers with their attributes
+    library.certificate(data)       a Certificate: its serial number, names, key and extensions
     vuyhanip.mac_verdict(data, password).is_right   whether the MAC of a store is right, as the program openssl says
 
 help(vuyhanip.der) says what each call does. An installed package has the library for C in its folder, and its version.
@@ -24,6 +25,7 @@ from .der import (
     BadAttributes,
     Bag,
     BagKind,
+    Certificate,
     EnvelopePart,
     Library,
     Mac,
@@ -43,8 +45,8 @@ from .der import (
 if TYPE_CHECKING:
     from .findings import Finding
 
-__all__ = ["MAX_NESTING", "BadAttributes", "Bag", "BagKind", "EnvelopePart", "Library", "Mac", "Part", "Refused"]
-__all__ += ["SignedData", "Signer", "SignerInfo", "Store", "UnknownKind", "Verdict", "attribute_oid"]
+__all__ = ["MAX_NESTING", "BadAttributes", "Bag", "BagKind", "Certificate", "EnvelopePart", "Library", "Mac", "Part"]
+__all__ += ["Refused", "SignedData", "Signer", "SignerInfo", "Store", "UnknownKind", "Verdict", "attribute_oid"]
 __all__ += ["attribute_values", "dotted", "library", "mac_verdict"]
 
 _HERE = os.path.dirname(os.path.realpath(__file__))

@@ -13,6 +13,7 @@ DER, from Python.
     library.signed(signed)           a SignedData: its content, certificates and signers
     library.bags(store)              all Bag(kind=BagKind.CERTIFICATE, friendly_name='me', ..) that aren't encrypted
     library.store(store)             a Store: its bags, certificates and keys, the key of a certificate, its MAC
+    library.certificate(data)        a Certificate: serial number, names, key, extensions, key identifier
     library.from_ber(data)           the DER of an input in BER, as bytes
     library.mac_ber(der)             as mac, of a file that from_ber returned
     library.kinds()                  ["macdata", ..]
@@ -455,6 +456,48 @@ class Bag(NamedTuple):
         return tuple(it.whole for part in list(_inside(self.element))[2:] for it in _elements(part.contents))
 
 
+class Certificate(NamedTuple):
+    """The parts of an X.509 certificate (RFC 5280, 4.1), as octets of it. Nothing of it is judged, neither its signature
+    nor its times. A part may be empty, and is false then: compare with None.
+    """
+
+    # the contents octets of serialNumber, an INTEGER
+    serial_octets: memoryview
+    # elements of Names, which name_text takes
+    issuer: memoryview
+    # the element with both times, whatever is in it
+    validity: memoryview
+    subject: memoryview
+    # the whole element of the key, whatever is in it
+    subject_public_key_info: memoryview
+    # of a key that reads as SubjectPublicKeyInfo, else None: the contents octets of its algorithm's object identifier
+    key_algorithm: Optional[memoryview]
+    # the element of the algorithm's parameters, None where there are none
+    key_parameters: Optional[memoryview]
+    # the octets of subjectPublicKey, a BIT STRING, after the count of unused bits
+    public_key: Optional[memoryview]
+    # what is in the first [3] after the key: the element of Extensions, where it is one; None where there is no [3]
+    extensions: Optional[memoryview]
+    # the octets of the first subjectKeyIdentifier, None where there is none that reads as one
+    key_identifier: Optional[memoryview]
+
+    def __repr__(self) -> str:
+        return _shown(self, **self._asdict())
+
+    def __reduce__(self) -> Tuple[object, ...]:
+        return Certificate, _plain(self)
+
+    @property
+    def serial_number(self) -> int:
+        """The serial number."""
+        return int.from_bytes(self.serial_octets, "big", signed=True)
+
+    @property
+    def key_oid(self) -> Optional[str]:
+        """The object identifier of the key's algorithm, as "1.2.840.113549.1.1.1"."""
+        return None if self.key_algorithm is None else dotted(bytes(self.key_algorithm))
+
+
 def _taken(it: _calls.Range, data: memoryview) -> memoryview:
     """The octets of the input in a range."""
     return data[it.start : it.start + it.len]
@@ -491,6 +534,22 @@ def _bag(row: _calls.BagParts, data: memoryview) -> Bag:
         _taken(row.value, data),
         name,
         _taken(row.local_key_id, data) if row.has_local_key_id else None,
+    )
+
+
+def _certificate(parts: _calls.CertificateParts, data: memoryview) -> Certificate:
+    """The certificate that has these parts."""
+    return Certificate(
+        _taken(parts.serial_number, data),
+        _taken(parts.issuer, data),
+        _taken(parts.validity, data),
+        _taken(parts.subject, data),
+        _taken(parts.subject_public_key_info, data),
+        _taken(parts.key_algorithm, data) if parts.has_key else None,
+        _taken(parts.key_parameters, data) if parts.has_key_parameters else None,
+        _taken(parts.public_key, data) if parts.has_key else None,
+        _taken(parts.extensions, data) if parts.has_extensions else None,
+        _taken(parts.key_identifier, data) if parts.has_key_identifier else None,
     )
 
 
@@ -828,6 +887,16 @@ class Library:
         """The bags of a PKCS #12 store, by what they hold. Raises Refused as bags does."""
         octets = _octets(data)
         return Store(self, octets, self.bags(octets))
+
+    def certificate(self, data: Bytes) -> Certificate:
+        """The parts of an X.509 certificate of any version, in one reading. They are memoryviews of data, and of a copy
+        where data could be written. Raises Refused where data are no certificate.
+        """
+        octets = _octets(data)
+        parts, place = _calls.CertificateParts(), ctypes.c_size_t()
+        status = self._library.der_certificate(*_given(octets), ctypes.byref(parts), ctypes.byref(place))
+        _raise_for(status, "", place.value)
+        return _certificate(parts, memoryview(octets))
 
     def signed(self, data: Bytes) -> SignedData:
         """Signed data, with all that is in them. Raises Refused as signers does."""

@@ -1,5 +1,6 @@
 //! Safe calls of the library for C: checks and rewritings of DER, the parts of containers that a verifier needs, as
-//! octets, the certificates and signers of signed data, the bags of stores, and conversions of BER to DER.
+//! octets, the certificates and signers of signed data, the bags of stores, the parts of certificates, and conversions of
+//! BER to DER.
 //!
 //! ```
 //! // the shortest PKCS #12 file
@@ -17,10 +18,12 @@
 
 mod bags;
 mod calls;
+mod certificates;
 mod ranges;
 mod signers;
 
 pub use bags::{bags, Bag, BagKind};
+pub use certificates::{certificate, Certificate, Key};
 pub use ranges::{attributes, certificates, encrypted_content, encryption_algorithm, recipients};
 pub use signers::{signers, BadAttributes, Signer};
 

@@ -139,6 +139,44 @@ fn parts_of_signed_data() {
     assert_eq!(part(Part::Signature, 1), None);
 }
 
+/// Of both files: the offsets are those in the certificate.
+#[test]
+fn parts_of_certificates() {
+    let first = &SIGNED[74..357];
+    let found = vuyhanip::certificate(first).unwrap();
+    assert_eq!((found.serial_number, found.issuer), (&first[14..15], &first[27..41]));
+    assert_eq!((found.validity, found.subject), (&first[41..75], &first[75..89]));
+    assert_eq!(found.subject_public_key_info, &first[89..180]);
+    let key = found.key.unwrap();
+    assert_eq!((key.algorithm, key.parameters), (&first[95..102], Some(&first[102..112])));
+    assert_eq!(key.octets, &first[115..180]);
+    assert_eq!((found.extensions, found.key_identifier), (Some(&first[182..198]), Some(&[6, 7, 8][..])));
+    let by_key = vuyhanip::certificate(&BY_KEY[74..447]).unwrap();
+    assert_eq!(by_key.key_identifier, vuyhanip::part(Part::KeyIdentifier, 0, BY_KEY).unwrap().as_deref());
+    let refused = |reason, place| Err(Error::Refused { reason, place });
+    assert_eq!(vuyhanip::certificate(SIGNED), refused(Reason::Invalid, 4));
+    assert_eq!(vuyhanip::certificate(&first[..282]), refused(Reason::Malformed, 0));
+    assert_eq!(vuyhanip::certificate(&[]), refused(Reason::Missing, 0));
+}
+
+/// By hand: neither version nor parameters, and what is under `[3]` are no extensions; then the same without a key.
+#[test]
+fn parts_that_a_certificate_lacks() {
+    let (algorithm, empty) = (element(0x30, &[&[6, 2, 0x2A, 3]]), element(0x30, &[]));
+    let certificate = |key: &[u8]| {
+        let parts: [&[u8]; 8] = [&[2, 1, 7], &algorithm, &empty, &empty, &empty, key, &[0x81, 1, 0], &[0xA3, 2, 5, 0]];
+        element(0x30, &[&element(0x30, &parts), &algorithm, &[3, 1, 0]])
+    };
+    let whole = certificate(&element(0x30, &[&algorithm, &[3, 2, 0, 9]]));
+    let found = vuyhanip::certificate(&whole).unwrap();
+    let key = found.key.unwrap();
+    assert_eq!((key.algorithm, key.parameters, key.octets), (&[0x2A, 3][..], None, &[9][..]));
+    assert_eq!((found.extensions, found.key_identifier), (Some(&[5, 0][..]), None));
+    let whole = certificate(&[5, 0]);
+    let found = vuyhanip::certificate(&whole).unwrap();
+    assert_eq!((found.subject_public_key_info, found.key), (&[5, 0][..], None));
+}
+
 /// Of a signer that is named by its key.
 #[test]
 fn parts_of_a_signer_of_version_3() {

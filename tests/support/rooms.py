@@ -11,9 +11,9 @@ from .statuses import NORMAL, NO_ROOM
 # What surrounds the room for a call's answer, and what is in it before.
 MARK = b"\xEE"
 MARKS = 64 * MARK
-# How many bytes a number has, a range, and a row of der_bag_rows and of der_signer_rows.
+# How many bytes a number has, a range, a row of der_bag_rows and of der_signer_rows, and what der_certificate writes.
 NUMBER = ctypes.sizeof(ctypes.c_size_t)
-RANGE, BAG_ROW, SIGNER_ROW = 2 * NUMBER, 12 * NUMBER, 18 * NUMBER
+RANGE, BAG_ROW, SIGNER_ROW, CERTIFICATE = 2 * NUMBER, 12 * NUMBER, 18 * NUMBER, 24 * NUMBER
 
 
 @functools.lru_cache(maxsize=None)
@@ -31,6 +31,14 @@ def in_room(name, given, room, numbers=1, item=1):
     there = ctypes.byref(out, len(MARKS))
     status = calls()[name](*words, there, ctypes.c_size_t(room), *map(ctypes.byref, written))
     return status, *(number.value for number in written), out.raw
+
+
+def in_struct(name, octets, size):
+    """What a call answers that writes a struct of so many bytes and a place: the status, the place, and what is in the
+    struct and around it."""
+    out, place = ctypes.create_string_buffer(marked(b"", size), 2 * len(MARKS) + size), ctypes.c_size_t()
+    given = octets, ctypes.c_size_t(len(octets)), ctypes.byref(out, len(MARKS)), ctypes.byref(place)
+    return calls()[name](*given), place.value, out.raw
 
 
 def marked(octets, size):
