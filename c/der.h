@@ -199,10 +199,12 @@ typedef struct der_signer_parts {
  *    (RFC 5652, 5.3, 11.1, 11.2). A second signingTime isn't looked at.
  *  - DER_MALFORMED to DER_TOO_DEEP: the input is no signed data, and *place says where, as of der_locate.
  *  - DER_NO_MEMORY: *place is an offset without use.
- *  - DER_NO_RANGE: the octets of a part are nowhere in the input. No input is known where it is answered, and that
- *    there is none isn't proved.
- * Unless at DER_NORMAL out is as it was and *count is 0; at DER_NORMAL and DER_NO_RANGE *place is 0. Proved is that the
- * octets in each range are those of the part; that they are the part itself, and no equal octets, is tested. */
+ *  - DER_NO_RANGE: never.
+ * Unless at DER_NORMAL out is as it was and *count is 0; at DER_NORMAL *place is 0. Proved is that each range is the
+ * place of that part of that signer, and that the octets there are those of the part: steps over the headers lead there
+ * from the input's first octet. Into the file's element, past its content type, into [0] and SignedData in it; past
+ * version, digestAlgorithms, encapContentInfo, [0] and [1] if they are there, into signerInfos; past the signers before;
+ * and in the signer past the components before the part. Of certificates with equal octets it isn't proved which. */
 DER_CALL
 uint32_t der_signer_rows(const uint8_t *input, size_t input_len, size_t first, der_signer_parts *out, size_t out_len,
                          size_t *count, size_t *place);

