@@ -36,8 +36,14 @@ fn each_step(_rt: HostRuntime) -> Result<(), Fail> {
     is_at(walk(7, inside, &[Step::Past(0x04)]), 11, b"\x05\x00")?;
     is_at(walk(7, inside, &[Step::Past(0x05)]), 7, inside)?;
     is_at(walk(7, inside, &[Step::Nth(2)]), 13, b"")?;
-    expect(walk(7, inside, &[Step::Nth(3)]).is_none(), "a third element")?;
-    expect(walk(7, inside, &[Step::Nth(2), Step::Element]).is_none(), "an element of nothing")
+    expect(
+        walk(7, inside, &[Step::Nth(3)]).is_none(),
+        "a third element",
+    )?;
+    expect(
+        walk(7, inside, &[Step::Nth(2), Step::Element]).is_none(),
+        "an element of nothing",
+    )
 }
 
 /// The octets of a range, or nowhere.
@@ -50,7 +56,15 @@ fn found(input: &[u8], steps: &[Step], wanted: Option<Range<usize>>) -> Result<(
 fn equal_octets(_rt: HostRuntime) -> Result<(), Fail> {
     let twice: &[u8] = b"\x30\x08\x04\x01\x07\x04\x01\x07\x04\x00";
     found(twice, &[Step::Inside, Step::Inside], Some(4..5))?;
-    found(twice, &[Step::Inside, Step::After, Step::Inside], Some(7..8))?;
-    found(twice, &[Step::Inside, Step::Nth(2), Step::Inside], Some(10..10))?;
+    found(
+        twice,
+        &[Step::Inside, Step::After, Step::Inside],
+        Some(7..8),
+    )?;
+    found(
+        twice,
+        &[Step::Inside, Step::Nth(2), Step::Inside],
+        Some(10..10),
+    )?;
     found(b"\x30\x02\x04\x01", &[Step::Inside, Step::Inside], None)
 }
