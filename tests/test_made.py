@@ -8,7 +8,7 @@ import unittest
 from support import built
 from support.oids import contents
 
-CRATES = built.TOP / "asn1/crates"
+MODULES = built.TOP / "asn1"
 # The first arcs by name (X.660).
 ARCS = {"iso": (1,), "joint-iso-itu-t": (2,), "joint-iso-ccitt": (2,)}
 IDENTIFIER = re.compile(r"^([a-z][\w-]*) OBJECT IDENTIFIER ::= \{([^}]*)\}", re.M)
@@ -32,7 +32,7 @@ def plain(name):
 
 def modules(files):
     """The text of modules without their comments."""
-    read = ((CRATES.parent / name).read_text("utf-8") for name in files)
+    read = ((MODULES / name).read_text("utf-8") for name in files)
     return "\n".join(re.sub(r"--.*?(--|$)", "", text, flags=re.M) for text in read)
 
 
@@ -104,7 +104,8 @@ def faults_of(text, others, source):
 
 def crates():
     """The modules of each made crate, those that it may import, and its sources."""
-    listed = [line.split(":") for line in CRATES.read_text("utf-8").splitlines() if line and not line.startswith("#")]
+    tables = "".join((MODULES / name).read_text("utf-8") for name in ("crates", "examples"))
+    listed = [line.split(":") for line in tables.splitlines() if line and not line.startswith("#")]
     everything = modules(name for _, files in listed for name in files.split())
     for crate, files in listed:
         folder = built.TOP / "crates" / crate

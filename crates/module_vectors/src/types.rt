@@ -134,12 +134,23 @@ fn responses(alloc: Global, word: &str, row: &Row) -> Option<Result<(), Fail>> {
     })
 }
 
+/// A module with a type of each form.
+fn forms(alloc: Global, word: &str, row: &Row) -> Option<Result<(), Fail>> {
+    Some(match word {
+        "made_forms::Head" => at::<made_forms::Head>(alloc, row),
+        "made_forms::Message" => at::<made_forms::Message>(alloc, row),
+        "made_forms::Sender" => at::<made_forms::Sender>(alloc, row),
+        "made_forms::State" => at::<made_forms::State>(alloc, row),
+        _ => return None,
+    })
+}
+
 /// What comes of a row, if the word names a type of one group.
 type IsSo = fn(Global, &str, &Row) -> Option<Result<(), Fail>>;
 
 /// Asks what a row says of the type that the word names.
 pub fn is_so(alloc: Global, word: &str, row: &Row) -> Result<(), Fail> {
-    let groups: [IsSo; 7] = [
+    let groups: [IsSo; 8] = [
         certificates,
         names,
         policies,
@@ -147,6 +158,7 @@ pub fn is_so(alloc: Global, word: &str, row: &Row) -> Result<(), Fail> {
         time_stamps,
         requests,
         responses,
+        forms,
     ];
     for is_so in groups {
         if let Some(outcome) = is_so(alloc, word, row) {
