@@ -4,7 +4,9 @@ use asn1_core::prelude::*;
 use asn1_core::{from_bytes, to_vec};
 use ber_der::to_der;
 use pkcs12_ber::{BerPfx, Place, ber_mac_range, read_ber_pfx};
+use std::alloc::Global;
 use std::test::Fail;
+use vector_checks::checks::expect;
 use x509_pkcs12::{NoMac, RawAuthenticatedSafeDataRepr};
 
 /// A file without contents, of indefinite lengths: the octets that a MAC would cover are in two segments.
@@ -39,15 +41,16 @@ const OTHER_CONTENT: &[u8] = b"\x30\x0D\x02\x01\x03\x30\x08\x06\x02\x2A\x03\xA0\
 
 #[test]
 fn the_octets_are_those_of_the_file(rt: HostRuntime) -> Result<(), Fail> {
-    for (file, octets) in [
-        (NO_CONTENTS, NO_CONTENTS_OCTETS),
-        (ONE_CONTENT, ONE_CONTENT_OCTETS),
-    ] {
-        let read = read_ber_pfx::<RawAuthenticatedSafeDataRepr>(rt.alloc(), file).ok();
-        let covered = read.as_ref().and_then(|read| read.0.mac_octets());
-        assert_eq!(rt; covered, Some(octets));
+    covers(rt.alloc(), NO_CONTENTS, NO_CONTENTS_OCTETS)?;
+    covers(rt.alloc(), ONE_CONTENT, ONE_CONTENT_OCTETS)
+}
+
+/// Asks that these are the octets of the file that a MAC would cover.
+fn covers(alloc: Global, file: &[u8], octets: &[u8]) -> Result<(), Fail> {
+    match read_ber_pfx::<RawAuthenticatedSafeDataRepr>(alloc, file) {
+        Ok((read, _)) => expect(read.mac_octets() == Some(octets), "other octets"),
+        Err(_) => Err(Fail::new("it is refused")),
     }
-    Ok(())
 }
 
 #[test]
@@ -59,7 +62,8 @@ fn the_octets_are_in_the_der(rt: HostRuntime) -> Result<(), Fail> {
     ] {
         let der = to_der(rt.alloc(), file)?;
         let range = ber_mac_range(rt.alloc(), &der)?;
-        assert_eq!(rt; range.map(|range| (range.start, range.end)), ends);
+        let found = range.map(|range| (range.start, range.end));
+        expect(found == ends, "another range")?;
     }
     Ok(())
 }
@@ -72,17 +76,21 @@ fn the_contents_are_read_of_their_der(rt: HostRuntime) -> Result<(), Fail> {
         (NO_CONTENTS_DER, NO_CONTENTS_DER),
         (OTHER, OTHER),
     ] {
-        let read = read_ber_pfx::<RawAuthenticatedSafeDataRepr>(rt.alloc(), file).ok();
-        let written = match &read {
-            Some((_, pfx)) => Some(to_vec(rt.alloc(), pfx)?),
-            None => None,
-        };
-        assert_eq!(rt;
-            written.as_ref().map(|written| written.as_slice()),
-            Some(der)
-        );
+        is_read_of(rt.alloc(), file, der)?;
     }
     Ok(())
+}
+
+/// Asks that what is read of the file is written as this DER.
+fn is_read_of(alloc: Global, file: &[u8], der: &[u8]) -> Result<(), Fail> {
+    match read_ber_pfx::<RawAuthenticatedSafeDataRepr>(alloc, file) {
+        Ok((_, read)) => has_text(alloc, &read, der),
+        Err(_) => Err(Fail::new("it is refused")),
+    }
+}
+
+fn has_text<T: DerSerialize>(alloc: Global, value: &T, text: &[u8]) -> Result<(), Fail> {
+    expect(to_vec(alloc, value)?.as_slice() == text, "another text")
 }
 
 #[test]
@@ -92,7 +100,7 @@ fn places_say_in_which_bytes(rt: HostRuntime) -> Result<(), Fail> {
         (b"\x05\x00".as_slice(), Error::Invalid, Place::FileDer(0)),
     ] {
         let refused = read_ber_pfx::<RawAuthenticatedSafeDataRepr>(rt.alloc(), file).err();
-        assert_eq!(rt; refused, Some((error, place)));
+        expect(refused == Some((error, place)), "another place")?;
     }
     Ok(())
 }
@@ -105,11 +113,15 @@ fn each_alternative_is_cloned(rt: HostRuntime) -> Result<(), Fail> {
         (OTHER_CONTENT, NoMac::NoData),
     ] {
         let pfx: BerPfx = from_bytes(rt.alloc(), file)?;
-        assert_eq!(rt; pfx.mac_input().err(), Some(refused));
-        let copy = pfx.try_clone(rt.alloc())?;
-        assert_eq!(rt; copy.auth_safe, pfx.auth_safe);
-        let written = to_vec(rt.alloc(), &copy)?;
-        assert_eq!(rt; written.as_slice(), file);
+        expect(pfx.mac_input().err() == Some(refused), "another MAC")?;
+        is_cloned(rt.alloc(), &pfx, file)?;
     }
     Ok(())
+}
+
+/// Asks for the clone of a file, and that it is written as the file is.
+fn is_cloned(alloc: Global, pfx: &BerPfx, text: &[u8]) -> Result<(), Fail> {
+    let copy = pfx.try_clone(alloc)?;
+    expect(copy.auth_safe == pfx.auth_safe, "another content")?;
+    has_text(alloc, &copy, text)
 }
