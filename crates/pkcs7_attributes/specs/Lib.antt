@@ -2,3 +2,4 @@ pub mod Attributes
 pub mod NamedAttributes
 pub mod SignedSets
 pub mod AttributesEqual
+pub mod UnsignedAttributes

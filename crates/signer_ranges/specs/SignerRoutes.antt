@@ -20,6 +20,7 @@ use Rattle.asn1_located.specs.declared.walks.Step.{Step}
 use Rattle.asn1_located.specs.declared.walks.Step.TheVariants.{Inside, Element, After, Past, Nth}
 use Rattle.pkcs7_attributes.specs.Attributes.{attributes}
 use Rattle.pkcs7_attributes.specs.NamedAttributes.{message_digest_oid}
+use Rattle.pkcs7_attributes.specs.UnsignedAttributes.{raw_unsigned_attributes}
 use Rattle.pkcs7_signed_crl.specs.Algorithms.{digest_algorithm_identifiers}
 use Rattle.pkcs7_signed_crl.specs.Certificates.{certificate_choices, certificate_set, no_certificates, no_certificates_left_out}
 use Rattle.pkcs7_signed_crl.specs.SignerParts.{signer_identifier}
@@ -29,7 +30,7 @@ use Rattle.x509_pkcs7.specs.Hashed.{AreContentsOf}
 use Rattle.x509_pkcs7.specs.Matches.{choice_octets}
 use Rattle.x509_pkcs7.specs.RawContents.{raw_encapsulated_content_info}
 use Rattle.x509_pkcs7.specs.RawSigned.{RawCertificateValue, lawful_raw_signed, raw_certificate, raw_revocation_info_choices, raw_signed, signed_data_oid}
-use Rattle.x509_pkcs7.specs.RawSigners.{SIGNED_ATTRIBUTES, UNSIGNED_ATTRIBUTES, raw_signer_info, raw_unsigned_attributes}
+use Rattle.x509_pkcs7.specs.RawSigners.{SIGNED_ATTRIBUTES, UNSIGNED_ATTRIBUTES, raw_signer_info}
 
 abbrev pub SignerValue : Type 0
 SignerValue = raw_signer_info.Value

@@ -1,34 +1,18 @@
--- UnsignedAttributes ::= SET SIZE (1..MAX) OF Attribute (RFC 5652, 5.3)
-use Rattle.std.specs.Prelude.{ℕ, List, [], map}
-use Rattle.std.proofs.Common.{arith, refl}
-use Rattle.asn1_core.specs.Asn1.{Asn1, asn1_tagged, Asn1Default, Contents, list_of, contents, ◌then◌, ◌DEFAULT◌, end, INTEGER_BELOW, OCTET_STRING, SEQUENCE}
-use Rattle.asn1_core.specs.Der.{is_default, IsDefault, element, empty_left_out, lawful_implicit_set, within_tagged, SeesEqual, der_equal, two_equal, with_end, octets_equal}
+-- Signers of every version, whose unsigned attributes keep their values as they are (RFC 5652, 5.3).
+use Rattle.std.proofs.Common.{refl}
+use Rattle.asn1_core.specs.Asn1.{Asn1Default, Contents, contents, ◌then◌, ◌DEFAULT◌, end, INTEGER_BELOW, OCTET_STRING, SEQUENCE}
+use Rattle.asn1_core.specs.Der.{SeesEqual, two_equal, with_end, octets_equal}
 use Rattle.pkcs7_content.specs.Versions.{number_of}
 use Rattle.pkcs7_attributes.specs.Attributes.{attributes, attributes_value, no_attributes, no_attributes_left_out}
+use Rattle.pkcs7_attributes.specs.UnsignedAttributes.{raw_unsigned_attributes, raw_unsigned_attributes_value, raw_unsigned_attributes_equal, no_unsigned_attributes, no_unsigned_attributes_left_out}
 use Rattle.pkcs7_signed_crl.specs.SignerParts.{signer_identifier_value, signer_identifier}
 use Rattle.x509_base.specs.AlgorithmLaws.{algorithm_identifier}
 use Rattle.x509_base.specs.AlgorithmParts.{algorithm_identifier_value, algorithm_identifier_equal}
-use Rattle.x509_base.specs.Names.{attribute, attribute_value, attribute_equal}
 use Rattle.x509_pkcs7.specs.declared.raw_signers.RawSignerInfo.{RawSignerInfo}
-use Rattle.x509_pkcs7.specs.declared.raw_signers.RawUnsignedAttributes.{RawUnsignedAttributes}
 use Rattle.pkcs7_attributes.specs.AttributesEqual.{attributes_equal}
 use Rattle.pkcs7_signed_crl.specs.PartsEqual.{signer_identifier_equal}
 use Rattle.pkcs7_enveloped.specs.Versions.{version_equal}
-use Rattle.x509_pkcs7.specs.contracts.raw_signers.RawUnsignedAttributesPartialEq.TheImpl as Unsigned
 use Rattle.x509_pkcs7.specs.contracts.raw_signers.RawSignerInfoPartialEq.TheImpl as Signer
-
-abbrev pub raw_unsigned_attributes : Asn1
-raw_unsigned_attributes = asn1_tagged (lawful_implicit_set (omega arith) (SEQUENCE attribute).law) 0xA1 (within_tagged 0xA1 (omega arith) (list_of (SEQUENCE attribute)).format)
-
-abbrev pub raw_unsigned_attributes_value : RawUnsignedAttributes → raw_unsigned_attributes.Value
-raw_unsigned_attributes_value x = map attribute_value x.0.items
-
--- the empty set, which is left out
-abbrev pub no_unsigned_attributes : List ℕ
-no_unsigned_attributes = element 0xA1 []
-
-pub no_unsigned_attributes_left_out : IsDefault (is_default raw_unsigned_attributes.format no_unsigned_attributes) no_unsigned_attributes raw_unsigned_attributes.format
-no_unsigned_attributes_left_out = empty_left_out 0xA1 (omega arith) (SEQUENCE attribute).format (SEQUENCE attribute).law
 
 abbrev pub SIGNED_ATTRIBUTES : Asn1Default
 SIGNED_ATTRIBUTES = record { type = attributes; text = no_attributes; inside = 0; left_out = no_attributes_left_out }
@@ -58,9 +42,6 @@ raw_signer_info_value x = (
     ),
   ),
 )
-
-pub raw_unsigned_attributes_equal : SeesEqual Unsigned.ghosts.eq raw_unsigned_attributes_value
-raw_unsigned_attributes_equal x y = search (der_equal, attribute_equal) depth 20
 
 pub raw_signer_equal : SeesEqual Signer.ghosts.eq raw_signer_info_value
 raw_signer_equal x y =
