@@ -4,7 +4,7 @@ use Rattle.std.proofs.Common.{◌≡◌, ℕ, zero, suc, ◌+◌, ◌<◌, ◌�
 use Rattle.std.proofs.Math.ListN.{drop_of_length-le}
 use Rattle.asn1_located.specs.Finding.{Skips}
 use Rattle.certificate_ranges.specs.Indices.{IsFirstAt, index_from}
-use Rattle.x509_pkcs7.proofs.Firsts.{found, from_here, passed}
+use Rattle.pkcs7_verifier.proofs.Firsts.{found, from_here, passed}
 
 -- what a loop over the items keeps
 abbrev pub Tracks : {X V : Type 0} → (X → V) → (V → Bool) → List X → ℕ → Type 0

@@ -10,11 +10,11 @@ use Rattle.asn1_located.specs.Places.{Route}
 use Rattle.asn1_located.specs.Routes.{Mark, Tagged, TaggedDefault, again, as_is, component, default_with_tag, enclosed, fixed, item, octets, opened, with_tag, ◌before◌, ◌default◌, ◌here◌, ◌maybe◌, ◌there◌, ◌▸◌}
 use Rattle.asn1_located.specs.declared.walks.Step.TheVariants.{Element, Inside, Nth}
 use Rattle.certificate_ranges.specs.Certificates.{certificate, key_format}
+use Rattle.pkcs7_verifier.specs.Heads.{REST, tbs_certificate_head}
+use Rattle.pkcs7_verifier.specs.KeyIdentifiers.{explicit_extensions}
 use Rattle.x509_base.specs.AlgorithmLaws.{algorithm_identifier}
 use Rattle.x509_base.specs.Extensions.{extension, extensions}
 use Rattle.x509_base.specs.Names.{name}
-use Rattle.x509_pkcs7.specs.Heads.{REST, tbs_certificate_head}
-use Rattle.x509_pkcs7.specs.KeyIdentifiers.{explicit_extensions}
 
 -- version [0] EXPLICIT Version, which may be absent
 abbrev pub VERSION : Tagged

@@ -13,8 +13,8 @@ use Rattle.certificate_ranges.specs.declared.ranges.CertificateRanges.{Certifica
 use Rattle.certificate_ranges.specs.declared.ranges.KeyRanges.{KeyRanges}
 use Rattle.input_ranges.specs.Failures.{IsRefusalOf}
 use Rattle.input_ranges.specs.declared.ranges.Refusal.{Refusal}
+use Rattle.pkcs7_verifier.specs.KeyIdentifiers.{IsKeyIdOf, explicit_extensions, has_tag, rest_of, subject_key_identifier_oid}
 use Rattle.x509_base.specs.Extensions.{extension}
-use Rattle.x509_pkcs7.specs.KeyIdentifiers.{IsKeyIdOf, explicit_extensions, has_tag, rest_of, subject_key_identifier_oid}
 
 -- the range to which steps lead, if they lead anywhere
 abbrev pub IsRangeIf : List Step → List ℕ → Range ℕ → Type 0

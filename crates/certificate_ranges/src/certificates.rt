@@ -5,7 +5,7 @@ ghost use Rattle.asn1_core.specs.Der.{IsValueOf};
 ghost use Rattle.asn1_core_element.specs.declared.error.Error.TheVariants.{Memory};
 ghost use Rattle.certificate_ranges.specs.Certificates.{certificate};
 ghost use Rattle.certificate_ranges.specs.Ranges.{AreCertificateRanges, AreRangesOf, IsRefusal};
-ghost use Rattle.x509_pkcs7.specs.Heads.{certificate_head_value};
+ghost use Rattle.pkcs7_verifier.specs.Heads.{certificate_head_value};
 
 use crate::extensions::{extensions_range, key_identifier_range};
 use crate::keys::key_ranges;
@@ -13,8 +13,8 @@ use crate::parts::{issuer, key_info, serial_number, subject, validity};
 use crate::ranges::CertificateRanges;
 use asn1_core::{Error, from_bytes_located};
 use input_ranges::{Refusal, refusal_of};
+use pkcs7_verifier::CertificateHead;
 use std::alloc::Global;
-use x509_pkcs7::CertificateHead;
 
 /// The ranges of a certificate that was read. Refuses by `Memory` alone.
 fn ranges_in(

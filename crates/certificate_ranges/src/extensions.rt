@@ -9,9 +9,9 @@ ghost use Rattle.certificate_ranges.specs.CertificateRoutes.{in_element, in_exte
 ghost use Rattle.certificate_ranges.specs.Certificates.{certificate, octets_in};
 ghost use Rattle.certificate_ranges.specs.Indices.{IsFirstAt};
 ghost use Rattle.certificate_ranges.specs.Ranges.{AreExtensionsAt, FindsIdentifier, IsKeyIdentifierAt, IsRangeIf};
+ghost use Rattle.pkcs7_verifier.specs.Heads.{certificate_head_value};
+ghost use Rattle.pkcs7_verifier.specs.KeyIdentifiers.{extension_with, has_tag};
 ghost use Rattle.x509_base.specs.Extensions.{extension_value};
-ghost use Rattle.x509_pkcs7.specs.Heads.{certificate_head_value};
-ghost use Rattle.x509_pkcs7.specs.KeyIdentifiers.{extension_with, has_tag};
 
 use crate::keys::without_answer;
 use crate::parts::range_where;
@@ -19,10 +19,10 @@ use crate::steps::steps;
 use asn1_core::{Asn1RawDer, Error, OctetStringAsn1, from_bytes};
 use asn1_core_oid::is_oid_of;
 use asn1_located::Step;
+use pkcs7_verifier::CertificateHead;
 use std::alloc::Global;
 use std::ops::Range;
 use x509_base::Extension;
-use x509_pkcs7::CertificateHead;
 
 /// `id-ce-subjectKeyIdentifier`
 const SUBJECT_KEY_IDENTIFIER: [u8; 3] = [0x55, 0x1D, 0x0E];

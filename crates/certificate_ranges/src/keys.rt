@@ -6,7 +6,7 @@ ghost use Rattle.asn1_core_element.specs.declared.error.Error.TheVariants.{Memor
 ghost use Rattle.certificate_ranges.specs.CertificateRoutes.{key_algorithm, key_bits, key_parameters, read_key_info};
 ghost use Rattle.certificate_ranges.specs.Certificates.{CertificateValue, KeyValue, certificate};
 ghost use Rattle.certificate_ranges.specs.Ranges.{AreKeyRanges, AreKeyRangesOrNone, IsKeyAt, IsPartAt, IsPartOrNone};
-ghost use Rattle.x509_pkcs7.specs.Heads.{certificate_head_value};
+ghost use Rattle.pkcs7_verifier.specs.Heads.{certificate_head_value};
 
 use crate::key_infos::SubjectPublicKeyInfo;
 use crate::parts::range_where;
@@ -14,9 +14,9 @@ use crate::ranges::KeyRanges;
 use crate::steps::steps;
 use asn1_core::{Error, from_bytes};
 use asn1_located::{Step, range_at};
+use pkcs7_verifier::CertificateHead;
 use std::alloc::Global;
 use std::ops::Range;
-use x509_pkcs7::CertificateHead;
 
 /// Why something isn't read doesn't matter, unless memory was refused: then this refuses too.
 pub(crate) fn without_answer(error: Error) -> Result<(), Error>

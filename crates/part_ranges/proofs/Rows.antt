@@ -11,8 +11,8 @@ use Rattle.input_ranges.specs.Ranges.{IsAt, IsNowhere}
 use Rattle.input_ranges.specs.declared.ranges.Refusal.{Refusal}
 use Rattle.pkcs7_signed_crl.specs.Certificates.{certificate_choices_value}
 use Rattle.pkcs7_signed_crl.specs.declared.certificates.CertificateChoices.{CertificateChoices}
+use Rattle.pkcs7_verifier.specs.Matches.{choice_octets}
 use Rattle.signer_ranges.specs.Signers.{FileValue, certificates_of, IsRefusal, signed_file}
-use Rattle.x509_pkcs7.specs.Matches.{choice_octets}
 use Rattle.part_ranges.specs.Ranges.{AreAt, FindsItems, IsInside, LacksCertificate, LacksItem, octets_in}
 
 module _ (b : List ℕ) {X : Type 0} (f : X → List ℕ) (xs : List X) (i : ℕ) (x : X) where

@@ -7,10 +7,10 @@ ghost use Rattle.input_ranges.specs.Ranges.{IsAt, IsNowhere};
 ghost use Rattle.part_ranges.specs.Ranges.{FindsItems};
 ghost use Rattle.part_ranges.specs.SignerAttributes.{attribute_text};
 ghost use Rattle.pkcs7_signed_crl.specs.Certificates.{certificate_choices_value};
+ghost use Rattle.pkcs7_verifier.specs.Matches.{choice_octets};
 ghost use Rattle.x509_base.specs.AlgorithmLaws.{algorithm_identifier};
 ghost use Rattle.x509_base.specs.AlgorithmParts.{algorithm_identifier_value};
 ghost use Rattle.x509_base.specs.Names.{attribute_value};
-ghost use Rattle.x509_pkcs7.specs.Matches.{choice_octets};
 
 use asn1_core::{Asn1RawDer, Error, OctetStringAsn1};
 use input_ranges::{encoding_range, range_of};

@@ -14,6 +14,8 @@ use Rattle.asn1_located.specs.declared.walks.Step.TheVariants.{Element, Nth}
 use Rattle.located_rows.proofs.RowLaws.{as_many, has_list, leads_after, range_is, skips_to}
 use Rattle.located_rows.specs.Rows.{AreRows, HasNoList, IsRangeOf, LeadsTo}
 use Rattle.pkcs7_signed_crl.specs.Certificates.{certificate_choices, certificate_set, no_certificates}
+use Rattle.pkcs7_verifier.specs.Hashed.{AreContentsOf}
+use Rattle.pkcs7_verifier.specs.Matches.{choice_octets}
 use Rattle.signer_ranges.proofs.Between.{are_between, attributes_given, of_signer, only_none}
 use Rattle.signer_ranges.proofs.InRanges.{octets_at}
 use Rattle.signer_ranges.specs.SignerRoutes.{SIGNER, certificate, certificates, content, content_element, digest_algorithm, signature, signature_algorithm, signed_attributes, signer, signers}
@@ -21,8 +23,6 @@ use Rattle.signer_ranges.specs.SignerRows.{AreCertificateRows, AreParts, AreSign
 use Rattle.signer_ranges.specs.Signers.{FileValue, SignerValue, certificates_of, content_info_of, digest_algorithm_of, signature_algorithm_of, signature_of, signed_file, signed_of, signers_of}
 use Rattle.signer_ranges.specs.declared.parts.CertificateRow.{CertificateRow}
 use Rattle.signer_ranges.specs.declared.parts.SignerRow.{SignerRow}
-use Rattle.x509_pkcs7.specs.Hashed.{AreContentsOf}
-use Rattle.x509_pkcs7.specs.Matches.{choice_octets}
 use Rattle.x509_pkcs7.specs.RawHashed.{content_of, IsRawHashed}
 
 pub only_memory : (e : Error) → (e ≢ Memory → ⊥) → e ≡ Memory

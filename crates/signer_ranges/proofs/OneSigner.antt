@@ -19,6 +19,7 @@ use Rattle.located_rows.proofs.RowLaws.{leads_after, range_is}
 use Rattle.located_rows.specs.Rows.{IsRangeOf}
 use Rattle.pkcs7_attributes.specs.Attributes.{attributes}
 use Rattle.pkcs7_signed_crl.specs.SignerParts.{signer_identifier}
+use Rattle.pkcs7_verifier.specs.Matches.{IsFirst, IsSigners}
 use Rattle.signer_ranges.proofs.Between.{attributes_given, of_signer}
 use Rattle.signer_ranges.proofs.Digests.{digest_part}
 use Rattle.signer_ranges.proofs.Exact.{algorithm_exact, attributes_exact}
@@ -30,7 +31,6 @@ use Rattle.signer_ranges.specs.Signers.{AreAdjacent, ArePlacesOrNone, AreRangesO
 use Rattle.signer_ranges.specs.declared.parts.CertificateRow.{CertificateRow}
 use Rattle.signer_ranges.specs.declared.parts.SignerRow.{SignerRow}
 use Rattle.signer_ranges.specs.declared.ranges.SignedRanges.{SignedRanges}
-use Rattle.x509_pkcs7.specs.Matches.{IsFirst, IsSigners}
 
 -- octets to which steps lead are in the input there
 walk_at : (steps : List Step) (b : List ℕ) (n : ℕ) (y : List ℕ) (end : ℕ) → end ≡ n + length y → Walk steps 0 b n y → IsAt b y n end

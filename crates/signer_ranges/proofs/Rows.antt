@@ -10,10 +10,10 @@ use Rattle.located_rows.specs.Rows.{AllAt}
 use Rattle.pkcs7_signed_crl.specs.Certificates.{certificate_choices_value}
 use Rattle.pkcs7_signed_crl.specs.declared.certificates.CertificateChoices.{CertificateChoices}
 use Rattle.pkcs7_signed_crl.specs.SignerParts.{signer_identifier}
+use Rattle.pkcs7_verifier.specs.Matches.{choice_octets, IsSigners, IsFirst}
 use Rattle.signer_ranges.specs.Signers.{SignerValue, FileValue, signers_of, ArePlacesOrNone, AreRangesOrNone, AreRangesOfAll, IsPartOf}
 use Rattle.signer_ranges.specs.declared.ranges.SignerRanges.{SignerRanges}
 use Rattle.x509_pkcs7.specs.AllSigners.{AreSigners}
-use Rattle.x509_pkcs7.specs.Matches.{choice_octets, IsSigners, IsFirst}
 use Rattle.x509_pkcs7.specs.RawSigners.{raw_signer_info_value}
 use Rattle.x509_pkcs7.specs.declared.raw_signers.RawSignerInfo.{RawSignerInfo}
 

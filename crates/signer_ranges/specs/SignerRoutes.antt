@@ -24,10 +24,10 @@ use Rattle.pkcs7_attributes.specs.UnsignedAttributes.{raw_unsigned_attributes}
 use Rattle.pkcs7_signed_crl.specs.Algorithms.{digest_algorithm_identifiers}
 use Rattle.pkcs7_signed_crl.specs.Certificates.{certificate_choices, certificate_set, no_certificates, no_certificates_left_out}
 use Rattle.pkcs7_signed_crl.specs.SignerParts.{signer_identifier}
+use Rattle.pkcs7_verifier.specs.Hashed.{AreContentsOf}
+use Rattle.pkcs7_verifier.specs.Matches.{choice_octets}
 use Rattle.x509_base.specs.AlgorithmLaws.{algorithm_identifier}
 use Rattle.x509_base.specs.Names.{attribute}
-use Rattle.x509_pkcs7.specs.Hashed.{AreContentsOf}
-use Rattle.x509_pkcs7.specs.Matches.{choice_octets}
 use Rattle.x509_pkcs7.specs.RawContents.{raw_encapsulated_content_info}
 use Rattle.x509_pkcs7.specs.RawSigned.{RawCertificateValue, lawful_raw_signed, raw_certificate, raw_revocation_info_choices, raw_signed, signed_data_oid}
 use Rattle.x509_pkcs7.specs.RawSigners.{SIGNED_ATTRIBUTES, UNSIGNED_ATTRIBUTES, raw_signer_info}

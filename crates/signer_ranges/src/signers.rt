@@ -9,6 +9,7 @@ ghost use Rattle.located_rows.specs.Rows.{AllAt};
 ghost use Rattle.pkcs7_attributes.specs.Attributes.{attributes_value};
 ghost use Rattle.pkcs7_attributes.specs.NamedAttributes.{content_type_oid, message_digest_oid};
 ghost use Rattle.pkcs7_signed_crl.specs.SignerParts.{signer_identifier_value};
+ghost use Rattle.pkcs7_verifier.specs.Matches.{IsSigners, IsFirst};
 ghost use Rattle.signer_ranges.specs.Files.{file_value};
 ghost use Rattle.signer_ranges.specs.Pieces.{AreInRow, AreNowhereFrom, AreSignedFound, IsCertificateFound, IsDigestIndex, IsDigestOrBroken, IsNoCertificateFound};
 ghost use Rattle.signer_ranges.specs.SignerRows.{IsContentFound, IsKnown};
@@ -16,7 +17,6 @@ ghost use Rattle.signer_ranges.specs.Signers.{AreFound, ArePlacesOrNone, AreRang
 ghost use Rattle.x509_base.specs.AttributesByOid.{with_oid, IsOnlyOf};
 ghost use Rattle.x509_base.specs.Names.{attribute_value};
 ghost use Rattle.x509_pkcs7.specs.AllSigners.{AreSigners};
-ghost use Rattle.x509_pkcs7.specs.Matches.{IsSigners, IsFirst};
 ghost use Rattle.x509_pkcs7.specs.RawSigners.{raw_signer_info_value};
 
 use crate::parts::{

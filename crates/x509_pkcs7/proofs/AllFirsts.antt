@@ -11,13 +11,13 @@ use Rattle.asn1_core.specs.declared.implicit.ImplicitContextTag0.{ImplicitContex
 use Rattle.pkcs7_signed_crl.specs.SignerParts.{signer_identifier, signer_identifier_value}
 use Rattle.pkcs7_signed_crl.specs.declared.signers.SignerIdentifier.{SignerIdentifier}
 use Rattle.pkcs7_signed_crl.specs.declared.signers.SignerIdentifier.TheVariants as By
+use Rattle.pkcs7_verifier.specs.Heads.{certificate_head}
+use Rattle.pkcs7_verifier.specs.KeyIdentifiers.{rest_of, IsKeyIdOf, HasNone}
+use Rattle.pkcs7_verifier.specs.Matches.{IsNamedBy, IsSigners, IsFirst}
+use Rattle.pkcs7_verifier.proofs.Firsts.{from_here}
+use Rattle.pkcs7_verifier.proofs.KeyIds.{one_key, not_none}
 use Rattle.x509_base.specs.declared.digests.SubjectKeyIdentifier.{SubjectKeyIdentifier}
 use Rattle.x509_pkcs7.specs.AllSigners.{AreSigners, KnownValue, key_octets, IsKnownAs, IsKnownKey, IsKnownOf, IsKnownOrNone, AreKnownOf, listed, IsAppended}
-use Rattle.x509_pkcs7.specs.Heads.{certificate_head}
-use Rattle.x509_pkcs7.specs.KeyIdentifiers.{rest_of, IsKeyIdOf, HasNone}
-use Rattle.x509_pkcs7.specs.Matches.{IsNamedBy, IsSigners, IsFirst}
-use Rattle.x509_pkcs7.proofs.Firsts.{from_here}
-use Rattle.x509_pkcs7.proofs.KeyIds.{one_key, not_none}
 
 no_some : {X : Type 0} {x : X} → None ≡ Some x → ⊥
 no_some e = cc

@@ -20,11 +20,11 @@ use Rattle.pkcs7_signed_crl.specs.SignerParts.{certificate_serial_number_value, 
 use Rattle.pkcs7_signed_crl.specs.declared.signers.IssuerAndSerialNumber.{IssuerAndSerialNumber}
 use Rattle.pkcs7_signed_crl.specs.declared.signers.SignerIdentifier.{SignerIdentifier}
 use Rattle.pkcs7_signed_crl.specs.declared.signers.SignerIdentifier.TheVariants as By
+use Rattle.pkcs7_verifier.proofs.Firsts.{from_here}
+use Rattle.pkcs7_verifier.specs.Matches.{IsFirst}
 use Rattle.x509_base.specs.Names.{name_parts}
 use Rattle.x509_base.specs.declared.digests.SubjectKeyIdentifier.{SubjectKeyIdentifier}
-use Rattle.x509_pkcs7.proofs.Firsts.{from_here}
 use Rattle.x509_pkcs7.specs.AllSigners.{KnownValue, IsKnownAs, name_octets, are_octets, is_named, kept, or_else}
-use Rattle.x509_pkcs7.specs.Matches.{IsFirst}
 use Rattle.x509_pkcs7.specs.declared.verifier.all_signers.NamedBy.TheVariants.{Issuer, Key}
 
 module _ {K X : Type 0} (eq : K → K → Bool) (test : K → Bool) where

@@ -1,5 +1,3 @@
-pub mod Firsts
-pub mod KeyIds
 pub mod NotEmpty
 pub mod Elements
 pub mod AllFirsts

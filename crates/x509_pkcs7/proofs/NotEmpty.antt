@@ -1,5 +1,5 @@
--- Lists that have an item.
-use Rattle.std.specs.Prelude.{◌≡◌, ◌≢◌, ℕ, ◌<◌, List, [], ◌∷◌, length, get_or, map}
+-- A list whose pieces are put together, and that has an item.
+use Rattle.std.specs.Prelude.{◌≡◌, ◌≢◌, ℕ, ◌<◌, List, [], length, get_or, map}
 use Rattle.std.proofs.Common.{ap, ◌∙◌, arith}
 use Rattle.std.proofs.lemmas.List.{nil_from_length, length-map}
 use Rattle.std.proofs.lemmas.List.Folds.{length-flat_map-take}
@@ -7,10 +7,6 @@ use Rattle.std.specs.List.{flat_map}
 use Rattle.asn1_core.specs.declared.raw.Asn1RawDer.{Asn1RawDer}
 use Rattle.pkcs7_signed.specs.declared.signers.UnsignedAttribute.{UnsignedAttribute}
 use Rattle.x509_pkcs7.specs.Nested.{nested_in}
-
-pub has_item : {X : Type 0} (xs : List X) (i : ℕ) → i < length xs → xs ≢ []
-has_item [] i h e = omega (arith, h)
-has_item (x ∷ xs) i h e = cc
 
 -- where all pieces together are empty, each is
 pub piece_empty : {X Y : Type 0} (f : X → List Y) (xs : List X) (i : ℕ) (x : X) → i < length xs → x ≡ get_or xs i x → flat_map f xs ≡ [] → f x ≡ []

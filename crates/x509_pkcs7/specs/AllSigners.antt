@@ -9,11 +9,11 @@ use denote.Ref.{Bor}
 use Rattle.asn1_core.specs.Asn1.{SEQUENCE}
 use Rattle.asn1_core.specs.Der.{ElementOctets, Octets, option_value}
 use Rattle.pkcs7_signed_crl.specs.SignerParts.{signer_identifier}
+use Rattle.pkcs7_verifier.specs.Heads.{certificate_head, certificate_head_value}
+use Rattle.pkcs7_verifier.specs.KeyIdentifiers.{rest_of, IsKeyIdOf}
+use Rattle.pkcs7_verifier.specs.Matches.{IsNamedBy, IsSigners, IsFirst}
 use Rattle.x509_base.specs.Names.{name}
 use Rattle.x509_base.specs.declared.digests.SubjectKeyIdentifier.{SubjectKeyIdentifier}
-use Rattle.x509_pkcs7.specs.Heads.{certificate_head, certificate_head_value}
-use Rattle.x509_pkcs7.specs.KeyIdentifiers.{rest_of, IsKeyIdOf}
-use Rattle.x509_pkcs7.specs.Matches.{IsNamedBy, IsSigners, IsFirst}
 use Rattle.x509_pkcs7.specs.declared.verifier.all_signers.KnownCertificate.{KnownCertificate}
 use Rattle.x509_pkcs7.specs.declared.verifier.all_signers.NamedBy.{NamedBy}
 use Rattle.x509_pkcs7.specs.declared.verifier.all_signers.NamedBy.TheVariants.{Issuer, Key}

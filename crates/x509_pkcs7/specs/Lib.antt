@@ -2,10 +2,6 @@ pub mod ContentInfos
 pub mod RawContents
 pub mod RawSigners
 pub mod RawSigned
-pub mod Heads
-pub mod KeyIdentifiers
-pub mod Matches
-pub mod Hashed
 pub mod TimeStamps
 pub mod Nested
 pub mod Pages

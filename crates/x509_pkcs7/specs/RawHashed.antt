@@ -1,7 +1,7 @@
 -- The octets that are hashed of content that is kept as an element (RFC 2315, 9.3; RFC 5652, 5.4).
 use Rattle.std.specs.Prelude.{◌≡◌, Option, None, Some}
 use Rattle.asn1_core.specs.Der.{IsElement, IsTagByte, Octets, ElementOctets}
-use Rattle.x509_pkcs7.specs.Hashed.{AreContentsOf}
+use Rattle.pkcs7_verifier.specs.Hashed.{AreContentsOf}
 use Rattle.x509_pkcs7.specs.RawContents.{raw_encapsulated_content_info}
 
 -- the element that the content is

@@ -3,10 +3,6 @@
 //! nested signatures and page hashes.
 
 pub mod all_signers;
-pub mod hashed;
-pub mod heads;
-pub mod key_identifiers;
-pub mod matches;
 pub mod nested;
 pub mod pages;
 pub mod parts;
@@ -15,12 +11,12 @@ pub mod raw_hashed;
 pub mod time_stamps;
 
 pub use all_signers::{SignerCertificate, signer_certificates, signer_certificates_at};
-pub use hashed::hashed_octets;
-pub use heads::{CertificateHead, TbsCertificateHead};
-pub use key_identifiers::first_extension;
-pub use matches::{certificate_element, signer_certificate};
 pub use nested::nested_signatures;
 pub use pages::{PageHashes, page_hash_octets};
 pub use parts::{certificates, signers};
+pub use pkcs7_verifier::{
+    CertificateHead, TbsCertificateHead, certificate_element, first_extension, hashed,
+    hashed_octets, heads, key_identifiers, matches, signer_certificate,
+};
 pub use raw_attributes::attribute_values;
 pub use time_stamps::{Accuracy, GenTime, TimeStampAuthority, TimeStampExtensions, TstInfo};

@@ -1,24 +1,26 @@
 //! Which certificate is each signer's, where each certificate is read once (RFC 5652, 5.3).
 
-ghost use Rattle.std.specs.Prelude.{◌≡◌, ◌↔◌, ℕ, List, IsTrue, true, Some, MatchResult, map};
+ghost use Rattle.std.specs.Prelude.{◌≡◌, ◌≢◌, ◌↔◌, ℕ, List, IsTrue, true, Some, MatchResult, map};
+ghost use Rattle.std.proofs.Common.{inl};
 ghost use Rattle.std.specs.List.{find};
 ghost use Rattle.std.specs.Str.{bytes_eq};
 ghost use Rattle.asn1_core.specs.Der.{ElementOctets, option_value};
 ghost use Rattle.asn1_core_element.specs.declared.error.Error.TheVariants.{Memory};
 ghost use Rattle.pkcs7_signed_crl.specs.Certificates.{certificate_choices_value};
-ghost use Rattle.pkcs7_signed_crl.specs.SignerParts.{signer_identifier_value};
+ghost use Rattle.pkcs7_signed_crl.specs.SignerParts.{certificate_serial_number_value, issuer_and_serial_number_value, signer_identifier_value};
+ghost use Rattle.pkcs7_verifier.specs.Heads.{certificate_head_value};
+ghost use Rattle.pkcs7_verifier.specs.Matches.{IsNamedBy, IsSigners, choice_octets, IsFirst};
 ghost use Rattle.x509_base.specs.Names.{name_parts};
-ghost use Rattle.pkcs7_signed_crl.specs.SignerParts.{certificate_serial_number_value};
 ghost use Rattle.x509_pkcs7.specs.AllSigners.{AreSigners, key_octets, known_value, KnownValue, IsKnownAs, IsKnownKey, IsKnownOrNone, AreKnownOf, IsAppended, name_octets, octets_by, is_named, kept, known_at};
 ghost use Rattle.x509_pkcs7.specs.declared.verifier.all_signers.NamedBy.TheVariants.{Issuer, Key};
-ghost use Rattle.x509_pkcs7.specs.Heads.{certificate_head_value};
-ghost use Rattle.x509_pkcs7.specs.Matches.{IsSigners, choice_octets, IsFirst};
 
-use crate::verifier::heads::CertificateHead;
-use crate::verifier::matches::{certificate_element, is_same, without_answer};
 use asn1_core::prelude::*;
 use asn1_core::{from_bytes, to_vec};
-use pkcs7_signed_crl::{CertificateChoices, CertificateSerialNumber, SignerIdentifier};
+use asn1_core_format::views::is_same;
+use pkcs7_signed_crl::{
+    CertificateChoices, CertificateSerialNumber, IssuerAndSerialNumber, SignerIdentifier,
+};
+use pkcs7_verifier::{CertificateHead, certificate_element};
 use std::alloc::Global;
 use std::collections::BTreeMap;
 use x509_base::{Name, SubjectKeyIdentifier};
@@ -50,7 +52,7 @@ impl KnownCertificate<'_> {
         ensures { IsTrue result ↔ IsKnownAs (signer_identifier_value signer.now) (known_value self.now) }
     {
         match signer {
-            SignerIdentifier::IssuerAndSerialNumber(named) => self.head.is_issued_as(named),
+            SignerIdentifier::IssuerAndSerialNumber(named) => is_issued_as(&self.head, named),
             SignerIdentifier::SubjectKeyIdentifier(key) => has_key(&self.key, &key.0),
         }
     }
@@ -110,6 +112,14 @@ fn name_octets(
     Ok(octets)
 }
 
+/// Whether the issuer and the serial number are these.
+fn is_issued_as(head: &CertificateHead, named: &IssuerAndSerialNumber) -> bool
+    ensures { IsTrue result ↔ IsNamedBy (inl (issuer_and_serial_number_value named.now)) (certificate_head_value head.now) }
+{
+    let tbs = &head.tbs_certificate;
+    is_same(&tbs.issuer, &named.issuer) && is_same(&tbs.serial_number, &named.serial_number)
+}
+
 /// Whether the identifier of the key is there, and is this.
 #[tactic(auto, using(crate::proofs::AllFirsts::is_own_key, crate::proofs::AllFirsts::is_no_key))]
 fn has_key(own: &Option<SubjectKeyIdentifier>, key: &SubjectKeyIdentifier) -> bool
@@ -118,6 +128,16 @@ fn has_key(own: &Option<SubjectKeyIdentifier>, key: &SubjectKeyIdentifier) -> bo
     match own {
         Some(own) => is_same(own, key),
         None => false,
+    }
+}
+
+/// Why something isn't read doesn't matter, unless memory was refused: then this refuses too.
+fn without_answer(error: Error) -> Result<(), Error>
+    ensures { MatchResult result (λ _. error ≢ Memory) (λ e. e ≡ Memory) }
+{
+    match error {
+        Error::Memory => Err(Error::Memory),
+        _ => Ok(()),
     }
 }
 

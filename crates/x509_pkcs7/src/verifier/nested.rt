@@ -31,7 +31,7 @@ pub fn nested_signatures(alloc: Global, signer: &SignerInfo) -> Result<Vec<&Asn1
 }
 
 /// Appends some elements. To append none is never refused.
-#[tactic(auto, using(crate::proofs::NotEmpty::has_item))]
+#[tactic(auto, using(pkcs7_verifier::proofs::NotEmpty::has_item))]
 pub(crate) fn push_all<'a>(
     found: &mut Vec<&'a Asn1RawDer>,
     elements: &'a [Asn1RawDer],

@@ -3,7 +3,7 @@
 ghost use Rattle.std.specs.Prelude.{◌≡◌, MatchResult};
 ghost use Rattle.asn1_core.specs.Der.{option_value, IsElement, IsTagByte};
 ghost use Rattle.asn1_core_element.specs.declared.error.Error.TheVariants.{Invalid};
-ghost use Rattle.x509_pkcs7.specs.Hashed.{AreContentsOf};
+ghost use Rattle.pkcs7_verifier.specs.Hashed.{AreContentsOf};
 ghost use Rattle.x509_pkcs7.specs.RawContents.{raw_encapsulated_content_info_value};
 ghost use Rattle.x509_pkcs7.specs.RawHashed.{content_of, IsRawHashed, IsNoElement};
 

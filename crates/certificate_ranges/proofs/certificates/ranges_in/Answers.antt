@@ -1,4 +1,4 @@
-use Rattle.x509_pkcs7.specs.Heads.{certificate_head_value}
+use Rattle.pkcs7_verifier.specs.Heads.{certificate_head_value}
 use Rattle.certificate_ranges.proofs.certificates.ranges_in.Goals as goal
 
 pub returns : goal.returns

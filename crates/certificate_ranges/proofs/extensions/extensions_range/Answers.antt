@@ -3,8 +3,8 @@ use Rattle.std.specs.List.{find}
 use Rattle.std.proofs.Common.{ap, subst}
 use Rattle.certificate_ranges.proofs.ExtensionPlaces.{extensions_at}
 use Rattle.certificate_ranges.specs.Certificates.{octets_in}
-use Rattle.x509_pkcs7.specs.Heads.{certificate_head_value}
-use Rattle.x509_pkcs7.specs.KeyIdentifiers.{has_tag}
+use Rattle.pkcs7_verifier.specs.Heads.{certificate_head_value}
+use Rattle.pkcs7_verifier.specs.KeyIdentifiers.{has_tag}
 use Rattle.certificate_ranges.proofs.extensions.extensions_range.Goals as goal
 
 pub returns-in-Some : goal.returns-in-Some

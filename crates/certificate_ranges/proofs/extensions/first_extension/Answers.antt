@@ -1,7 +1,7 @@
 use Rattle.std.specs.Str.{bytes_eq}
 use Rattle.certificate_ranges.proofs.Indices.{first_at, goes_on, none_at_end}
+use Rattle.pkcs7_verifier.proofs.KeyIds.{oid_found, oid_passed}
 use Rattle.x509_base.specs.Extensions.{extension_value}
-use Rattle.x509_pkcs7.proofs.KeyIds.{oid_found, oid_passed}
 use Rattle.certificate_ranges.proofs.extensions.first_extension.Goals as goal
 
 pub returns-then-is_oid_of : goal.returns-then-is_oid_of

@@ -1,6 +1,6 @@
 use Rattle.certificate_ranges.proofs.Indices.{first_at, goes_on, none_at_end}
 use Rattle.certificate_ranges.specs.Certificates.{octets_in}
-use Rattle.x509_pkcs7.specs.KeyIdentifiers.{has_tag}
+use Rattle.pkcs7_verifier.specs.KeyIdentifiers.{has_tag}
 use Rattle.certificate_ranges.proofs.extensions.first_tagged.Goals as goal
 
 pub returns-then-is_tagged : goal.returns-then-is_tagged

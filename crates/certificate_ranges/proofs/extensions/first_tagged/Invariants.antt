@@ -1,6 +1,6 @@
 use Rattle.certificate_ranges.proofs.Indices.{Tracks}
 use Rattle.certificate_ranges.specs.Certificates.{octets_in}
-use Rattle.x509_pkcs7.specs.KeyIdentifiers.{has_tag}
+use Rattle.pkcs7_verifier.specs.KeyIdentifiers.{has_tag}
 use Rattle.certificate_ranges.proofs.extensions.first_tagged.Given as goal
 
 abbrev pub invariant-loop-index : goal.invariant-loop-index

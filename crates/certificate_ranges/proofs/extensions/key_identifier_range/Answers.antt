@@ -4,9 +4,9 @@ use Rattle.std.proofs.Common.{ap, subst}
 use Rattle.asn1_core.specs.Der.{option_value}
 use Rattle.certificate_ranges.proofs.ExtensionPlaces.{identifier_given, no_element, unread_extensions}
 use Rattle.certificate_ranges.specs.Certificates.{octets_in}
+use Rattle.pkcs7_verifier.specs.Heads.{certificate_head_value}
+use Rattle.pkcs7_verifier.specs.KeyIdentifiers.{AreExtensionsOf, has_tag, rest_of}
 use Rattle.x509_base.specs.Extensions.{extension_value, extensions_value}
-use Rattle.x509_pkcs7.specs.Heads.{certificate_head_value}
-use Rattle.x509_pkcs7.specs.KeyIdentifiers.{AreExtensionsOf, has_tag, rest_of}
 use Rattle.certificate_ranges.proofs.extensions.key_identifier_range.Goals as goal
 
 pub returns-in_default : goal.returns-in_default

@@ -1,6 +1,6 @@
 use Rattle.certificate_ranges.proofs.KeyPlaces.{key_is, no_key}
 use Rattle.certificate_ranges.specs.KeyInfos.{key_value}
-use Rattle.x509_pkcs7.specs.Heads.{certificate_head_value}
+use Rattle.pkcs7_verifier.specs.Heads.{certificate_head_value}
 use Rattle.certificate_ranges.proofs.keys.key_ranges.Goals as goal
 
 pub returns-in-Ok : goal.returns-in-Ok

@@ -1,8 +1,8 @@
 use Rattle.std.proofs.Common.{None, Some, map, subst}
 use Rattle.asn1_core.specs.Der.{option_value}
 use Rattle.pkcs7_signed_crl.specs.SignerParts.{signer_identifier_value}
+use Rattle.pkcs7_verifier.specs.Matches.{IsFirst}
 use Rattle.x509_pkcs7.specs.AllSigners.{known_value, IsKnownAs}
-use Rattle.x509_pkcs7.specs.Matches.{IsFirst}
 use Rattle.x509_pkcs7.proofs.verifier.all_signers.first_element.Goals as goal
 
 pub returns-in-Some : goal.returns-in-Some

@@ -1,5 +1,5 @@
 use Rattle.pkcs7_signed_crl.specs.SignerParts.{signer_identifier_value}
-use Rattle.x509_pkcs7.proofs.Firsts.{is_first, is_later}
+use Rattle.pkcs7_verifier.proofs.Firsts.{is_first, is_later}
 use Rattle.x509_pkcs7.specs.AllSigners.{known_value, IsKnownAs}
 use Rattle.x509_pkcs7.proofs.verifier.all_signers.first_known.Goals as goal
 

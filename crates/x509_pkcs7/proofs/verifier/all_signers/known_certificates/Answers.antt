@@ -1,8 +1,8 @@
 use Rattle.std.proofs.Common.{map}
 use Rattle.pkcs7_signed_crl.specs.Certificates.{certificate_choices_value}
+use Rattle.pkcs7_verifier.specs.Matches.{choice_octets}
 use Rattle.x509_pkcs7.proofs.AllFirsts.{known_step, known_all}
 use Rattle.x509_pkcs7.specs.AllSigners.{known_value}
-use Rattle.x509_pkcs7.specs.Matches.{choice_octets}
 use Rattle.x509_pkcs7.proofs.verifier.all_signers.known_certificates.Goals as goal
 
 pub loop-index-preserved : goal.loop-index-preserved

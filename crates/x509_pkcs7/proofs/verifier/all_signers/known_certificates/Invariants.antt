@@ -1,7 +1,7 @@
 use Rattle.std.proofs.Common.{List, ◌++◌, map, drop}
 use Rattle.pkcs7_signed_crl.specs.Certificates.{certificate_choices_value}
+use Rattle.pkcs7_verifier.specs.Matches.{choice_octets}
 use Rattle.x509_pkcs7.specs.AllSigners.{KnownValue, known_value, AreKnownOf}
-use Rattle.x509_pkcs7.specs.Matches.{choice_octets}
 use Rattle.x509_pkcs7.proofs.verifier.all_signers.known_certificates.Given as goal
 
 abbrev pub invariant-loop-index : goal.invariant-loop-index

@@ -2,8 +2,8 @@ use Rattle.std.proofs.Common.{ap, map, subst, sym, ◌∙◌}
 use Rattle.asn1_core.specs.Der.{option_value}
 use Rattle.pkcs7_signed_crl.specs.Certificates.{certificate_choices_value}
 use Rattle.pkcs7_signed_crl.specs.SignerParts.{signer_identifier_value}
+use Rattle.pkcs7_verifier.specs.Matches.{choice_octets}
 use Rattle.x509_pkcs7.specs.AllSigners.{AreSigners}
-use Rattle.x509_pkcs7.specs.Matches.{choice_octets}
 use Rattle.x509_pkcs7.proofs.verifier.all_signers.signer_certificates.Goals as goal
 
 pub returns : goal.returns

@@ -1,0 +1,4 @@
+pub mod Heads
+pub mod KeyIdentifiers
+pub mod Matches
+pub mod Hashed
