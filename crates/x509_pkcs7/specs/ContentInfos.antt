@@ -1,7 +1,7 @@
 -- ContentInfo ::= SEQUENCE { contentType ContentType, content [0] EXPLICIT ANY DEFINED BY contentType } (RFC 5652, 3)
 use Rattle.std.proofs.Common.{refl}
 use Rattle.asn1_core.specs.Asn1.{Contents, contents, ◌then◌, end, OBJECT_IDENTIFIER, ANY, EXPLICIT}
-use Rattle.asn1_core.specs.Der.{Format, sequence, octets_of, SeesEqual, der_equal}
+use Rattle.asn1_core.specs.Der.{octets_of, SeesEqual, der_equal}
 use Rattle.x509_pkcs7.specs.declared.content_infos.ContentInfo.{ContentInfo}
 use Rattle.x509_pkcs7.specs.contracts.content_infos.ContentInfoPartialEq.TheImpl as Content
 

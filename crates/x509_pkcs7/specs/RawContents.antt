@@ -4,7 +4,7 @@ use Rattle.std.specs.Prelude.{Option, None, Some, Result}
 use Rattle.std.proofs.Common.{refl}
 use Rattle.asn1_core_element.specs.declared.error.Error.{Error}
 use Rattle.asn1_core.specs.Asn1.{Contents, contents, ◌then◌, ◌OPTIONAL◌, end, OBJECT_IDENTIFIER, ANY, EXPLICIT}
-use Rattle.asn1_core.specs.Der.{Format, IsLawful, sequence, octets_of, option_value, lawful_sequence, AnswersInput, SeesEqual, der_equal}
+use Rattle.asn1_core.specs.Der.{Format, octets_of, option_value, AnswersInput, SeesEqual, der_equal}
 use Rattle.asn1_core.specs.declared.explicit.ExplicitContextTag0.{ExplicitContextTag0}
 use Rattle.asn1_core.specs.declared.raw.Asn1RawDer.{Asn1RawDer}
 use Rattle.x509_pkcs7.specs.declared.raw_contents.RawEncapsulatedContentInfo.{RawEncapsulatedContentInfo}

@@ -4,7 +4,7 @@
 -- ContentInfo ::= SEQUENCE { contentType ContentType, content [0] EXPLICIT ANY DEFINED BY contentType } (RFC 5652, 3)
 --   of id-signedData
 use Rattle.asn1_core.specs.Asn1.{Asn1, asn1_tagged, ANY, SEQUENCE}
-use Rattle.std.specs.Prelude.{ℕ, List, [], ◌∷◌, Option, map, ◌≡◌, ◌↔◌, ◌&&◌, Bool, true}
+use Rattle.std.specs.Prelude.{ℕ, List, Option, map, ◌≡◌, ◌↔◌, ◌&&◌, Bool, true}
 use Rattle.std.proofs.Common.{arith, refl, ap}
 use Rattle.asn1_core.specs.Der.{Format, IsLawful, IsLawfulComponents, sequence, part, optional, nothing, number_below, set_of, each, explicit, within_tagged, only_oid, option_value, ElementOctets, omitted, is_default, lawful_sequence, followed_by, perhaps, lawful_number, lawful_nothing, lawful_set, lawful_explicit, lawful_implicit_set, lawful_only_oid, unless, SeesEqual, der_equal, two_equal, with_end, list_equal, option_equal}
 use Rattle.pkcs7_content.specs.Versions.{number_of}
