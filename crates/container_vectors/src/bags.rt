@@ -4,8 +4,8 @@ use std::alloc::Global;
 use std::test::Fail;
 use vector_checks::checks::expect;
 use x509_containers::{
-    IntegerAsn1, ParsedAuthenticatedSafeDataRepr, Pfx, RawPfx, RawSafeBag, SafeBag, SafeContents,
-    from_bytes,
+    FirstAttribute, IntegerAsn1, ParsedAuthenticatedSafeDataRepr, Pfx, RawPfx, RawSafeBag, SafeBag,
+    SafeContents, from_bytes,
 };
 
 /// A bag of a key, with the friendly name AB and the local key identifier 42. The key is a BOOLEAN.
@@ -33,83 +33,129 @@ const STORE: &[u8] = b"\
     \x2A\x86\x48\x86\xF7\x0D\x01\x09\x16\x01\xA0\x03\x04\x01\x43";
 
 fn has_name(bag: &SafeBag) -> Result<(), Fail> {
-    let name = SafeBag::friendly_name(bag).ok_or("no name")?;
-    expect(name.as_bytes() == b"\x00A\x00B".as_slice(), "another name")
+    match SafeBag::friendly_name(bag) {
+        Some(name) => expect(name.as_bytes() == b"\x00A\x00B".as_slice(), "another name"),
+        None => Err(Fail::new("no name")),
+    }
+}
+
+fn has_identifier(bag: &SafeBag) -> Result<(), Fail> {
+    let found = SafeBag::local_key_id(bag);
+    expect(found == Some(b"\x42"), "another identifier")?;
+    expect(bag.has_local_key_id(b"\x42"), "it hasn't its identifier")?;
+    expect(!bag.has_local_key_id(b"\x43"), "it has another identifier")
+}
+
+fn is_named_key(bag: &SafeBag) -> Result<(), Fail> {
+    has_name(bag)?;
+    has_identifier(bag)?;
+    expect(bag.is_key() && !bag.is_certificate(), "another kind")
 }
 
 #[test]
 fn a_key(rt: HostRuntime) -> Result<(), Fail> {
     let bag: SafeBag = from_bytes(rt.alloc(), KEY)?;
-    has_name(&bag)?;
-    expect(
-        SafeBag::local_key_id(&bag) == Some(b"\x42"),
-        "another identifier",
-    )?;
-    expect(bag.has_local_key_id(b"\x42"), "it hasn't its identifier")?;
-    expect(!bag.has_local_key_id(b"\x43"), "it has another identifier")?;
-    expect(bag.is_key() && !bag.is_certificate(), "another kind")
+    is_named_key(&bag)
 }
 
 fn has_raw_name(alloc: Global, bag: &RawSafeBag) -> Result<(), Fail> {
     let name = RawSafeBag::friendly_name(bag, alloc)?.ok_or("no name")?;
-    expect(name.as_bytes() == b"\x00A\x00B".as_slice(), "another name")?;
+    expect(name.as_bytes() == b"\x00A\x00B".as_slice(), "another name")
+}
+
+fn has_raw_identifier(alloc: Global, bag: &RawSafeBag) -> Result<(), Fail> {
     let id = RawSafeBag::local_key_id(bag, alloc)?.ok_or("no identifier")?;
     expect(id.0.as_slice() == b"\x42".as_slice(), "another identifier")
+}
+
+/// The object identifier of local key identifiers (RFC 2985, 5.5.2).
+const LOCAL_KEY_ID: &[u8] = b"\x2A\x86\x48\x86\xF7\x0D\x01\x09\x15";
+
+fn is_local_key_id(found: &FirstAttribute<'_>) -> Result<(), Fail> {
+    expect(found.is_only, "another one after it")?;
+    let octets = found.attribute.ty.0.octets();
+    expect(octets == LOCAL_KEY_ID, "another attribute")
 }
 
 /// The local key identifier by its object identifier, and one that it hasn't.
 fn has_attributes(bag: &RawSafeBag) -> Result<(), Fail> {
     expect(RawSafeBag::attributes(bag).len() == 2, "other attributes")?;
-    let oid = b"\x2A\x86\x48\x86\xF7\x0D\x01\x09\x15";
-    let found = RawSafeBag::attribute(bag, oid).ok_or("no attribute")?;
-    expect(found.is_only, "another one after it")?;
-    let octets = found.attribute.ty.0.octets();
-    expect(octets == oid.as_slice(), "another attribute")?;
     let none = RawSafeBag::attribute(bag, b"\x2A\x03\x04");
-    expect(none.is_none(), "an attribute that it hasn't")
+    expect(none.is_none(), "an attribute that it hasn't")?;
+    match RawSafeBag::attribute(bag, LOCAL_KEY_ID) {
+        Some(found) => is_local_key_id(&found),
+        None => Err(Fail::new("no attribute")),
+    }
+}
+
+fn has_value(alloc: Global, bag: &RawSafeBag) -> Result<(), Fail> {
+    let value = RawSafeBag::value(bag);
+    expect(value == b"\x01\x01\xFF".as_slice(), "another value")?;
+    let typed = bag.value_typed::<IntegerAsn1>(alloc);
+    expect(typed.is_err(), "a BOOLEAN as INTEGER")
 }
 
 #[test]
 fn a_raw_key(rt: HostRuntime) -> Result<(), Fail> {
     let bag: RawSafeBag = from_bytes(rt.alloc(), KEY)?;
-    expect(
-        RawSafeBag::value(&bag) == b"\x01\x01\xFF".as_slice(),
-        "another value",
-    )?;
-    let typed = bag.value_typed::<IntegerAsn1>(rt.alloc());
-    expect(typed.is_err(), "a BOOLEAN as INTEGER")?;
+    has_value(rt.alloc(), &bag)?;
     has_raw_name(rt.alloc(), &bag)?;
+    has_raw_identifier(rt.alloc(), &bag)?;
     has_attributes(&bag)
 }
 
+fn holds_key(bag: Option<&&SafeBag>) -> bool {
+    bag.is_some_and(|bag| bag.is_key())
+}
+
+fn holds_certificate(bag: Option<&&SafeBag>) -> bool {
+    bag.and_then(|bag| bag.x509_certificate()) == Some(b"\x43")
+}
+
 /// Asks for three bags, of which the first holds a key, and the last, which is in the second, a certificate.
-fn are_all(all: &[&SafeBag], keys: &[&SafeBag], certificates: &[&SafeBag]) -> Result<(), Fail> {
-    expect(all.len() == 3, "other bags")?;
-    expect(keys.len() == 1 && keys.first() == all.first(), "other keys")?;
-    expect(
-        certificates.len() == 1 && certificates.first() == all.last(),
-        "other certificates",
-    )?;
-    let octets = all.last().and_then(|bag| bag.x509_certificate());
-    expect(octets == Some(b"\x43"), "another certificate")
+fn are_all(bags: &[&SafeBag]) -> Result<(), Fail> {
+    expect(bags.len() == 3, "other bags")?;
+    expect(holds_key(bags.first()), "another first bag")?;
+    expect(holds_certificate(bags.last()), "another last bag")
+}
+
+fn are_keys(bags: &[&SafeBag]) -> bool {
+    bags.len() == 1 && holds_key(bags.first())
+}
+
+fn are_certificates(bags: &[&SafeBag]) -> bool {
+    bags.len() == 1 && holds_certificate(bags.first())
+}
+
+fn has_bags(alloc: Global, contents: &SafeContents) -> Result<(), Fail> {
+    are_all(&SafeContents::all_bags(contents, alloc)?)?;
+    let keys = SafeContents::keys(contents, alloc)?;
+    expect(are_keys(&keys), "other keys")?;
+    let certificates = SafeContents::certificates(contents, alloc)?;
+    expect(are_certificates(&certificates), "other certificates")
 }
 
 #[test]
 fn bags_of_contents(rt: HostRuntime) -> Result<(), Fail> {
     let contents: SafeContents = from_bytes(rt.alloc(), BAGS)?;
-    let all = SafeContents::all_bags(&contents, rt.alloc())?;
-    let keys = SafeContents::keys(&contents, rt.alloc())?;
-    let certificates = SafeContents::certificates(&contents, rt.alloc())?;
-    are_all(&all, &keys, &certificates)
+    has_bags(rt.alloc(), &contents)
+}
+
+/// A file whose bags are read.
+type Store = Pfx<ParsedAuthenticatedSafeDataRepr>;
+
+fn has_bags_too(alloc: Global, store: &Store) -> Result<(), Fail> {
+    are_all(&Pfx::all_bags(store, alloc)?)?;
+    let keys = Pfx::keys(store, alloc)?;
+    expect(are_keys(&keys), "other keys")?;
+    let certificates = Pfx::certificates(store, alloc)?;
+    expect(are_certificates(&certificates), "other certificates")
 }
 
 #[test]
 fn bags_of_a_store(rt: HostRuntime) -> Result<(), Fail> {
-    let store: Pfx<ParsedAuthenticatedSafeDataRepr> = from_bytes(rt.alloc(), STORE)?;
-    let all = Pfx::all_bags(&store, rt.alloc())?;
-    let keys = Pfx::keys(&store, rt.alloc())?;
-    let certificates = Pfx::certificates(&store, rt.alloc())?;
-    are_all(&all, &keys, &certificates)
+    let store: Store = from_bytes(rt.alloc(), STORE)?;
+    has_bags_too(rt.alloc(), &store)
 }
 
 /// What a MAC would cover are the contents of the OCTET STRING in `authSafe`.

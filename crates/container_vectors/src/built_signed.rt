@@ -48,11 +48,15 @@ const INDIRECT_DATA: &[u8] = b"\x2B\x06\x01\x04\x01\x82\x37\x02\x01\x04";
 const OCTET_AS_INDIRECT_DATA: &[u8] = b"\
     \x30\x11\x06\x0A\x2B\x06\x01\x04\x01\x82\x37\x02\x01\x04\xA0\x03\x04\x01\x01";
 
+fn octet_as_indirect_data(alloc: Global) -> Result<EncapsulatedContentInfo, Error> {
+    let octets = Vec::from_slice(alloc, b"\x01")?;
+    let content_type = ObjectIdentifier::from_octets(alloc, INDIRECT_DATA)?;
+    Ok(EncapsulatedContentInfo::new(content_type, Some(octets)))
+}
+
 #[test]
 fn octets_as_indirect_data(rt: HostRuntime) -> Result<(), Fail> {
-    let octets = Vec::from_slice(rt.alloc(), b"\x01")?;
-    let content_type = ObjectIdentifier::from_octets(rt.alloc(), INDIRECT_DATA)?;
-    let info = EncapsulatedContentInfo::new(content_type, Some(octets));
+    let info = octet_as_indirect_data(rt.alloc())?;
     is_refused(rt.alloc(), &info, OCTET_AS_INDIRECT_DATA, Error::Invalid)
 }
 
@@ -63,10 +67,15 @@ const SIGNER: &[u8] = b"\
 const SIGNER_OF_VERSION_3: &[u8] = b"\
     \x30\x15\x02\x01\x03\x80\x00\x30\x05\x06\x03\x2A\x03\x04\x30\x05\x06\x03\x2A\x03\x04\x04\x00";
 
+fn signer_of_version_3(alloc: Global) -> Result<SignerInfo, Error> {
+    let mut signer: SignerInfo = from_bytes(alloc, SIGNER)?;
+    signer.version = CmsVersion::V3;
+    Ok(signer)
+}
+
 #[test]
 fn a_signer_of_version_3(rt: HostRuntime) -> Result<(), Fail> {
-    let mut signer: SignerInfo = from_bytes(rt.alloc(), SIGNER)?;
-    signer.version = CmsVersion::V3;
+    let signer = signer_of_version_3(rt.alloc())?;
     is_refused(rt.alloc(), &signer, SIGNER_OF_VERSION_3, Error::Invalid)
 }
 
@@ -96,10 +105,16 @@ const SIGNED_AS_DATA: &[u8] = b"\
 /// The object identifier of data.
 const DATA: &[u8] = b"\x2A\x86\x48\x86\xF7\x0D\x01\x07\x01";
 
+fn signed_as_data(alloc: Global) -> Result<Pkcs7Certificate, Error> {
+    let oid = object(alloc, DATA)?;
+    let mut signed: Pkcs7Certificate = from_bytes(alloc, SIGNED_DATA)?;
+    signed.oid = oid;
+    Ok(signed)
+}
+
 #[test]
 fn signed_data_as_data(rt: HostRuntime) -> Result<(), Fail> {
-    let mut signed: Pkcs7Certificate = from_bytes(rt.alloc(), SIGNED_DATA)?;
-    signed.oid = object(rt.alloc(), DATA)?;
+    let signed = signed_as_data(rt.alloc())?;
     is_refused(rt.alloc(), &signed, SIGNED_AS_DATA, Error::Invalid)
 }
 

@@ -2,6 +2,7 @@
 
 use crate::values::{is_ill_formed, is_refused};
 use asn1_core::{Asn1RawDer, Error, ObjectIdentifier, from_bytes};
+use std::alloc::Global;
 use std::test::Fail;
 use vector_checks::checks::expect;
 use x509_containers::{
@@ -17,10 +18,15 @@ const EMPTY_PFX: &[u8] = b"\
 const VERSION_2: &[u8] = b"\
     \x30\x16\x02\x01\x02\x30\x11\x06\x09\x2A\x86\x48\x86\xF7\x0D\x01\x07\x01\xA0\x04\x04\x02\x30\x00";
 
+fn of_version_2(alloc: Global) -> Result<Pfx<ParsedAuthenticatedSafeDataRepr>, Error> {
+    let mut pfx: Pfx<ParsedAuthenticatedSafeDataRepr> = from_bytes(alloc, EMPTY_PFX)?;
+    pfx.version = 2;
+    Ok(pfx)
+}
+
 #[test]
 fn a_file_of_version_2(rt: HostRuntime) -> Result<(), Fail> {
-    let mut pfx: Pfx<ParsedAuthenticatedSafeDataRepr> = from_bytes(rt.alloc(), EMPTY_PFX)?;
-    pfx.version = 2;
+    let pfx = of_version_2(rt.alloc())?;
     is_refused(rt.alloc(), &pfx, VERSION_2, Error::Invalid)
 }
 
@@ -52,16 +58,20 @@ fn holds_a_key(bag: &SafeBag) -> bool {
     }
 }
 
+/// A bag of that kind as one that isn't known.
+fn unknown_bag(alloc: Global) -> Result<SafeBag, Error> {
+    let type_id = ObjectIdentifier::from_octets(alloc, KEY_BAG_OID)?;
+    let value = Asn1RawDer(Vec::from_slice(alloc, b"\x01\x01\xFF")?);
+    Ok(SafeBag {
+        kind: SafeBagKind::Unknown { type_id, value },
+        attributes: None,
+    })
+}
+
 /// `Unknown` with the object identifier of key bags is read as `Key`.
 #[test]
 fn an_unknown_bag_of_a_known_kind(rt: HostRuntime) -> Result<(), Fail> {
-    let type_id = ObjectIdentifier::from_octets(rt.alloc(), KEY_BAG_OID)?;
-    let value = Asn1RawDer(Vec::from_slice(rt.alloc(), b"\x01\x01\xFF")?);
-    let bag = SafeBag {
-        kind: SafeBagKind::Unknown { type_id, value },
-        attributes: None,
-    };
-    is_ill_formed(rt.alloc(), &bag, KEY_BAG)?;
+    is_ill_formed(rt.alloc(), &unknown_bag(rt.alloc())?, KEY_BAG)?;
     let again: SafeBag = from_bytes(rt.alloc(), KEY_BAG)?;
     expect(holds_a_key(&again), "another kind of bag")
 }

@@ -1,5 +1,6 @@
 //! Kinds and modes by their words, and what an input of a kind is.
 
+use std::alloc::Global;
 use std::test::Fail;
 use vector_checks::checks::expect;
 use x509_containers::{
@@ -60,10 +61,13 @@ fn a_loose_input(rt: HostRuntime) -> Result<(), Fail> {
         encoding_len: 15,
     };
     expect(verdict == Ok(loose), "another verdict")?;
-    let mut out = Vec::from_slice(rt.alloc(), b"ab")?;
-    KindOfInput::rewrite(kind, rt.alloc(), 64, LOOSE, &mut out)?;
-    expect(
-        out.as_slice().strip_prefix(b"ab") == Some(NORMAL),
-        "another encoding",
-    )
+    is_rewritten(rt.alloc(), kind)
+}
+
+/// Asks that it is rewritten after what a buffer holds.
+fn is_rewritten(alloc: Global, kind: Kind) -> Result<(), Fail> {
+    let mut out = Vec::from_slice(alloc, b"ab")?;
+    KindOfInput::rewrite(kind, alloc, 64, LOOSE, &mut out)?;
+    let after = out.as_slice().strip_prefix(b"ab");
+    expect(after == Some(NORMAL), "another encoding")
 }

@@ -13,10 +13,14 @@ fn identifier(alloc: Global, text: &str) -> Result<RawAlgorithmIdentifier, Error
     Ok(RawAlgorithmIdentifier::from_parts(algorithm, None))
 }
 
+fn is_spelled(alloc: Global, known: &ObjectIdentifier, text: &str) -> Result<(), Fail> {
+    let found = ObjectIdentifier::to_text(known, alloc)?;
+    expect(found.as_str() == text, "another object identifier")
+}
+
 /// Asks that the algorithm identifier of a known algorithm has this object identifier, and no parameters.
 fn is_plain(alloc: Global, raw: &RawAlgorithmIdentifier, text: &str) -> Result<(), Fail> {
-    let algorithm = ObjectIdentifier::to_text(RawAlgorithmIdentifier::algorithm(raw), alloc)?;
-    expect(algorithm.as_str() == text, "another object identifier")?;
+    is_spelled(alloc, RawAlgorithmIdentifier::algorithm(raw), text)?;
     let parameters = RawAlgorithmIdentifier::parameters(raw);
     expect(parameters.is_none(), "parameters")
 }
@@ -35,7 +39,8 @@ const DIGESTS: [(&str, &str); 6] = [
 fn digests(rt: HostRuntime) -> Result<(), Fail> {
     for (text, word) in DIGESTS {
         let digest = Pkcs12DigestAlgorithm::from_raw(identifier(rt.alloc(), text)?);
-        assert_eq!(rt; Pkcs12DigestAlgorithm::name(&digest), word);
+        let name = Pkcs12DigestAlgorithm::name(&digest);
+        expect(name == word, "another digest")?;
         let raw = Pkcs12DigestAlgorithm::into_raw(digest, rt.alloc())?;
         is_plain(rt.alloc(), &raw, text)?;
     }
@@ -56,7 +61,8 @@ const FUNCTIONS: [(&str, &str); 6] = [
 fn functions(rt: HostRuntime) -> Result<(), Fail> {
     for (text, word) in FUNCTIONS {
         let function = Pbkdf2Prf::from_raw(identifier(rt.alloc(), text)?);
-        assert_eq!(rt; Pbkdf2Prf::name(&function), word);
+        let name = Pbkdf2Prf::name(&function);
+        expect(name == word, "another function")?;
         let raw = Pbkdf2Prf::into_raw(function, rt.alloc())?;
         is_plain(rt.alloc(), &raw, text)?;
     }
@@ -78,10 +84,10 @@ fn encryptions(rt: HostRuntime) -> Result<(), Fail> {
             "pbeWithSHA1And40BitRC2-CBC",
         ),
     ] {
-        assert_eq!(rt; Pbes1AlgorithmKind::name(&kind), word);
+        let name = Pbes1AlgorithmKind::name(&kind);
+        expect(name == word, "another encryption")?;
         let known = Pbes1AlgorithmKind::to_oid(&kind, rt.alloc())?;
-        let found = ObjectIdentifier::to_text(&known, rt.alloc())?;
-        assert_eq!(rt; found.as_str(), text);
+        is_spelled(rt.alloc(), &known, text)?;
     }
     Ok(())
 }
@@ -105,10 +111,10 @@ fn ciphers(rt: HostRuntime) -> Result<(), Fail> {
             "AES-256-CBC",
         ),
     ] {
-        assert_eq!(rt; Pbes2AesCbcEncryption::name(&kind), word);
+        let name = Pbes2AesCbcEncryption::name(&kind);
+        expect(name == word, "another cipher")?;
         let known = Pbes2AesCbcEncryption::to_oid(&kind, rt.alloc())?;
-        let found = ObjectIdentifier::to_text(&known, rt.alloc())?;
-        assert_eq!(rt; found.as_str(), text);
+        is_spelled(rt.alloc(), &known, text)?;
     }
     Ok(())
 }

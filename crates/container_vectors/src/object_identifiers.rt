@@ -18,13 +18,22 @@ const TEXTS: [(&str, &[u8]); 6] = [
     ),
 ];
 
+fn has_text(alloc: Global, identifier: &ObjectIdentifier, text: &str) -> Result<(), Fail> {
+    let again = ObjectIdentifier::to_text(identifier, alloc)?;
+    expect(again.as_str() == text, "another text")
+}
+
+/// Asks that the octets are those of the object identifier.
+fn are_octets_of(alloc: Global, octets: &[u8], identifier: &ObjectIdentifier) -> Result<(), Fail> {
+    expect(identifier.octets() == octets, "other octets of a text")?;
+    let of_octets = ObjectIdentifier::from_octets(alloc, octets)?;
+    expect(of_octets == *identifier, "another one of the octets")
+}
+
 fn has_both(alloc: Global, text: &str, octets: &[u8]) -> Result<(), Fail> {
     let of_text = ObjectIdentifier::from_text(alloc, text)?;
-    expect(of_text.octets() == octets, "other octets of a text")?;
-    let of_octets = ObjectIdentifier::from_octets(alloc, octets)?;
-    expect(of_octets == of_text, "another one of the octets")?;
-    let again = ObjectIdentifier::to_text(&of_octets, alloc)?;
-    expect(again.as_str() == text, "another text")
+    are_octets_of(alloc, octets, &of_text)?;
+    has_text(alloc, &of_text, text)
 }
 
 #[test]

@@ -4,6 +4,7 @@ use std::alloc::{AllocError, Global};
 use std::env::{self, Env, FillError};
 use std::io::{self, ErrorKind};
 use std::test::Fail;
+use vector_checks::checks::expect;
 use x509_containers::program::{WordsError, words_of};
 
 /// The words of a command line.
@@ -45,22 +46,42 @@ fn barred(alloc: Global, words: &[String]) -> Result<String, AllocError> {
     Ok(all)
 }
 
+fn has_words(alloc: Global, words: &[&[u8]], wanted: &str) -> Result<(), Fail> {
+    let all = barred(alloc, &read_words(alloc, words)?)?;
+    expect(all.as_str() == wanted, "other words")
+}
+
+fn is_error(alloc: Global, kind: ErrorKind, error: WordsError, text: &str) -> Result<(), Fail> {
+    let made = WordsError::from(io::Error::from(kind));
+    expect(made == error, "another error")?;
+    expect(
+        format!(in alloc; "{error}")?.as_str() == text,
+        "another text",
+    )
+}
+
 /// Words are read whole, empty ones and none at all too.
 #[test]
 fn words_of_a_command_line(rt: HostRuntime) -> Result<(), Fail> {
-    let none = read_words(rt.alloc(), &[])?;
-    assert!(rt; none.is_empty());
-    let words = read_words(rt.alloc(), &[b"derbox", b"", b"check", b"\xC3\xA9"])?;
-    let all = barred(rt.alloc(), &words)?;
-    assert_eq!(rt; all.as_str(), "derbox||check|\u{E9}|");
-    let not_utf8 = read_words(rt.alloc(), &[b"derbox", b"\xC3\x28"]);
-    assert_eq!(rt; not_utf8.err(), Some(WordsError::NotUtf8));
-    for (kind, error, text) in [
-        (ErrorKind::OutOfMemory, WordsError::Memory, "no memory"),
-        (ErrorKind::InvalidData, WordsError::NotUtf8, "not UTF-8"),
-    ] {
-        assert_eq!(rt; WordsError::from(io::Error::from(kind)), error);
-        assert_eq!(rt; format!(in rt.alloc(); "{error}")?.as_str(), text);
-    }
-    Ok(())
+    let alloc = rt.alloc();
+    has_words(alloc, &[], "")?;
+    let words: [&[u8]; 4] = [b"derbox", b"", b"check", b"\xC3\xA9"];
+    has_words(alloc, &words, "derbox||check|\u{E9}|")?;
+    let not_utf8 = read_words(alloc, &[b"derbox", b"\xC3\x28"]).err();
+    expect(
+        not_utf8 == Some(WordsError::NotUtf8),
+        "words that aren't UTF-8",
+    )?;
+    is_error(
+        alloc,
+        ErrorKind::OutOfMemory,
+        WordsError::Memory,
+        "no memory",
+    )?;
+    is_error(
+        alloc,
+        ErrorKind::InvalidData,
+        WordsError::NotUtf8,
+        "not UTF-8",
+    )
 }

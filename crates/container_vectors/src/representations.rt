@@ -26,13 +26,17 @@ fn is_appended(alloc: Global, data: &Vec<u8>) -> Result<(), Fail> {
     )
 }
 
+fn holds_octets(alloc: Global, pfx: &Pfx<OctetsRepr>) -> Result<(), Fail> {
+    match &pfx.auth_safe {
+        AuthenticatedSafeContentInfo::Data(data) => is_appended(alloc, data),
+        _ => Err(Fail::new("no data")),
+    }
+}
+
 #[test]
 fn octets_as_data(rt: HostRuntime) -> Result<(), Fail> {
     let pfx: Pfx<OctetsRepr> = is_rewritten(rt.alloc(), OCTETS_PFX, OCTETS_PFX)?;
-    match &pfx.auth_safe {
-        AuthenticatedSafeContentInfo::Data(data) => is_appended(rt.alloc(), data),
-        _ => Err(Fail::new("no data")),
-    }
+    holds_octets(rt.alloc(), &pfx)
 }
 
 #[test]

@@ -34,13 +34,14 @@ fn is_read(
     let mut source = Trickle::new(WITHOUT_NULL, reads_left);
     let mut sink = StdSink::new(Vec::new(alloc));
     let ran = run(alloc, &mut source, &mut sink, mode, kind);
-    expect(ran == outcome, "another outcome")?;
     let failures = u64::from(outcome == Outcome::ReadFailed);
-    expect(source.failures() == failures, "other failures")?;
-    expect(
-        sink.into_inner().as_slice() == written,
-        "something else is written",
-    )
+    let is_same = ran == outcome && source.failures() == failures;
+    expect(is_same, "another outcome, or other failures")?;
+    is_all(&sink.into_inner(), written)
+}
+
+fn is_all(taken: &[u8], written: &[u8]) -> Result<(), Fail> {
+    expect(taken == written, "something else is written")
 }
 
 /// Each read fails in turn, and nothing is written; a source that gives a byte a read makes no difference.
@@ -75,12 +76,9 @@ fn is_written_in_part(
     let mut sink = Narrow::new(alloc, 1, written.len());
     sink.full = full;
     let ran = run(alloc, &mut source, &mut sink, mode, kind);
-    expect(ran == Outcome::WriteFailed, "another outcome")?;
-    expect(sink.failures() == 1, "other failures")?;
-    expect(
-        sink.taken.as_slice() == written,
-        "something else is written",
-    )
+    let has_failed = ran == Outcome::WriteFailed && sink.failures() == 1;
+    expect(has_failed, "another outcome, or other failures")?;
+    is_all(&sink.taken, written)
 }
 
 /// Each write of one byte fails in turn, or takes nothing, after a beginning of what is written.

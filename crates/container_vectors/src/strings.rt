@@ -10,29 +10,41 @@ use x509_containers::{
 
 #[test]
 fn ascii(rt: HostRuntime) -> Result<(), Fail> {
-    let url = IA5String::new(Vec::from_slice(rt.alloc(), b"http://a/\x7F")?)?;
-    expect(
-        IA5String::as_bytes(&url) == b"http://a/\x7F".as_slice(),
-        "other octets",
-    )?;
+    is_ascii(rt.alloc(), b"http://a/\x7F")?;
     let refused = IA5String::new(Vec::from_slice(rt.alloc(), b"a\x80")?).err();
     expect(refused == Some(CharSetError), "an octet above 7F")
+}
+
+fn is_ascii(alloc: Global, octets: &[u8]) -> Result<(), Fail> {
+    let url = IA5String::new(Vec::from_slice(alloc, octets)?)?;
+    expect(IA5String::as_bytes(&url) == octets, "other octets")
 }
 
 /// What is well-formed UTF-8: not a surrogate, nor a character in more octets than it needs.
 #[test]
 fn utf8(rt: HostRuntime) -> Result<(), Fail> {
-    let name = Utf8String::new(Vec::from_slice(rt.alloc(), b"\xC3\xA9\xF0\x9F\x98\x80")?)?;
-    expect(
-        Utf8String::as_bytes(&name) == "é😀".as_bytes(),
-        "other octets",
-    )?;
+    is_utf8(rt.alloc(), b"\xC3\xA9\xF0\x9F\x98\x80", "é😀")?;
     let texts: [&[u8]; 4] = [b"\xC3", b"\xC0\xAF", b"\xED\xA0\xBD", b"\xF4\x90\x80\x80"];
     for octets in texts {
-        let refused = Utf8String::new(Vec::from_slice(rt.alloc(), octets)?).err();
-        assert_eq!(rt; refused, Some(CharSetError), "{octets:?}");
+        is_no_utf8(rt.alloc(), octets)?;
     }
     Ok(())
+}
+
+fn is_utf8(alloc: Global, octets: &[u8], text: &str) -> Result<(), Fail> {
+    let name = Utf8String::new(Vec::from_slice(alloc, octets)?)?;
+    expect(
+        Utf8String::as_bytes(&name) == text.as_bytes(),
+        "other octets",
+    )
+}
+
+fn is_no_utf8(alloc: Global, octets: &[u8]) -> Result<(), Fail> {
+    let refused = Utf8String::new(Vec::from_slice(alloc, octets)?).err();
+    if refused == Some(CharSetError) {
+        return Ok(());
+    }
+    Err(Fail::new(format_args!("it isn't refused: {octets:?}")))
 }
 
 /// Units of two octets, none of them a surrogate.

@@ -4,7 +4,8 @@ use std::alloc::Global;
 use std::test::Fail;
 use vector_checks::checks::expect;
 use x509_containers::{
-    Attributes, DerSerialize, IntegerAsn1, OctetStringAsn1, from_bytes, only_value_as, to_vec,
+    Attribute, Attributes, DerSerialize, IntegerAsn1, OctetStringAsn1, from_bytes, only_value_as,
+    to_vec,
 };
 
 /// An INTEGER under 1.2.3.4; nothing, and then two INTEGERs under 1.2.3.5; an OCTET STRING under 1.2.3.6.
@@ -14,18 +15,25 @@ const ATTRIBUTES: &[u8] = b"\
     \x30\x0D\x06\x03\x2A\x03\x05\x31\x06\x02\x01\x06\x02\x01\x07\
     \x30\x0B\x06\x03\x2A\x03\x06\x31\x04\x04\x02AB";
 
+fn has_octets(alloc: Global, all: &[Attribute]) -> Result<(), Fail> {
+    match only_value_as::<OctetStringAsn1>(alloc, all, b"\x2A\x03\x06")? {
+        Some(octets) => expect(octets.0.as_slice() == b"AB".as_slice(), "other octets"),
+        None => Err(Fail::new("nothing")),
+    }
+}
+
+fn has_no_number(alloc: Global, all: &[Attribute]) -> Result<(), Fail> {
+    let refused = only_value_as::<IntegerAsn1>(alloc, all, b"\x2A\x03\x06");
+    expect(refused.is_err(), "octets as a number")?;
+    let none = only_value_as::<IntegerAsn1>(alloc, all, b"\x2A\x03\x07")?;
+    expect(none.is_none(), "a number")
+}
+
 #[test]
 fn read_as_a_type(rt: HostRuntime) -> Result<(), Fail> {
-    let alloc = rt.alloc();
-    let attributes: Attributes = from_bytes(alloc, ATTRIBUTES)?;
-    let all = attributes.0.0.as_slice();
-    match only_value_as::<OctetStringAsn1>(alloc, all, b"\x2A\x03\x06")? {
-        Some(octets) => assert_eq!(rt; octets.0.as_slice(), b"AB".as_slice()),
-        None => return Err(Fail::new(format_args!("nothing"))),
-    }
-    assert!(rt; only_value_as::<IntegerAsn1>(alloc, all, b"\x2A\x03\x06").is_err());
-    assert!(rt; only_value_as::<IntegerAsn1>(alloc, all, b"\x2A\x03\x07")?.is_none());
-    Ok(())
+    let attributes: Attributes = from_bytes(rt.alloc(), ATTRIBUTES)?;
+    has_octets(rt.alloc(), attributes.0.0.as_slice())?;
+    has_no_number(rt.alloc(), attributes.0.0.as_slice())
 }
 
 /// Signed attributes of a signer: `id-data` as the content type, a digest of two octets, a signing time.
@@ -62,8 +70,11 @@ fn is_found<T: DerSerialize + Drop>(
 /// Each by its name, and all as the signature covers them.
 #[test]
 fn of_a_signer(rt: HostRuntime) -> Result<(), Fail> {
-    let alloc = rt.alloc();
-    let attributes: Attributes = from_bytes(alloc, SIGNED)?;
+    let attributes: Attributes = from_bytes(rt.alloc(), SIGNED)?;
+    are_found(rt.alloc(), &attributes)
+}
+
+fn are_found(alloc: Global, attributes: &Attributes) -> Result<(), Fail> {
     is_found(alloc, attributes.content_type(alloc)?, ID_DATA)?;
     is_found(alloc, attributes.message_digest(alloc)?, b"\x04\x02AB")?;
     is_found(alloc, attributes.signing_time(alloc)?, TIME)?;

@@ -6,8 +6,8 @@ use std::alloc::Global;
 use std::test::Fail;
 use vector_checks::checks::expect;
 use x509_containers::{
-    Asn1SetOf, ContentValue, EncapsulatedContentInfo, PageHashes, Pkcs7Certificate, SignerInfo,
-    SpcAttributeAndOptionalValueValue, SpcPeImageData, from_bytes, nested_signatures,
+    Asn1SetOf, ContentValue, EncapsulatedContentInfo, PageHashes, Pkcs7Certificate, SignedData,
+    SignerInfo, SpcAttributeAndOptionalValueValue, SpcPeImageData, from_bytes, nested_signatures,
     page_hash_octets, signers,
 };
 
@@ -134,14 +134,20 @@ fn is_signature(
     hashes: &[u8],
 ) -> Result<(), Fail> {
     let read: Pkcs7Certificate = from_bytes(alloc, signature)?;
-    for signer in signers(&read.signed_data.0) {
+    has_nested(alloc, &read.signed_data.0, nested)?;
+    has_hashes(&read.signed_data.0.content_info, hashes)
+}
+
+fn has_hashes(info: &EncapsulatedContentInfo, wanted: &[u8]) -> Result<(), Fail> {
+    let hashes = image_in(info).and_then(page_hash_octets);
+    expect(hashes == Some(wanted), "other page hashes")
+}
+
+fn has_nested(alloc: Global, signed: &SignedData, nested: Option<&[u8]>) -> Result<(), Fail> {
+    for signer in signers(signed) {
         is_nested(alloc, signer, nested)?;
     }
-    let image = image_in(&read.signed_data.0.content_info);
-    expect(
-        image.and_then(page_hash_octets) == Some(hashes),
-        "other page hashes",
-    )
+    Ok(())
 }
 
 /// Of each signature its nested one, its page hashes, and their entries.

@@ -95,13 +95,16 @@ fn is_null(parameters: Option<&Asn1RawDer>) -> bool {
 /// Absent parameters stay absent.
 #[test]
 fn algorithms(rt: HostRuntime) -> Result<(), Fail> {
-    let alloc = rt.alloc();
-    let without = AlgorithmIdentifier::from_parts(sha_1(alloc)?, None);
-    let algorithm = AlgorithmIdentifier::algorithm(&without);
+    let without = AlgorithmIdentifier::from_parts(sha_1(rt.alloc())?, None);
+    is_sha_1(rt.alloc(), &without)
+}
+
+fn is_sha_1(alloc: Global, without: &AlgorithmIdentifier) -> Result<(), Fail> {
+    let algorithm = AlgorithmIdentifier::algorithm(without);
     expect(algorithm.octets() == SHA_1, "another algorithm")?;
-    let parameters = AlgorithmIdentifier::parameters(&without);
+    let parameters = AlgorithmIdentifier::parameters(without);
     expect(parameters.is_none(), "parameters")?;
-    is_written(alloc, &without, b"\x30\x07\x06\x05\x2B\x0E\x03\x02\x1A")
+    is_written(alloc, without, b"\x30\x07\x06\x05\x2B\x0E\x03\x02\x1A")
 }
 
 #[test]
@@ -120,15 +123,18 @@ fn algorithms_with_parameters(rt: HostRuntime) -> Result<(), Fail> {
 /// Absent parameters are written as NULL.
 #[test]
 fn raw_algorithms(rt: HostRuntime) -> Result<(), Fail> {
-    let alloc = rt.alloc();
-    let without = RawAlgorithmIdentifier::from_parts(sha_1(alloc)?, None);
-    let algorithm = RawAlgorithmIdentifier::algorithm(&without);
+    let without = RawAlgorithmIdentifier::from_parts(sha_1(rt.alloc())?, None);
+    is_raw_sha_1(rt.alloc(), &without)
+}
+
+fn is_raw_sha_1(alloc: Global, without: &RawAlgorithmIdentifier) -> Result<(), Fail> {
+    let algorithm = RawAlgorithmIdentifier::algorithm(without);
     expect(algorithm.octets() == SHA_1, "another algorithm")?;
-    let parameters = RawAlgorithmIdentifier::parameters(&without);
+    let parameters = RawAlgorithmIdentifier::parameters(without);
     expect(parameters.is_none(), "parameters")?;
     is_written(
         alloc,
-        &without,
+        without,
         b"\x30\x09\x06\x05\x2B\x0E\x03\x02\x1A\x05\x00",
     )
 }
@@ -179,6 +185,10 @@ fn contents_of_a_foreign_type(rt: HostRuntime) -> Result<(), Fail> {
     let content_type = ObjectIdentifier::from_text(alloc, "1.2.3.4")?;
     let octets = Vec::from_slice(alloc, b"\x01")?;
     let made = EncapsulatedContentInfo::new(content_type, Some(octets));
+    is_foreign(alloc, &made)
+}
+
+fn is_foreign(alloc: Global, made: &EncapsulatedContentInfo) -> Result<(), Fail> {
     expect(
         matches!(
             &made.content,
@@ -186,12 +196,16 @@ fn contents_of_a_foreign_type(rt: HostRuntime) -> Result<(), Fail> {
         ),
         "another alternative is made",
     )?;
-    is_written(alloc, &made, FOREIGN)
+    is_written(alloc, made, FOREIGN)
 }
 
 #[test]
 fn contents_of_a_foreign_type_again(rt: HostRuntime) -> Result<(), Fail> {
     let read: EncapsulatedContentInfo = from_bytes(rt.alloc(), FOREIGN)?;
+    holds_octet(&read)
+}
+
+fn holds_octet(read: &EncapsulatedContentInfo) -> Result<(), Fail> {
     match &read.content {
         Some(ExplicitContextTag0(ContentValue::OctetString(octets))) => {
             expect(octets.0.as_slice() == b"\x01".as_slice(), "other octets")

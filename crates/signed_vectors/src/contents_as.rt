@@ -25,13 +25,17 @@ fn is_sequence(octets: &OctetStringAsn1) -> Result<(), Fail> {
     )
 }
 
+fn holds_sequence(alloc: Global, info: &ContentInfo) -> Result<(), Fail> {
+    expect(ContentInfo::content(info) == OCTETS, "another content")?;
+    let refused = ContentInfo::content_typed::<SafeContents>(info, alloc).err();
+    expect(refused == Some(Error::Invalid), "octets as bags")?;
+    is_sequence(&ContentInfo::content_typed(info, alloc)?)
+}
+
 #[test]
 fn of_a_file(rt: HostRuntime) -> Result<(), Fail> {
     let info: ContentInfo = from_bytes(rt.alloc(), DATA)?;
-    expect(ContentInfo::content(&info) == OCTETS, "another content")?;
-    let refused = ContentInfo::content_typed::<SafeContents>(&info, rt.alloc()).err();
-    expect(refused == Some(Error::Invalid), "octets as bags")?;
-    is_sequence(&ContentInfo::content_typed(&info, rt.alloc())?)
+    holds_sequence(rt.alloc(), &info)
 }
 
 #[test]
@@ -62,12 +66,14 @@ fn is_empty_sequence(alloc: Global, repr: &Contents) -> Result<(), Fail> {
     let mut compare = Compare::new(b"\x30\x00");
     expect(Repr::put_repr(repr, &mut compare).is_ok(), "a refusal")?;
     expect(compare.is_same(), "another encoding")?;
+    is_sent(alloc, repr)
+}
+
+fn is_sent(alloc: Global, repr: &Contents) -> Result<(), Fail> {
     let mut sink = Narrow::new(alloc, 1, 2);
-    expect(Repr::emit_repr(repr, &mut sink).is_ok(), "a failure")?;
-    expect(
-        sink.taken.as_slice() == b"\x30\x00".as_slice(),
-        "other bytes",
-    )
+    let sent = ParsedAuthenticatedSafeDataRepr::emit_repr(repr, &mut sink);
+    let is_all = sent.is_ok() && sink.taken.as_slice() == b"\x30\x00".as_slice();
+    expect(is_all, "a failure, or other bytes")
 }
 
 #[test]

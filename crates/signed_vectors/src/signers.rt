@@ -4,9 +4,9 @@ use std::alloc::Global;
 use std::test::Fail;
 use vector_checks::checks::expect;
 use x509_containers::{
-    CertificateChoices, CertificateSet, EncapsulatedContentInfo, Pkcs7Certificate, SignedData,
-    SignerIdentifier, TryClone, certificate_element, certificates, from_bytes, hashed_octets,
-    signer_certificate, signers,
+    CertificateChoices, CertificateSet, EncapsulatedContentInfo, Error, Pkcs7Certificate,
+    SignedData, SignerIdentifier, TryClone, certificate_element, certificates, from_bytes,
+    hashed_octets, signer_certificate, signers,
 };
 
 /// "hello, world", signed by the first of two certificates. That has the serial number 2 and 06 07 08 as its key's
@@ -74,18 +74,24 @@ fn is_named_by(
     is_signed_by(alloc, all, &signer, wanted)
 }
 
-/// Asks for the certificate of each signer among others that aren't read as certificates, which are passed over.
-fn is_found_after_others(
-    alloc: Global,
-    signed: &SignedData,
-    wanted: Option<&[u8]>,
-) -> Result<(), Fail> {
+/// The certificates after others that aren't read as certificates.
+fn after_others(alloc: Global, signed: &SignedData) -> Result<Vec<CertificateChoices>, Error> {
     let CertificateSet(mut all) = from_bytes(alloc, b"\xA0\x04\x30\x00\xA1\x00")?;
     for certificate in certificates(signed) {
         all.push(certificate.try_clone(alloc)?)?;
     }
+    Ok(all)
+}
+
+/// Asks that this is the certificate of each signer.
+fn are_signed_by(
+    alloc: Global,
+    all: &[CertificateChoices],
+    signed: &SignedData,
+    wanted: Option<&[u8]>,
+) -> Result<(), Fail> {
     for signer in signers(signed) {
-        is_signed_by(alloc, &all, &signer.sid, wanted)?;
+        is_signed_by(alloc, all, &signer.sid, wanted)?;
     }
     Ok(())
 }
@@ -102,10 +108,8 @@ fn is_verified(alloc: Global, signed: &SignedData) -> Result<(), Fail> {
     let (first, second) = (signed_file().get(74..357), signed_file().get(357..643));
     let kept = all.first().map(|one| certificate_element(one).0.as_slice());
     expect(kept == first, "another first certificate")?;
-    for signer in signers(signed) {
-        is_signed_by(alloc, all, &signer.sid, first)?;
-    }
-    is_found_after_others(alloc, signed, first)?;
+    are_signed_by(alloc, all, signed, first)?;
+    are_signed_by(alloc, &after_others(alloc, signed)?, signed, first)?;
     is_named_by(alloc, all, b"\x80\x03\x06\x07\x08", first)?;
     is_named_by(alloc, all, b"\x80\x05\x01\x02\x03\x04\x05", second)?;
     is_named_by(alloc, all, b"\x80\x02\x06\x07", None)
