@@ -220,8 +220,10 @@ def page_with(table):
     machine, by_phase, by_crate = blocks[1], blocks[2], blocks[3]
     said = {row[0]: row[-1] for row in (*machine, *by_phase)}
     names = [*PHASES, "not seen", "sum"]
-    lines = [f"{said['processors']} processors, of which `rt selftest` takes {said['processor seconds of rt selftest']} "
-             f"seconds; {said['minutes of the clock']} minutes of the clock; processor minutes by phase:", "",
+    seconds = float(said["processor seconds of rt selftest"])
+    lines = [f"{said['processors']} processors, of which `rt selftest` takes {seconds} seconds; {said['minutes of the clock']} "
+             "minutes of the clock. Machines differ: at the speed of one on which `rt selftest` takes 60 seconds, the sum "
+             f"would be {float(said['sum']) * 60 / seconds:.1f} processor minutes. By phase:", "",
              f"|{'|'.join(names)}|", f"|{'---|' * len(names)}", f"|{'|'.join(said[name] for name in names)}|", "",
              f"The {ROWS_IN_PAGE} crates that take most, in processor minutes, and the gigabytes of the greatest process:", "",
              "|crate|proof|edits|tests|sum|GB|", "|---|---|---|---|---|---|"]

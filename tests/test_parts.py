@@ -1,7 +1,8 @@
 """Each part of a container that der_part_octets copies is that which is found element by element: of rows, of changed
-ones, and of containers with hundreds of bags, certificates and signers; of indices up to one past the last; in Python,
-in Rust (rust/examples/parts.rs), and into just the room that the part needs. Where that is an octet less, nothing is
-written; and where a container is refused, so is each of its parts, at the place that a reader of tests/oracle finds."""
+ones, and of containers with hundreds of bags, certificates and signers; of indices up to one past the last, in steps
+where there are many; in Python, in Rust (rust/examples/parts.rs), and into just the room that the part needs. Where that
+is an octet less, nothing is written; and where a container is refused, so is each of its parts, at the place that a
+reader of tests/oracle finds."""
 import functools
 import random
 import unittest
@@ -18,6 +19,9 @@ from vuyhanip.der import MAC_PARTS, Part
 
 # How many changed ones of each container are asked for their parts.
 CHANGES = 12
+# Each part is asked for where the last index is below ALL. Else those at both ends and around 128 and 256 are, where an
+# index gets a bit more or an octet more, and one of STEP of the others.
+ALL, STEP = 64, 16
 
 
 def signed_found(text):
@@ -50,6 +54,15 @@ def found_parts(text):
 def indices(found):
     """The indices of parts, up to the last."""
     return range(1 + max((index for _, index in found), default=-1))
+
+
+def asked_indices(found):
+    """The indices that are asked for, up to one past the last."""
+    after = len(indices(found))
+    if after <= ALL:
+        return range(after + 1)
+    chosen = {*range(0, after, STEP), *(it for end in (0, 128, 256, after) for it in range(end - 2, end + 3))}
+    return sorted(it for it in chosen if 0 <= it <= after)
 
 
 def rust_lines(text):
@@ -94,7 +107,7 @@ class OfParts(InRooms):
         for parts, status, where, found in found_parts(text):
             for part in parts:
                 is_one = part in MAC_PARTS or part is Part.HASHED_CONTENT
-                for index in range(len(indices(found)) + 1):
+                for index in asked_indices(found):
                     wanted = found.get((part, 0 if is_one else index))
                     self.same_part(part, index, text, status, where, wanted)
         groups = found_parts(text)

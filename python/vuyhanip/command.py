@@ -448,6 +448,7 @@ def add_terms(words: argparse.ArgumentParser) -> None:
     words.add_argument("--ask-password", action="store_true", help="ask for the password of a store")
 
 
+@functools.lru_cache(maxsize=None)
 def parser() -> argparse.ArgumentParser:
     """The words of the command."""
     made = argparse.ArgumentParser(
