@@ -23,7 +23,9 @@ WEAK_SIGNATURES = (
     *(f"1.3.14.3.2.{it}" for it in (3, 27, 29)),
     *("1.2.840.10045.4.1", "1.2.840.10040.4.3"),
 )
-# The same digests as openssl names them in what it prints of a time stamp.
+# openssl takes the name of such an algorithm for its digest's.
+WEAK_AS_DIGESTS = (*WEAK_DIGESTS, *WEAK_SIGNATURES)
+# What is in the names of the same by which openssl prints what a time stamp is over.
 WEAK_NAMES = ("md2", "md4", "md5", "sha1")
 # How many bits a modulus and the field of a curve need; and an exponent, beside a modulus of more bits, has at most.
 LEAST_RSA, LEAST_CURVE, MOST_EXPONENT, SMALL_RSA = 2048, 224, 64, 3072
@@ -224,11 +226,11 @@ def weak_digest(case: Case, number: int) -> str:
     signer = case.signers[number]
     if isinstance(signer, der.BadAttributes):
         return ""
-    if signer.digest_oid in WEAK_DIGESTS:
+    if signer.digest_oid in WEAK_AS_DIGESTS:
         return f"the digest {name_of(signer.digest_oid)}"
     if signer.signature_oid in WEAK_SIGNATURES:
         return f"the signature algorithm {name_of(signer.signature_oid)}"
-    if case.stamp is not None and case.stamp.digest in WEAK_NAMES:
+    if case.stamp is not None and any(it in case.stamp.digest.lower() for it in WEAK_NAMES):
         return f"the digest {case.stamp.digest} of what is stamped"
     return ""
 

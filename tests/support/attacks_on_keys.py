@@ -29,6 +29,8 @@ from .signing import (
     signed_data,
 )
 
+# The algorithm of a key on a curve, which some signers name as that of their signatures.
+EC = "1.2.840.10045.2.1"
 # The order of each curve (SEC 2, 2.4.2 and 2.5.1).
 ORDERS = {
     "p256": 0xFFFFFFFF00000000FFFFFFFFFFFFFFFFBCE6FAADA7179E84F3B9CAC2FC632551,
@@ -357,6 +359,11 @@ def weak_signers():
     yield "SHA-1 in RSASSA-PSS", Signer("pss", digest="sha1"), {}, digest
     yield "SHA-1 without attributes", Signer("rsa", digest="sha1", attributes=None), {}, digest
     yield "MD5 without attributes", Signer("rsa", digest="md5", attributes=None), {}, digest
+    for name in ("sha1", "md5"):
+        named = algorithm(WITH_RSA[name], NULL)
+        for by, of in (("rsa", algorithm(RSA, NULL)), ("p256", algorithm(EC))):
+            signer = Signer(by, digest=name, digest_algorithm=named, algorithm=of)
+            yield f"{name} by the name of its signatures, {by}", signer, {"digests": [named]}, digest
     yield "RSA of 1024 bits", Signer("short"), {}, short
     yield "RSA of 1024 bits by a key identifier", Signer("short", keyid=True), {"version": 3}, short
     yield "RSA of 1024 bits without attributes", Signer("short", attributes=None), {}, short

@@ -298,11 +298,11 @@ def indirect_data():
 # ---- time stamps
 
 
-def stamp_info(data, digest="sha256", imprint=None, version=1):
-    """A TSTInfo over octets (RFC 3161, 2.4.2)."""
+def stamp_info(data, digest="sha256", imprint=None, version=1, named=None):
+    """A TSTInfo over octets (RFC 3161, 2.4.2), whose digest may have another name than its own."""
     hashed = digest_of(digest, data) if imprint is None else imprint
     time = element(0x18, b"20261129000000Z")
-    imprinted = sequence(algorithm(DIGESTS[digest], NULL), octet_string(hashed))
+    imprinted = sequence(algorithm(named or DIGESTS[digest], NULL), octet_string(hashed))
     return sequence(integer(version), oid("1.2.3.4.1"), imprinted, integer(7), time)
 
 
@@ -369,6 +369,10 @@ def wrong_stamps(data):
     yield "without a signer", none, "tsa", "no-signers"
     yield "by SHA-1", token(data, digest="sha1", attributes=[
         *attributes_of(info, "TSTInfo", "sha1"), *stamp_attributes(info, whole)[2:]]), "tsa", "weak-digest"
+    for name in ("sha1", "md5"):
+        yield f"over a digest {name}", token(data, info=stamp_info(data, name)), "tsa", "weak-digest"
+        by_signatures = stamp_info(data, name, named=signing.WITH_RSA[name])
+        yield f"over a digest {name} by the name of its signatures", token(data, info=by_signatures), "tsa", "weak-digest"
     yield "by a key of 1024 bits", token(data, "short", stamping("short-tsa", "short")), "short-tsa", "weak-rsa"
     yield "whose content is data", Signer("tsa", content=info).file(), "tsa", None
 
