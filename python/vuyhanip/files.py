@@ -19,6 +19,8 @@ PIECE = 1 << 20
 # be the last octet of a line that begins it.
 BEGIN, END, DASHES, BLANK = b"-----BEGIN ", b"-----END ", b"-----", b" \t\n\v\f\r"
 LAST_OF_LINE = b"- \t\r"
+# Why no block is read where another reader may find more of them.
+HIDDEN = "PEM with BEGIN in a line that begins no block"
 # A header line in it (RFC 1421, 4.6).
 HEADER = re.compile(rb"^[A-Za-z0-9-]+:.*(?:\n[ \t].*)*\n?", re.M)
 # The content type data (RFC 5652, 4), and the algorithm whose parameters say how a MAC's key is derived (RFC 9579, 3).
@@ -229,6 +231,13 @@ def blocks(data: bytes) -> Iterator[Block]:
         yield Block(label, data[start : max(start, end)], end >= 0)
 
 
+def _hides_a_block(data: bytes, are_ended: List[bool]) -> bool:
+    """Whether a BEGIN is in a line that begins no block here, where all blocks have an end: to other readers it may begin
+    one. At the end of a line openssl leaves out what isn't printed or isn't ASCII, all after a zero, and all of a long
+    one."""
+    return all(are_ended) and data.count(BEGIN) > len(are_ended)
+
+
 def is_der(data: bytes) -> bool:
     """Whether octets begin as a SEQUENCE whose length isn't in one octet, or are one from the first octet to the last, so
     that no text is before a block of PEM in them."""
@@ -251,13 +260,19 @@ def given(data: bytes, strict: bool) -> Given:
         if by_first_octets(data) is None and not (first.is_ended and by_label(first.label)):
             raise
         return Given(data, label=first.label)
-    count = sum(1 for _ in _places(data))
+    are_ended = [end >= 0 for _, _, end in _places(data)]
+    if _hides_a_block(data, are_ended):
+        raise NoPem(HIDDEN)
+    count = len(are_ended)
     return Given(octets, ("PEM" if count == 1 else f"PEM block 1 of {count}",), label=first.label)
 
 
 def held(data: bytes, strict: bool) -> Iterator[Union[Given, NoPem]]:
-    """What a file holds: its octets, or those of each block of PEM, or why a block has none."""
+    """What a file holds: its octets, or those of each block of PEM, or why a block has none, or all of them."""
     found = [] if strict or is_der(data) else list(blocks(data))
+    if found and _hides_a_block(data, [it.is_ended for it in found]):
+        yield NoPem(HIDDEN)
+        return
     for number, it in enumerate(found, 1):
         try:
             form = "PEM" if len(found) == 1 else f"PEM block {number} of {len(found)}"

@@ -292,6 +292,15 @@ def blocks_of_pem():
     ):
         question = pem_question(f"PEM with {name}")
         yield attack(f"PEM with {name}", text, rule, questions=(question,))
+    for name, more in (
+        ("a control character", b"\1"),
+        ("a zero and text", b"\0text"),
+        ("a blank that isn't ASCII", b"\xc2\xa0"),
+        ("many blanks, and text", 300 * b" " + b"text"),
+    ):
+        hidden = bad.replace(b"-----BEGIN CMS-----", b"-----BEGIN CMS-----" + more)
+        name = f"PEM whose first block, which is wrong, has {name} in its first line"
+        yield attack(name, hidden + good, UNNAMED, questions=(pem_question(name),))
     inner = put("inner.file", right + b"\0")
     yield attack("PEM of a file with a zero after it", pem(right + b"\0", "CMS"), UNNAMED, questions=(cms(inner),))
 
