@@ -156,11 +156,11 @@ def attributes_as_content(case: Case, number: int) -> str:
 
 def unread_certificate(case: Case, number: int) -> str:
     """A certificate that isn't read may be a signer's to another reader, and openssl passes some of them over; of a key
-    that isn't known the rules below say nothing."""
+    that isn't known the rules below say nothing, and of several that may be its own it isn't said whose it is."""
     for at, it in enumerate([*case.certificates, *case.others], 1):
         if facts(it) is None:
             return f"openssl doesn't read certificate {at}"
-    return "" if case.facts_of(number) else "its certificate isn't known"
+    return "" if len({*case.own[number]}) == 1 else "its certificate isn't known"
 
 
 def same_issuer_and_serial(case: Case, number: int) -> str:

@@ -187,7 +187,8 @@ def signed_findings(octets: bytes, terms: Terms, around: Around) -> List[Finding
 
 def described(it: Finding, case: Case, number: int) -> Finding:
     """A finding with what the signer is."""
-    signer, info, certificate = case.signers[number], case.infos[number], next(iter(case.facts_of(number)), None)
+    signer, info, those = case.signers[number], case.infos[number], {*case.facts_of(number)}
+    certificate = those.pop() if len(those) == 1 else None
     if isinstance(signer, der.Signer):
         it = it._replace(digest=name_of(signer.digest_oid), scheme=name_of(signer.signature_oid))
     if certificate is not None:

@@ -4,7 +4,7 @@ import functools
 from . import signing, tools
 from .attacks import UNNAMED, attack, changed, cms, given, of_file, smime
 from .containers import NULL, attribute, content_info
-from .elements import contents, element, explicit, integer, octet_string, parts, sequence
+from .elements import contents, element, explicit, integer, octet_string, part, parts, sequence, set_of
 from .oids import oid
 from .signing import (
     AUTHORITY,
@@ -377,6 +377,18 @@ def wrong_stamps(data):
     yield "whose content is data", Signer("tsa", content=info).file(), "tsa", None
 
 
+def namesake():
+    """A certificate for time stamps with the serial number of another, under another issuer."""
+    return certify("namesake", *STAMPS, of="p256", by=None, number=serial_number(certificate("tsa")))
+
+
+def respelt(*certificates):
+    """A time stamp whose signer has its issuer's name in other letters, which openssl takes for the same."""
+    signer, issuer = stamp_signer(stamp_info(CONTENT)), part(certificate("tsa"), 0, 3)
+    named = sequence(set_of(sequence(oid("commonName"), element(0x13, b"CA"))))
+    return signer.file(version=3, certificates=certificates).replace(signer.info, signer.info.replace(issuer, named, 1))
+
+
 def stamps():
     """Time stamps, and responses with them, that aren't of the content given, or aren't right (RFC 3161)."""
     ours, name = given(CONTENT)[0], given(CONTENT)[1][1]
@@ -401,6 +413,9 @@ def stamps():
         file = f"{form} whose content is longer"
         words, given_name = given(CONTENT + b"\n")
         yield attack(file, octets, None, words, questions=(ts(of_file(file), given_name[1], is_token=is_token),))
+    for number, those in enumerate(((namesake(), certificate("tsa")), (certificate("tsa"), namesake()))):
+        file = f"stamp by certificate {2 - number}, beside another of its serial number"
+        yield attack(file, respelt(*those), "unread-certificate", ours, questions=(ts(of_file(file), name),))
     for status in (2, 3, 4, 5, 6, 77):
         file = f"response of status {status}"
         yield attack(file, response(right, status), None, ours, questions=(ts(of_file(file), name, is_token=False),))

@@ -7,7 +7,7 @@ from typing import NamedTuple, Optional, Tuple
 from . import making, signing, tools
 from .attacks import cms, given, smime
 from .attacks_on_stores import PASSWORD, password_file, store
-from .attacks_on_trust import below, of_program, response, stamping, token, ts
+from .attacks_on_trust import below, of_program, respelt, response, stamping, token, ts
 from .containers import NULL, attribute, in_ber
 from .elements import contents, element, integer, octet_string, part, sequence
 from .oids import oid
@@ -258,6 +258,8 @@ def of_time_stamps():
                     yield good(f"{form} {name}", octets, words, questions=(question,))
     name = "response with mods"
     yield good(name, response(token(CONTENT), 1), ours, questions=(ts(good_name(name), content, is_token=False),))
+    name = "stamp whose issuer is in other letters"
+    yield good(name, respelt(certificate("tsa")), ours, questions=(ts(good_name(name), content),))
     signature = Signer("rsa").signature
     data, stamp = put("signature.octets", signature), token(signature)
     inner = put("good.stamp", stamp)

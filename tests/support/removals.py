@@ -23,6 +23,7 @@ REMOVALS = (
         "attributes-as-content", "if is_over_content and content[:1] ==", "if not is_over_content and content[:1] ==",
     ),
     Removal("unread-certificate", "if facts(it) is None:", "if not it:"),
+    Removal("unread-certificate", "if len({*case.own[number]}) == 1 else", "if case.facts_of(number) else"),
     Removal("same-issuer-and-serial", "if len(those) > len(names) else", "if len(those) < len(names) else"),
     Removal("algorithm-of-key", "if signer.signature_oid not in ALGORITHMS.get(it.key, ()):", "if not it.key:"),
     Removal("salt-length", "any(not 0 <= it < 1 << 31 for it in lengths)", "any(it < 0 for it in lengths)"),
