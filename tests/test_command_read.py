@@ -178,6 +178,32 @@ class Folders(Reading):
             found = [line.split(":")[0] for line in said.splitlines() if line.startswith("many/")]
             self.assertEqual((found, complaints), (names[:-1], ""), verb)
 
+    def test_folders_without_files_are_not_right(self):
+        """Nothing in them is wrong, and the status of what is right is 0."""
+        (self.room / "none").mkdir()
+        os.symlink("/", self.room / "none/root")
+        os.symlink("nothere", self.room / "none/broken")
+        os.mkfifo(self.room / "none/pipe")
+        for words in (("none",), ("none", "none"), ("--json", "none")):
+            said = self.bounded("verify", "-r", "--ca", "rsa.pem", *words)
+            self.assertEqual(said, (1, "", "vuyhanip: no file to verify\n"), words)
+        self.assertEqual(self.bounded("check", "-r", "none"), (0, "", ""))
+
+    def test_a_file_of_a_folder_whose_name_is_too_long_is_told(self):
+        """It can't be looked at, and so can't be passed over as no file."""
+        top, folder = self.room / "long", os.open(self.room, os.O_RDONLY)
+        for name in ("long", *20 * ("x" * 240,)):
+            os.mkdir(name, dir_fd=folder)
+            inner = os.open(name, os.O_RDONLY, dir_fd=folder)
+            os.close(folder)
+            folder = inner
+        os.close(folder)
+        self.addCleanup(run, "rm", "-rf", top)
+        for verb in ("verify", "check"):
+            ended, said, complaints = self.bounded(verb, "-r", "long")
+            self.assertEqual((ended, said), (1, ""), verb)
+            self.assertRegex(complaints, r"^long(/x{240})+: File name too long\n$", verb)
+
     def test_a_scan_reads_regular_files_only_and_up_to_the_limit(self):
         (self.room / "many").mkdir()
         self.put("many/a", EMPTY)

@@ -249,7 +249,9 @@ def shows(asked: argparse.Namespace) -> int:
 
 
 def verifies(asked: argparse.Namespace) -> int:
-    """The verb verify."""
+    """The verb verify. Raises OSError where folders have no file, of which nothing would be wrong."""
+    if not asked.files:
+        raise OSError(errno.ENOENT, "no file to verify", "vuyhanip")
     terms = Terms(
         None if asked.content is None else read(asked.content),
         tuple(it for name in asked.certificate for it in certificates_of(name)),

@@ -130,7 +130,7 @@ def _up_to_the_limit(name: str, file: BinaryIO, length: int) -> bytes:
 
 def under(folder: str) -> Iterator[str]:
     """The regular files in a folder and in those in it, in order of names. Links to folders aren't followed. A folder
-    that can't be listed is among them, since reading it says why."""
+    that can't be listed is among them, and what can't be looked at, since reading it says why."""
     left = [folder]
     while left:
         name = left.pop()
@@ -139,8 +139,18 @@ def under(folder: str) -> Iterator[str]:
                 left += (os.path.join(name, it) for it in sorted(os.listdir(name), reverse=True))
             except OSError:
                 yield name
-        elif os.path.isfile(name):
+        elif os.path.isfile(name) or _is_kept_back(name):
             yield name
+
+
+def _is_kept_back(name: str) -> bool:
+    """Whether the system doesn't say what has a name, as where that is too long, or in a folder that may not be searched.
+    A link that leads nowhere is no file."""
+    try:
+        os.stat(name)
+    except OSError as fault:
+        return fault.errno not in (errno.ENOENT, errno.ENOTDIR, errno.ELOOP)
+    return False
 
 
 def all_of(names: Iterable[str]) -> Iterator[str]:
