@@ -12,7 +12,7 @@ import unittest
 from support import built
 from support.command import EMPTY, Command
 from support.containers import NULL, content_info, mac_data
-from support.elements import integer, octet_string, parts, sequence
+from support.elements import element, integer, octet_string, parts, sequence
 from support.oids import oid
 from support.tools import ended, run
 
@@ -151,6 +151,24 @@ class Iterations(Reading):
             self.assertEqual(self.bounded(*given, name), (1, said, ""))
         self.says([*words, "2048", "store.p12"], ["store.p12: MAC right"])
         self.finds(["verify", "many.p12"], ["MAC not checked: no password"], 1)
+
+    def test_iterations_are_counted_whatever_is_after_a_store_or_beside_it(self):
+        """Newlines, and in PEM another store of fewer iterations than none."""
+        whole, safe = self.octets("store.p12"), content_info("data", octet_string(sequence()))
+        none = element(0x02, b"\xc0\0\0\0")
+        derived = sequence(oid("1.2.840.113549.1.5.12"), sequence(octet_string(b"salt"), none, integer(32)))
+        scheme = sequence(oid("1.2.840.113549.1.5.14"), sequence(derived, sequence(oid("1.2.840.113549.2.9"))))
+        fewer = sequence(integer(3), safe, mac_data(bytes(32), b"salt", 1, scheme))
+        for name, octets in (
+            ("unix.p12", whole + b"\n"),
+            ("windows.p12", whole + b"\r\n"),
+            ("two.pem", pem(b"PKCS12", fewer) + pem(b"PKCS12", whole)),
+        ):
+            said = f"{name}: MAC not checked: 2048 iterations, more than the 2047 that --most-iterations allows"
+            self.put(name, octets)
+            self.says(["verify", "--password-file", "password", "--most-iterations", "2047", name], [said], 1)
+        notes = ["unix.p12: MAC right"]
+        self.says(["verify", "--password-file", "password", "--most-iterations", "2048", "unix.p12"], notes)
 
     def test_more_than_the_limit_are_refused(self):
         files.allow(1_000_000)

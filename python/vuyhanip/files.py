@@ -1,6 +1,7 @@
 """Files as they are given: names, folders, standard input, how much of them is read, PEM, BER."""
 import base64
 import binascii
+import contextlib
 import contextvars
 import errno
 import os
@@ -19,6 +20,8 @@ PIECE = 1 << 20
 # be the last octet of a line that begins it.
 BEGIN, END, DASHES, BLANK = b"-----BEGIN ", b"-----END ", b"-----", b" \t\n\v\f\r"
 LAST_OF_LINE = b"- \t\r"
+# What may be after DER in a file that is verified.
+NEWLINES = b"\n", b"\r\n"
 # Why no block is read where another reader may find more of them.
 HIDDEN = "PEM with BEGIN in a line that begins no block"
 # A header line in it (RFC 1421, 4.6).
@@ -183,7 +186,7 @@ def iterations_of(store: bytes) -> int:
     try:
         # of MacData the DigestInfo, its algorithm, and in the parameters of that the function that derives the key
         parameters = whole(store).children()[2].inside().inside().children()[1]
-        return integer(parameters.inside().children()[1].children()[1])
+        return max(0, integer(parameters.inside().children()[1].children()[1]))
     except (ValueError, IndexError):
         return mac.iterations
 
@@ -194,11 +197,12 @@ def iterations_in(data: bytes, strict: bool) -> int:
 
 
 def _iterations(it: Given, strict: bool) -> int:
-    """The same of some octets."""
-    try:
-        return iterations_of((it if strict else converted(it) or it).octets)
-    except der.Refused:
-        return 0
+    """The same of some octets, or of those before a newline where only these are a store."""
+    for end in (b"", *(() if strict else filter(it.octets.endswith, NEWLINES))):
+        found = it._replace(octets=it.octets[: len(it.octets) - len(end)])
+        with contextlib.suppress(der.Refused):
+            return iterations_of((found if strict else converted(found) or found).octets)
+    return 0
 
 
 def allow(iterations: int) -> None:

@@ -19,7 +19,7 @@ from .containers import (
     time_stamp_token,
 )
 from .elements import OCTET_STRING
-from .files import Given, NoPem, TooMany, allow, held, iterations_in
+from .files import NEWLINES, Given, NoPem, TooMany, allow, held, iterations_in
 from .findings import Finding, Said, of_signer
 from .judging import Answer, Terms, facts, of_mac, of_signatures, of_stamp, stamp_facts, token_of
 from .names import name_of
@@ -267,7 +267,7 @@ def without_newline(it: Given, is_strict: bool) -> Optional[Given]:
     """A file that ends with a newline after its DER, without that. None where it is none such."""
     if is_strict or it.forms:
         return None
-    for newline in (b"\n", b"\r\n"):
+    for newline in NEWLINES:
         shorter = Given(it.octets[: -len(newline)], ("DER before a newline",))
         if it.octets.endswith(newline) and not isinstance(read(shorter, is_strict), NoKind):
             return shorter
