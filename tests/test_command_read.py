@@ -11,12 +11,13 @@ import unittest
 
 from support import built
 from support.command import EMPTY, Command
-from support.containers import NULL, content_info, mac_data
-from support.elements import element, integer, octet_string, parts, sequence
+from support.containers import NULL, SHA256, content_info, mac_data
+from support.elements import element, explicit, integer, octet_string, part, parts, sequence, set_of
 from support.oids import oid
 from support.tools import ended, run
 
-from vuyhanip import files
+from vuyhanip import files, rules, verifying
+from vuyhanip.judging import Terms
 
 # How many times as long as grep a search for PEM may take where few lines have to be looked at, and where all have.
 TIMES, TIMES_OF_ALL = 20, 200
@@ -174,6 +175,51 @@ class Iterations(Reading):
         files.allow(1_000_000)
         with self.assertRaisesRegex(files.TooMany, "1000001 iterations, more than the 1000000 that --most-iterations"):
             files.allow(1_000_001)
+
+
+class Signers(Reading):
+    def many(self, name, count, octets, content):
+        """Signed data of many signers without attributes, whose signatures are wrong, and a certificate of some octets."""
+        certificate = self.octets("ec.der")
+        tbs, *rest = parts(certificate)
+        extension = sequence(oid("1.2.3.4"), octet_string(bytes(octets)))
+        long_one = sequence(sequence(*parts(tbs)[:-1], explicit(3, sequence(extension))), *rest)
+        named = sequence(part(certificate, 0, 3), part(certificate, 0, 1))
+        ecdsa = sequence(oid("1.2.840.10045.4.3.2"))
+        signer = sequence(integer(1), named, SHA256, ecdsa, octet_string(bytes(70)))
+        info = sequence(oid("data"), explicit(0, octet_string(content)))
+        fields = integer(1), set_of(SHA256), info, explicit(0, long_one), set_of(*count * [signer])
+        self.put(name, content_info("signed data", sequence(*fields)))
+
+    def test_a_certificate_is_not_taken_once_for_each_of_many_signers(self):
+        """openssl would write 140 MB of a file of 0.3 MB, and a terabyte of one a hundred times as long."""
+        self.many("long.p7s", 700, 200_000, b"content")
+        why = "more than 134217728 octets, a certificate for each signer"
+        self.assertEqual(self.bounded("verify", "long.p7s"), (1, f"long.p7s: not checked: {why}\n", ""))
+        ended_, said, complaints = self.bounded("show", "long.p7s")
+        self.assertEqual((ended_, complaints), (1, ""))
+        self.assertRegex(said, rf"\n  not shown +{why}\n$")
+
+    def test_content_is_looked_through_once_for_all_signers(self):
+        """Where it may be the signed attributes of another signature."""
+        built.use_shared()
+        self.many("few.p7s", 1, 1, element(0x31, bytes(MEGABYTE)))
+        self.many("many.p7s", 2000, 1, element(0x31, bytes(MEGABYTE)))
+        self.many("short.p7s", 2000, 1, b"content")
+        case = {}
+        for name in ("few.p7s", "many.p7s", "short.p7s"):
+            data = verifying.read_signed(self.octets(name), False)
+            case[name] = verifying.case_of(data, Terms(), verifying.Around())
+
+        def asks(it):
+            rules._has_digest.cache_clear()
+            for number in range(len(it.signers)):
+                rules.attributes_as_content(it, number)
+
+        def took(name):
+            return fastest(functools.partial(asks, case[name]))
+
+        self.assertLess(took("many.p7s"), 10 * took("short.p7s") + 10 * took("few.p7s"))
 
 
 class Folders(Reading):

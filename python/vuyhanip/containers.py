@@ -3,7 +3,7 @@
 What a verification of signers needs, the library for C says of all of them in one reading. The rest is found in what it
 accepted, element by element.
 """
-from typing import Iterator, List, NamedTuple, Optional, Tuple, Union
+from typing import Iterable, Iterator, List, NamedTuple, Optional, Tuple, Union
 
 from . import der, library
 from .elements import (
@@ -28,6 +28,8 @@ SUBJECT_KEY_IDENTIFIER = "2.5.29.14"
 KEY_BAG, SHROUDED_KEY_BAG, CERT_BAG = (f"1.2.840.113549.1.12.10.1.{it}" for it in (1, 2, 3))
 CRL_BAG, SAFE_CONTENTS_BAG = (f"1.2.840.113549.1.12.10.1.{it}" for it in (4, 6))
 X509_CERTIFICATE, X509_CRL = "1.2.840.113549.1.9.22.1", "1.2.840.113549.1.9.23.1"
+# How many octets certificates may have where each signer has its own, though the file has it once.
+MOST_OF_SIGNERS = 1 << 27
 
 
 class Attribute(NamedTuple):
@@ -199,6 +201,13 @@ def signed(octets: bytes) -> Signed:
         list(map(bytes, it.crls)),
         list(map(_signer, it.signers, elements)),
     )
+
+
+def too_long_for_each(count: int, certificates: Iterable[bytes]) -> str:
+    """Why a certificate isn't taken once for each of so many signers, or nothing: a file of some megabytes asks for
+    terabytes."""
+    is_too_long = count * max(map(len, certificates), default=0) > MOST_OF_SIGNERS
+    return f"more than {MOST_OF_SIGNERS} octets, a certificate for each signer" if is_too_long else ""
 
 
 def is_signed(octets: bytes) -> bool:

@@ -1,4 +1,5 @@
 """The verb rewrite: the normal encoding of a file, unless that would break its MAC or a signature in it."""
+import hashlib
 from typing import Dict, List, NamedTuple, Union
 
 from . import der, library
@@ -86,12 +87,15 @@ def _of_signed(octets: Union[bytes, memoryview], of: str, level: int) -> Covered
     except der.Refused:
         return {f"the signatures{of}": bytes(octets)}
     found: Covered = {}
+    # its digest is compared, since a long content of many signers would be once for each
+    content = None if it.content is None else hashlib.sha256(it.content).digest()
     for number, (signer, info) in enumerate(zip(it.signers, it.signer_infos), 1):
         name = f" of signer {number}{of}"
         if isinstance(signer, der.BadAttributes):
             found[f"the signature{name}"] = bytes(info.element)
         else:
-            found[f"the signature{name}"] = (signer.covered, signer.content, signer.signature)
+            covered = signer.covered if signer.is_over_attributes else content
+            found[f"the signature{name}"] = (covered, content, signer.signature)
         found.update(_of_attributes(info, name, level))
     for number, encoding in enumerate(it.crls, 1):
         found[f"the signature of revocation list {number}{of}"] = _to_be_signed(bytes(encoding))

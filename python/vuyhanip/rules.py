@@ -149,9 +149,15 @@ def attributes_as_content(case: Case, number: int) -> str:
     it the type messageDigest."""
     signer, content = case.signers[number], case.content or b""
     is_over_content = isinstance(signer, der.Signer) and not signer.is_over_attributes
-    if is_over_content and content[:1] == b"\x31" and MESSAGE_DIGEST in content:
+    if is_over_content and content[:1] == b"\x31" and _has_digest(content):
         return "its content may be the signed attributes of another signature"
     return ""
+
+
+@functools.lru_cache(maxsize=1)
+def _has_digest(content: bytes) -> bool:
+    """Whether content has the type messageDigest in it, which is looked for once for all signers."""
+    return MESSAGE_DIGEST in content
 
 
 def unread_certificate(case: Case, number: int) -> str:

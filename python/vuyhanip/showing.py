@@ -30,6 +30,7 @@ from .containers import (
     signed,
     stamp,
     time_stamp_token,
+    too_long_for_each,
 )
 from .elements import OBJECT_IDENTIFIER, OCTET_STRING, SEQUENCE, Element, whole
 from .files import Given
@@ -216,6 +217,10 @@ def signed_rows(data: bytes, level: int = 0) -> Rows:
     for encoding in it.crls:
         yield Row(0, "revocation list", "")
         yield from deeper(any_crl_rows(encoding))
+    too_long = too_long_for_each(len(it.signers), it.certificates)
+    if too_long:
+        yield Row(0, "not shown", too_long)
+        return
     for number, signer in enumerate(it.signers, 1):
         yield Row(0, f"signer {number}", "")
         yield from deeper(signer_rows(signer, level))

@@ -17,6 +17,7 @@ from .containers import (
     is_signed,
     refused_as_signed,
     time_stamp_token,
+    too_long_for_each,
 )
 from .elements import OCTET_STRING
 from .files import NEWLINES, Given, NoPem, TooMany, allow, held, iterations_in
@@ -170,6 +171,9 @@ def signed_findings(octets: bytes, terms: Terms, around: Around) -> List[Finding
     case = case_of(read_signed(octets, terms.strict), terms, around)
     if len({*case.certificates, *case.others}) > MOST_CERTIFICATES:
         return [Finding(around.whole, f"not checked: more than {MOST_CERTIFICATES} certificates")]
+    too_long = too_long_for_each(len(case.infos), [*case.certificates, *case.others])
+    if too_long:
+        return [Finding(around.whole, f"not checked: {too_long}")]
     case = case._replace(own=by_library(case))
     why, answer = unasked(case, terms), None
     if not why:
