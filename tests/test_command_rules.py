@@ -103,7 +103,8 @@ class Rules(Command):
         self.sign("sha1.p7s", "-nodetach", "-md", "sha1")
         to = oid("1.2.840.113549.1.1.11")
         made = within(self.octets("sha1.p7s"), [*SIGNER, -2, 0], lambda _: to[2:])
-        self.refuses("weak-digest", "but weak: the digest sha1", self.put("named.p7s", made))
+        said = r"^refused: sha256WithRSAEncryption over the digest sha1 \(RFC 5652, 5\.3\)$"
+        self.refuses("digest-of-signature", said, self.put("named.p7s", made))
         made = within(self.octets("attributes.p7s"), [*SIGNER, -4, 0], lambda _: oid("SHA-1")[2:])
         self.same("named-otherwise.p7s", put=within(made, ALGORITHMS, lambda it: it + sequence(oid("SHA-1"))))
 

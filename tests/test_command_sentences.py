@@ -33,7 +33,7 @@ RULES = (
     *("the content in the file isn't that which is given", "signed attributes that RFC 5652 forbids"),
     *("its content may be the signed attributes of another signature", r"openssl doesn't read certificate \d+"),
     *("its certificate isn't known", "two certificates that differ have its issuer and serial number"),
-    *(r"[\w.-]+ by a key of [\w.-]+", "parameters of RSASSA-PSS that aren't read", "an RSA key that isn't read"),
+    *(r"[\w.-]+ (by a key of|over the digest) [\w.-]+", "parameters of RSASSA-PSS that aren't read", "an RSA key that isn't read"),
     *("a salt length that isn't a number of 31 bits", "an RSA key whose exponent is even, or below 3"),
     r"an RSA key whose exponent has more than \d+ bits",
 )

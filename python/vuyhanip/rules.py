@@ -31,11 +31,11 @@ WEAK_NAMES = ("md2", "md4", "md5", "sha1")
 LEAST_RSA, LEAST_CURVE, MOST_EXPONENT, SMALL_RSA = 2048, 224, 64, 3072
 # What a signer's algorithm may be for a key, as openssl names its algorithm. ECDSA, DSA and RSA may be named without a
 # digest; a key for RSASSA-PSS takes that alone (RFC 4055, 1.2).
-CURVE, PSS, NIST = "id-ecPublicKey", "1.2.840.113549.1.1.10", "2.16.840.1.101.3.4.3"
+RSA, CURVE, PSS, NIST = "rsaEncryption", "id-ecPublicKey", "1.2.840.113549.1.1.10", "2.16.840.1.101.3.4.3"
 # The tag of saltLength in the parameters of RSASSA-PSS.
 SALT_LENGTH = 0xA2
 ALGORITHMS = {
-    "rsaEncryption": (
+    RSA: (
         *(f"1.2.840.113549.1.1.{it}" for it in (1, 2, 3, 4, 5, 10, 11, 12, 13, 14, 15, 16)),
         *("1.3.14.3.2.3", "1.3.14.3.2.29"),
         *(f"{NIST}.{it}" for it in (13, 14, 15, 16)),
@@ -52,6 +52,16 @@ ALGORITHMS = {
     ),
     "ED25519": ("1.3.101.112",),
     "ED448": ("1.3.101.113",),
+}
+# The digest in an algorithm of signatures, where it has one: of RSA, ECDSA and DSA (RFC 8017, RFC 5758, NIST).
+MD5, SHA1, SHA = "1.2.840.113549.2.5", "1.3.14.3.2.26", "2.16.840.1.101.3.4.2"
+DIGEST_OF = {
+    **dict.fromkeys(("1.2.840.113549.1.1.4", "1.3.14.3.2.3"), MD5),
+    **dict.fromkeys(("1.2.840.113549.1.1.5", "1.3.14.3.2.29", "1.2.840.10045.4.1"), SHA1),
+    **dict.fromkeys(("1.2.840.10040.4.3", "1.3.14.3.2.27"), SHA1),
+    **{f"1.2.840.113549.1.1.{10 + it}": f"{SHA}.{it}" for it in range(1, 7)},
+    **{f"1.2.840.10045.4.3.{at}": f"{SHA}.{it}" for at, it in enumerate((4, 1, 2, 3), 1)},
+    **{f"{NIST}.{at}": f"{SHA}.{it}" for at, it in enumerate((4, 1, 2, 3, *(3 * (7, 8, 9, 10))), 1)},
 }
 
 
@@ -71,6 +81,12 @@ class Case(NamedTuple):
     # of each signer the certificates that may be its own: one where it is known which
     own: Sequence[Sequence[bytes]] = ()
     stamp: Optional[StampFacts] = None
+
+    @property
+    def is_of_cms(self) -> bool:
+        """Whether openssl reads it by cms; else it does by smime or ts, as PKCS #7 has them."""
+        is_string = self.data.content_tag in (None, OCTET_STRING, SEGMENTS)
+        return not self.is_stamp and (is_string or self.data.content_type == DATA)
 
     def facts_of(self, number: int) -> List[Facts]:
         """What the certificates that may be a signer's hold."""
@@ -187,14 +203,27 @@ def _in_der(certificate: bytes) -> bytes:
 
 
 def algorithm_of_key(case: Case, number: int) -> str:
-    """The signature is by an algorithm of the key: with a key on a curve openssl doesn't look at what is said of it."""
+    """The signature is by an algorithm of the key: with a key on a curve openssl doesn't look at what is said of it, nor
+    with any in PKCS #7, where a key of RSA signs as PKCS #1 v1.5 has it."""
     signer = case.signers[number]
     if isinstance(signer, der.BadAttributes):
         return ""
     for it in case.facts_of(number):
-        if signer.signature_oid not in ALGORITHMS.get(it.key, ()):
+        is_other = signer.signature_oid == PSS and it.key == RSA and not case.is_of_cms
+        if is_other or signer.signature_oid not in ALGORITHMS.get(it.key, ()):
             return f"{name_of(signer.signature_oid)} by a key of {it.key}"
     return ""
+
+
+def digest_of_signature(case: Case, number: int) -> str:
+    """The digest in the name of a signature's algorithm is the signer's, which openssl takes whatever is named. Some
+    signers name that algorithm as their digest's."""
+    signer = case.signers[number]
+    if isinstance(signer, der.BadAttributes):
+        return ""
+    which, digest = signer.signature_oid, signer.digest_oid
+    is_same = DIGEST_OF.get(which, digest) == digest or which == digest
+    return "" if is_same else f"{name_of(which)} over the digest {name_of(digest)}"
 
 
 def salt_length(case: Case, number: int) -> str:
@@ -299,6 +328,7 @@ RULES: Tuple[Rule, ...] = (
     Rule("unread-certificate", "RFC 5652, 10.2.2", unread_certificate, Of.SIGNER),
     Rule("same-issuer-and-serial", "RFC 5280, 4.1.2.2", same_issuer_and_serial, Of.SIGNER),
     Rule("algorithm-of-key", "RFC 5652, 5.3", algorithm_of_key, Of.SIGNER),
+    Rule("digest-of-signature", "RFC 5652, 5.3", digest_of_signature, Of.SIGNER),
     Rule("salt-length", "RFC 8017, A.2.3", salt_length, Of.SIGNER),
     Rule("exponent", "RFC 8017, 3.1", exponent, Of.SIGNER),
     Rule("weak-digest", "RFC 6151, 2.1 and RFC 6194, 3.1", weak_digest, Of.SIGNER, Effect.WEAK),

@@ -10,7 +10,6 @@ from typing import Callable, Iterator, List, NamedTuple, Optional, Sequence, Tup
 from . import der, library, tool
 from .checking import NORMAL, REFUSED, SIGNED_KINDS, Accepted, NoKind, judge_given
 from .containers import (
-    DATA,
     NESTED_SIGNATURE,
     TIME_STAMPS,
     TST_INFO,
@@ -19,12 +18,11 @@ from .containers import (
     time_stamp_token,
     too_long_for_each,
 )
-from .elements import OCTET_STRING
 from .files import NEWLINES, Given, NoPem, TooMany, allow, held, iterations_in
 from .findings import Finding, Said, of_signer
 from .judging import Answer, Terms, facts, of_mac, of_signatures, of_stamp, stamp_facts, token_of
 from .names import name_of
-from .rules import INDIRECT_DATA, SEGMENTS, Case, Effect, Of, found
+from .rules import INDIRECT_DATA, Case, Effect, Of, found
 from .values import printable
 
 # How many levels of nested signatures and time stamps are judged, and with how many certificates each.
@@ -107,12 +105,6 @@ def _own(case: Case, answer: Answer) -> Sequence[Sequence[bytes]]:
     return [[it] for it in answer.signers] if is_so else [[] for _ in case.signers]
 
 
-def is_of_cms(case: Case) -> bool:
-    """Whether openssl reads signed data by cms; else it does by smime or ts, as PKCS #7 has them."""
-    is_string = case.data.content_tag in (None, OCTET_STRING, SEGMENTS)
-    return not case.is_stamp and (is_string or case.data.content_type == DATA)
-
-
 class Unable(NamedTuple):
     """What openssl can't do, up to a version, or in all of them."""
 
@@ -128,7 +120,7 @@ def is_edwards(case: Case) -> bool:
 
 def is_by_key(case: Case) -> bool:
     """Whether a signer is named by a key identifier, which PKCS #7 doesn't have."""
-    return not is_of_cms(case) and any(it.key_identifier is not None for it in case.infos)
+    return not case.is_of_cms and any(it.key_identifier is not None for it in case.infos)
 
 
 UNABLE = (
@@ -155,7 +147,7 @@ def asked(octets: bytes, case: Case, terms: Terms, response: Optional[bytes]) ->
     if case.is_stamp:
         signers, others = [it for those in case.own for it in those], [*case.certificates, *case.others]
         return of_stamp(response or octets, response is None, content, signers, others, terms)
-    if is_of_cms(case):
+    if case.is_of_cms:
         return of_signatures("cms", octets, content if case.data.content_tag is None else None, terms)
     return of_signatures("smime", octets, content, terms)
 

@@ -49,6 +49,12 @@ def algorithms_that_disagree():
             sign = functools.partial(signature_by, by, signs)
             file = Signer(by, digest=said, algorithm=algorithm(table[signs]), sign=sign).file()
             yield attack(f"a digest {said} and a signature by {signs}, {by}", file)
+        for said, named in (("sha256", "sha512"), ("sha512", "sha256"), ("sha384", "sha256")):
+            signer = Signer(by, digest=said, algorithm=algorithm(table[named]))
+            name = f"a signature by {said} that is said to be by {named}, {by}"
+            yield attack(name, signer.file(), "digest-of-signature")
+            detached = signer.file(content=False)
+            yield attack(f"{name}, detached", detached, "digest-of-signature", *given(CONTENT))
     md5 = Signer(
         "rsa", digest="md5", algorithm=algorithm(WITH_RSA["sha256"]), sign=functools.partial(by_rsa, "rsa", "sha256"),
     )

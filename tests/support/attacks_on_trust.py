@@ -286,6 +286,13 @@ def indirect_data():
         ("1024 bits", Signer("short", content=right, content_type=INDIRECT_DATA), "weak-rsa"),
     ):
         yield asked(f"weak by {name}", signer.file(content=sequence(right)), right, rule)
+    for by, of, rule in (
+        ("rsa", signing.pss_parameters(), "algorithm-of-key"),
+        ("rsa", algorithm(signing.WITH_RSA["sha512"], NULL), "digest-of-signature"),
+        ("p256", algorithm(signing.WITH_ECDSA["sha512"]), "digest-of-signature"),
+    ):
+        signer = Signer(by, content=right, content_type=INDIRECT_DATA, algorithm=of)
+        yield asked(f"signed by SHA-256, against {rule}, {by}", signer.file(content=sequence(right)), right, rule)
     signer = Signer("rsa", content=right, content_type=INDIRECT_DATA)
     yield asked("other content given", signer.file(content=sequence(right)), right, "other-content", given(wrong)[0])
     yield asked(
@@ -375,6 +382,10 @@ def wrong_stamps(data):
         yield f"over a digest {name} by the name of its signatures", token(data, info=by_signatures), "tsa", "weak-digest"
     yield "by a key of 1024 bits", token(data, "short", stamping("short-tsa", "short")), "short-tsa", "weak-rsa"
     yield "whose content is data", Signer("tsa", content=info).file(), "tsa", None
+    other = algorithm(signing.WITH_ECDSA["sha512"])
+    yield "by SHA-256, said to be by SHA-512", token(data, algorithm=other), "tsa", "digest-of-signature"
+    padded = token(data, "again", stamping("rsa-tsa"), algorithm=signing.pss_parameters())
+    yield "by PKCS #1 v1.5, said to be by RSASSA-PSS", padded, "rsa-tsa", "algorithm-of-key"
 
 
 def namesake():
