@@ -133,6 +133,9 @@ class Attacks(Comparing):
     def test_weak_signers_are_not_right(self):
         self.none_right(attacks_on_keys.weak, attacks_on_keys.exponents)
 
+    def test_a_curve_has_a_name(self):
+        self.none_right(attacks_on_keys.curves_without_a_name)
+
     def test_a_signer_has_one_certificate(self):
         self.none_right(attacks_on_trust.two_certificates, attacks_on_trust.unread_certificates)
 

@@ -15,6 +15,7 @@ FACTS.append(",".join(f"no_{it}" for it in LEFT_OUT))
 KEY = "\n        Subject Public Key Info:\n            Public Key Algorithm: "
 BITS = re.compile(r"^ {16}(?:[\w-]+ )?Public-Key: \((\d+) bit", re.M)
 EXPONENT = re.compile(r"^ {16}Exponent: (\d+) \(0x[0-9a-f]+\)$|^ {16}Exponent:\n((?: {20}[0-9a-f:]+\n?)+)", re.M)
+NAMED = "\n                ASN1 OID: "
 STAMP_DIGEST, STAMP_TIME = (re.compile(rf"^{it}: (.*)$", re.M) for it in ("Hash Algorithm", "Time stamp"))
 CERTIFICATE = re.compile(rb"-----BEGIN CERTIFICATE-----([A-Za-z0-9+/=\s]*)-----END CERTIFICATE-----")
 SERIAL = re.compile("-?[0-9A-F]+")
@@ -58,6 +59,8 @@ class Facts(NamedTuple):
     key: str
     bits: Optional[int]
     exponent: Optional[int]
+    # whether its curve, if it is on one, has a name, and isn't written out in numbers of its own
+    is_named: bool
 
     @property
     def number(self) -> Optional[int]:
@@ -84,7 +87,9 @@ def facts(certificate: bytes) -> Optional[Facts]:
         return None
     bits, exponent = BITS.search(key), EXPONENT.search(key)
     number = int(exponent[1] or re.sub(r"[\s:]", "", exponent[2]), 10 if exponent[1] else 16) if exponent else None
-    return Facts(said[1], said[2], said[3], key.split("\n", 1)[0].strip(), int(bits[1]) if bits else None, number)
+    is_named = NAMED in key
+    name = key.split("\n", 1)[0].strip()
+    return Facts(said[1], said[2], said[3], name, int(bits[1]) if bits else None, number, is_named)
 
 
 def stamp_facts(token: bytes) -> Optional[StampFacts]:

@@ -251,6 +251,12 @@ def exponent(case: Case, number: int) -> str:
     return ""
 
 
+def named_curve(case: Case, number: int) -> str:
+    """A curve has a name: with one that is written out in numbers, which may be of a small group, anyone may sign."""
+    is_so = all(it.is_named for it in case.facts_of(number) if it.key == CURVE)
+    return "" if is_so else "a key on a curve without a name"
+
+
 def _rsa(case: Case, number: int) -> List[Facts]:
     """Keys of RSA."""
     return [it for it in case.facts_of(number) if it.key.startswith("rsa")]
@@ -331,6 +337,7 @@ RULES: Tuple[Rule, ...] = (
     Rule("digest-of-signature", "RFC 5652, 5.3", digest_of_signature, Of.SIGNER),
     Rule("salt-length", "RFC 8017, A.2.3", salt_length, Of.SIGNER),
     Rule("exponent", "RFC 8017, 3.1", exponent, Of.SIGNER),
+    Rule("named-curve", "RFC 5480, 2.1.1", named_curve, Of.SIGNER),
     Rule("weak-digest", "RFC 6151, 2.1 and RFC 6194, 3.1", weak_digest, Of.SIGNER, Effect.WEAK),
     Rule("weak-rsa", "NIST SP 800-131A, 3", weak_rsa, Of.SIGNER, Effect.WEAK),
     Rule("weak-curve", "NIST SP 800-131A, 3", weak_curve, Of.SIGNER, Effect.WEAK),

@@ -34,6 +34,7 @@ REMOVALS = (
     Removal("exponent", "if it.exponent < 3 or it.exponent % 2 == 0:", "if it.exponent % 2 == 0:"),
     Removal("exponent", "if it.exponent < 3 or it.exponent % 2 == 0:", "if it.exponent < 2:"),
     Removal("exponent", "if it.exponent.bit_length() > MOST_EXPONENT and it.bits > SMALL_RSA:", "if not it.bits:"),
+    Removal("named-curve", 'return "" if is_so else', 'return "" if number >= 0 else'),
     Removal("weak-digest", "if signer.digest_oid in WEAK_AS_DIGESTS:", "if not signer.digest_oid:"),
     Removal("weak-digest", "if signer.digest_oid in WEAK_AS_DIGESTS:", "if signer.digest_oid in WEAK_DIGESTS:"),
     Removal("weak-digest", "any(it in case.stamp.digest.lower() for it in WEAK_NAMES)", "case.stamp.digest in WEAK_NAMES"),

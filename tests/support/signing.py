@@ -58,6 +58,7 @@ KEYS = {
     "p256": "EC -pkeyopt ec_paramgen_curve:P-256",
     "p384": "EC -pkeyopt ec_paramgen_curve:P-384",
     "p521": "EC -pkeyopt ec_paramgen_curve:P-521",
+    "written": "EC -pkeyopt ec_paramgen_curve:P-256 -pkeyopt ec_param_enc:explicit",
     "ed25519": "ED25519",
     "tsa": "EC -pkeyopt ec_paramgen_curve:P-256",
 }
