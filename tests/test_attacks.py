@@ -419,6 +419,12 @@ class Examples(Comparing):
         built.use_shared()
         self.compare(lambda *words: status_of(built.TOP / "python/examples/verify.py", *words) == 0)
 
+    @needs("cryptography")
+    def test_verify_py_says_no_of_keys_that_cryptography_does_not_read(self):
+        built.use_shared()
+        attack = those_of(attacks_on_keys.curves_without_a_name)[0]
+        self.same(status_of(built.TOP / "python/examples/verify.py", signing.room() / attack.name), 1, attack.name)
+
 
 def status_of(script, *words):
     """The exit status of a script, which runs in this process."""

@@ -27,12 +27,12 @@ def verify(signer, content):
         return "unknown algorithm"
     if signer.is_over_attributes and hashlib.sha256(content).digest() != signer.digest:
         return "another content"
-    key = x509.load_der_x509_certificate(bytes(signer.certificate)).public_key()
     covered = content if signer.covered is None else signer.covered
     try:
+        key = x509.load_der_x509_certificate(bytes(signer.certificate)).public_key()
         key.verify(signer.signature, covered, *HOW[signer.signature_oid])
         return "verified"
-    except (exceptions.InvalidSignature, TypeError):  # or a key of another kind
+    except (exceptions.InvalidSignature, TypeError, ValueError, exceptions.UnsupportedAlgorithm):  # or another key
         return "wrong signature"
 
 
