@@ -8,16 +8,18 @@ from pathlib import Path
 
 from support import built, foreign, inputs, macs
 from support.cases import Comparing
-from support.containers import NULL, in_ber, mac_data, store
+from support.containers import NULL, content_info, in_ber, mac_data, store
 from support.elements import octet_string, sequence
 from support.parts import covered, mac_parts, over_any_octets
 from support.rooms import InRooms
 from support.statuses import LOOSE, NORMAL, answered, checked, outcome
-from support.tools import needs, openssl
+from support.tools import ended, needs, openssl
 from oracle.answers import is_over_attributes
 from vuyhanip import der
 
 MAC_IN_C = built.TOP / "c/examples/mac.c"
+# How many octets an example in C has room for, which reads one less.
+MOST_IN_C = 1 << 22
 PASSWORD = foreign.PASSWORD
 # How many stores of each form there are at least.
 LEAST = 4
@@ -109,6 +111,23 @@ class TestMacs(InRooms):
 
     def test_the_example_in_c_writes_what_a_mac_covers(self):
         self.example_agrees(built.in_c(MAC_IN_C))
+
+    def test_examples_in_c_say_nothing_of_a_file_that_is_longer_than_they_read(self):
+        """A store of just as many octets as there is room for, and more after it."""
+        def of(length):
+            kept = content_info("1.2.3.4", octet_string(bytes(length)))
+            return store("data", octet_string(sequence(kept)), 3, mac_data(b"", b"", 1))
+
+        length = 2 * MOST_IN_C - 1000 - len(of(MOST_IN_C - 1000))
+        whole, less = of(length), of(length - 1)
+        self.same(len(whole), MOST_IN_C, "octets")
+        path = built.room() / "long.p12"
+        for name in ("store", "mac", "from_ber"):
+            program = built.in_c(MAC_IN_C.with_name(f"{name}.c"))
+            for text, is_read in ((whole + b"more", False), (whole, False), (less, True)):
+                path.write_bytes(text)
+                ran = ended(program, *([path] if name == "store" else []), text=text)
+                self.same((ran.returncode, bool(ran.stdout)), (0, True) if is_read else (1, False), name, len(text))
 
     @needs("gcc", "clang")
     def test_the_example_that_clang_builds_does_so(self):

@@ -7,6 +7,10 @@ static uint8_t input[1 << 22];
 
 int main(void) {
   size_t len = fread(input, 1, sizeof input, stdin), start, covered;
+  if (ferror(stdin) || len == sizeof input) {
+    fprintf(stderr, "not read, or longer than %zu octets\n", sizeof input - 1);
+    return 1;
+  }
   der_status status = (der_status)der_mac_range(input, len, &start, &covered);
   if (status != DER_NORMAL) {
     fprintf(stderr, "%s\n", der_status_word(status));

@@ -11,6 +11,10 @@ int main(int count, char **words) {
   if (!stream)
     return 2;
   len = fread(file, 1, sizeof file, stream);
+  if (ferror(stream) || len == sizeof file) {
+    fprintf(stderr, "not read, or longer than %zu octets\n", sizeof file - 1);
+    return 1;
+  }
   status = der_check("rawpfx", file, len, &normal_len);
   if (status > DER_LOOSE) {
     status = der_locate("rawpfx", file, len, &place);
