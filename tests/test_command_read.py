@@ -273,7 +273,7 @@ class Folders(Reading):
         self.put("many/a", EMPTY)
         os.mkfifo(self.room / "many/pipe")
         os.symlink("nothere", self.room / "many/broken")
-        self.put("names", b"many/a\nmany/pipe\n/dev/zero\nstore.p12\n")
+        self.put("names", b"many/a\nmany/pipe\n/dev/zero\nwith\0zero\nstore.p12\n")
         for source, wanted in (
             ("many", {"many/a": None}),
             (
@@ -282,6 +282,7 @@ class Folders(Reading):
                     "many/a": None,
                     "many/pipe": "not a regular file",
                     "/dev/zero": "not a regular file",
+                    "with\0zero": "not a regular file",
                     "store.p12": "longer than the 24 octets that --most-octets allows",
                 },
             ),

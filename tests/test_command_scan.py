@@ -35,6 +35,16 @@ class Scan(Command):
         again = self.octets("found").splitlines()
         self.assertEqual(sorted(json.loads(it)["file"] for it in again), sorted(names))
 
+    def test_another_file_than_that_of_answers_stays_as_it_is(self):
+        """Also where it has no line that ends."""
+        (self.room / "many").mkdir()
+        self.put("many/a", EMPTY)
+        for octets in (b"precious octets", b"precious\n", EMPTY, b'{"files": 1}', b'{"file": "many/b"}\nprecious'):
+            self.put("found", octets)
+            ran = ended(sys.executable, built.TOP / SCAN, "many", "found", cwd=self.room, env=self.environment())
+            self.assertEqual((ran.returncode, self.octets("found")), (2, octets))
+            self.assertIn(b"found has another line than those of answers", ran.stderr)
+
     def test_a_file_that_ends_its_process_leaves_the_others(self):
         names, ends = [str(it) for it in range(600)], {"3", "300", "599"}
         said = list(scan.here(functools.partial(answer_or_end, ends), names, 2))

@@ -30,6 +30,12 @@ except ImportError:
 # How many lists of names are under way at once for each process, how many names one has at most, and how often a file
 # is tried whose process ends.
 AHEAD, MOST, TRIES = 4, 64, 3
+# How each line of OUT begins.
+HEAD = b'{"file": "'
+
+class NoAnswers(ValueError):
+    """A line in OUT that no scan wrote."""
+
 
 Fields = Dict[str, Any]
 Job = Callable[[List[str]], List[Fields]]
@@ -42,8 +48,8 @@ def answer(kind: "str | None", limits: files.Limits, names: List[str]) -> List[F
 
 
 def _answer(kind: "str | None", name: str) -> Fields:
-    """What is said of a file, which is only opened if it is a regular one."""
-    if os.path.exists(name) and not os.path.isfile(name):
+    """What is said of a file, which is only opened if it is a regular one. None has a name with a zero in it."""
+    if "\0" in name or os.path.exists(name) and not os.path.isfile(name):
         return ended(name, "not a regular file")
     return dict(checking.check(name, kind, False).fields)
 
@@ -72,9 +78,12 @@ def lists_of(names: Iterable[str], processes: int) -> Iterator[List[str]]:
 
 
 def whole_lines(file: IO[bytes]) -> Iterator[bytes]:
-    """The lines of a file up to one that isn't whole, which is taken away."""
+    """The lines of a file up to one that isn't whole, which is taken away. Raises NoAnswers where a line is none, so that
+    nothing of another file is."""
     at = 0
     for line in file:
+        if not line.startswith(HEAD[: len(line)]):
+            raise NoAnswers("another line than those of answers")
         if not line.endswith(b"\n"):
             file.seek(at)
             file.truncate()
@@ -214,7 +223,10 @@ def main() -> int:
         answers: Callable[[Iterable[str]], Iterator[Fields]] = lambda it: of_scheduler(job, it, asked.scheduler)
     else:
         answers = lambda it: here(job, it, max(1, asked.j))
-    there, count = scan(names_in(asked.source), asked.out, answers)
+    try:
+        there, count = scan(names_in(asked.source), asked.out, answers)
+    except NoAnswers as fault:
+        words.error(f"{asked.out} has {fault}")
     print(f"{count} files answered, {there} were before", file=sys.stderr)
     return 0
 
