@@ -100,6 +100,18 @@ class Limits(Reading):
             wanted = "".join(f"{it}: pfx normal 24\n" for it in (name, "/dev/stdin", "empty.p12"))
             self.assertEqual(said, (0, wanted, ""))
 
+    def test_standard_streams_may_be_closed(self):
+        """Standard input as in a service: no number of its is that of the pipe to openssl. Nothing is said where standard
+        output is, so nothing is right."""
+        words = ["vuyhanip", "verify", "--password-file", "password", "store.p12"]
+        how = {"cwd": self.room, "env": self.environment()}
+        for closed, wanted in (
+            ("<&-", (0, b"store.p12: MAC right\n", b"")),
+            (">&-", (1, b"", b"standard output: Bad file descriptor\n")),
+        ):
+            ran = ended("sh", "-c", f'exec "$@" {closed}', "sh", sys.executable, "-m", *words, **how)
+            self.assertEqual((ran.returncode, ran.stdout, ran.stderr), wanted, closed)
+
     def test_processes_keep_the_limit(self):
         names = ["empty.p12", "store.p12"] * 4
         ended_, said, complaints = self.command("check", "-j", "2", "--most-octets", "24", *names)

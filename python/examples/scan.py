@@ -33,6 +33,7 @@ AHEAD, MOST, TRIES = 4, 64, 3
 # How each line of OUT begins.
 HEAD = b'{"file": "'
 
+
 class NoAnswers(ValueError):
     """A line in OUT that no scan wrote."""
 

@@ -498,6 +498,9 @@ def main(words: Optional[Sequence[str]] = None) -> int:
     for stream in (sys.stdout, sys.stderr):
         if isinstance(stream, io.TextIOWrapper):
             stream.reconfigure(errors="backslashreplace")
+    if sys.stdout is None:
+        complain("standard output", os.strerror(errno.EBADF))
+        return REFUSED
     try:
         status = run(words)
         sys.stdout.flush()

@@ -5,6 +5,7 @@ that a file holds is an argument. Of its environment only what begins with OPENS
 would change what it does.
 """
 import contextlib
+import fcntl
 import functools
 import os
 import re
@@ -156,13 +157,24 @@ def run(words: Sequence[str], folder: str = "/", password: Optional[bytes] = Non
     given: List[str] = [program(), *words]
     if password is None:
         return _run(given, folder, ())
-    reading, writing = os.pipe()
+    reading, writing = map(_above_standard, os.pipe())
     try:
         with open(writing, "wb") as file:
             file.write(password + b"\n")
         return _run([*given, "-passin", f"fd:{reading}"], folder, (reading,))
     finally:
         os.close(reading)
+
+
+def _above_standard(number: int) -> int:
+    """The number of an open file that is none of a standard stream, which openssl has others of: where one was closed, its
+    number is free."""
+    if number > 2:
+        return number
+    try:
+        return fcntl.fcntl(number, fcntl.F_DUPFD_CLOEXEC, 3)
+    finally:
+        os.close(number)
 
 
 def _run(words: List[str], folder: str, kept_open: Tuple[int, ...]) -> Ran:
