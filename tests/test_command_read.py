@@ -101,8 +101,8 @@ class Limits(Reading):
             self.assertEqual(said, (0, wanted, ""))
 
     def test_standard_streams_may_be_closed(self):
-        """Standard input as in a service: no number of its is that of the pipe to openssl. Nothing is said where standard
-        output is, so nothing is right."""
+        """Standard input as in a service: no number of its is that of the pipe to openssl. Nothing can be said where
+        standard output is, so nothing is right."""
         words = ["vuyhanip", "verify", "--password-file", "password", "store.p12"]
         how = {"cwd": self.room, "env": self.environment()}
         for closed, wanted in (
@@ -144,6 +144,25 @@ class Iterations(Reading):
             self.assertEqual(files.iterations_of(self.octets("counted.p12")), count)
         self.assertEqual(files.iterations_of(EMPTY), 0)
 
+    def test_the_iterations_of_encrypted_contents_are_counted_too(self):
+        """openssl decrypts them where the MAC is right, though it writes nothing; but no key in them."""
+        built.use_shared()
+        plain = ["-keypbe", "NONE", "-inkey", "ec.key", "-in", "ec.pem", "-passout", "pass:secret"]
+        for words in ((), ("-certpbe", "PBE-SHA1-3DES"), ("-legacy",)):
+            self.openssl("pkcs12", "-export", *plain, *words, "-iter", "3000", "-nomaciter", "-out", "counted.p12")
+            self.assertEqual(files.iterations_of(self.octets("counted.p12")), 3001, words)
+            said = ["counted.p12: MAC not checked: 3001 iterations, more than the 3000 that --most-iterations allows"]
+            self.says(["verify", "--password-file", "password", "--most-iterations", "3000", "counted.p12"], said, 1)
+        version, safe, mac = parts(self.octets("counted.p12"))
+        of_scrypt = "1.3.6.1.4.1.11591.4.11", (1024, 8, 2), 16384
+        for which, numbers, count in (of_scrypt, ("1.2.840.113549.1.5.12", (7,), 7)):
+            derived = sequence(oid(which), sequence(octet_string(b"salt"), *map(integer, numbers), integer(32)))
+            scheme = sequence(oid("1.2.840.113549.1.5.13"), sequence(derived, sequence(oid("1.2.3.4"))))
+            encrypted = sequence(integer(0), sequence(oid("data"), scheme, element(0x80, bytes(8))))
+            kept = sequence(*3 * [content_info("1.2.840.113549.1.7.6", encrypted)])
+            store = sequence(version, content_info("data", octet_string(kept)), mac)
+            self.assertEqual(files.iterations_of(store), 3 * count + 1)
+
     def test_those_of_the_function_that_derives_the_key_are_counted_where_that_is_named(self):
         """PBMAC1 (RFC 9579, 3), whose own field says 1."""
         built.use_shared()
@@ -156,13 +175,13 @@ class Iterations(Reading):
     def test_a_mac_of_more_than_a_million_iterations_is_not_derived_unless_that_is_asked_for(self):
         """8,000,000 of them took twelve seconds."""
         version, safe, mac = parts(self.octets("store.p12"))
-        self.put("many.p12", sequence(version, safe, sequence(*parts(mac)[:2], integer(1_000_001))))
+        self.put("many.p12", sequence(version, safe, sequence(*parts(mac)[:2], integer(1_000_001 - 2048))))
         words = ["verify", "--password-file", "password", "--most-iterations"]
-        for name, count, most in (("many.p12", 1_000_001, 1_000_000), ("store.p12", 2048, 2047)):
+        for name, count, most in (("many.p12", 1_000_001, 1_000_000), ("store.p12", 4096, 4095)):
             said = f"{name}: MAC not checked: {count} iterations, more than the {most} that --most-iterations allows\n"
             given = words[:-1] if most == 1_000_000 else [*words, str(most)]
             self.assertEqual(self.bounded(*given, name), (1, said, ""))
-        self.says([*words, "2048", "store.p12"], ["store.p12: MAC right"])
+        self.says([*words, "4096", "store.p12"], ["store.p12: MAC right"])
         self.finds(["verify", "many.p12"], ["MAC not checked: no password"], 1)
 
     def test_iterations_are_counted_whatever_is_after_a_store_or_beside_it(self):
@@ -177,11 +196,11 @@ class Iterations(Reading):
             ("windows.p12", whole + b"\r\n"),
             ("two.pem", pem(b"PKCS12", fewer) + pem(b"PKCS12", whole)),
         ):
-            said = f"{name}: MAC not checked: 2048 iterations, more than the 2047 that --most-iterations allows"
+            said = f"{name}: MAC not checked: 4096 iterations, more than the 4095 that --most-iterations allows"
             self.put(name, octets)
-            self.says(["verify", "--password-file", "password", "--most-iterations", "2047", name], [said], 1)
+            self.says(["verify", "--password-file", "password", "--most-iterations", "4095", name], [said], 1)
         notes = ["unix.p12: MAC right"]
-        self.says(["verify", "--password-file", "password", "--most-iterations", "2048", "unix.p12"], notes)
+        self.says(["verify", "--password-file", "password", "--most-iterations", "4096", "unix.p12"], notes)
 
     def test_more_than_the_limit_are_refused(self):
         files.allow(1_000_000)
@@ -191,7 +210,7 @@ class Iterations(Reading):
 
 class Signers(Reading):
     def many(self, name, count, octets, content):
-        """Signed data of many signers without attributes, whose signatures are wrong, and a certificate of some octets."""
+        """Signed data of many signers without attributes, whose signatures are wrong, beside a certificate."""
         certificate = self.octets("ec.der")
         tbs, *rest = parts(certificate)
         extension = sequence(oid("1.2.3.4"), octet_string(bytes(octets)))

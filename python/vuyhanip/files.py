@@ -4,13 +4,14 @@ import binascii
 import contextlib
 import contextvars
 import errno
+import math
 import os
 import re
 import sys
 from typing import BinaryIO, Iterable, Iterator, List, NamedTuple, Optional, Tuple, Union
 
 from . import der, library
-from .elements import OCTET_STRING, SEQUENCE, Element, encoded, whole
+from .elements import OCTET_STRING, SEQUENCE, Element, elements, encoded, whole
 from .foreign import by_first_octets, by_label
 from .values import integer, oid
 
@@ -28,6 +29,8 @@ HIDDEN = "PEM with BEGIN in a line that begins no block"
 HEADER = re.compile(rb"^[A-Za-z0-9-]+:.*(?:\n[ \t].*)*\n?", re.M)
 # The content type data (RFC 5652, 4), and the algorithm whose parameters say how a MAC's key is derived (RFC 9579, 3).
 DATA, PBMAC1 = "1.2.840.113549.1.7.1", "1.2.840.113549.1.5.14"
+# A function that derives keys by memory too (RFC 7914).
+SCRYPT = "1.3.6.1.4.1.11591.4.11"
 # Names of standard input, and of others of this process's files, that another process reads as others.
 STANDARD_INPUT, DESCRIPTORS = ("-", "/dev/stdin"), ("/dev/fd/", "/proc/self/fd/")
 
@@ -176,19 +179,49 @@ def is_stream(name: str) -> bool:
 
 
 def iterations_of(store: bytes) -> int:
-    """How many iterations the check of a store's MAC takes, by the DER of the store; 0 where it has no MAC. Raises
-    der.Refused where the octets are no store."""
+    """How many iterations the check of a store's MAC takes, by the DER of the store: also those of its encrypted contents,
+    which openssl decrypts where the MAC is right; 0 where it has no MAC. Raises der.Refused where the octets are no
+    store."""
     mac = library().mac_ber(store)
     if mac is None:
         return 0
-    if mac.digest_algorithm != PBMAC1:
-        return mac.iterations
+    found = mac.iterations
+    if mac.digest_algorithm == PBMAC1:
+        with contextlib.suppress(ValueError, IndexError):
+            # of MacData the DigestInfo, and its algorithm
+            found = _derivation(whole(store).children()[2].inside().inside())
+    return max(0, found) + sum(map(_of_content, _contents(store)))
+
+
+def _contents(store: bytes) -> Iterator[Element]:
+    """The contents in the authSafe of a store, by its DER, in which they may be BER."""
     try:
-        # of MacData the DigestInfo, its algorithm, and in the parameters of that the function that derives the key
-        parameters = whole(store).children()[2].inside().inside().children()[1]
-        return max(0, integer(parameters.inside().children()[1].children()[1]))
+        inside = whole(library().from_ber(whole(store).first(4)[1].first(3)[1].inside().contents))
+    except (ValueError, IndexError, der.Refused):
+        return
+    yield from elements(inside.data, inside.start, inside.end)
+
+
+def _of_content(info: Element) -> int:
+    """How many iterations it takes to decrypt contents: none of such as aren't encrypted (RFC 5652, 8)."""
+    try:
+        scheme = info.first(3)[1].inside().first(4)[1].first(4)[1]
+        # of PBES2 (RFC 8018, A.4) the first parameter is the function that derives the key
+        is_pbes2 = scheme.first(3)[1].inside().tag == SEQUENCE
+        return max(0, _derivation(scheme) if is_pbes2 else _number(scheme.first(3)[1]))
     except (ValueError, IndexError):
-        return mac.iterations
+        return 0
+
+
+def _derivation(scheme: Element) -> int:
+    """The iterations of the function that derives a key, which is the first parameter of a scheme."""
+    which, parameters = scheme.first(3)[1].inside().first(3)
+    return _number(parameters, 3 if oid(which) == SCRYPT else 1)
+
+
+def _number(parameters: Element, count: int = 1) -> int:
+    """The number after a salt; of scrypt (RFC 7914, 7.1) three, of which each makes the work longer."""
+    return math.prod(map(integer, parameters.first(count + 1)[1:]))
 
 
 def iterations_in(data: bytes, strict: bool) -> int:
