@@ -67,15 +67,14 @@ class Block(NamedTuple):
     @property
     def octets(self) -> bytes:
         """What it holds. Raises NoPem."""
-        text = self.text
         if not self.is_ended:
             raise NoPem("PEM without its END line")
-        if b":" in text:
-            if b"ENCRYPTED" in b"".join(HEADER.findall(text)):
-                raise NoPem("PEM that is encrypted")
-            text = HEADER.sub(b"", text)
+        headers = b"".join(HEADER.findall(self.text)) if b":" in self.text else b""
+        if headers:
+            # RFC 7468, 2 has none: openssl refuses them, and others take the letters in them for base64
+            raise NoPem("PEM that is encrypted" if b"ENCRYPTED" in headers else "PEM with header lines")
         try:
-            return base64.b64decode(text.translate(None, BLANK), validate=True)
+            return base64.b64decode(self.text.translate(None, BLANK), validate=True)
         except binascii.Error:
             raise NoPem("PEM without base64 in it") from None
 

@@ -5,6 +5,8 @@ and keys, attacks_on_trust.py those of certificates, time stamps and nested sign
 stores.
 
 All are signed anew, so that nothing is wrong with a file but what its class says."""
+import base64
+import re
 from typing import NamedTuple, Optional, Tuple
 
 from . import signing
@@ -292,6 +294,16 @@ def blocks_of_pem():
     ):
         question = pem_question(f"PEM with {name}")
         yield attack(f"PEM with {name}", text, rule, questions=(question,))
+    wrong_text = base64.b64encode(wrong + bytes(-len(wrong) % 3))
+    key = re.match(rb"[A-Za-z0-9]+", wrong_text)[0]
+    for name, lines in (
+        ("a header line", [b"Comment: text", b"", base64.b64encode(right)]),
+        ("a header line, and none after it", [b"Comment: text", base64.b64encode(right)]),
+        ("a header line that is base64 of another file", [key + b":" + wrong_text[len(key) :], base64.b64encode(right)]),
+    ):
+        name = f"PEM with {name}"
+        text = b"\n".join([b"-----BEGIN CMS-----", *lines, b"-----END CMS-----", b""])
+        yield attack(name, text, UNNAMED, questions=(pem_question(name),))
     for name, more in (
         ("a control character", b"\1"),
         ("a zero and text", b"\0text"),
