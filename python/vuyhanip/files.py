@@ -27,6 +27,8 @@ NEWLINES = b"\n", b"\r\n"
 HIDDEN = "PEM with BEGIN in a line that begins no block"
 # A header line in it (RFC 1421, 4.6).
 HEADER = re.compile(rb"^[A-Za-z0-9-]+:.*(?:\n[ \t].*)*\n?", re.M)
+# A blank line, of which openssl and others take what is before it for header lines.
+BLANK_LINE = re.compile(rb"\n[ \t\v\f\r]*\n")
 # The content type data (RFC 5652, 4), and the algorithm whose parameters say how a MAC's key is derived (RFC 9579, 3).
 DATA, PBMAC1 = "1.2.840.113549.1.7.1", "1.2.840.113549.1.5.14"
 # A function that derives keys by memory too (RFC 7914).
@@ -73,6 +75,8 @@ class Block(NamedTuple):
         if headers:
             # RFC 7468, 2 has none: openssl refuses them, and others take the letters in them for base64
             raise NoPem("PEM that is encrypted" if b"ENCRYPTED" in headers else "PEM with header lines")
+        if BLANK_LINE.search(self.text.strip(BLANK)):
+            raise NoPem("PEM with a blank line in it")
         try:
             return base64.b64decode(self.text.translate(None, BLANK), validate=True)
         except binascii.Error:

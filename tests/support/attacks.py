@@ -304,6 +304,14 @@ def blocks_of_pem():
         name = f"PEM with {name}"
         text = b"\n".join([b"-----BEGIN CMS-----", *lines, b"-----END CMS-----", b""])
         yield attack(name, text, UNNAMED, questions=(pem_question(name),))
+    name = "PEM with a blank line before another file"
+    for filler in (b"", b"\0", b"\0\0"):
+        around = Signer("rsa", unsigned=attribute("1.2.3.4", octet_string(filler + wrong))).file()
+        before = around[: -len(wrong)]
+        if around.endswith(wrong) and len(before) % 3 == 0:
+            lines = [b"-----BEGIN CMS-----", base64.b64encode(before), b"", base64.b64encode(wrong), b"-----END CMS-----"]
+            yield attack(name, b"\n".join([*lines, b""]), UNNAMED, questions=(pem_question(name),))
+            break
     for name, more in (
         ("a control character", b"\1"),
         ("a zero and text", b"\0text"),
