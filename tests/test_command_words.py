@@ -121,10 +121,26 @@ class Words(Command):
         self.assertEqual([it for it in said.split() if it not in listed], [])
 
     def test_standard_input_is_named_once(self):
-        for words in (("check", "-", "-"), ("check", "-", "/dev/stdin"), ("verify", "--password-file", "-", "-")):
+        for words in (
+            *(("check", "-", "-"), ("check", "-", "/dev/stdin"), ("verify", "--password-file", "-", "-")),
+            *(("verify", "--ca", "-", "-"), ("verify", "--certificate", "-", "--certificate", "-", "rsa.pem")),
+        ):
             status, said, complaints = self.command(*words, text=EMPTY)
             self.assertEqual((status, said), (2, ""))
             self.assertIn("error: standard input is named more than once, and can be read once\n", complaints)
+
+    def test_words_that_say_what_is_right_are_given_once(self):
+        """The name of a file may look like one of them, where a shell gives all names of a folder."""
+        self.put("--ca=.other.pem", self.octets("attributes.p7s"))
+        self.put(".other.pem", self.octets("rsa.pem"))
+        self.assertEqual(self.command("verify", "--ca", "rsa.pem", "attributes.p7s")[0], 0)
+        for word, value in (
+            ("--ca", "ec.pem"), ("--at", "0"), ("--purpose", "any"), ("--content", "data"), ("--password-file", "password"),
+        ):
+            again = "--ca=.other.pem" if word == "--ca" else f"{word}={value}"
+            ended, said, complaints = self.command("verify", word, value, again, "attributes.p7s")
+            self.assertEqual((ended, said), (2, ""), word)
+            self.assertIn(f"argument {word}: given more than once\n", complaints)
 
     def test_a_password_may_begin_with_a_mark_and_has_to_be_utf_8(self):
         self.put("marked", b"\xef\xbb\xbfsecret\r\n")

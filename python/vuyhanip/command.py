@@ -436,17 +436,30 @@ def add_verb(name: str, verb: Verb, into: "argparse._SubParsersAction[argparse.A
         add_terms(words)
 
 
+class Once(argparse.Action):
+    """A word that is given once at most, so that the name of a file, as --ca=other.pem, takes the place of none."""
+
+    def __call__(
+        self, parser: argparse.ArgumentParser, namespace: argparse.Namespace, values: object, option: Optional[str] = None
+    ) -> None:
+        """Keeps what is given."""
+        if getattr(namespace, self.dest) is not None:
+            raise argparse.ArgumentError(self, "given more than once")
+        setattr(namespace, self.dest, values)
+
+
 def add_terms(words: argparse.ArgumentParser) -> None:
     """The words of verify alone."""
-    words.add_argument("--content", metavar="FILE", help="the content of a detached signature or of a time stamp")
+    once = functools.partial(words.add_argument, action=Once)
+    once("--content", metavar="FILE", help="the content of a detached signature or of a time stamp")
     words.add_argument(
         "--certificate", metavar="FILE", action="append", default=[], help="certificates beside those of files"
     )
-    words.add_argument("--ca", metavar="FILE", help="judge the certificates: trust those of FILE, and no others")
-    words.add_argument("--purpose", type=purpose_word, metavar="P", help="what for: smimesign is the default")
-    words.add_argument("--at", type=moment, metavar="TIME", help="when, as 2026-11-29T00:00:00Z or in seconds")
+    once("--ca", metavar="FILE", help="judge the certificates: trust those of FILE, and no others")
+    once("--purpose", type=purpose_word, metavar="P", help="what for: smimesign is the default")
+    once("--at", type=moment, metavar="TIME", help="when, as 2026-11-29T00:00:00Z or in seconds")
     words.add_argument("--allow-weak", action="store_true", help="take MD5, SHA-1, DSA and RSA under 2,048 bits")
-    words.add_argument("--password-file", metavar="FILE", help="its first line is the password of a store")
+    once("--password-file", metavar="FILE", help="its first line is the password of a store")
     words.add_argument("--ask-password", action="store_true", help="ask for the password of a store")
 
 
@@ -469,7 +482,8 @@ def parsed(words: Optional[Sequence[str]]) -> argparse.Namespace:
     """What the words ask for. Standard input is read once, so it is named once at most."""
     made = parser()
     asked = made.parse_args(words)
-    named = [*getattr(asked, "files", ()), *(getattr(asked, it, None) for it in ("file", "content", "password_file"))]
+    named = [*getattr(asked, "files", ()), *getattr(asked, "certificate", ())]
+    named += (getattr(asked, it, None) for it in ("file", "content", "ca", "password_file"))
     if sum(it in STANDARD_INPUT for it in named) > 1:
         made.error("standard input is named more than once, and can be read once")
     return asked
