@@ -139,6 +139,9 @@ class Attacks(Comparing):
     def test_a_signer_has_one_certificate(self):
         self.none_right(attacks_on_trust.two_certificates, attacks_on_trust.unread_certificates)
 
+    def test_a_signer_has_the_certificate_that_it_names(self):
+        self.none_right(attacks_on_trust.named_certificates)
+
     def test_certificates_are_judged_by_the_roots_given_alone(self):
         self.none_right(attacks_on_trust.chains)
 

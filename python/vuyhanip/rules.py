@@ -4,18 +4,21 @@ A rule answers why it refuses a case, or nothing. Of a store the case is its MAC
 """
 import enum
 import functools
+import hashlib
 from typing import Callable, List, NamedTuple, Optional, Sequence, Tuple, Union
 
 from . import der, library
 from .containers import COUNTER_SIGNATURE, DATA
-from .elements import OCTET_STRING, NotThere, whole
+from .elements import OCTET_STRING, SEQUENCE, NotThere, whole
 from .judging import Facts, StampFacts, facts
 from .names import name_of
-from .values import integer
+from .values import integer, oid
 
 INDIRECT_DATA = "1.3.6.1.4.1.311.2.1.4"
 # The encoding of the type messageDigest, and the tag of an OCTET STRING in segments.
 MESSAGE_DIGEST, SEGMENTS = b"\x06\x09\x2a\x86\x48\x86\xf7\x0d\x01\x09\x04", 0x24
+# Attributes that name the signer's certificate by a digest, and that digest where they say none (RFC 5035, 5.4).
+NAMES_CERTIFICATE = {"1.2.840.113549.1.9.16.2.47": "sha256", "1.2.840.113549.1.9.16.2.12": "sha1"}
 # Digests, and algorithms of signatures that have one in them: MD2, MD4, MD5 and SHA-1.
 WEAK_DIGESTS = ("1.2.840.113549.2.2", "1.2.840.113549.2.4", "1.2.840.113549.2.5", "1.3.14.3.2.26")
 WEAK_SIGNATURES = (
@@ -202,6 +205,31 @@ def _in_der(certificate: bytes) -> bytes:
         return certificate
 
 
+def signing_certificate(case: Case, number: int) -> str:
+    """The certificate that signed attributes name is the signer's: another one of the same key says another name, and what
+    else names a certificate isn't signed. openssl looks at that in time stamps alone."""
+    values = [
+        (bytes(value), NAMES_CERTIFICATE[which])
+        for attribute in case.infos[number].attributes
+        if (which := der.attribute_oid(attribute)) in NAMES_CERTIFICATE
+        for value in der.attribute_values(attribute)
+    ]
+    is_so = all(_names(value, digest, it) for value, digest in values for it in case.own[number])
+    return "" if is_so else "its signed attributes name another certificate"
+
+
+def _names(value: bytes, digest: str, certificate: bytes) -> bool:
+    """Whether the first identifier in an attribute is of a certificate: its digest, before which an algorithm may be."""
+    try:
+        first, *more = whole(value).first(1)[0].first(1)[0].first(2)
+        if first.tag == SEQUENCE:
+            digest, first = der.DIGESTS[oid(first.inside())], more[0]
+        made = {hashlib.new(digest, it).digest() for it in (certificate, _in_der(certificate))}
+        return first.tag == OCTET_STRING and first.contents in made
+    except (LookupError, ValueError):
+        return False
+
+
 def algorithm_of_key(case: Case, number: int) -> str:
     """The signature is by an algorithm of the key: with a key on a curve openssl doesn't look at what is said of it, nor
     with any in PKCS #7, where a key of RSA signs as PKCS #1 v1.5 has it."""
@@ -333,6 +361,7 @@ RULES: Tuple[Rule, ...] = (
     Rule("attributes-as-content", "RFC 5652, 5.4", attributes_as_content, Of.SIGNER),
     Rule("unread-certificate", "RFC 5652, 10.2.2", unread_certificate, Of.SIGNER),
     Rule("same-issuer-and-serial", "RFC 5280, 4.1.2.2", same_issuer_and_serial, Of.SIGNER),
+    Rule("signing-certificate", "RFC 5035, 5.4", signing_certificate, Of.SIGNER),
     Rule("algorithm-of-key", "RFC 5652, 5.3", algorithm_of_key, Of.SIGNER),
     Rule("digest-of-signature", "RFC 5652, 5.3", digest_of_signature, Of.SIGNER),
     Rule("salt-length", "RFC 8017, A.2.3", salt_length, Of.SIGNER),

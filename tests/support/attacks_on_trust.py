@@ -26,7 +26,7 @@ from .signing import (
     signed_data,
 )
 
-SIGNING_CERTIFICATE = "1.2.840.113549.1.9.16.2.47"
+SIGNING_CERTIFICATE, SIGNING_CERTIFICATE_OF_SHA1 = (f"1.2.840.113549.1.9.16.2.{it}" for it in (47, 12))
 # The configuration of an authority that dates certificates as it likes.
 DATES = """[ca]
 default_ca = it
@@ -89,6 +89,55 @@ def two_certificates():
     yield attack(
         "two certificates given in two files", Signer("rsa").file(certificates=[]), rule, two, ("-certfile", both),
     )
+
+
+@functools.lru_cache(maxsize=None)
+def another_name():
+    """A certificate of another's key and another subject, which who has no private key may have been given."""
+    certificate("ca")
+    return certify("another-name", *SIGNS, of="rsa", subject="/CN=another name")
+
+
+def names_of_certificates():
+    """By name, signed attributes that name a certificate, which isn't that of `another_name` (RFC 5035, 5.4)."""
+    def of(*identifiers, which=SIGNING_CERTIFICATE):
+        return attribute(which, *(sequence(sequence(it)) for it in identifiers))
+
+    whole = certificate("rsa")
+    hashed = {it: octet_string(digest_of(it, whole)) for it in ("sha1", "sha256", "sha512")}
+    by_sha512 = sequence(algorithm(DIGESTS["sha512"], NULL), hashed["sha512"])
+    own = sequence(octet_string(digest_of("sha256", another_name())))
+    issuer = sequence(sequence(explicit(4, part(whole, 0, 3))), part(whole, 0, 1))
+    yield "by SHA-256", [of(sequence(hashed["sha256"]))]
+    yield "by SHA-512", [of(by_sha512)]
+    yield "by SHA-1", [of(sequence(hashed["sha1"]), which=SIGNING_CERTIFICATE_OF_SHA1)]
+    yield "by SHA-256 and its issuer", [of(sequence(hashed["sha256"], issuer))]
+    yield "by a digest of no algorithm that is known", [of(sequence(algorithm("1.2.3.4"), hashed["sha256"]))]
+    yield "by nothing", [of(sequence())]
+    yield "by a text", [attribute(SIGNING_CERTIFICATE, element(0x0C, b"text"))]
+    yield "in no list", [attribute(SIGNING_CERTIFICATE, sequence())]
+    yield "in the second of two values", [of(own, sequence(hashed["sha256"]))]
+    yield "in the second of two attributes", [of(own), of(sequence(hashed["sha1"]), which=SIGNING_CERTIFICATE_OF_SHA1)]
+
+
+def named_certificates():
+    """A signature that was made for one certificate beside another one of the same key: only what is signed says so."""
+    rule = "signing-certificate"
+    for name, those in names_of_certificates():
+        for how, more in (("", {}), (", by key identifier", {"keyid": True})):
+            signer = Signer("rsa", certificate=another_name(), attributes=[*attributes_of(CONTENT), *those], **more)
+            yield attack(f"another certificate is named {name}{how}", signer.file(version=3 if more else 1), rule)
+    name, those = next(names_of_certificates())
+    signer = Signer("rsa", certificate=another_name(), attributes=[*attributes_of(CONTENT), *those])
+    yield attack("another certificate is named, detached", signer.file(content=False), rule, *given(CONTENT))
+    yield trusted("another certificate is named", signer.file(), "ca.pem", rule=rule)
+    right = of_program()
+    those = [*attributes_of(right, INDIRECT_DATA), *those]
+    signer = Signer("rsa", content=right, content_type=INDIRECT_DATA, certificate=another_name(), attributes=those)
+    file = put("named-indirect.content", right)
+    octets = signer.file(content=sequence(right))
+    name = "another certificate is named, indirect data"
+    yield attack(name, octets, rule, questions=(smime(of_file(name), file),))
 
 
 def broken_certificates():
@@ -525,4 +574,7 @@ def nested():
         yield attack(name, of_levels, UNNAMED if levels > 8 else None, questions=(cms(of_file(name)), cms(asked)))
 
 
-CLASSES = (two_certificates, unread_certificates, chains, indirect_data, stamps, stamps_of_signatures, nested)
+CLASSES = (
+    *(two_certificates, named_certificates, unread_certificates, chains, indirect_data, stamps, stamps_of_signatures),
+    nested,
+)
