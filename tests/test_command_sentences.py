@@ -66,6 +66,8 @@ WORDS = {
     "PATH": PATH,
     "FORM": r"(PEM|PEM block \d+ of \d+|BER|PEM and BER|PEM block \d+ of \d+ and BER)",
     "THING": "|".join(map(re.escape, [*foreign.LABELS.values(), *(it[2] for it in foreign.FIRST_OCTETS), *OTHERS])),
+    "FAULT": r"(that is encrypted|without (base64 in it|its END line)"
+    r"|with (header lines|a blank line in it|BEGIN in a line that begins no block))",
     "SYSTEM": "|".join(re.escape(os.strerror(it)) for it in errno.errorcode),
     "OUT": r"[^ ]+",
     "COVERED": rf"{COVERED}(, {COVERED})*( and \d+ more)?",
