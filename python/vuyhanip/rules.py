@@ -280,9 +280,14 @@ def exponent(case: Case, number: int) -> str:
 
 
 def named_curve(case: Case, number: int) -> str:
-    """A curve has a name: with one that is written out in numbers, which may be of a small group, anyone may sign."""
-    is_so = all(it.is_named for it in case.facts_of(number) if it.key == CURVE)
-    return "" if is_so else "a key on a curve without a name"
+    """A curve has a name: with one that is written out in numbers, which may be of a small group, anyone may sign; and
+    with a key that is the point at infinity, which openssl doesn't write."""
+    for it in (it for it in case.facts_of(number) if it.key == CURVE):
+        if it.bits is None:
+            return "a key on a curve that isn't read"
+        if not it.is_named:
+            return "a key on a curve without a name"
+    return ""
 
 
 def _rsa(case: Case, number: int) -> List[Facts]:

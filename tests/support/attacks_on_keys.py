@@ -37,6 +37,9 @@ ORDERS = {
     "p384": int("F" * 48 + "C7634D81F4372DDF581A0DB248B0A77AECEC196ACCC52973", 16),
 }
 
+# The first number of the generator of P-256 (SEC 2, 2.4.2).
+GENERATOR = 0x6B17D1F2E12C4247F8BCE6E563A440F277037D812DEB33A0F4A13945D898C296
+
 
 # ---- algorithms
 
@@ -466,9 +469,24 @@ def on_a_curve_of_three_points():
     return sequence(made, by_ca, bit_string(by_rsa("ca", "sha256", made))), sign
 
 
+def of_the_point_at_infinity():
+    """A certificate by `ca` for a key on P-256 that is no point of numbers, and a signature by anyone: r is that of the
+    generator, and s the digest."""
+    tbs, by_ca, _ = parts(certificate("p256"))
+    fields = parts(tbs)
+    fields[6] = sequence(parts(fields[6])[0], bit_string(b"\0"))
+    made = sequence(*fields)
+
+    def sign(covered):
+        s = int.from_bytes(digest_of("sha256", covered), "big") % ORDERS["p256"]
+        return sequence(integer(GENERATOR), integer(s))
+
+    return sequence(made, by_ca, bit_string(by_rsa("ca", "sha256", made))), sign
+
+
 def curves_without_a_name():
-    """Keys on curves that are written out in numbers (RFC 5480, 2.1.1), on one of which anyone signs; also where weak
-    ones are allowed."""
+    """Keys on curves that are written out in numbers (RFC 5480, 2.1.1), on one of which anyone signs, and one by which
+    anyone does; also where weak ones are allowed."""
     whole, sign = on_a_curve_of_three_points()
     for how, words in (("", ()), (" with --allow-weak", ("--allow-weak",))):
         for name, those in (("attributes", attributes_of(CONTENT)), ("no attributes", None)):
@@ -476,6 +494,10 @@ def curves_without_a_name():
             yield attack(f"a curve of three points, {name}{how}", signer.file(), "named-curve", words)
     signer = Signer("written")
     yield attack("P-256 in numbers", signer.file(), "named-curve")
+    whole, sign = of_the_point_at_infinity()
+    for how, words in (("", ()), (" with --allow-weak", ("--allow-weak",))):
+        signer = Signer("p256", certificate=whole, sign=sign)
+        yield attack(f"a key that is the point at infinity{how}", signer.file(), "named-curve", words)
 
 
 def signed_by_exponent(by, first):
