@@ -440,7 +440,11 @@ class Once(argparse.Action):
     """A word that is given once at most, so that the name of a file, as --ca=other.pem, takes the place of none."""
 
     def __call__(
-        self, parser: argparse.ArgumentParser, namespace: argparse.Namespace, values: object, option: Optional[str] = None
+        self,
+        parser: argparse.ArgumentParser,
+        namespace: argparse.Namespace,
+        values: object,
+        option_string: Optional[str] = None,
     ) -> None:
         """Keeps what is given."""
         if getattr(namespace, self.dest) is not None:
