@@ -25,7 +25,7 @@ REASON, PATH = "(malformed|missing|invalid|too deep)", r"[A-Za-z0-9 >\[\]-]+"
 COVERED = r"(the MAC|(the signatures?|counter signature \d+)( of (the list|(revocation list|signer|time stamp) \d+))*)"
 OTHERS = ("an empty file", "a mail", "base64 without the lines of PEM", "OpenPGP", "a request of OCSP")
 OTHERS += ("a response of OCSP", "a request for a time stamp", "a time stamp response without a token")
-PARTS = "|".join({*extracting.LEFT_IN_STORES.values(), *extracting.LEFT_IN_SIGNED.values()})
+PARTS = "|".join({*extracting.LEFT_IN_STORES.values(), *extracting.LEFT_IN_SIGNED.values(), extracting.BLOCKS})
 # What the rules of verdicts say, those that --allow-weak allows, and why openssl isn't asked.
 RULES = (
     *("no signers", "0 iterations", "a time stamp with more than one signer"),

@@ -95,6 +95,14 @@ class Extract(Command):
         refused = r"^half\.p12: rawpfx, whose bags are refused: invalid at"
         self.finds(["extract", "half.p12", "--into", "half"], [refused], 1)
 
+    def test_blocks_of_pem_that_are_left_are_told(self):
+        """All of them are verified, and the first is read."""
+        self.put("three.pem", 3 * self.octets("signed.pem"))
+        status, said, complaints = self.command("extract", "three.pem", "--into", "first")
+        self.assertEqual((status, said), (0, "first/certificate-1.der\nfirst/content\n"))
+        self.assertEqual(complaints, "three.pem: left in the file: blocks of PEM: 2\n")
+        self.assertEqual(self.command("extract", "signed.pem", "--into", "alone")[2], "")
+
     def test_what_is_left_of_a_signed_file_is_told(self):
         stamp = element(0xA1, attribute("1.2.840.113549.1.9.16.2.14", self.octets("stamp.tst")))
         stamped = within(self.octets("attributes.p7s"), SIGNERS, lambda it: sequence(contents(it), stamp))

@@ -35,6 +35,8 @@ class Piece(NamedTuple):
     mode: int = OPEN
 
 
+# What is left of PEM, of which the first block is read.
+BLOCKS = "blocks of PEM"
 # What is left in a store, by the kind of its bags, and in a signed file by the attribute that it is in.
 LEFT_IN_STORES = {
     der.BagKind.UNREAD: "encrypted contents",
@@ -115,6 +117,7 @@ def _write(path: str, piece: Piece) -> None:
 def left(said: Union[Accepted, NoKind]) -> List[str]:
     """What of a container isn't written."""
     octets, counts = said.given.octets, dict.fromkeys([*LEFT_IN_STORES.values(), *LEFT_IN_SIGNED.values()], 0)
+    counts[BLOCKS] = sum(int(form.rpartition(" of ")[2]) - 1 for form in said.given.forms if " of " in form)
     if isinstance(said, NoKind):
         octets = time_stamp_token(octets) or octets
     try:
