@@ -11,9 +11,10 @@ import unittest
 
 from support import built
 from support.command import EMPTY, Command
-from support.containers import NULL, SHA256, content_info, mac_data
-from support.elements import element, explicit, integer, octet_string, part, parts, sequence, set_of
+from support.containers import NULL, SHA256, attribute, content_info, mac_data
+from support.elements import element, explicit, integer, octet_string, part, parts, sequence, set_of, within
 from support.oids import oid
+from support.signed_attributes import SIGNER
 from support.tools import ended, run
 
 from vuyhanip import files, rules, verifying
@@ -225,11 +226,20 @@ class Signers(Reading):
     def test_a_certificate_is_not_taken_once_for_each_of_many_signers(self):
         """openssl would write 140 MB of a file of 0.3 MB, and a terabyte of one a hundred times as long."""
         self.many("long.p7s", 700, 200_000, b"content")
-        why = "more than 134217728 octets, a certificate for each signer"
+        why = "more than 134217728 octets, a certificate for each signer or time stamp"
         self.assertEqual(self.bounded("verify", "long.p7s"), (1, f"long.p7s: not checked: {why}\n", ""))
         ended_, said, complaints = self.bounded("show", "long.p7s")
         self.assertEqual((ended_, complaints), (1, ""))
         self.assertRegex(said, rf"\n  not shown +{why}\n$")
+
+    def test_certificates_are_not_given_to_openssl_once_for_each_of_many_time_stamps(self):
+        """Which would write 200 MB of a file of 0.2 MB."""
+        self.many("long.p7s", 1, 200_000, b"content")
+        stamps = attribute("1.2.840.113549.1.9.16.2.14", *(sequence(integer(it)) for it in range(1000)))
+        made = within(self.octets("long.p7s"), SIGNER, lambda it: it + element(0xA1, stamps))
+        self.put("stamped.p7s", made)
+        why = "more than 134217728 octets, a certificate for each signer or time stamp"
+        self.assertEqual(self.bounded("verify", "stamped.p7s"), (1, f"stamped.p7s: not checked: {why}\n", ""))
 
     def test_content_is_looked_through_once_for_all_signers(self):
         """Where it may be the signed attributes of another signature."""

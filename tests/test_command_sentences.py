@@ -42,7 +42,7 @@ WEAK = r"(the (digest|signature algorithm) [\w.-]+( of what is stamped)?|RSA of 
 CAUSES = (
     *("no content, which --content gives", "no password, which --password-file or --ask-password gives"),
     *("openssl takes no such password", r"more than \d+ (certificates|levels)", r"the digest [\w.-]+ is not known"),
-    r"more than \d+ octets, a certificate for each signer",
+    r"more than \d+ octets, a certificate for each signer or time stamp",
     "there is no program openssl, whose yes a yes is here",
     "openssl has no purpose for programs, so --ca asks for --purpose any",
     r"OpenSSL [^,]+ verifies no (signatures of Ed25519 and Ed448 in CMS|signers by key identifier over such content)",

@@ -163,7 +163,7 @@ def signed_findings(octets: bytes, terms: Terms, around: Around) -> List[Finding
     case = case_of(read_signed(octets, terms.strict), terms, around)
     if len({*case.certificates, *case.others}) > MOST_CERTIFICATES:
         return [Finding(around.whole, f"not checked: more than {MOST_CERTIFICATES} certificates")]
-    too_long = too_long_for_each(len(case.infos), [*case.certificates, *case.others])
+    too_long = too_long_for_each(len(case.infos) + _stamps(case), [*case.certificates, *case.others])
     if too_long:
         return [Finding(around.whole, f"not checked: {too_long}")]
     case = case._replace(own=by_library(case))
@@ -179,6 +179,12 @@ def signed_findings(octets: bytes, terms: Terms, around: Around) -> List[Finding
         findings.append(described(it, case, number))
         findings += inside(case, number, terms, around._replace(before=f"{what}, ", response=None))
     return findings or [of_signer(f"{around.before}signers", said, of_file)]
+
+
+def _stamps(case: Case) -> int:
+    """How many time stamps signers have, each of which openssl gets beside all certificates."""
+    those = (attribute for info in case.infos for attribute in info.unsigned_attributes)
+    return sum(len(der.attribute_values(it)) for it in those if der.attribute_oid(it) in TIME_STAMPS)
 
 
 def described(it: Finding, case: Case, number: int) -> Finding:
