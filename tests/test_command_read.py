@@ -17,6 +17,7 @@ from support.oids import oid
 from support.signed_attributes import SIGNER
 from support.tools import ended, run
 
+import vuyhanip
 from vuyhanip import files, rules, verifying
 from vuyhanip.judging import Terms
 
@@ -202,6 +203,15 @@ class Iterations(Reading):
             self.says(["verify", "--password-file", "password", "--most-iterations", "4095", name], [said], 1)
         notes = ["unix.p12: MAC right"]
         self.says(["verify", "--password-file", "password", "--most-iterations", "4096", "unix.p12"], notes)
+
+    def test_programs_keep_the_limit_too(self):
+        built.use_shared()
+        whole = self.octets("store.p12")
+        self.assertTrue(vuyhanip.mac_verdict(whole, "secret").is_right)
+        version, safe, mac = parts(whole)
+        many = sequence(version, safe, sequence(*parts(mac)[:2], integer(1_000_000)))
+        said = vuyhanip.mac_verdict(many, "secret")
+        self.assertEqual((said.is_right, said.said[:35]), (False, "not checked: 1002048 iterations, mo"))
 
     def test_more_than_the_limit_are_refused(self):
         files.allow(1_000_000)

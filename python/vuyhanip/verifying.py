@@ -18,7 +18,7 @@ from .containers import (
     time_stamp_token,
     too_long_for_each,
 )
-from .files import NEWLINES, Given, NoPem, TooMany, allow, held, iterations_in
+from .files import NEWLINES, Given, NoPem, TooMany, allow, held, iterations_in, iterations_of
 from .findings import Finding, Said, of_signer
 from .judging import Answer, Terms, facts, of_mac, of_signatures, of_stamp, stamp_facts, token_of
 from .names import name_of
@@ -258,8 +258,14 @@ def mac_finding(store: bytes, mac: Optional[der.Mac], password: Optional[str]) -
 
 
 def mac_verdict(store: bytes, password: str) -> Finding:
-    """What is said of the MAC of a PKCS #12 file, in DER or BER. Raises der.Refused, and tool.NoTool."""
-    return mac_finding(store, library().mac_ber(library().from_ber(store)), password)
+    """What is said of the MAC of a PKCS #12 file, in DER or BER, that takes no more iterations than files.LIMITS have it.
+    Raises der.Refused, and tool.NoTool."""
+    made = library().from_ber(store)
+    try:
+        allow(iterations_of(made))
+    except TooMany as fault:
+        return Finding("MAC", f"not checked: {fault}")
+    return mac_finding(store, library().mac_ber(made), password)
 
 
 # Files
