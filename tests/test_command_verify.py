@@ -1,4 +1,5 @@
 """`vuyhanip verify` over files of openssl and other tools, beside what openssl says of their signatures and MACs."""
+import json
 import os
 import re
 import unittest
@@ -81,6 +82,17 @@ class Verify(Command):
         lines = self.command("verify", "named.p7s")[1]
         wanted = rf"sha384, rsaEncryption, 2048 bits, at {year}-\d\d-\d\d {clock}, by a certificate that calls itself "
         self.assertRegex(lines, wanted + re.escape(subject.strip().partition("=")[2]))
+
+    def test_a_long_name_is_cut_in_a_line(self):
+        """Of which a terminal would scroll the verdicts on other files away; in JSON it is whole."""
+        key = ["-x509", "-newkey", "rsa:2048", "-nodes", "-keyout", "long.key", "-out", "long.pem"]
+        self.openssl("req", *key, "-subj", "".join(f"/OU={it:060}" for it in range(200)))
+        self.sign("long.p7s", "-nodetach", key="long")
+        _, said, _ = self.command("verify", "--json", "long.p7s")
+        name = json.loads(said)["findings"][0]["by"]
+        self.assertGreater(len(name), 12_000)
+        lines = self.command("verify", "long.p7s")[1].splitlines()
+        self.assertRegex(lines[0], rf", by a certificate that calls itself {re.escape(name[:300])} \.\.$")
 
     def test_no_file_of_ed25519_is_asked_about_that_openssl_cannot_verify(self):
         """Of a file that is put together here, since openssl makes none: it only signs the attributes (RFC 8419)."""

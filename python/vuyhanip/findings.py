@@ -6,6 +6,9 @@ from .checking import NORMAL, NOT_JUDGED, REFUSED
 from .judging import Answer
 from .rules import Effect, Rule
 
+# How many characters of a certificate's name a line has, so that no line scrolls others away.
+MOST_OF_NAME = 300
+
 
 class Finding(NamedTuple):
     """What is said of a signer or of a MAC."""
@@ -44,7 +47,9 @@ class Finding(NamedTuple):
         said = self.said if self.what == "file" else f"{self.what}: {self.said}"
         size = "" if self.bits is None else f"{self.bits} bits"
         when = "" if self.time is None else f"at {self.time}"
-        by = "" if self.by is None else f"by a certificate that calls itself {self.by}"
+        name = self.by or ""
+        name = name if len(name) <= MOST_OF_NAME else f"{name[:MOST_OF_NAME]} .."
+        by = "" if self.by is None else f"by a certificate that calls itself {name}"
         return ", ".join(filter(None, (said, *self.notes, self.digest, self.scheme, size, when, by)))
 
     @property
