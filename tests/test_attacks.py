@@ -133,6 +133,9 @@ class Attacks(Comparing):
     def test_weak_signers_are_not_right(self):
         self.none_right(attacks_on_keys.weak, attacks_on_keys.exponents)
 
+    def test_a_key_is_not_one_by_which_anyone_signs(self):
+        self.none_right(attacks_on_keys.keys_of_anyone)
+
     def test_a_curve_has_a_name(self):
         self.none_right(attacks_on_keys.curves_without_a_name)
 

@@ -167,11 +167,11 @@ class Verify(Command):
                 self.assertLess(seconds, bound)
 
     def test_openssl_is_asked_once_for_many_signers(self):
-        """About the signatures, and about the one certificate."""
+        """About the signatures, about the one certificate, and about its key."""
         with unittest.mock.patch.object(tool, "run", wraps=tool.run) as run_of:
             findings = verifying.verify(self.octets("many.p7s"), Terms())
         asked = [call.args[0][0] for call in run_of.call_args_list if call.args[0] != ["version"]]
-        self.assertEqual((len(findings), sorted(asked)), (MANY, ["cms", "x509"]))
+        self.assertEqual((len(findings), sorted(asked)), (MANY, ["cms", "pkey", "x509", "x509"]))
 
     @needs("osslsigncode")
     def test_authenticode(self):

@@ -92,6 +92,14 @@ def facts(certificate: bytes) -> Optional[Facts]:
     return Facts(said[1], said[2], said[3], name, int(bits[1]) if bits else None, number, is_named)
 
 
+@functools.lru_cache(maxsize=512)
+def has_right_key(certificate: bytes) -> bool:
+    """Whether openssl finds the public key of a certificate right, which no verification asks."""
+    with tool.room() as room:
+        made = room.run(["x509", "-inform", "DER", "-in", room.put("certificate", certificate), "-noout", "-pubkey"])
+        return made.is_yes and room.run(["pkey", "-pubin", "-in", room.put("key", made.output), "-pubcheck", "-noout"]).is_yes
+
+
 def stamp_facts(token: bytes) -> Optional[StampFacts]:
     """What a time stamp holds. None where openssl doesn't read it."""
     with tool.room() as room:

@@ -10,7 +10,7 @@ from typing import Callable, List, NamedTuple, Optional, Sequence, Tuple, Union
 from . import der, library
 from .containers import COUNTER_SIGNATURE, DATA
 from .elements import OCTET_STRING, SEQUENCE, NotThere, whole
-from .judging import Facts, StampFacts, facts
+from .judging import Facts, StampFacts, facts, has_right_key
 from .names import name_of
 from .values import integer, oid
 
@@ -290,6 +290,11 @@ def named_curve(case: Case, number: int) -> str:
     return ""
 
 
+def public_key(case: Case, number: int) -> str:
+    """A key has the numbers of one: with a modulus that is prime, or a point of small order, anyone may sign."""
+    return "" if all(map(has_right_key, case.own[number])) else "openssl doesn't find its key right"
+
+
 def _rsa(case: Case, number: int) -> List[Facts]:
     """Keys of RSA."""
     return [it for it in case.facts_of(number) if it.key.startswith("rsa")]
@@ -372,6 +377,7 @@ RULES: Tuple[Rule, ...] = (
     Rule("salt-length", "RFC 8017, A.2.3", salt_length, Of.SIGNER),
     Rule("exponent", "RFC 8017, 3.1", exponent, Of.SIGNER),
     Rule("named-curve", "RFC 5480, 2.1.1", named_curve, Of.SIGNER),
+    Rule("public-key", "NIST SP 800-89, 4 and 5", public_key, Of.SIGNER),
     Rule("weak-digest", "RFC 6151, 2.1 and RFC 6194, 3.1", weak_digest, Of.SIGNER, Effect.WEAK),
     Rule("weak-rsa", "NIST SP 800-131A, 3", weak_rsa, Of.SIGNER, Effect.WEAK),
     Rule("weak-curve", "NIST SP 800-131A, 3", weak_curve, Of.SIGNER, Effect.WEAK),

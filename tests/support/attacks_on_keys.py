@@ -1,7 +1,7 @@
 """Attacks on signatures, their algorithms and their keys: see tests/support/attacks.py."""
 import functools
 
-from . import signing
+from . import signing, tools
 from .attacks import attack, changed, given
 from .containers import NULL, attribute, bit_string
 from .elements import contents, element, explicit, integer, octet_string, part, parts, sequence, set_of, within
@@ -23,7 +23,9 @@ from .signing import (
     digest_info,
     digest_of,
     key,
+    padded,
     padded_by,
+    prime,
     pss_parameters,
     signature_by,
     signed_data,
@@ -484,6 +486,14 @@ def of_the_point_at_infinity():
     return sequence(made, by_ca, bit_string(by_rsa("ca", "sha256", made))), sign
 
 
+@functools.lru_cache(maxsize=None)
+def multiple_of_the_generator(number):
+    """A number and the first coordinate of that many times the generator of sect233k1."""
+    made = parts(tools.openssl("ecparam", "-name", "sect233k1", "-genkey", "-noout", "-outform", "DER"))
+    point = contents(contents(made[3]))[1:]
+    return int.from_bytes(contents(made[1]), "big"), int.from_bytes(point[1:31], "big")
+
+
 def curves_without_a_name():
     """Keys on curves that are written out in numbers (RFC 5480, 2.1.1), on one of which anyone signs, and one by which
     anyone does; also where weak ones are allowed."""
@@ -500,6 +510,67 @@ def curves_without_a_name():
         yield attack(f"a key that is the point at infinity{how}", signer.file(), "named-curve", words)
 
 
+def of_key(info):
+    """A certificate by `ca` for a key, whose SubjectPublicKeyInfo is given."""
+    tbs, by_ca, _ = parts(certificate("p256"))
+    fields = parts(tbs)
+    fields[6] = info
+    made = sequence(*fields)
+    return sequence(made, by_ca, bit_string(by_rsa("ca", "sha256", made)))
+
+
+def of_a_prime_modulus():
+    """A certificate for a key of RSA whose modulus is prime, and a signature by anyone."""
+    modulus, exponent = prime(2048), 65537
+    info = sequence(algorithm(RSA, NULL), bit_string(sequence(integer(modulus), integer(exponent))))
+
+    def sign(covered):
+        block = int.from_bytes(padded(256, digest_info("sha256", covered)), "big")
+        return pow(block, pow(exponent, -1, modulus - 1), modulus).to_bytes(256, "big")
+
+    return of_key(info), sign
+
+
+def of_a_point_of_order_two():
+    """A certificate for a key on sect233k1 that is its point of order 2, and a signature by anyone: an even number of such
+    points is none."""
+    order = 0x8000000000000000000000000000069D5BB915BCD46EFB1AD5F173ABDF
+    info = sequence(sequence(oid(EC), oid("1.3.132.0.26")), bit_string(b"\4" + bytes(59) + b"\1"))
+
+    def sign(covered):
+        digest = int.from_bytes(digest_of("sha256", covered), "big") >> 24
+        for number in range(100):
+            k, x = multiple_of_the_generator(number)
+            r, s = x % order, digest * pow(k, -1, order) % order
+            if r * pow(s, -1, order) % order % 2 == 0:
+                return sequence(integer(r), integer(s))
+        raise AssertionError("no signature is found")
+
+    return of_key(info), sign
+
+
+def of_dsa_of_ones():
+    """A certificate for a key of DSA whose generator is 1, as then it is itself, and a signature by anyone."""
+    which, numbers = parts(part(certificate("dsa"), 0, 6, 0))
+    info = sequence(sequence(which, sequence(*parts(numbers)[:2], integer(1))), bit_string(integer(1)))
+    return of_key(info), lambda covered: sequence(integer(1), integer(1))
+
+
+def keys_of_anyone():
+    """Keys by which anyone signs (NIST SP 800-89, 4 and 5), which openssl finds wrong where it is asked for that alone;
+    also where weak ones are allowed."""
+    for name, by, (whole, sign) in (
+        ("a prime modulus", "rsa", of_a_prime_modulus()),
+        ("a point of order 2", "p256", of_a_point_of_order_two()),
+        ("a generator that is 1", "dsa", of_dsa_of_ones()),
+    ):
+        signer = Signer(by, certificate=whole, sign=sign)
+        for how, words in (("", ()), (" with --allow-weak", ("--allow-weak",))):
+            yield attack(f"a key of {name}{how}", signer.file(), "public-key", words)
+        bare = Signer(by, certificate=whole, sign=sign, attributes=None).file(content=False)
+        yield attack(f"a key of {name}, detached", bare, "public-key", *given(CONTENT))
+
+
 def signed_by_exponent(by, first):
     """A signer by a key of which some signatures aren't there, so that some attributes are tried."""
     for number in range(first, first + 64):
@@ -513,4 +584,5 @@ def signed_by_exponent(by, first):
 CLASSES = (
     *(algorithms_that_disagree, keys_of_another_kind, by_ed25519, parameters_of_pss, lengths, numbers_of_ecdsa),
     *(digest_infos, weak, exponents, curves_without_a_name),
+    keys_of_anyone,
 )

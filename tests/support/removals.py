@@ -38,6 +38,7 @@ REMOVALS = (
     Removal("exponent", "if it.exponent.bit_length() > MOST_EXPONENT and it.bits > SMALL_RSA:", "if not it.bits:"),
     Removal("named-curve", "if not it.is_named:", "if not it.key:"),
     Removal("named-curve", "for it in (it for it in case.facts_of(number) if it.key == CURVE):", "for it in ():"),
+    Removal("public-key", 'if all(map(has_right_key, case.own[number])) else', "if case.own[number] else"),
     Removal("weak-digest", "if signer.digest_oid in WEAK_AS_DIGESTS:", "if not signer.digest_oid:"),
     Removal("weak-digest", "if signer.digest_oid in WEAK_AS_DIGESTS:", "if signer.digest_oid in WEAK_DIGESTS:"),
     Removal("weak-digest", "any(it in case.stamp.digest.lower() for it in WEAK_NAMES)", "case.stamp.digest in WEAK_NAMES"),
