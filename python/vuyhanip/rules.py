@@ -208,6 +208,8 @@ def _in_der(certificate: bytes) -> bytes:
 def signing_certificate(case: Case, number: int) -> str:
     """The certificate that signed attributes name is the signer's: another one of the same key says another name, and what
     else names a certificate isn't signed. openssl looks at that in time stamps alone."""
+    if isinstance(case.signers[number], der.BadAttributes):
+        return ""
     values = [
         (bytes(value), NAMES_CERTIFICATE[which])
         for attribute in case.infos[number].attributes
