@@ -43,7 +43,7 @@ class Limits(NamedTuple):
     # how many octets are read of it
     octets: int = 1 << 30
     # how often a hash is taken to derive keys, over all of the file
-    iterations: int = 1_000_000
+    iterations: int = 2_000_000
 
 
 # What files may cost in this process: the command sets it once, and in each process of -j.
