@@ -181,11 +181,11 @@ def _has_digest(content: bytes) -> bool:
 
 def unread_certificate(case: Case, number: int) -> str:
     """A certificate that isn't read may be a signer's to another reader, and openssl passes some of them over; of a key
-    that isn't known the rules below say nothing, and of several that may be its own it isn't said whose it is."""
+    that isn't known the rules below say nothing."""
     for at, it in enumerate([*case.certificates, *case.others], 1):
         if facts(it) is None:
             return f"openssl doesn't read certificate {at}"
-    return "" if len({*case.own[number]}) == 1 else "its certificate isn't known"
+    return "" if case.facts_of(number) else "its certificate isn't known"
 
 
 def same_issuer_and_serial(case: Case, number: int) -> str:
@@ -206,8 +206,9 @@ def _in_der(certificate: bytes) -> bytes:
 
 
 def signing_certificate(case: Case, number: int) -> str:
-    """The certificate that signed attributes name is the signer's: another one of the same key says another name, and what
-    else names a certificate isn't signed. openssl looks at that in time stamps alone."""
+    """The certificate that signed attributes name is the signer's: another one of the same key says another name, and
+    what else names a certificate isn't signed. openssl looks at that in time stamps alone, and there at one of several
+    that may be the signer's."""
     if isinstance(case.signers[number], der.BadAttributes):
         return ""
     values = [

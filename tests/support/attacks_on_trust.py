@@ -475,7 +475,7 @@ def stamps():
         yield attack(file, octets, None, words, questions=(ts(of_file(file), given_name[1], is_token=is_token),))
     for number, those in enumerate(((namesake(), certificate("tsa")), (certificate("tsa"), namesake()))):
         file = f"stamp by certificate {2 - number}, beside another of its serial number"
-        yield attack(file, respelt(*those), "unread-certificate", ours, questions=(ts(of_file(file), name),))
+        yield attack(file, respelt(*those), "signing-certificate", ours, questions=(ts(of_file(file), name),))
     for status in (2, 3, 4, 5, 6, 77):
         file = f"response of status {status}"
         yield attack(file, response(right, status), None, ours, questions=(ts(of_file(file), name, is_token=False),))

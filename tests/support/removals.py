@@ -23,7 +23,6 @@ REMOVALS = (
         "attributes-as-content", "if is_over_content and content[:1] ==", "if not is_over_content and content[:1] ==",
     ),
     Removal("unread-certificate", "if facts(it) is None:", "if not it:"),
-    Removal("unread-certificate", "if len({*case.own[number]}) == 1 else", "if case.facts_of(number) else"),
     Removal("same-issuer-and-serial", "if len(those) > len(names) else", "if len(those) < len(names) else"),
     Removal("signing-certificate", 'return "" if is_so else "its signed', 'return "" if values else "its signed'),
     Removal("signing-certificate", "and first.contents in made", "and made"),
