@@ -9,6 +9,7 @@ right, and which rules refused."""
 import collections
 import contextlib
 import functools
+import importlib
 import inspect
 import io
 import itertools
@@ -49,6 +50,7 @@ NOT_LOOKED_AT = {
     "content-as-": "der_signers has content of any type, and doesn't say of which",
     "content-of-another-type-as-": "der_signers has content of any type, and doesn't say of which",
     "digest-algorithms-are-": "RFC 5652, 5.1 lets digestAlgorithms lack those of signers",
+    "another-certificate-is-named-": "which certificate signed attributes name isn't looked at",
     "NULL-at-the-end-of-certificates": "only the signer's certificate is looked at",
     **{f"{it}-as-": "only the signer's certificate is looked at" for it in (
         *("an-empty-SEQUENCE", "an-INTEGER", "one-that-is-cut", "one-with-more", "one-with-NULL-in-it"),
@@ -272,6 +274,9 @@ class Rules(Comparing):
         for removal in REMOVALS:
             change = {"file": removal.file, "old": removal.old, "new": removal.new}
             with standing_in(VERDICTS["succeeds"], **change) as it:
+                if removal.rule != "public-key":
+                    # by which openssl refuses some keys of other rules too
+                    importlib.import_module(f"{it.package}.rules").has_right_key = bool
                 found = faults(removal.rule, it.package, it.environment)
                 noticed = next(filter(is_right_now(removal.rule), found), None)
             self.same(noticed is not None, True, removal.rule, removal.new, "isn't noticed")
