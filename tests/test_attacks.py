@@ -115,7 +115,7 @@ class Attacks(Comparing):
         self.none_right(attacks.trailing, attacks.in_other_forms, attacks.no_signed_data)
 
     def test_all_blocks_of_pem_are_judged(self):
-        self.none_right(attacks.blocks_of_pem)
+        self.none_right(attacks.blocks_of_pem, attacks.misread_pem)
 
     def test_all_signers_are_right(self):
         self.none_right(attacks.several_signers)

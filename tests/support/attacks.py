@@ -294,35 +294,44 @@ def blocks_of_pem():
     ):
         question = pem_question(f"PEM with {name}")
         yield attack(f"PEM with {name}", text, rule, questions=(question,))
-    wrong_text = base64.b64encode(wrong + bytes(-len(wrong) % 3))
+    inner = put("inner.file", right + b"\0")
+    yield attack("PEM of a file with a zero after it", pem(right + b"\0", "CMS"), UNNAMED, questions=(cms(inner),))
+
+
+def misread_pem():
+    """PEM of which other readers may read something else than what is read here, since the lines of a block aren't only
+    base64, or more is in the line that begins it (RFC 7468, 2)."""
+    right, wrong = Signer("rsa").file(), Signer("rsa").file(content=octet_string(OTHER))
+    right_text, wrong_text = base64.b64encode(right), base64.b64encode(wrong + bytes(-len(wrong) % 3))
     key = re.match(rb"[A-Za-z0-9]+", wrong_text)[0]
     for name, lines in (
-        ("a header line", [b"Comment: text", b"", base64.b64encode(right)]),
-        ("a header line, and none after it", [b"Comment: text", base64.b64encode(right)]),
-        ("a header line that is base64 of another file", [key + b":" + wrong_text[len(key) :], base64.b64encode(right)]),
+        ("a header line", [b"Comment: text", b"", right_text]),
+        ("a header line, and none after it", [b"Comment: text", right_text]),
+        ("a header line that is base64 of another file", [wrong_text.replace(key, key + b":", 1), right_text]),
+        ("a blank line before another file", [base64.b64encode(up_to(wrong)), b"", base64.b64encode(wrong)]),
     ):
         name = f"PEM with {name}"
         text = b"\n".join([b"-----BEGIN CMS-----", *lines, b"-----END CMS-----", b""])
         yield attack(name, text, UNNAMED, questions=(pem_question(name),))
-    name = "PEM with a blank line before another file"
-    for filler in (b"", b"\0", b"\0\0"):
-        around = Signer("rsa", unsigned=attribute("1.2.3.4", octet_string(filler + wrong))).file()
-        before = around[: -len(wrong)]
-        if around.endswith(wrong) and len(before) % 3 == 0:
-            lines = [b"-----BEGIN CMS-----", base64.b64encode(before), b"", base64.b64encode(wrong), b"-----END CMS-----"]
-            yield attack(name, b"\n".join([*lines, b""]), UNNAMED, questions=(pem_question(name),))
-            break
     for name, more in (
         ("a control character", b"\1"),
         ("a zero and text", b"\0text"),
         ("a blank that isn't ASCII", b"\xc2\xa0"),
         ("many blanks, and text", 300 * b" " + b"text"),
     ):
-        hidden = bad.replace(b"-----BEGIN CMS-----", b"-----BEGIN CMS-----" + more)
+        hidden = pem(wrong, "CMS").replace(b"-----BEGIN CMS-----", b"-----BEGIN CMS-----" + more)
         name = f"PEM whose first block, which is wrong, has {name} in its first line"
-        yield attack(name, hidden + good, UNNAMED, questions=(pem_question(name),))
-    inner = put("inner.file", right + b"\0")
-    yield attack("PEM of a file with a zero after it", pem(right + b"\0", "CMS"), UNNAMED, questions=(cms(inner),))
+        yield attack(name, hidden + pem(right, "CMS"), UNNAMED, questions=(pem_question(name),))
+
+
+def up_to(last):
+    """A right file that ends with another one, as far as that: a number of octets that base64 needs no `=` for."""
+    for filler in (b"", b"\0", b"\0\0"):
+        around = Signer("rsa", unsigned=attribute("1.2.3.4", octet_string(filler + last))).file()
+        before = around[: -len(last)]
+        if around.endswith(last) and len(before) % 3 == 0:
+            return before
+    raise AssertionError("no such file is found")
 
 
 def pem_question(name):
@@ -409,5 +418,5 @@ def no_signed_data():
 
 CLASSES = (
     *(other_content, attributes_as_content, attributes_that_are_wrong, content_types, retagged_content, trailing),
-    *(blocks_of_pem, in_other_forms, several_signers, no_signed_data),
+    *(blocks_of_pem, misread_pem, in_other_forms, several_signers, no_signed_data),
 )
