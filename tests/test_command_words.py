@@ -135,7 +135,8 @@ class Words(Command):
         self.put(".other.pem", self.octets("rsa.pem"))
         self.assertEqual(self.command("verify", "--ca", "rsa.pem", "attributes.p7s")[0], 0)
         for word, value in (
-            ("--ca", "ec.pem"), ("--at", "0"), ("--purpose", "any"), ("--content", "data"), ("--password-file", "password"),
+            *(("--ca", "ec.pem"), ("--at", "0"), ("--purpose", "any"), ("--content", "data")),
+            ("--password-file", "password"),
         ):
             again = "--ca=.other.pem" if word == "--ca" else f"{word}={value}"
             ended, said, complaints = self.command("verify", word, value, again, "attributes.p7s")

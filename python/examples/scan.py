@@ -79,8 +79,8 @@ def lists_of(names: Iterable[str], processes: int) -> Iterator[List[str]]:
 
 
 def whole_lines(file: IO[bytes]) -> Iterator[bytes]:
-    """The lines of a file up to one that isn't whole, which is taken away. Raises NoAnswers where a line is none, so that
-    nothing of another file is."""
+    """The lines of a file up to one that isn't whole, which is taken away. Raises NoAnswers where a line is no answer,
+    so that nothing of another file is."""
     at = 0
     for line in file:
         if not line.startswith(HEAD[: len(line)]):

@@ -204,8 +204,8 @@ def signed(octets: bytes) -> Signed:
 
 
 def too_long_for_each(count: int, certificates: Iterable[bytes]) -> str:
-    """Why a certificate isn't taken once for each of so many signers or time stamps, or nothing: a file of some megabytes
-    asks for terabytes."""
+    """Why a certificate isn't taken once for each of so many signers or time stamps, or nothing: a file of some
+    megabytes asks for terabytes."""
     is_too_long = count * max(map(len, certificates), default=0) > MOST_OF_SIGNERS
     return f"more than {MOST_OF_SIGNERS} octets, a certificate for each signer or time stamp" if is_too_long else ""
 

@@ -153,8 +153,8 @@ def under(folder: str) -> Iterator[str]:
 
 
 def _is_kept_back(name: str) -> bool:
-    """Whether the system doesn't say what has a name, as where that is too long, or in a folder that may not be searched.
-    A link that leads nowhere is no file."""
+    """Whether the system doesn't say what has a name, as where that is too long, or in a folder that may not be
+    searched. A link that leads nowhere is no file."""
     try:
         os.stat(name)
     except OSError as fault:
@@ -182,9 +182,9 @@ def is_stream(name: str) -> bool:
 
 
 def iterations_of(store: bytes) -> int:
-    """How many iterations the check of a store's MAC takes, by the DER of the store: also those of its encrypted contents,
-    which openssl decrypts where the MAC is right; 0 where it has no MAC. Raises der.Refused where the octets are no
-    store."""
+    """How many iterations the check of a store's MAC takes, by the DER of the store: also those of its encrypted
+    contents, which openssl decrypts where the MAC is right; 0 where it has no MAC. Raises der.Refused where the octets
+    are no store."""
     mac = library().mac_ber(store)
     if mac is None:
         return 0
@@ -282,9 +282,9 @@ def blocks(data: bytes) -> Iterator[Block]:
 
 
 def _hides_a_block(data: bytes, are_ended: List[bool]) -> bool:
-    """Whether a BEGIN is in a line that begins no block here, where all blocks have an end: to other readers it may begin
-    one. At the end of a line openssl leaves out what isn't printed or isn't ASCII, all after a zero, and all of a long
-    one."""
+    """Whether a BEGIN is in a line that begins no block here, where all blocks have an end: to other readers it may
+    begin one. At the end of a line openssl leaves out what isn't printed or isn't ASCII, all after a zero, and all of a
+    long one."""
     return all(are_ended) and data.count(BEGIN) > len(are_ended)
 
 

@@ -97,7 +97,8 @@ def has_right_key(certificate: bytes) -> bool:
     """Whether openssl finds the public key of a certificate right, which no verification asks."""
     with tool.room() as room:
         made = room.run(["x509", "-inform", "DER", "-in", room.put("certificate", certificate), "-noout", "-pubkey"])
-        return made.is_yes and room.run(["pkey", "-pubin", "-in", room.put("key", made.output), "-pubcheck", "-noout"]).is_yes
+        asked = ["pkey", "-pubin", "-in", room.put("key", made.output), "-pubcheck", "-noout"]
+        return made.is_yes and room.run(asked).is_yes
 
 
 def stamp_facts(token: bytes) -> Optional[StampFacts]:

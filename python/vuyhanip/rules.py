@@ -222,7 +222,7 @@ def signing_certificate(case: Case, number: int) -> str:
 
 
 def _names(value: bytes, digest: str, certificate: bytes) -> bool:
-    """Whether the first identifier in an attribute is of a certificate: its digest, before which an algorithm may be."""
+    """Whether the first identifier in an attribute is a certificate's: its digest, before which an algorithm may be."""
     try:
         first, *more = whole(value).first(1)[0].first(1)[0].first(2)
         if first.tag == SEQUENCE:
@@ -234,8 +234,8 @@ def _names(value: bytes, digest: str, certificate: bytes) -> bool:
 
 
 def algorithm_of_key(case: Case, number: int) -> str:
-    """The signature is by an algorithm of the key: with a key on a curve openssl doesn't look at what is said of it, nor
-    with any in PKCS #7, where a key of RSA signs as PKCS #1 v1.5 has it."""
+    """The signature is by an algorithm of the key: with a key on a curve openssl doesn't look at what is said of it,
+    nor with any in PKCS #7, where a key of RSA signs as PKCS #1 v1.5 has it."""
     signer = case.signers[number]
     if isinstance(signer, der.BadAttributes):
         return ""

@@ -167,8 +167,8 @@ def run(words: Sequence[str], folder: str = "/", password: Optional[bytes] = Non
 
 
 def _above_standard(number: int) -> int:
-    """The number of an open file that is none of a standard stream, which openssl has others of: where one was closed, its
-    number is free."""
+    """The number of an open file that is none of a standard stream, which openssl has others of: where one was closed,
+    its number is free."""
     if number > 2:
         return number
     try:

@@ -532,8 +532,8 @@ def of_a_prime_modulus():
 
 
 def of_a_point_of_order_two():
-    """A certificate for a key on sect233k1 that is its point of order 2, and a signature by anyone: an even number of such
-    points is none."""
+    """A certificate for a key on sect233k1 that is its point of order 2, and a signature by anyone: an even number of
+    such points is none."""
     order = 0x8000000000000000000000000000069D5BB915BCD46EFB1AD5F173ABDF
     info = sequence(sequence(oid(EC), oid("1.3.132.0.26")), bit_string(b"\4" + bytes(59) + b"\1"))
 

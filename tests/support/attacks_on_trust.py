@@ -427,8 +427,8 @@ def wrong_stamps(data):
         *attributes_of(info, "TSTInfo", "sha1"), *stamp_attributes(info, whole)[2:]]), "tsa", "weak-digest"
     for name in ("sha1", "md5"):
         yield f"over a digest {name}", token(data, info=stamp_info(data, name)), "tsa", "weak-digest"
-        by_signatures = stamp_info(data, name, named=signing.WITH_RSA[name])
-        yield f"over a digest {name} by the name of its signatures", token(data, info=by_signatures), "tsa", "weak-digest"
+        named = token(data, info=stamp_info(data, name, named=signing.WITH_RSA[name]))
+        yield f"over a digest {name} by the name of its signatures", named, "tsa", "weak-digest"
     yield "by a key of 1024 bits", token(data, "short", stamping("short-tsa", "short")), "short-tsa", "weak-rsa"
     yield "whose content is data", Signer("tsa", content=info).file(), "tsa", None
     other = algorithm(signing.WITH_ECDSA["sha512"])
