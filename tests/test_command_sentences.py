@@ -36,7 +36,7 @@ RULES = (
     *(r"[\w.-]+ (by a key of|over the digest) [\w.-]+", "parameters of RSASSA-PSS that aren't read"),
     "an RSA key that isn't read",
     *("a salt length that isn't a number of 31 bits", "an RSA key whose exponent is even, or below 3"),
-    *(r"an RSA key whose exponent has more than \d+ bits", "a key on a curve (without a name|that isn't read)"),
+    *(r"an RSA key whose exponent has more than \d+ bits", "a key on a curve without a name"),
     "openssl doesn't find its key right",
     "its signed attributes name another certificate",
 )

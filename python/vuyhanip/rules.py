@@ -284,13 +284,9 @@ def exponent(case: Case, number: int) -> str:
 
 def named_curve(case: Case, number: int) -> str:
     """A curve has a name: with one that is written out in numbers, which may be of a small group, anyone may sign; and
-    with a key that is the point at infinity, which openssl doesn't write."""
-    for it in (it for it in case.facts_of(number) if it.key == CURVE):
-        if it.bits is None:
-            return "a key on a curve that isn't read"
-        if not it.is_named:
-            return "a key on a curve without a name"
-    return ""
+    with a key that is the point at infinity, of which openssl writes no curve."""
+    is_so = all(it.is_named for it in case.facts_of(number) if it.key == CURVE)
+    return "" if is_so else "a key on a curve without a name"
 
 
 def public_key(case: Case, number: int) -> str:

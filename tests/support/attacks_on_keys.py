@@ -434,6 +434,15 @@ def exponents():
     yield attack("an exponent of 65 bits, with --allow-weak", Signer("large").file(), "exponent", ("--allow-weak",))
 
 
+def of_key(info):
+    """A certificate by `ca` for a key, whose SubjectPublicKeyInfo is given."""
+    tbs, by_ca, _ = parts(certificate("p256"))
+    fields = parts(tbs)
+    fields[6] = info
+    made = sequence(*fields)
+    return sequence(made, by_ca, bit_string(by_rsa("ca", "sha256", made)))
+
+
 def curve_of_three_points():
     """A curve over the field of P-256 with a point of order 3, which is said to have the order of P-256: the numbers of
     the curve, and those of the point (SEC 1, C.2)."""
@@ -455,10 +464,6 @@ def on_a_curve_of_three_points():
     numbers = sequence(*(octet_string(it.to_bytes(32, "big")) for it in (first, second)))
     of = sequence(integer(1), sequence(oid("1.2.840.10045.1.1"), integer(field)), numbers, octet_string(point),
                   integer(ORDERS["p256"]), integer(1))
-    tbs, by_ca, _ = parts(certificate("p256"))
-    fields = parts(tbs)
-    fields[6] = sequence(sequence(oid(EC), of), bit_string(point))
-    made = sequence(*fields)
 
     def sign(covered):
         order, digest = ORDERS["p256"], int.from_bytes(digest_of("sha256", covered), "big")
@@ -468,22 +473,17 @@ def on_a_curve_of_three_points():
                 return sequence(integer(x), integer(s))
         raise AssertionError("no signature is found")
 
-    return sequence(made, by_ca, bit_string(by_rsa("ca", "sha256", made))), sign
+    return of_key(sequence(sequence(oid(EC), of), bit_string(point))), sign
 
 
 def of_the_point_at_infinity():
     """A certificate by `ca` for a key on P-256 that is no point of numbers, and a signature by anyone: r is that of the
     generator, and s the digest."""
-    tbs, by_ca, _ = parts(certificate("p256"))
-    fields = parts(tbs)
-    fields[6] = sequence(parts(fields[6])[0], bit_string(b"\0"))
-    made = sequence(*fields)
-
     def sign(covered):
         s = int.from_bytes(digest_of("sha256", covered), "big") % ORDERS["p256"]
         return sequence(integer(GENERATOR), integer(s))
 
-    return sequence(made, by_ca, bit_string(by_rsa("ca", "sha256", made))), sign
+    return of_key(sequence(part(certificate("p256"), 0, 6, 0), bit_string(b"\0"))), sign
 
 
 @functools.lru_cache(maxsize=None)
@@ -508,15 +508,6 @@ def curves_without_a_name():
     for how, words in (("", ()), (" with --allow-weak", ("--allow-weak",))):
         signer = Signer("p256", certificate=whole, sign=sign)
         yield attack(f"a key that is the point at infinity{how}", signer.file(), "named-curve", words)
-
-
-def of_key(info):
-    """A certificate by `ca` for a key, whose SubjectPublicKeyInfo is given."""
-    tbs, by_ca, _ = parts(certificate("p256"))
-    fields = parts(tbs)
-    fields[6] = info
-    made = sequence(*fields)
-    return sequence(made, by_ca, bit_string(by_rsa("ca", "sha256", made)))
 
 
 def of_a_prime_modulus():
