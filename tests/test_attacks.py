@@ -167,6 +167,12 @@ class Attacks(Comparing):
         said = verdicts.verdict("newline.file")
         self.same((said.status, "newline" in said.notes), (4, True), said.findings)
 
+    def test_of_several_certificates_that_may_be_a_signers_none_is_said_to_be(self):
+        those_of(attacks_on_trust.stamps)
+        words, _ = attacks.given(CONTENT)
+        said = verdicts.verdict("stamp-by-certificate-1-beside-another-of-its-serial-number.file", words)
+        self.same([it["by"] for it in said.findings], [None], said.findings)
+
     def test_without_roots_a_certificate_is_not_judged(self):
         """One that calls itself as it likes: the exit status and JSON say so."""
         whole = signing.certify("made-up", *signing.SIGNS, of="p384", by=None, subject="/CN=Microsoft Corporation")

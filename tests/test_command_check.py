@@ -44,6 +44,18 @@ class Check(Command):
         self.put("empty.pem", b"-----BEGIN CMS-----\n*\n-----END CMS-----\n")
         self.says(["check", "empty.pem"], ["empty.pem: refused: PEM without base64 in it"], 1)
 
+    def test_pem_of_which_others_may_read_something_else_is_refused(self):
+        first, *lines = self.octets("list.pem").splitlines(keepends=True)
+        for fault, octets in (
+            ("header lines", [first, b"Comment: text\n\n", *lines]),
+            ("a blank line in it", [first, lines[0], b" \n", *lines[1:]]),
+            ("BEGIN in a line that begins no block", [first[:-1], b"\1\n", *lines, first, *lines]),
+        ):
+            self.put("other.pem", b"".join(octets))
+            self.says(["check", "other.pem"], [f"other.pem: refused: PEM with {fault}"], 1)
+        self.put("list-again.pem", b"".join([first, b"\n", *lines]))
+        self.finds(["check", "list-again.pem"], ["certificatelist normal"])
+
     def test_refusals_of_kinds_that_were_tried_are_told(self):
         said = self.finds(["check", "-v", "list.crl"], ["^list.crl: certificatelist normal"])
         tried = re.findall(r"^  not (\w+) refused: \w+ at \d+ \(SEQUENCE", said, re.MULTILINE)
