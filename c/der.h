@@ -8,15 +8,15 @@
  * der_certificate, for all inputs, and what isn't:
  *  - A call answers no status but those that are listed at it. What it writes into numbers and into out is as said
  *    below.
- *  - DER_NORMAL, DER_LOOSE, DER_UNKNOWN_KIND, DER_NO_ROOM and DER_NO_PART are true where they are answered, and so are
- *    DER_TOO_LONG and DER_NO_RANGE, but of bags. DER_BAD_ATTRIBUTES is true where a row of der_signer_rows has it: of an
- *    empty set of signed attributes it is proved that the signer's value has none, and that the input has the signer's
- *    algorithms with the octets A0 00 between them.
+ *  - DER_NORMAL, DER_LOOSE, DER_UNKNOWN_KIND, DER_NO_ROOM, DER_NO_RANGE and DER_NO_PART are true where they are
+ *    answered, and so is DER_TOO_LONG, but of bags. DER_BAD_ATTRIBUTES is true where a row of der_signer_rows has it: of
+ *    an empty set of signed attributes it is proved that the signer's value has none, and that the input has the
+ *    signer's algorithms with the octets A0 00 between them.
  *  - At DER_MALFORMED, DER_MISSING, DER_INVALID and DER_TOO_DEEP the input is no encoding of the kind, of der_from_ber
  *    it has no DER, of the calls for parts, signers and ranges it isn't what has the part, and of those that write text
  *    it has none, as said there. Which of the four it is isn't proved: tests tell them apart.
- *  - Of the bags of a store, and of parts of these, the same is said at the four, at DER_TOO_LONG and at DER_NO_RANGE:
- *    the input has no such rows as der_bag_rows writes at DER_NORMAL. At DER_NO_RANGE of der_bag_rows it is a store.
+ *  - Of the bags of a store, and of parts of these, the same is said at the four and at DER_TOO_LONG: the input has no
+ *    such rows as der_bag_rows writes at DER_NORMAL.
  *  - That memory was refused where a call answers DER_NO_MEMORY isn't proved. Tests show that calls with memory enough
  *    don't answer it, on inputs of up to 190 KB and of hundreds of parts, and that calls keep no memory.
  *  - The functions in this file, in C, are tested and not proved, nor are der_version and der_processor.
@@ -248,10 +248,10 @@ typedef struct der_bag_parts {
  *    says where: of an attribute, where the first of its type begins.
  *  - DER_TOO_LONG: no input is known where it is answered.
  *  - DER_NO_MEMORY: *place is an offset without use.
- *  - DER_NO_RANGE: the input is a PFX, and a part isn't in it as its value is written: where it is loose, say.
+ *  - DER_NO_RANGE: never.
  * Unless at DER_NORMAL out is as it was, unless at DER_NORMAL and DER_NO_ROOM *count is 0, and but for the refusals and
- * DER_NO_MEMORY *place is 0. Proved is that each bag has a row, and that the octets in each range are those of the part;
- * that they are the part itself, and no equal octets, is tested. */
+ * DER_NO_MEMORY *place is 0. Proved is that each bag has a row, and that each range is the place of that part itself, not
+ * only of equal octets; which place a refusal has is tested. */
 DER_CALL
 uint32_t der_bag_rows(const uint8_t *input, size_t input_len, der_bag_parts *out, size_t out_len, size_t *count,
                       size_t *place);
@@ -507,7 +507,7 @@ static inline der_status der_rewrite(const char *kind, const uint8_t *input, siz
  *  - DER_MALFORMED to DER_TOO_DEEP: the input is no encoding of the type that the part is of, or, of a store, as of
  *    der_bag_rows, whatever the part is. *place says where, as there and as of der_locate.
  *  - DER_TOO_LONG: the part is too long.
- *  - DER_NO_RANGE: of a store, as of der_bag_rows.
+ *  - DER_NO_RANGE: never.
  *  - DER_UNKNOWN_KIND: no part has that number.
  *  - DER_NO_MEMORY: *place is an offset without use.
  * Unless at DER_NORMAL out is as it was, unless at DER_NORMAL and DER_NO_ROOM *written is 0, and but for the refusals

@@ -791,8 +791,7 @@ class Library:
         """A part of a container, as octets: of certificates, signers, keys and bags that with the index, from 0 on.
 
         None where the container has no such part, or not so many. Raises Refused where the input isn't such a container,
-        or something in a store doesn't read as its type; its reason is "no range" where the part isn't in the input as
-        its value is written.
+        or something in a store doesn't read as its type.
         """
         if index < 0:
             raise ValueError(f"an index of {index}")
@@ -867,8 +866,7 @@ class Library:
         """All bags of a PKCS #12 store that aren't encrypted, in order, those in a bag after it, in one reading or two.
 
         The parts are memoryviews of data, and of a copy where data could be written. What is encrypted is of kind
-        BagKind.UNREAD. Raises Refused where data are no store, or a part doesn't read as its
-        type; its reason is "no range" where a part isn't in them as its value is written.
+        BagKind.UNREAD. Raises Refused where data are no store, or a part doesn't read as its type.
         """
         octets = _octets(data)
         room, count, place = FEW_BAGS, ctypes.c_size_t(), ctypes.c_size_t()
@@ -911,8 +909,7 @@ class Library:
 
         A BadAttributes is in the place of a signer that breaks RFC 5652: ask isinstance(it, Signer) of each. Where
         there are no signers the list is empty, and nothing is signed. The parts are memoryviews of data, and of a copy
-        where data can be written. Raises Refused where they are no signed data; its reason is "no range" where a part
-        isn't in them as its value is written, of which no case is known.
+        where data can be written. Raises Refused where they are no signed data.
         """
         return list(self.signed(data).signers)
 

@@ -65,8 +65,7 @@ pub enum Error {
     TooLong,
     /// The library's request for memory was refused, which says nothing of the input.
     NoMemory,
-    /// Of [`signers`] and [`certificates`]: a part isn't found in the input. No input is known where that is returned. Of
-    /// [`bags`], and of [`part`] of a store: a part isn't in the input as its value is written.
+    /// Of [`certificates`]: a part isn't found in the input. No input is known where that is returned.
     NoRange,
     /// A status that a library of another version may return.
     Unknown(u32),

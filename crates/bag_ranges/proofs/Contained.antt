@@ -1,109 +1,104 @@
 -- What bags hold.
 use Rattle.std.specs.Prelude.{◌≡◌, ℕ, List, Bool, true, false}
 use Rattle.std.specs.declared.ops.Range.{Range}
-use Rattle.std.proofs.Common.{sym, ap, subst, inl, inr}
+use Rattle.std.proofs.Common.{refl, sym, ap, subst, ◌∙◌, inl, inr}
 use Rattle.asn1_core.specs.Asn1.{SEQUENCE}
 use Rattle.asn1_core.specs.Der.{ElementOctets, IsValueOf, Octets, OidOctets}
-use Rattle.input_ranges.specs.Ranges.{IsAt}
 use Rattle.input_ranges.specs.declared.ranges.Refusal.{Refusal}
-use Rattle.pkcs12_bags.specs.BagParts.{encrypted_key_bag, OctetsOrAny, x509_bag}
+use Rattle.pkcs12_bags.specs.BagParts.{encrypted_key_bag, OctetsOrAny, x509_bag, x509_bag_value}
+use Rattle.pkcs12_bags.specs.declared.parts.bags.X509Bag.{X509Bag}
 use Rattle.pkcs12_bags.specs.declared.parts.oids.TheConstants.{X509_CERTIFICATE, X509_CRL}
 use Rattle.bag_ranges.proofs.Failures.{without}
-use Rattle.bag_ranges.proofs.OneKind.{plain_kind}
-use Rattle.bag_ranges.specs.Bags.{IsKeyAt, IsValueAt}
+use Rattle.bag_ranges.proofs.InRanges.{part_is}
+use Rattle.bag_ranges.specs.BagRoutes.{BAG, bag_value, encrypted_key, other_element, x509_octets}
+use Rattle.bag_ranges.specs.Bags.{BagValue, IsIn, IsPartIn, IsValueAt}
+use Rattle.bag_ranges.specs.Contained.{IsEither, IsHeld, IsOfKind, IsOther, IsX509, LeadsIn, named_kind, value_steps}
 use Rattle.bag_ranges.specs.Failures.{HasNone}
-use Rattle.bag_ranges.specs.Contained.{IsEitherAt, IsContainedAt, IsPlain, named_kind}
 use Rattle.bag_ranges.specs.declared.ranges.BagKind.{BagKind}
-use Rattle.bag_ranges.specs.declared.ranges.BagKind.TheVariants.{ShroudedKey, Certificate, Crl, OtherCertificate, OtherCrl}
+use Rattle.bag_ranges.specs.declared.ranges.BagKind.TheVariants.{Key, ShroudedKey, Certificate, Crl, Secret, SafeContents, Other, Unread, OtherCertificate, OtherCrl}
 
--- the octets in a range
-abbrev pub Place : List ℕ → List ℕ → Range ℕ → Type 0
-Place b octets r = IsAt b octets r.start r.end
+module _ (known : ℕ) (element : ElementOctets) where
+  which : (p : Bool) → IsEither known element p → (inside : OctetsOrAny) × (SEQUENCE (x509_bag known)).format.Reads 64 element inside
+  which true q = (inl q.0, q.1)
+  which false q = (inr (q.0, q.1), q.2)
 
-same_own : (x y : Octets) → ◌≡◌ {A = OctetsOrAny} (inl x) (inl y) → x ≡ y
-same_own x y e = cc
+  pub not_either : (e : Refusal) → HasNone ((SEQUENCE (x509_bag known)).format.Reads 64 element) e → HasNone (IsEither known element) e
+  not_either e n = without which n
 
-same_other : (s t : OidOctets) (x y : ElementOctets) → ◌≡◌ {A = OctetsOrAny} (inr (s, x)) (inr (t, y)) → x ≡ y
-same_other s t x y e = (let both : ◌≡◌ {A = OidOctets × ElementOctets} (s, x) (t, y) = cc in ap (λ p. p.1) both)
+module _ (element : ElementOctets) (e : Refusal) where
+  certificate : (k : BagKind) → named_kind k ≡ Certificate → IsOfKind k element → (p : Bool) × IsEither X509_CERTIFICATE element p
+  certificate Certificate s v = (true, v)
+  certificate OtherCertificate s v = (false, v)
+  certificate k s v = cc
 
-own_or_other : (x : Octets) (y : OidOctets × ElementOctets) → ◌≡◌ {A = OctetsOrAny} (inl x) (inr y) → ⊥
-own_or_other x y e = cc
+  pub no_certificate : HasNone (IsEither X509_CERTIFICATE element) e → HasNone (IsHeld Certificate element) e
+  no_certificate n = without (λ k h. certificate k h.agrees h.reads) n
 
-module _ (known : ℕ) (b : List ℕ) (element : ElementOctets) (e : Refusal) where
-  which : (p : Bool × Range ℕ) → IsEitherAt known b element p → (inside : OctetsOrAny) × (SEQUENCE (x509_bag known)).format.Reads 64 element inside
-  which (true, r) q = (inl q.octets, q.reads)
-  which (false, r) q = (inr (q.type, q.other), q.reads)
+  list : (k : BagKind) → named_kind k ≡ Crl → IsOfKind k element → (p : Bool) × IsEither X509_CRL element p
+  list Crl s v = (true, v)
+  list OtherCrl s v = (false, v)
+  list k s v = cc
 
-  pub not_either : HasNone ((SEQUENCE (x509_bag known)).format.Reads 64 element) e → HasNone (IsEitherAt known b element) e
-  not_either n = without which n
+  pub no_list : HasNone (IsEither X509_CRL element) e → HasNone (IsHeld Crl element) e
+  no_list n = without (λ k h. list k h.agrees h.reads) n
 
-  module _ (octets : Octets) (is : IsValueOf (SEQUENCE (x509_bag known)).format 64 element (inl octets)) where
-    pub is_x509 : (r : Range ℕ) → Place b octets r → IsEitherAt known b element (true, r)
-    is_x509 r at = record { octets = octets; reads = is.reads; is = at }
+  key : (k : BagKind) → named_kind k ≡ ShroudedKey → IsOfKind k element → (key : encrypted_key_bag.Value) × (SEQUENCE encrypted_key_bag).format.Reads 64 element key
+  key ShroudedKey s v = v
+  key k s v = cc
 
-    own_place : (p : Bool × Range ℕ) → IsEitherAt known b element p → (r : Range ℕ) × Place b octets r
-    own_place (true, r) q = (r, subst (λ o. Place b o r) (same_own q.octets octets (is.only (inl q.octets) q.reads)) q.is)
-    own_place (false, r) q = absurd (own_or_other octets (q.type, q.other) (sym (is.only (inr (q.type, q.other)) q.reads)))
+  pub no_key : HasNone ((SEQUENCE encrypted_key_bag).format.Reads 64 element) e → HasNone (IsHeld ShroudedKey element) e
+  no_key n = without (λ k h. key k h.agrees h.reads) n
 
-    pub no_x509 : HasNone (Place b octets) e → HasNone (IsEitherAt known b element) e
-    no_x509 n = without own_place n
+-- what a bag's value is, of its own part
+module _ (bag : BagValue) where
+  own_element : (element : ElementOctets) → bag_value.IsPart bag element → element ≡ bag.1.0
+  own_element element (v, e, f) = f ∙ e
 
-  module _ (type : OidOctets) (other : ElementOctets) (is : IsValueOf (SEQUENCE (x509_bag known)).format 64 element (inr (type, other))) where
-    pub is_other : (r : Range ℕ) → Place b other r → IsEitherAt known b element (false, r)
-    is_other r at = record { type = type; other = other; reads = is.reads; is = at }
+  x509_read : (known : ℕ) (octets : Octets) → (x509_octets known).IsPart bag octets → IsX509 known bag.1.0
+  x509_read known octets (element, own, (inside, reads, (held, e, rest))) =
+      (held, subst (λ x. (SEQUENCE (x509_bag known)).format.Reads 64 x (inl held)) (own_element element own) (subst (λ v. (SEQUENCE (x509_bag known)).format.Reads 64 element v) e reads))
 
-    other_place : (p : Bool × Range ℕ) → IsEitherAt known b element p → (r : Range ℕ) × Place b other r
-    other_place (true, r) q = absurd (own_or_other q.octets (type, other) (is.only (inl q.octets) q.reads))
-    other_place (false, r) q = (r, subst (λ o. Place b o r) (same_other q.type type q.other other (is.only (inr (q.type, q.other)) q.reads)) q.is)
+  other_read : (known : ℕ) (other : ElementOctets) → (other_element known).IsPart bag other → IsOther known bag.1.0
+  other_read known other (element, own, (inside, reads, (held, (type, e), rest))) =
+      (type, held, subst (λ x. (SEQUENCE (x509_bag known)).format.Reads 64 x (inr (type, held))) (own_element element own) (subst (λ v. (SEQUENCE (x509_bag known)).format.Reads 64 element v) e reads))
 
-    pub no_other : HasNone (Place b other) e → HasNone (IsEitherAt known b element) e
-    no_other n = without other_place n
+  module _ (b : List ℕ) (m n : ℕ) where
+    pub read_as : (k : BagKind) (r : Range ℕ) → IsValueAt b m n bag k r → IsOfKind k bag.1.0
+    read_as Certificate r v = x509_read X509_CERTIFICATE v.0 v.1.is_part
+    read_as OtherCertificate r v = other_read X509_CERTIFICATE v.0 v.1.is_part
+    read_as Crl r v = x509_read X509_CRL v.0 v.1.is_part
+    read_as OtherCrl r v = other_read X509_CRL v.0 v.1.is_part
+    read_as ShroudedKey r (key, v) =
+        let p = v.is_part in
+        (key, subst (λ x. (SEQUENCE encrypted_key_bag).format.Reads 64 x key) (own_element p.0 p.1) p.2)
+    read_as Key r v = tt
+    read_as Secret r v = tt
+    read_as SafeContents r v = tt
+    read_as Other r v = tt
+    read_as Unread r v = tt
 
-module _ (b : List ℕ) (element : ElementOctets) (e : Refusal) where
-  certificate : (k : BagKind) (r : Range ℕ) → named_kind k ≡ Certificate → IsValueAt b k element r → (p : Bool × Range ℕ) × IsEitherAt X509_CERTIFICATE b element p
-  certificate Certificate r s v = ((true, r), v)
-  certificate OtherCertificate r s v = ((false, r), v)
-  certificate k r s v = cc
+    module _ (is : IsIn BAG.format.Reads b m n bag) (r : Range ℕ) where
+      x509_at : (known : ℕ) → IsX509 known bag.1.0 → LeadsIn (x509_octets known).steps b (record { start = m; end = n }) r → (octets : Octets) × IsPartIn (x509_octets known) b m n bag octets r
+      x509_at known (held, reads) leads = (held, part_is (x509_octets known) b m n bag is held (bag.1.0, (bag.1.0, refl, refl), (inl held, reads, (held, refl, (held, refl, refl)))) r (leads is.inside.0 is.inside.1))
 
-  pub no_certificate : HasNone (IsEitherAt X509_CERTIFICATE b element) e → HasNone (IsContainedAt b Certificate element) e
-  no_certificate n = without (λ h q. certificate h.kind h.range q.named q.value) n
+      other_at : (known : ℕ) → IsOther known bag.1.0 → LeadsIn (other_element known).steps b (record { start = m; end = n }) r → (other : ElementOctets) × IsPartIn (other_element known) b m n bag other r
+      other_at known (type, held, reads) leads = (held, part_is (other_element known) b m n bag is held (bag.1.0, (bag.1.0, refl, refl), (inr (type, held), reads, (held, (type, refl), refl))) r (leads is.inside.0 is.inside.1))
 
-  list : (k : BagKind) (r : Range ℕ) → named_kind k ≡ Crl → IsValueAt b k element r → (p : Bool × Range ℕ) × IsEitherAt X509_CRL b element p
-  list Crl r s v = ((true, r), v)
-  list OtherCrl r s v = ((false, r), v)
-  list k r s v = cc
+      plain_at : LeadsIn bag_value.steps b (record { start = m; end = n }) r → IsPartIn bag_value b m n bag bag.1.0 r
+      plain_at leads = part_is bag_value b m n bag is bag.1.0 (bag.1.0, refl, refl) r (leads is.inside.0 is.inside.1)
 
-  pub no_list : HasNone (IsEitherAt X509_CRL b element) e → HasNone (IsContainedAt b Crl element) e
-  no_list n = without (λ h q. list h.kind h.range q.named q.value) n
+      key_at : IsOfKind ShroudedKey bag.1.0 → LeadsIn encrypted_key.steps b (record { start = m; end = n }) r → (key : encrypted_key_bag.Value) × IsPartIn encrypted_key b m n bag key r
+      key_at (key, reads) leads = (key, part_is encrypted_key b m n bag is key (bag.1.0, (bag.1.0, refl, refl), reads) r (leads is.inside.0 is.inside.1))
 
-  key : (k : BagKind) (r : Range ℕ) → named_kind k ≡ ShroudedKey → IsValueAt b k element r → IsKeyAt b element r
-  key ShroudedKey r s v = v
-  key k r s v = cc
-
-  pub not_key : HasNone ((SEQUENCE encrypted_key_bag).format.Reads 64 element) e → HasNone (IsContainedAt b ShroudedKey element) e
-  not_key n = without (λ h q. (let k = key h.kind h.range q.named q.value in (k.key, k.reads))) n
-
-  pub no_key : HasNone (Place b element) e → HasNone (IsContainedAt b ShroudedKey element) e
-  no_key n = without (λ h q. (h.range, (key h.kind h.range q.named q.value).is)) n
-
-  plain_place : (k : BagKind) (r : Range ℕ) → IsPlain k → IsValueAt b k element r → Place b element r
-  plain_place Certificate r p v = absurd p
-  plain_place OtherCertificate r p v = absurd p
-  plain_place Crl r p v = absurd p
-  plain_place OtherCrl r p v = absurd p
-  plain_place ShroudedKey r p v = absurd p
-  plain_place k r p v = v
-
-  pub no_plain : (k : BagKind) → IsPlain k → HasNone (Place b element) e → HasNone (IsContainedAt b (named_kind k) element) e
-  no_plain k p n = without (λ h q. (h.range, plain_place k h.range p (subst (λ j. IsValueAt b j element h.range) (plain_kind h.kind k p q.named) q.value))) n
-
-pub is_plain : (b : List ℕ) (element : ElementOctets) (k : BagKind) (r : Range ℕ) → IsPlain k → Place b element r → IsValueAt b k element r
-is_plain b element Certificate r p at = absurd p
-is_plain b element OtherCertificate r p at = absurd p
-is_plain b element Crl r p at = absurd p
-is_plain b element OtherCrl r p at = absurd p
-is_plain b element ShroudedKey r p at = absurd p
-is_plain b element k r p at = at
-
-pub is_key : (b : List ℕ) (element : ElementOctets) (key : encrypted_key_bag.Value) (r : Range ℕ) → IsValueOf (SEQUENCE encrypted_key_bag).format 64 element key → Place b element r → IsKeyAt b element r
-is_key b element key r s at = record { key = key; reads = s.reads; is = at }
+      -- what a bag of a kind holds is where the steps lead
+      pub value_is : (k : BagKind) → IsOfKind k bag.1.0 → LeadsIn (value_steps k) b (record { start = m; end = n }) r → IsValueAt b m n bag k r
+      value_is Certificate held leads = x509_at X509_CERTIFICATE held leads
+      value_is OtherCertificate held leads = other_at X509_CERTIFICATE held leads
+      value_is Crl held leads = x509_at X509_CRL held leads
+      value_is OtherCrl held leads = other_at X509_CRL held leads
+      value_is ShroudedKey held leads = key_at held leads
+      value_is Key held leads = plain_at leads
+      value_is Secret held leads = plain_at leads
+      value_is SafeContents held leads = plain_at leads
+      value_is Other held leads = plain_at leads
+      value_is Unread held leads = plain_at leads

@@ -1,12 +1,8 @@
 -- Why nothing is found.
 use Rattle.std.specs.Prelude.{◌≡◌, ◌≢◌, ℕ, List}
-use Rattle.std.specs.declared.ops.Range.{Range}
-use Rattle.std.proofs.Common.{ap, ◌∙◌}
 use Rattle.asn1_core.specs.Der.{Format, HasNoValue}
 use Rattle.asn1_core_element.specs.declared.error.Error.{Error}
 use Rattle.asn1_core_element.specs.declared.error.Error.TheVariants.{Memory}
-use Rattle.input_ranges.specs.Failures.{IsFailure, refusal_of}
-use Rattle.input_ranges.specs.Ranges.{IsAt, IsNowhere}
 use Rattle.input_ranges.specs.declared.ranges.Refusal.{Refusal}
 use Rattle.input_ranges.specs.declared.ranges.Refusal.TheVariants.{Refused}
 use Rattle.bag_ranges.specs.Failures.{HasNone}
@@ -17,6 +13,3 @@ without f n = record { none = λ d y q. (let p = f y q in n.none d p.0 p.1) }
 
 pub not_read : {V : Type 0} (F : Format V) (b : List ℕ) (error : Error) (e : Refusal) → HasNoValue F 64 b error → (e ≢ Refused Memory 0 → error ≢ Memory) → HasNone (F.Reads 64 b) e
 not_read F b error e n m = record { none = λ d. n.none (m d) }
-
-pub not_there : (b octets : List ℕ) (error : Error) (e : Refusal) → e ≡ refusal_of error → IsFailure (IsNowhere b octets) error → HasNone (λ (r : Range ℕ). IsAt b octets r.start r.end) e
-not_there b octets error e g f = record { none = λ d r. f.says (λ m. d (g ∙ ap refusal_of m)) r.start r.end }

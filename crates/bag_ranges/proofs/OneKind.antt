@@ -3,7 +3,9 @@ use Rattle.std.specs.Prelude.{◌≡◌, ◌⊎◌, ℕ, zero, suc, List, [], �
 use Rattle.std.proofs.Common.{refl, sym, ap, subst, ◌∙◌, inl, inr, ⊎_elim}
 use Rattle.asn1_core.specs.Der.{OidOctets}
 use Rattle.bag_ranges.specs.Bags.{IsKind}
-use Rattle.bag_ranges.specs.Contained.{IsPlain, named_kind}
+use Rattle.pkcs12_bags.specs.Oids.{oid}
+use Rattle.pkcs12_bags.specs.declared.parts.oids.TheConstants.{SAFE_CONTENTS_BAG}
+use Rattle.bag_ranges.specs.Contained.{named_kind}
 use Rattle.bag_ranges.specs.declared.ranges.BagKind.{BagKind}
 use Rattle.bag_ranges.specs.declared.ranges.BagKind.TheVariants.{Key, ShroudedKey, Certificate, Crl, Secret, SafeContents, Other, Unread, OtherCertificate, OtherCrl}
 
@@ -64,18 +66,10 @@ module _ (id : OidOctets) where
   pub is_named : (j k : BagKind) → named_kind j ≡ named_kind k → IsKind k id → IsKind j id
   is_named j k e p = from_named j (subst (λ n. IsKind n id) (sym e) (to_named k p))
 
-plain_named : (k : BagKind) → IsPlain (named_kind k) → named_kind k ≡ k
-plain_named OtherCertificate p = absurd p
-plain_named OtherCrl p = absurd p
-plain_named k p = refl
+named_alone : (k : BagKind) → named_kind k ≡ SafeContents → k ≡ SafeContents
+named_alone SafeContents e = refl
+named_alone k e = cc
 
-to_plain : (k : BagKind) → IsPlain k → IsPlain (named_kind k)
-to_plain OtherCertificate p = absurd p
-to_plain OtherCrl p = absurd p
-to_plain k p = p
-
--- an object identifier that says such a kind says no other
-pub plain_kind : (j k : BagKind) → IsPlain k → named_kind j ≡ named_kind k → j ≡ k
-plain_kind j k p e =
-    let q = to_plain k p in
-    sym (plain_named j (subst IsPlain (sym e) q)) ∙ e ∙ plain_named k q
+-- an object identifier that says SafeContents says no other kind
+pub is_safe : (id : OidOctets) (k : BagKind) → IsKind k id → id ≡ oid SAFE_CONTENTS_BAG → k ≡ SafeContents
+is_safe id k p e = named_alone k (kinds_agree id k SafeContents p e)

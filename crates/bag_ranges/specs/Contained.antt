@@ -1,16 +1,37 @@
 -- What a bag holds, by the kind that its object identifier says.
-use Rattle.std.specs.Prelude.{◌≡◌, ℕ, List, Bool, true, false}
+use Rattle.std.specs.Prelude.{◌≡◌, ◌≤◌, ℕ, List, length, Bool, true, false, slice_range}
 use Rattle.std.specs.declared.ops.Range.{Range}
-use Rattle.asn1_core.specs.Der.{ElementOctets}
-use Rattle.bag_ranges.specs.Bags.{IsOtherAt, IsValueAt, IsX509At}
-use Rattle.bag_ranges.specs.declared.bags.Contained.{Contained}
+use Rattle.std.proofs.Common.{inl, inr}
+use Rattle.asn1_core.specs.Asn1.{SEQUENCE}
+use Rattle.asn1_core.specs.Der.{ElementOctets, Octets, OidOctets}
+use Rattle.asn1_located.specs.declared.walks.Step.{Step}
+use Rattle.bag_ranges.specs.BagRoutes.{bag_value, encrypted_key, other_element, x509_octets}
+use Rattle.located_rows.specs.Rows.{LeadsTo}
+use Rattle.pkcs12_bags.specs.BagParts.{encrypted_key_bag, x509_bag}
+use Rattle.pkcs12_bags.specs.declared.parts.oids.TheConstants.{X509_CERTIFICATE, X509_CRL}
 use Rattle.bag_ranges.specs.declared.ranges.BagKind.{BagKind}
 use Rattle.bag_ranges.specs.declared.ranges.BagKind.TheVariants.{Key, ShroudedKey, Certificate, Crl, Secret, SafeContents, Other, Unread, OtherCertificate, OtherCrl}
 
--- an X.509 one, or one of another type
-abbrev pub IsEitherAt : ℕ → List ℕ → ElementOctets → Bool × Range ℕ → Type 0
-IsEitherAt known b element (true, r) = IsX509At known b element r
-IsEitherAt known b element (false, r) = IsOtherAt known b element r
+-- the element reads as a CertBag or CRLBag of an X.509 one, whose object identifier has that number
+abbrev pub IsX509 : ℕ → ElementOctets → Type 0
+IsX509 known element = (octets : Octets) × (SEQUENCE (x509_bag known)).format.Reads 64 element (inl octets)
+
+-- or as one of another type
+abbrev pub IsOther : ℕ → ElementOctets → Type 0
+IsOther known element = (type : OidOctets) × (other : ElementOctets) × (SEQUENCE (x509_bag known)).format.Reads 64 element (inr (type, other))
+
+abbrev pub IsEither : ℕ → ElementOctets → Bool → Type 0
+IsEither known element true = IsX509 known element
+IsEither known element false = IsOther known element
+
+-- what the element of a bag of a kind reads as; nothing where it isn't read
+abbrev pub IsOfKind : BagKind → ElementOctets → Type 0
+IsOfKind Certificate element = IsX509 X509_CERTIFICATE element
+IsOfKind OtherCertificate element = IsOther X509_CERTIFICATE element
+IsOfKind Crl element = IsX509 X509_CRL element
+IsOfKind OtherCrl element = IsOther X509_CRL element
+IsOfKind ShroudedKey element = (key : encrypted_key_bag.Value) × (SEQUENCE encrypted_key_bag).format.Reads 64 element key
+IsOfKind kind element = Unit {0}
 
 -- the kind that the object identifier of a bag of a kind says
 abbrev pub named_kind : BagKind → BagKind
@@ -25,20 +46,24 @@ named_kind SafeContents = SafeContents
 named_kind Other = Other
 named_kind Unread = Unread
 
--- what such a bag holds isn't read
-abbrev pub IsPlain : BagKind → Type 0
-IsPlain OtherCertificate = ⊥
-IsPlain OtherCrl = ⊥
-IsPlain Certificate = ⊥
-IsPlain Crl = ⊥
-IsPlain ShroudedKey = ⊥
-IsPlain Key = Unit {0}
-IsPlain Secret = Unit {0}
-IsPlain SafeContents = Unit {0}
-IsPlain Other = Unit {0}
-IsPlain Unread = Unit {0}
+-- a kind that the object identifier of a bag allows, which says `named`, and its element too
+pub record IsHeld (named : BagKind) (element : ElementOctets) (kind : BagKind) : Type 0 where
+  pub agrees : named_kind kind ≡ named
+  pub reads : IsOfKind kind element
 
--- what a bag holds whose object identifier says a kind
-pub record IsContainedAt (b : List ℕ) (named_as : BagKind) (element : ElementOctets) (contained : Contained) : Type 0 where
-  pub named : named_kind contained.kind ≡ named_as
-  pub value : IsValueAt b contained.kind element contained.range
+-- the steps to what a bag of a kind holds
+abbrev pub value_steps : BagKind → List Step
+value_steps Certificate = (x509_octets X509_CERTIFICATE).steps
+value_steps OtherCertificate = (other_element X509_CERTIFICATE).steps
+value_steps Crl = (x509_octets X509_CRL).steps
+value_steps OtherCrl = (other_element X509_CRL).steps
+value_steps ShroudedKey = encrypted_key.steps
+value_steps Key = bag_value.steps
+value_steps Secret = bag_value.steps
+value_steps SafeContents = bag_value.steps
+value_steps Other = bag_value.steps
+value_steps Unread = bag_value.steps
+
+-- where the steps lead somewhere from the octets of the input in one range, it is the other range
+abbrev pub LeadsIn : List Step → List ℕ → Range ℕ → Range ℕ → Type 0
+LeadsIn steps b place r = place.start ≤ place.end → place.end ≤ length b → LeadsTo steps place.start (slice_range b place.start place.end) r.start r.end

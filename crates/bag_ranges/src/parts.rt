@@ -1,16 +1,14 @@
-//! Reading a part of a store, and finding its octets.
+//! Reading a part of a store.
 
 ghost use Rattle.std.specs.Prelude.{◌≢◌, MatchResult};
 ghost use Rattle.asn1_core.specs.Der.{IsValueOf};
 ghost use Rattle.asn1_core_element.specs.declared.error.Error.TheVariants.{Memory};
-ghost use Rattle.bag_ranges.specs.Failures.{Finds, HasNone};
-ghost use Rattle.input_ranges.specs.Ranges.{IsAt};
+ghost use Rattle.bag_ranges.specs.Failures.{HasNone};
 ghost use Rattle.input_ranges.specs.declared.ranges.Refusal.TheVariants.{Refused};
 
-use asn1_core::{DerDeserialize, DerSerialize, Error, from_bytes_located};
-use input_ranges::{Refusal, encoding_range, range_of, refusal_of};
+use asn1_core::{DerDeserialize, Error, from_bytes_located};
+use input_ranges::Refusal;
 use std::alloc::Global;
-use std::ops::Range;
 
 /// The refusal of a part that was read from `start` on, and refused `place` octets later.
 pub(crate) fn refused(error: Error, start: usize, place: usize) -> Refusal
@@ -36,36 +34,5 @@ pub(crate) fn read_at<T: DerDeserialize>(
     match from_bytes_located::<T>(alloc, octets) {
         Ok(value) => Ok(value),
         Err((error, place)) => Err(refused(error, start, place)),
-    }
-}
-
-/// The range of some octets: from there on, or the first that has them.
-#[tactic(auto, using(crate::proofs::Failures::not_there))]
-pub(crate) fn octets_range(
-    input: &[u8],
-    start: usize,
-    octets: &[u8],
-) -> Result<Range<usize>, Refusal>
-    ensures { Finds (λ r. IsAt input.now octets.now r.start r.end) result }
-{
-    match range_of(input, start, octets) {
-        Ok(range) => Ok(range),
-        Err(error) => Err(refusal_of(error)),
-    }
-}
-
-/// The range of the encoding of a value, alike.
-#[tactic(auto, using(crate::proofs::Failures::not_there))]
-pub(crate) fn encoded_range<T: DerSerialize>(
-    alloc: Global,
-    input: &[u8],
-    start: usize,
-    value: &T,
-) -> Result<Range<usize>, Refusal>
-    ensures { Finds (λ r. IsAt input.now (T.format.text (T.value value.now)) r.start r.end) result }
-{
-    match encoding_range(alloc, input, start, value) {
-        Ok(range) => Ok(range),
-        Err(error) => Err(refusal_of(error)),
     }
 }

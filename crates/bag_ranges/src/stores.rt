@@ -1,141 +1,140 @@
 //! The ranges of all bags of a store.
 
-ghost use Rattle.std.specs.Prelude.{◌≡◌, length, MatchResult, map};
-ghost use Rattle.asn1_core.specs.Der.{IsValueOf, option_value, raw};
-ghost use Rattle.bag_ranges.specs.Bags.{InOrder};
+ghost use Rattle.std.specs.Prelude.{◌≡◌, length, map, MatchResult, Option, Some};
+ghost use Rattle.asn1_core.specs.Der.{each, IsValueOf, option_value, raw};
+ghost use Rattle.bag_ranges.specs.BagRoutes.{CONTENT};
+ghost use Rattle.bag_ranges.specs.Bags.{InOrder, IsIn};
 ghost use Rattle.bag_ranges.specs.RawContentInfos.{raw_content_info_value};
-ghost use Rattle.bag_ranges.specs.Failures.{Adds, HasNone, in_input, Pushes};
+ghost use Rattle.bag_ranges.specs.Failures.{Adds, HasNone, HasNoRows, in_input, Pushes, PushesSome};
 ghost use Rattle.bag_ranges.specs.Stores.{AreBagsOf, AreOfContent, AreOfData, AreOfSafe, AreOfStore, AreUnread, IsRefusal};
+ghost use Rattle.input_ranges.specs.declared.ranges.Refusal.TheVariants.{Refused};
+ghost use Rattle.x509_pkcs12.specs.MacOctets.{mac_octets};
 ghost use Rattle.x509_pkcs12.specs.Pfxs.{pfx};
 
 use crate::bags::{LEVELS, push_bags};
-use crate::parts::{encoded_range, read_at};
-use crate::places::{after, end_of, inner_place, inside, safe_place};
+use crate::parts::read_at;
+use crate::places::{
+    auth_safe, element_of_content, first_element, safe_in_data, safe_octets, store_contents,
+};
 use crate::ranges::{BagKind, BagRanges};
 use crate::raw_content_infos::RawContentInfo;
-use asn1_core::{
-    Asn1RawDer, Asn1SequenceOf, DerSerialize, Error, ExplicitContextTag0, OctetStringAsn1Container,
-    from_bytes_located,
-};
-use input_ranges::{Place, Refusal, contents_of, start_of};
+use asn1_core::{Asn1SequenceOf, Error, OctetStringAsn1Container, from_bytes_located};
+use input_ranges::Refusal;
 use pkcs12_bags::parts::oids::{DATA, is_oid_of};
 use std::alloc::Global;
+use std::ops::Range;
 use x509_pkcs12::{RawPfx, RawSafeContents};
 
 /// Adds the row of an element that isn't read.
-#[tactic(auto, using(crate::proofs::InStores::is_unread, crate::proofs::InStores::no_unread))]
-fn push_unread<T: DerSerialize>(
-    alloc: Global,
-    input: &[u8],
-    place: Option<Place>,
-    value: &T,
-    rows: &mut Vec<BagRanges>,
-) -> Result<(), Refusal>
-    ensures { Pushes (AreUnread input.now (T.format.text (T.value value.now))) rows.old.items rows.new.items result }
+fn push_unread(place: &Range<usize>, rows: &mut Vec<BagRanges>) -> Result<(), Refusal>
+    ensures { MatchResult result
+        (λ _. Adds (AreUnread place.now.start place.now.end) rows.old.items rows.new.items)
+        (λ e. e ≡ Refused Memory 0) }
 {
-    let range = encoded_range(alloc, input, start_of(place), value)?;
     rows.push(BagRanges {
         kind: BagKind::Unread,
         level: 0,
-        element: range.start..range.end,
-        value: range,
+        element: place.start..place.end,
+        value: place.start..place.end,
         friendly_name: None,
         local_key_id: None,
     })?;
     Ok(())
 }
 
-/// Adds the rows of data in a `ContentInfo`.
+/// Adds the rows of data in a `ContentInfo`, which is there in the input.
 #[tactic(auto, using(crate::proofs::InStores::are_of_data, crate::proofs::InStores::not_safe_contents, crate::proofs::InStores::no_bags_in_data, crate::proofs::InStores::no_data))]
 fn push_data(
     alloc: Global,
     input: &[u8],
-    place: Option<Place>,
-    content: &Option<ExplicitContextTag0<Asn1RawDer>>,
-    rows: &mut Vec<BagRanges>,
-) -> Result<(), Refusal>
-    ensures { Pushes (AreOfData input.now (option_value (λ c. c.0.0.items) content.now)) rows.old.items rows.new.items result }
-{
-    match content {
-        Some(data) => {
-            let inner = inner_place(input, place);
-            let octets = data.0.0.as_slice();
-            let bags: OctetStringAsn1Container<RawSafeContents> = read_at(
-                alloc,
-                octets,
-                start_of(inner),
-            )?;
-            push_bags(
-                alloc,
-                input,
-                contents_of(inner),
-                bags.0.0.as_slice(),
-                LEVELS,
-                rows,
-            )?;
-            Ok(())
-        }
-        None => Err(Refusal::Part(Error::Missing, end_of(place))),
-    }
-}
-
-/// Adds the rows of a content.
-#[tactic(auto, using(crate::proofs::InStores::are_data, crate::proofs::InStores::are_other, crate::proofs::InStores::no_rows_of_data, crate::proofs::InStores::no_row_of_other))]
-fn push_content(
-    alloc: Global,
-    input: &[u8],
-    place: Option<Place>,
+    place: &Range<usize>,
     content: &RawContentInfo,
     rows: &mut Vec<BagRanges>,
 ) -> Result<(), Refusal>
-    ensures { Pushes (AreOfContent input.now (raw_content_info_value content.now)) rows.old.items rows.new.items result }
+    requires { IsIn CONTENT.format.Reads input.now place.now.start place.now.end (raw_content_info_value content.now) }
+    ensures { Pushes (AreOfData input.now (raw_content_info_value content.now)) place.now.start place.now.end rows.old.items rows.new.items result }
+{
+    match &content.content {
+        Some(data) => {
+            let start = element_of_content(input, place).start;
+            let bags: OctetStringAsn1Container<RawSafeContents> = read_at(
+                alloc,
+                data.0.0.as_slice(),
+                start,
+            )?;
+            let safe = safe_in_data(input, place);
+            push_bags(alloc, input, &safe, bags.0.0.as_slice(), LEVELS, rows)?;
+            Ok(())
+        }
+        None => Err(Refusal::Part(Error::Missing, place.end)),
+    }
+}
+
+/// Adds the rows of a content, which is there in the input.
+#[tactic(auto, using(crate::proofs::InStores::are_data, crate::proofs::InStores::are_other, crate::proofs::InStores::no_rows_of_data))]
+fn push_content(
+    alloc: Global,
+    input: &[u8],
+    place: &Range<usize>,
+    content: &RawContentInfo,
+    rows: &mut Vec<BagRanges>,
+) -> Result<(), Refusal>
+    requires { IsIn CONTENT.format.Reads input.now place.now.start place.now.end (raw_content_info_value content.now) }
+    ensures { Pushes (AreOfContent input.now (raw_content_info_value content.now)) place.now.start place.now.end rows.old.items rows.new.items result }
 {
     if is_oid_of(&content.content_type.0, &DATA) {
-        push_data(alloc, input, place, &content.content, rows)?;
+        push_data(alloc, input, place, content, rows)?;
         Ok(())
     } else {
-        push_unread(alloc, input, place, content, rows)?;
+        push_unread(place, rows)?;
         Ok(())
     }
 }
 
-/// Adds the rows of contents that follow one another, the first of them there.
+/// Adds the rows of contents that follow one another in a range of the input.
 #[tactic(auto, using(crate::proofs::Rows::none_yet, crate::proofs::Rows::one_more, crate::proofs::Rows::all_of_them, crate::proofs::Rows::none_of_one))]
 fn push_contents(
     alloc: Global,
     input: &[u8],
-    first: Option<Place>,
+    list: &Range<usize>,
     contents: &[RawContentInfo],
     rows: &mut Vec<BagRanges>,
 ) -> Result<(), Refusal>
-    ensures { Pushes (InOrder (AreOfContent input.now) (map raw_content_info_value contents.now)) rows.old.items rows.new.items result }
+    requires { IsIn (each CONTENT.format).Reads input.now list.now.start list.now.end (map raw_content_info_value contents.now) }
+    ensures { Pushes (InOrder (AreOfContent input.now) (map raw_content_info_value contents.now)) list.now.start list.now.end rows.old.items rows.new.items result }
 {
-    let mut next = first;
+    let mut start = list.start;
     for content in contents {
-        push_content(alloc, input, next, content, rows)?;
-        next = after(input, next);
+        let rest = start..list.end;
+        let place = first_element(input, &rest);
+        push_content(alloc, input, &place, content, rows)?;
+        start = place.end;
     }
     Ok(())
 }
 
-/// Adds the rows of an `AuthenticatedSafe`, whose OCTET STRING is there.
+/// Adds the rows of an `AuthenticatedSafe`, whose octets the store has.
 #[tactic(auto, using(crate::proofs::InStores::are_of_safe, crate::proofs::InStores::not_safe, crate::proofs::InStores::no_contents))]
 fn push_safe(
     alloc: Global,
     input: &[u8],
-    place: Option<Place>,
+    file: &RawPfx,
     octets: &[u8],
     rows: &mut Vec<BagRanges>,
 ) -> Result<(), Refusal>
-    ensures { Pushes (AreOfSafe input.now octets.now) rows.old.items rows.new.items result }
+    requires file { IsValueOf (pfx raw) 64 input.now (⟦<RawPfx as DerSerialize>⟧.value file.now) }
+    requires octets { mac_octets (⟦<RawPfx as DerSerialize>⟧.value file.now) ≡ Some octets.now }
+    ensures { PushesSome (AreOfSafe input.now (⟦<RawPfx as DerSerialize>⟧.value file.now)) rows.old.items rows.new.items result }
 {
-    let contents: Asn1SequenceOf<RawContentInfo> = read_at(alloc, octets, contents_of(place))?;
-    let first = inside(input, inside(input, place));
-    push_contents(alloc, input, first, contents.0.as_slice(), rows)?;
+    let start = safe_octets(input).start;
+    let contents: Asn1SequenceOf<RawContentInfo> = read_at(alloc, octets, start)?;
+    let list = store_contents(input);
+    push_contents(alloc, input, &list, contents.0.as_slice(), rows)?;
     Ok(())
 }
 
 /// Adds the rows of a store, by the octets of its data, where its `authSafe` is data.
+#[tactic(auto, using(crate::proofs::InStores::is_unread))]
 fn push_by_octets(
     alloc: Global,
     input: &[u8],
@@ -143,16 +142,18 @@ fn push_by_octets(
     octets: Option<&[u8]>,
     rows: &mut Vec<BagRanges>,
 ) -> Result<(), Refusal>
-    ensures { Pushes (AreOfStore input.now (⟦<RawPfx as DerSerialize>⟧.value file.now) (option_value (λ s. s.now) octets.entry)) rows.old.items rows.new.items result }
+    requires file { IsValueOf (pfx raw) 64 input.now (⟦<RawPfx as DerSerialize>⟧.value file.now) }
+    requires octets { mac_octets (⟦<RawPfx as DerSerialize>⟧.value file.now) ≡ option_value (λ s. s.now) octets.entry }
+    ensures { PushesSome (AreOfStore input.now (⟦<RawPfx as DerSerialize>⟧.value file.now) (option_value (λ s. s.now) octets.entry)) rows.old.items rows.new.items result }
 {
-    let place = safe_place(input);
     match octets {
         Some(octets) => {
-            push_safe(alloc, input, inner_place(input, place), octets, rows)?;
+            push_safe(alloc, input, file, octets, rows)?;
             Ok(())
         }
         None => {
-            push_unread(alloc, input, place, &file.auth_safe, rows)?;
+            let place = auth_safe(input);
+            push_unread(&place, rows)?;
             Ok(())
         }
     }
@@ -169,23 +170,23 @@ fn rows_of_store(alloc: Global, input: &[u8], file: &RawPfx) -> Result<Vec<BagRa
     Ok(rows)
 }
 
-/// The refusal of a store, with a place in the input.
+/// The refusal of a store, with a place in the input. No part of a store lacks a range.
 fn in_input(refusal: Refusal, input: &[u8]) -> Refusal
     ensures { result ≡ in_input (length input.now) refusal }
 {
     match refusal {
         Refusal::Refused(..) => Refusal::Refused(Error::Memory, 0),
         Refusal::Part(error, place) => Refusal::Part(error, place.min(input.len())),
-        Refusal::NoRange => Refusal::NoRange,
+        Refusal::NoRange => Refusal::Part(Error::Malformed, 0),
     }
 }
 
 /// Where an input has each bag of a PKCS #12 store that isn't encrypted, in their order, those in bags after them, at most
 /// 64 levels of them, with friendly names of any characters. Contents that are encrypted, or of another type, are rows of
 /// kind `Unread`. A certificate, revocation list, encrypted key or `SafeContents` that doesn't read as its type, a name or
-/// local key identifier that doesn't, or a second one, refuses all. Proved is what is in the ranges, and that a store is
-/// refused only where no rows fit it, or memory lacks; that a range is that of the part itself, and not of equal octets,
-/// is tested, and so are the places.
+/// local key identifier that doesn't, or a second one, refuses all. Reads the input once, and walks over its headers: proved
+/// is that each range is the place of the part itself, and that a store is refused only where no rows fit it, or memory
+/// lacks. The places of refusals are tested. `NoRange` is never answered.
 #[tactic(auto, using(crate::proofs::InStores::is_refused))]
 pub fn bag_ranges(alloc: Global, input: &[u8]) -> Result<Vec<BagRanges>, Refusal>
     ensures { MatchResult result (λ rows. AreBagsOf input.now rows.items) (λ e. IsRefusal input.now e) }

@@ -15,7 +15,7 @@ pub record Meaning : Type 1 where
   pub Has : List ℕ → Option (List ℕ) → Type 0
   -- the input is no such container
   pub IsNoContainer : List ℕ → Type 0
-  -- it is one, of which a part doesn't read, or isn't in the input
+  -- it is one, of which a part doesn't read
   pub IsBroken : List ℕ → Type 0
 
 -- the input is the encoding of a value of which that is said
@@ -42,7 +42,7 @@ pub record GivesNoPart (M : Meaning) (b : List ℕ) (e : Error) : Type 0 where
 abbrev pub RefusesPart : Meaning → List ℕ → Refusal → Type 0
 RefusesPart M b (Refused e place) = GivesNoPart M b e × (place ≤ length b)
 RefusesPart M b (Part e place) = M.IsBroken b × (place ≤ length b)
-RefusesPart M b NoRange = M.IsBroken b
+RefusesPart M b NoRange = ⊥
 
 abbrev pub GivesPart : Meaning → List ℕ → Result (Option (Vec ℕ Global)) Refusal → Type 0
 GivesPart M b r = MatchResult r (λ found. M.Has b (copied found)) (λ refusal. RefusesPart M b refusal)

@@ -57,7 +57,7 @@ impl ContainerPart {
 /// The part with that index, from 0 on, of the container that the input is, with at most 64 levels of nesting, as
 /// octets. `None` where it has none. Signed data have one hashed content, and a MAC has one of each part, whatever the
 /// index is. `Refused` says why the input doesn't read and where, or, at the place 0, `TooLong` of an encoding, or
-/// `Memory`; `Part` and `NoRange` are said of stores alone, as by `bag_ranges`. The input is read anew by each call.
+/// `Memory`; `Part` is said of stores alone, as by `bag_ranges`, and `NoRange` never. The input is read anew by each call.
 pub fn container_part(
     alloc: Global,
     part: ContainerPart,

@@ -26,7 +26,7 @@ module _ (number index : ℕ) (b : List ℕ) where
     refused : (e : Refusal) → RefusesPart (meaning_of p index) b e → IsRefusedFor Why b e
     refused (Refused e place) why = (record { none = λ m l. (p, is, inl (why.0.none m l)); long = λ l. (p, is, inl (why.0.long l)); memory = tt }, why.1)
     refused (Part e place) why = (record { none = λ m l. (p, is, inr why.0); long = λ l. (p, is, inr why.0); memory = tt }, why.1)
-    refused NoRange why = (p, is, why)
+    refused NoRange why = why
 
     pub part_copied : (old new : List ℕ) (len place status : ℕ) (found : Result (Option (Vec ℕ Global)) Refusal) → GivesPart (meaning_of p index) b found → PutsSome (λ v. v.items) found old new len place status → CopiesPart number index b old new len place status
     part_copied old new len place status found gives put =

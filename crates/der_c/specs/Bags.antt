@@ -1,6 +1,6 @@
 -- What the call from C says, by its status, of where an input has each bag of a store.
 use Rattle.std.specs.Prelude.{◌≡◌, ℕ, List, map}
-use Rattle.bag_ranges.specs.Stores.{AreBagsOf, HasNoBags, IsStore}
+use Rattle.bag_ranges.specs.Stores.{AreBagsOf, HasNoBags}
 use Rattle.bag_ranges.specs.declared.ranges.BagKind.{BagKind}
 use Rattle.bag_ranges.specs.declared.ranges.BagKind.TheVariants.{Key, ShroudedKey, Certificate, Crl, Secret, SafeContents, Other, Unread, OtherCertificate, OtherCrl}
 use Rattle.bag_ranges.specs.declared.ranges.BagRanges.{BagRanges}
@@ -34,9 +34,9 @@ bag_row r = record {
   local_key_id = octets_or_none r.local_key_id;
 }
 
--- the input has no rows of bags. At DER_NO_RANGE it is a store
+-- the input has no rows of bags; DER_NO_RANGE is never answered, as a store lacks no range
 abbrev pub without_bags : List ℕ → Reasons
-without_bags b = record { IsUnknown = ⊥; HasNone = HasNoBags b; IsLong = HasNoBags b; TakesMemory = Unit {0}; LacksRange = IsStore b × HasNoBags b; IsAbsent = ⊥ }
+without_bags b = record { IsUnknown = ⊥; HasNone = HasNoBags b; IsLong = HasNoBags b; TakesMemory = Unit {0}; LacksRange = ⊥; IsAbsent = ⊥ }
 
 -- what der_bag_rows answers of the input b and an array
 abbrev pub FindsBags : List ℕ → List Bag → List Bag → ℕ → ℕ → ℕ → Type 0

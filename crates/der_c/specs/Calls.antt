@@ -77,7 +77,7 @@ without_part Of Unknown b = record {
   HasNone = Of (λ M. M.IsNoContainer b ⊎ M.IsBroken b);
   IsLong = Of (λ M. HasLongPart M b ⊎ M.IsBroken b);
   TakesMemory = Unit {0};
-  LacksRange = Of (λ M. M.IsBroken b);
+  LacksRange = ⊥;
   IsAbsent = Of (λ M. M.Has b None);
 }
 

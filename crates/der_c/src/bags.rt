@@ -65,8 +65,8 @@ impl Row for Bag {
 /// Writes where the input, a PKCS #12 store, has each bag to the front of `out`, as `bag_ranges` finds them. At
 /// `NORMAL` `count` is how many there are, at `NO_ROOM`, where `out` has room for fewer, too, and otherwise 0. From
 /// `MALFORMED` to `TOO_DEEP` the input is no store, or something in it doesn't read as its type, and `place` is where;
-/// at `NO_MEMORY` it is an offset without use, and otherwise 0. At `NO_RANGE` a part isn't in the input as its value is
-/// written. Unless at `NORMAL` `out` is as it was.
+/// at `NO_MEMORY` it is an offset without use, and otherwise 0. `NO_RANGE` is never answered. Unless at `NORMAL` `out`
+/// is as it was.
 #[unsafe(no_mangle)]
 pub extern "C" fn der_bag_rows(
     alloc: Global,

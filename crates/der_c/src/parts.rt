@@ -44,9 +44,8 @@ fn put_part(
 /// Writes the part with that number and index to the front of `out`, as octets. At `NORMAL` `written` is their count,
 /// at `NO_ROOM`, where `out` is too short, the count that it needs, and otherwise 0. At `UNKNOWN_KIND` no part has the
 /// number, and at `NO_PART` the container has no such part. From `MALFORMED` to `TOO_DEEP` the input is no container
-/// that has it, and `place` is where; at `NO_MEMORY` it is an offset without use, and otherwise 0. At `NO_RANGE` the
-/// container is a store, and a part isn't in it as its value is written, at `TOO_LONG` the part is too long. Unless at
-/// `NORMAL` `out` is as it was.
+/// that has it, and `place` is where; at `NO_MEMORY` it is an offset without use, and otherwise 0. At `TOO_LONG` the
+/// part is too long. `NO_RANGE` is never answered. Unless at `NORMAL` `out` is as it was.
 #[unsafe(no_mangle)]
 pub extern "C" fn der_part_octets(
     alloc: Global,
