@@ -89,7 +89,7 @@ typedef enum der_status {
   DER_TOO_LONG = 7,     /* its normal encoding, or that of the part, has 2^64 bytes or more */
   DER_NO_MEMORY = 8,    /* a request for memory was refused: nothing is said of the input */
   DER_NO_ROOM = 9,      /* out is too short: the number of bytes, or of ranges, that are needed is written */
-  DER_NO_RANGE = 10,    /* authSafe isn't data, so no octets are covered by a MAC; of others: a part isn't found */
+  DER_NO_RANGE = 10,    /* authSafe isn't data, so no octets are covered by a MAC */
   DER_NO_PART = 11,     /* the container has no such part, or not so many; the file has no MAC; no name is known */
   DER_BAD_ATTRIBUTES = 12 /* of a signer: its signed attributes, or their absence, break RFC 5652 */
 } der_status;
@@ -152,11 +152,10 @@ typedef struct der_range {
  *  - DER_MALFORMED to DER_TOO_DEEP: the input is no signed or no enveloped data, and *place says where, as of
  *    der_locate.
  *  - DER_NO_MEMORY: *place is an offset without use.
- *  - DER_NO_RANGE: the octets of an item are nowhere in the input. No input is known where it is answered, and that
- *    there is none isn't proved.
+ *  - DER_NO_RANGE: never.
  * Unless at DER_NORMAL out is as it was, unless at DER_NORMAL and DER_NO_ROOM *count is 0, and but for the refusals and
- * DER_NO_MEMORY *place is 0. Proved is that the octets in each range are those of the item, and that each item has one;
- * that they are the item itself, and no equal octets, is tested. */
+ * DER_NO_MEMORY *place is 0. Proved is that each item has a range, which is the place of the item itself, not only of
+ * equal octets. */
 DER_CALL
 uint32_t der_part_ranges(size_t number, const uint8_t *input, size_t input_len, der_range *out, size_t out_len,
                          size_t *count, size_t *place);

@@ -115,8 +115,7 @@ class Refused(ValueError):
 
     reason is a Reason, and place the offset at which the input is refused: where
     the element begins that is invalid, nested too deep or none, or the end of the contents in which one is missing; of
-    a set of one value that has two, where the first of them begins. Calls that look for parts say too which they can't
-    find: reason is Reason.NO_RANGE then, and place 0.
+    a set of one value that has two, where the first of them begins.
     """
 
     def __init__(self, reason: Reason, place: int) -> None:

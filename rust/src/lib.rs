@@ -65,7 +65,7 @@ pub enum Error {
     TooLong,
     /// The library's request for memory was refused, which says nothing of the input.
     NoMemory,
-    /// Of [`certificates`]: a part isn't found in the input. No input is known where that is returned.
+    /// No call of this version returns it: each part has its place.
     NoRange,
     /// A status that a library of another version may return.
     Unknown(u32),

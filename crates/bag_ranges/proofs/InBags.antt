@@ -59,10 +59,10 @@ module _ (All : List BagValue → Rows) (below : ℕ) (b : List ℕ) (bag : BagV
   }
 
   pub no_row : (e : Refusal) → HasNoRow below b bag e → HasNoRows (AreOfBag All below b bag) e
-  no_row e n = without (λ p q. ((p.0, (p.1, q.own)), q.is)) n
+  no_row e n = without (λ p q. ((p.0, p.1, q.own), q.is)) n
 
   pub no_row_inside : (e : Refusal) → HasNoRows (AreInBag All bag) e → HasNoRows (AreOfBag All below b bag) e
-  no_row_inside e n = without (λ p q. ((q.own.value.start, (q.own.value.end, q.others)), q.inside)) n
+  no_row_inside e n = without (λ p q. ((q.own.value.start, q.own.value.end, q.others), q.inside)) n
 
 module _ (All : List BagValue → Rows) (bag : BagValue) where
   pub none_inside : (m n : ℕ) (rows : List BagRanges) → bag.0 ≢ oid SAFE_CONTENTS_BAG → Adds (AreInBag All bag m n) rows rows
@@ -99,9 +99,9 @@ module _ (b : List ℕ) (bags : List BagValue) where
   pub too_deep : (levels : ℕ) (e : Refusal) → levels ≡ 0 → HasNoRows (AreBags levels b bags) e
   too_deep levels e z = record { none = λ d p q. subst (λ n. AreBags n b bags p.0 p.1 p.2) z q }
 
-  down : (levels m n : ℕ) (rows : List BagRanges) → AreBags levels b bags m n rows → (p : ℕ × (ℕ × List BagRanges)) × Level (levels - 1) p.0 p.1 p.2
+  down : (levels m n : ℕ) (rows : List BagRanges) → AreBags levels b bags m n rows → (p : ℕ × ℕ × List BagRanges) × Level (levels - 1) p.0 p.1 p.2
   down zero m n rows q = absurd q
-  down (suc below) m n rows q = ((q.place.start, (q.place.end, rows)), subst (λ l. Level l q.place.start q.place.end rows) (let same : below ≡ suc below - 1 = omega arith in same) q.all)
+  down (suc below) m n rows q = ((q.place.start, q.place.end, rows), subst (λ l. Level l q.place.start q.place.end rows) (let same : below ≡ suc below - 1 = omega arith in same) q.all)
 
   up : (levels : ℕ) → 0 < levels → (m n : ℕ) (list : Range ℕ) → IsPartIn bags_in b m n bags bags list → (rows : List BagRanges) → Level (levels - 1) list.start list.end rows → AreBags levels b bags m n rows
   up zero h m n list at rows q = absurd (omega (arith, h))

@@ -18,6 +18,7 @@ module _ (b p y q : List ℕ) (m n : ℕ) (ordered : m ≤ n) (inside : n ≤ le
   size = let long : length (slice_range b m n) ≡ n - m = length-between b m n inside in omega (arith, long, ap length is, length-append p (y ++ q), length-append y q)
 
   from_y : drop (m + length p) b ≡ y ++ after
+  unfolding after
   from_y =
       let whole : drop m b ≡ p ++ (y ++ after) =
       sym (take-append-drop (n - m) (drop m b))

@@ -54,7 +54,7 @@ module _ (b : List ℕ) (content : ContentValue) where
       are_of_data m n safe old new at a = also (λ rows q. record { bags = bags; place = safe; at = at; all = q }) a
 
       pub no_bags_in_data : (e : Refusal) → HasNoRows (AreBags 65 b bags) e → HasNoRows (AreOfData b content) e
-      no_bags_in_data e n = without (λ p q. ((q.place.start, (q.place.end, p.2)), subst (λ vs. AreBags 65 b vs q.place.start q.place.end p.2) (v.only q.bags (read_as p.0 p.1 p.2 q)) q.all)) n
+      no_bags_in_data e n = without (λ p q. ((q.place.start, q.place.end, p.2), subst (λ vs. AreBags 65 b vs q.place.start q.place.end p.2) (v.only q.bags (read_as p.0 p.1 p.2 q)) q.all)) n
 
   module _ (m n : ℕ) (is : IsIn CONTENT.format.Reads b m n content) (old new : List BagRanges) where
     pub are_data : content.0 ≡ data_oid → Adds (AreOfData b content m n) old new → Adds (AreOfContent b content m n) old new
@@ -89,7 +89,7 @@ module _ (b : List ℕ) (store : StoreValue) (is : IsValueOf (pfx raw) 64 b stor
 
   module _ (contents : List ContentValue) (v : IsValueOf (within 0x30 (each CONTENT.format)) 64 octets contents) where
     pub no_contents : (e : Refusal) → HasNoRows (InOrder (AreOfContent b) contents) e → HasNone (AreOfSafe b store) e
-    no_contents e n = without (λ rows q. ((q.place.start, (q.place.end, rows)), subst (λ vs. InOrder (AreOfContent b) vs q.place.start q.place.end rows) (v.only q.contents (read_safe rows q)) q.all)) n
+    no_contents e n = without (λ rows q. ((q.place.start, q.place.end, rows), subst (λ vs. InOrder (AreOfContent b) vs q.place.start q.place.end rows) (v.only q.contents (read_safe rows q)) q.all)) n
 
     contents_part : store_contents.IsPart store contents
     contents_part = (octets, is_mac_part store octets is_mac, (contents, v.reads, refl))

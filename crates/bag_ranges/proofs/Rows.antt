@@ -34,9 +34,9 @@ module _ {V : Type 0} (Q : V → Rows) where
       (l, first, rest ++ last, ap (λ r. r ++ last) e ∙ append_assoc first rest last, p, more vs l k n rest v last others q)
 
   -- where one of some values has no rows, all together have none
-  rows_of_one : {X : Type 0} (f : X → V) (xs : List X) (i : ℕ) (x : X) → i < length xs → x ≡ get_or xs i x → (m n : ℕ) (rows : List BagRanges) → InOrder Q (map f xs) m n rows → (p : ℕ × (ℕ × List BagRanges)) × Q (f x) p.0 p.1 p.2
+  rows_of_one : {X : Type 0} (f : X → V) (xs : List X) (i : ℕ) (x : X) → i < length xs → x ≡ get_or xs i x → (m n : ℕ) (rows : List BagRanges) → InOrder Q (map f xs) m n rows → (p : ℕ × ℕ × List BagRanges) × Q (f x) p.0 p.1 p.2
   rows_of_one f [] i x h e m n rows q = absurd (omega (arith, h))
-  rows_of_one f (y ∷ xs) zero x h e m n rows (k, first, rest, s, p, others) = ((m, (k, first)), subst (λ z. Q (f z) m k first) (sym e) p)
+  rows_of_one f (y ∷ xs) zero x h e m n rows (k, first, rest, s, p, others) = ((m, k, first), subst (λ z. Q (f z) m k first) (sym e) p)
   rows_of_one f (y ∷ xs) (suc i) x h e m n rows (k, first, rest, s, p, others) = rows_of_one f xs i x (omega (arith, h)) e k n rest others
 
   pub none_of_one : {X : Type 0} (f : X → V) (xs : List X) (i : ℕ) (x : X) (e : Refusal) → i < length xs → x ≡ get_or xs i x → HasNoRows (Q (f x)) e → HasNoRows (InOrder Q (map f xs)) e

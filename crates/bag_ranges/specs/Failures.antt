@@ -32,11 +32,11 @@ PushesSome Q old new r = MatchResult r (λ _. Adds Q old new) (λ e. HasNone Q e
 
 -- it has no rows, wherever it is in the input
 abbrev pub HasNoRows : Rows → Refusal → Type 0
-HasNoRows Q e = HasNone (λ (p : ℕ × (ℕ × List BagRanges)). Q p.0 p.1 p.2) e
+HasNoRows Q e = HasNone (λ (p : ℕ × ℕ × List BagRanges). Q p.0 p.1 p.2) e
 
 -- a bag has no row, wherever it is
 abbrev pub HasNoRow : ℕ → List ℕ → BagValue → Refusal → Type 0
-HasNoRow below b bag e = HasNone (λ (p : ℕ × (ℕ × BagRanges)). IsBagAt below b p.0 p.1 bag p.2) e
+HasNoRow below b bag e = HasNone (λ (p : ℕ × ℕ × BagRanges). IsBagAt below b p.0 p.1 bag p.2) e
 
 -- it has several names, say, or one that isn't as it has to be
 abbrev pub HasNoName : BagValue → Refusal → Type 0

@@ -14,7 +14,7 @@ module _ {V W : Type 0} (o : List ℕ) (R : Format V) (S : Format W) where
   abbrev pub IsOther : V ⊎ (OidOctets × W) → W → Type 0
   IsOther v w = (type : OidOctets) × (v ≡ inr (type, w))
 
-  other_found : (k : ℕ) (v : V ⊎ (OidOctets × W)) (w : W) → IsOther v w → (m : ℕ) (x : List ℕ) → (known o R (otherwise IsOid S)).components.Reads k x v → Found (After ∷ []) m x (λ y. S.Reads k y w)
+  pub other_found : (k : ℕ) (v : V ⊎ (OidOctets × W)) (w : W) → IsOther v w → (m : ℕ) (x : List ℕ) → (known o R (otherwise IsOid S)).components.Reads k x v → Found (After ∷ []) m x (λ y. S.Reads k y w)
   other_found k (inl v) w (type, e) m x s = absurd (let g : inl v ≡ inr (type, w) = e in cc)
   other_found k (inr p) w (type, e) m x s =
       let t = s.0 in

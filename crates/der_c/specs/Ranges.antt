@@ -1,9 +1,10 @@
 -- What the calls from C say, by their status, of where an input has all items of a part, or a signer's attributes.
 use Rattle.std.specs.Prelude.{◌≡◌, ◌≢◌, ◌⊎◌, ◌-◌, ℕ, List, map, zero, suc, Option, None, Some}
 use Rattle.std.specs.declared.ops.Range.{Range}
-use Rattle.part_ranges.specs.Enveloped.{AreEnvelopedAt, enveloped_file, EnvelopedFileValue, LacksEnveloped}
-use Rattle.part_ranges.specs.Ranges.{AreCertificatesAt, LacksCertificate}
-use Rattle.part_ranges.specs.SignerAttributes.{AreAttributesAt, LacksAttribute}
+use Rattle.part_ranges.specs.EnvelopeParts.{AreEnvelopedAt}
+use Rattle.part_ranges.specs.Enveloped.{enveloped_file, EnvelopedFileValue}
+use Rattle.part_ranges.specs.Ranges.{AreCertificatesAt}
+use Rattle.part_ranges.specs.SignerAttributes.{AreAttributesAt}
 use Rattle.part_ranges.specs.declared.attributes.AttributeSet.{AttributeSet}
 use Rattle.part_ranges.specs.declared.attributes.AttributeSet.TheVariants.{Signed, Unsigned}
 use Rattle.part_ranges.specs.declared.envelope_parts.EnvelopePart.{EnvelopePart}
@@ -57,17 +58,14 @@ IsNotEnveloped b = (v : EnvelopedFileValue) → enveloped_file.Reads 64 b v → 
 abbrev pub HasNoItems : ℕ → List ℕ → Type 0
 HasNoItems number b = ((number ≡ certificates) × IsNotSigned b) ⊎ ((part : EnvelopePart) × (number ≡ number_of part) × IsNotEnveloped b)
 
--- an item of the part with that number is nowhere in the input
-abbrev pub LacksItems : ℕ → List ℕ → Type 0
-LacksItems number b = ((number ≡ certificates) × LacksCertificate b) ⊎ ((part : EnvelopePart) × (number ≡ number_of part) × LacksEnveloped part b)
-
 -- no part whose items are listed has that number
 pub record IsNotListed (number : ℕ) : Type 0 where
   pub certificate : number ≢ certificates
   pub envelope : (part : EnvelopePart) → number ≢ number_of part
 
+-- DER_NO_RANGE is never answered, as each item has its place
 abbrev pub without_items : ℕ → List ℕ → Reasons
-without_items number b = record { IsUnknown = IsNotListed number; HasNone = HasNoItems number b; IsLong = ⊥; TakesMemory = Unit {0}; LacksRange = LacksItems number b; IsAbsent = ⊥ }
+without_items number b = record { IsUnknown = IsNotListed number; HasNone = HasNoItems number b; IsLong = ⊥; TakesMemory = Unit {0}; LacksRange = ⊥; IsAbsent = ⊥ }
 
 -- what der_part_ranges answers of the input b and an array
 abbrev pub ListsRanges : ℕ → List ℕ → List Octets → List Octets → ℕ → ℕ → ℕ → Type 0
@@ -80,7 +78,7 @@ set_of (suc n) = Signed
 
 -- at DER_NO_PART there are fewer signers
 abbrev pub without_attributes : AttributeSet → ℕ → List ℕ → Reasons
-without_attributes set index b = record { IsUnknown = ⊥; HasNone = IsNotSigned b; IsLong = ⊥; TakesMemory = Unit {0}; LacksRange = LacksAttribute set index b; IsAbsent = AreAttributesAt set index b None }
+without_attributes set index b = record { IsUnknown = ⊥; HasNone = IsNotSigned b; IsLong = ⊥; TakesMemory = Unit {0}; LacksRange = ⊥; IsAbsent = AreAttributesAt set index b None }
 
 -- what der_attribute_ranges answers of the input b and an array
 abbrev pub ListsAttributes : ℕ → ℕ → List ℕ → List Octets → List Octets → ℕ → ℕ → ℕ → Type 0

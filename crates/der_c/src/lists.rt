@@ -31,8 +31,8 @@ fn envelope_part(number: usize) -> Option<EnvelopePart>
 /// signed data, or of the recipients, the algorithm or the octets of enveloped data. At `NORMAL` `count` is how many
 /// items there are, at `NO_ROOM`, where `out` has room for fewer, too, and otherwise 0. At `UNKNOWN_KIND` the items of
 /// the part with that number aren't listed, or no part has it. From `MALFORMED` to `TOO_DEEP` the input isn't what has
-/// the part, and `place` is where; at `NO_MEMORY` it is an offset without use, and otherwise 0. At `NO_RANGE` an item
-/// is nowhere in the input. Unless at `NORMAL` `out` is as it was.
+/// the part, and `place` is where; at `NO_MEMORY` it is an offset without use, and otherwise 0. `NO_RANGE` is never
+/// answered. Unless at `NORMAL` `out` is as it was.
 #[unsafe(no_mangle)]
 pub extern "C" fn der_part_ranges(
     alloc: Global,

@@ -1,5 +1,5 @@
 -- Octets in a range of an input.
-use Rattle.std.specs.Prelude.{◌≡◌, ◌≤◌, ◌+◌, ℕ, List, length, Option, None, Some, slice_range}
+use Rattle.std.specs.Prelude.{◌≡◌, ◌≤◌, ℕ, List, length, Option, None, Some, slice_range}
 use Rattle.std.specs.declared.ops.Range.{Range}
 
 -- these octets are in the input from one place to the other
@@ -14,11 +14,3 @@ IsAtOrNone b None None = Unit {0}
 IsAtOrNone b None (Some r) = ⊥
 IsAtOrNone b (Some octets) None = ⊥
 IsAtOrNone b (Some octets) (Some r) = IsAt b octets r.start r.end
-
--- these octets are nowhere in the input
-abbrev pub IsNowhere : List ℕ → List ℕ → Type 0
-IsNowhere b octets = (start end : ℕ) → IsAt b octets start end → ⊥
-
--- where the input has these octets from `start` on, that is the place
-abbrev pub IsThere : List ℕ → List ℕ → ℕ → ℕ → Type 0
-IsThere b octets start place = IsAt b octets start (start + length octets) → place ≡ start

@@ -15,7 +15,7 @@ pub enum Refusal {
     Refused(Error, usize),
     /// The input reads, and something in it doesn't read as what it has to be: why, and where.
     Part(Error, usize),
-    /// The input reads, and the octets of a part are nowhere in it.
+    /// The input reads, and a part has no place in it. No call answers it of what it reads.
     NoRange,
 }
 

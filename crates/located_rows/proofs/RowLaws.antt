@@ -1,10 +1,13 @@
 -- What rows say of an input that reads as a value: as many as the list has items, each the row of its item.
-use Rattle.std.specs.Prelude.{◌≡◌, ◌≤◌, ◌<◌, ℕ, zero, suc, List, [], ◌∷◌, ◌++◌, length, get_or, slice_get, slice_range, None, Some}
-use Rattle.std.proofs.Common.{refl, sym, ap, ◌∙◌, subst, inl, inr, arith, length-append, ⊎_elim}
+use Rattle.std.specs.Prelude.{◌≡◌, ◌≢◌, ◌≤◌, ◌<◌, ℕ, zero, suc, List, [], ◌∷◌, ◌++◌, length, get_or, slice_get, slice_range, None, Some, Result, Ok, Err, MatchResult}
+use Rattle.std.specs.declared.ops.Range.{Range}
+use Rattle.std.proofs.Common.{refl, sym, ap, ◌∙◌, subst, inl, inr, append_assoc, arith, length-append, ⊎_elim}
 use Rattle.std.proofs.Math.ListN.{get_or-append}
 use Rattle.std.proofs.Math.Seq.{get_or-append_seam}
 use Rattle.std.proofs.lemmas.Bool.{cases_lt}
 use Rattle.asn1_core_element.specs.Element.{IsElement}
+use Rattle.asn1_core_element.specs.declared.error.Error.{Error}
+use Rattle.asn1_core_element.specs.declared.error.Error.TheVariants.{Malformed, Missing, Invalid, TooDeep, TooLong, Memory}
 use Rattle.asn1_core_format.specs.Format.{Format, IsLawful}
 use Rattle.asn1_core_format.specs.Laws.{element_some}
 use Rattle.asn1_core_format.specs.Lists.{each}
@@ -12,9 +15,19 @@ use Rattle.asn1_located.proofs.Ranges.{range_of_walk}
 use Rattle.asn1_located.specs.Finding.{Skips, follows_many}
 use Rattle.asn1_located.specs.LocatedLaws.{one_walk, place_of}
 use Rattle.asn1_located.specs.Places.{Follows, FollowsMany, Reading, Route, Walk}
+use Rattle.asn1_located.specs.Routes.{◌▸◌}
 use Rattle.asn1_located.specs.WalkLaws.{one_many}
 use Rattle.asn1_located.specs.declared.walks.Step.{Step}
-use Rattle.located_rows.specs.Rows.{AllAt, AreRows, HasNoList, IsRangeOf, LeadsTo}
+use Rattle.asn1_located.specs.declared.walks.Step.TheVariants.{Element, Nth}
+use Rattle.located_rows.specs.Rows.{AllAt, AreItemsOf, AreRows, HasNoList, IsElementRange, IsRangeOf, LeadsTo, entry}
+
+pub only_memory : (e : Error) → (e ≢ Memory → ⊥) → e ≡ Memory
+only_memory Malformed h = absurd (h (λ m. (let x : Malformed ≡ Memory = m in cc)))
+only_memory Missing h = absurd (h (λ m. (let x : Missing ≡ Memory = m in cc)))
+only_memory Invalid h = absurd (h (λ m. (let x : Invalid ≡ Memory = m in cc)))
+only_memory TooDeep h = absurd (h (λ m. (let x : TooDeep ≡ Memory = m in cc)))
+only_memory TooLong h = absurd (h (λ m. (let x : TooLong ≡ Memory = m in cc)))
+only_memory Memory h = refl
 
 no_empty : (e y : List ℕ) → IsElement (λ _. Unit {0}) e → [] ≡ e ++ y → ⊥
 no_empty e y is s = omega (arith, ap length s, length-append e y, element_some (λ _. Unit {0}) e is)
@@ -107,3 +120,24 @@ module _ {A : Type 0} (P : ℕ → A → Type 0) where
       (let e : length xs ≡ i = omega (arith, h, more, length-append xs (x ∷ [])) in
       subst (λ j. P j (get_or (xs ++ x ∷ []) j d)) e (subst (P (length xs)) (sym (get_or-append_seam xs x [] d)) last)))
       (cases_lt i (length xs))
+
+-- the ranges of all items of a list that a value has, each in its place
+module _ {V W : Type 0} {R : Reading V} (F : Format W) (law : IsLawful F) (list : Route R (each F).Reads) (b : List ℕ) (v : V) (items : List W) where
+  pub no_items : items ≡ [] → (ranges : List (Range ℕ)) → ranges ≡ [] → AreItemsOf F law list b v items ranges
+  no_items e ranges none = record { each = λ i less d w _. absurd (omega (arith, less, ap length none)); count = ap length none ∙ sym (ap length e) }
+
+  module _ (reads : R 64 b v) (is : list.IsPart v items) where
+    items_are : (ranges : List (Range ℕ)) → AreRows IsElementRange list.steps 0 b ranges → AreItemsOf F law list b v items ranges
+    items_are ranges a = record {
+      each = λ i less d w e.
+      (let at = a.each i less d in
+      let r = get_or ranges i d in
+      let leads : LeadsTo ((list.steps ++ Nth i ∷ []) ++ Element ∷ []) 0 b r.start r.end = leads_after (list.steps ++ Nth i ∷ []) (Element ∷ []) 0 b at.0 at.1 at.2 r.start r.end at.3 in
+      range_is (list ▸ entry F law i) 64 b v reads w (items, is, skips_to items i w e) r.start r.end (subst (λ steps. LeadsTo steps 0 b r.start r.end) (append_assoc list.steps (Nth i ∷ []) (Element ∷ [])) leads));
+      count = as_many F law list 64 b v reads items is IsElementRange ranges a;
+    }
+
+    -- what rows of ranges say of them, or that memory was refused
+    pub items_found : {A : Type 0} (ranges : A → List (Range ℕ)) (r : Result A Error) → MatchResult r (λ a. AreRows IsElementRange list.steps 0 b (ranges a)) (λ e. e ≢ Memory → HasNoList list.steps 0 b) → MatchResult r (λ a. AreItemsOf F law list b v items (ranges a)) (λ e. e ≡ Memory)
+    items_found ranges (Ok a) h = items_are (ranges a) h
+    items_found ranges (Err e) h = only_memory e (λ other. has_list F law list 64 b v reads items is (h other))

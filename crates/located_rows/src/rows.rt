@@ -2,7 +2,7 @@
 
 ghost use Rattle.std.specs.Prelude.{◌≢◌, ◌+◌, ◌<◌, ◌^◌, ℕ, List, [], length, MatchResult};
 ghost use Rattle.asn1_core_element.specs.declared.error.Error.TheVariants.{Memory};
-ghost use Rattle.located_rows.specs.Rows.{AreRows, HasNoList, LeadsTo};
+ghost use Rattle.located_rows.specs.Rows.{AreRows, HasNoList, IsElementRange, LeadsTo};
 
 use asn1_core_element::Error;
 use asn1_located::{Place, Step, walk};
@@ -29,6 +29,15 @@ pub fn range_from(start: usize, octets: &[u8], steps: &[Step]) -> Range<usize>
     match walk(start, octets, steps) {
         Some(place) => place.start..place.start + place.octets.len(),
         None => 0..0,
+    }
+}
+
+/// The range of an item.
+impl Row for Range<usize> {
+    ghost is_row = { IsElementRange };
+
+    fn of(start: usize, octets: &[u8]) -> Self {
+        range_from(start, octets, &[Step::Element])
     }
 }
 

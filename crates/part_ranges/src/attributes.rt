@@ -1,21 +1,22 @@
 //! The ranges of a signer's attributes, from one reading of the file.
 
-ghost use Rattle.std.specs.Prelude.{◌≡◌, MatchResult, map};
+ghost use Rattle.std.specs.Prelude.{◌≡◌, ◌≢◌, ◌↔◌, IsTrue, [], MatchResult};
 ghost use Rattle.asn1_core.specs.Der.{option_value};
-ghost use Rattle.input_ranges.specs.Failures.{IsFailure};
-ghost use Rattle.part_ranges.specs.Ranges.{FindsItems};
-ghost use Rattle.part_ranges.specs.SignerAttributes.{AreAttributesAt, AreAttributesIn, attributes_of, IsAttributeRefusal, LacksAttributeIn, texts_of};
+ghost use Rattle.asn1_core_element.specs.declared.error.Error.TheVariants.{Memory};
+ghost use Rattle.asn1_core_format.specs.Whole.{IsValueOf};
+ghost use Rattle.located_rows.specs.Rows.{AreRows, HasNoList, IsElementRange};
+ghost use Rattle.part_ranges.specs.Ranges.{IsSignedRefusal};
+ghost use Rattle.part_ranges.specs.SignerAttributes.{AreAttributesAt, AreAttributesIn, attributes_in, attributes_of};
 ghost use Rattle.signer_ranges.specs.Files.{file_value};
-ghost use Rattle.x509_base.specs.Names.{attribute_value};
+ghost use Rattle.signer_ranges.specs.Signers.{signed_file};
 ghost use Rattle.x509_pkcs7.specs.RawSigners.{raw_signer_info_value};
 
-use crate::items::ranges_from;
 use asn1_core::{Error, from_bytes_located};
-use input_ranges::{Refusal, contents_of, nth_from, refusal_of};
-use signer_ranges::{file_places, signer_places};
+use asn1_located::Step;
+use input_ranges::{Refusal, refusal_of};
+use located_rows::rows_by;
 use std::alloc::Global;
 use std::ops::Range;
-use x509_base::Attribute;
 use x509_pkcs7::{RawPkcs7Certificate, RawSignerInfo};
 
 /// Which of a signer's attributes.
@@ -25,42 +26,90 @@ pub enum AttributeSet {
     Unsigned,
 }
 
-/// The attributes of a signer.
-fn attributes_of(set: AttributeSet, signer: &RawSignerInfo) -> &[Attribute]
-    ensures { map attribute_value result.now ≡ attributes_of set (raw_signer_info_value signer.now) }
+/// Whether a signer has none of them.
+fn has_none(set: AttributeSet, signer: &RawSignerInfo) -> bool
+    ensures { IsTrue result ↔ (attributes_of set (raw_signer_info_value signer.now) ≡ []) }
 {
     match set {
-        AttributeSet::Signed => signer.signed_attrs.0.0.0.as_slice(),
-        AttributeSet::Unsigned => signer.unsigned_attrs.0.0.as_slice(),
+        AttributeSet::Signed => signer.signed_attrs.0.0.0.is_empty(),
+        AttributeSet::Unsigned => signer.unsigned_attrs.0.0.is_empty(),
     }
 }
 
-/// Where the first of them begins, in an input that is read as signed data, or else some other place.
-fn first_start(set: AttributeSet, index: usize, input: &[u8]) -> usize {
-    let signer = nth_from(input, file_places(input).signer, index);
-    let places = signer_places(input, signer);
-    match set {
-        AttributeSet::Signed => contents_of(places.attributes),
-        AttributeSet::Unsigned => contents_of(nth_from(input, places.signature, 1)),
-    }
-}
-
-/// The ranges of one signer's attributes.
-#[tactic(auto, using(crate::proofs::SignerAttributes::of_signer))]
-fn ranges_of(
+/// The ranges of the attributes of the signer with that index, which has some.
+fn some_ranges(
     alloc: Global,
     set: AttributeSet,
+    index: usize,
     input: &[u8],
-    start: usize,
-    signer: &RawSignerInfo,
 ) -> Result<Vec<Range<usize>>, Error>
-    ensures { FindsItems input.now (texts_of set (raw_signer_info_value signer.now)) result }
+    ensures { MatchResult result
+        (λ found. AreRows IsElementRange (attributes_in set index).steps 0 input.now found.items)
+        (λ e. e ≢ Memory → HasNoList (attributes_in set index).steps 0 input.now) }
 {
-    ranges_from(alloc, input, start, attributes_of(set, signer))
+    match set {
+        AttributeSet::Signed => rows_by::<Range<usize>>(
+            alloc,
+            0,
+            input,
+            &[
+                Step::Inside,
+                Step::After,
+                Step::Element,
+                Step::Inside,
+                Step::Inside,
+                Step::After,
+                Step::After,
+                Step::After,
+                Step::Past(0xA0),
+                Step::Past(0xA1),
+                Step::Element,
+                Step::Inside,
+                Step::Nth(index),
+                Step::Element,
+                Step::Inside,
+                Step::After,
+                Step::After,
+                Step::After,
+                Step::Element,
+                Step::Inside,
+            ],
+        ),
+        AttributeSet::Unsigned => rows_by::<Range<usize>>(
+            alloc,
+            0,
+            input,
+            &[
+                Step::Inside,
+                Step::After,
+                Step::Element,
+                Step::Inside,
+                Step::Inside,
+                Step::After,
+                Step::After,
+                Step::After,
+                Step::Past(0xA0),
+                Step::Past(0xA1),
+                Step::Element,
+                Step::Inside,
+                Step::Nth(index),
+                Step::Element,
+                Step::Inside,
+                Step::After,
+                Step::After,
+                Step::After,
+                Step::Past(0xA0),
+                Step::After,
+                Step::After,
+                Step::Element,
+                Step::Inside,
+            ],
+        ),
+    }
 }
 
 /// The ranges of the attributes of the signer with an index, of a file that was read.
-#[tactic(auto, using(crate::proofs::SignerAttributes::fewer_signers, crate::proofs::SignerAttributes::are_attributes, crate::proofs::SignerAttributes::attributes_lack))]
+#[tactic(auto, using(crate::proofs::Items::fewer_signers))]
 fn ranges_in(
     alloc: Global,
     set: AttributeSet,
@@ -68,20 +117,24 @@ fn ranges_in(
     input: &[u8],
     file: &RawPkcs7Certificate,
 ) -> Result<Option<Vec<Range<usize>>>, Error>
+    requires { IsValueOf signed_file 64 input.now (file_value file.now) }
     ensures { MatchResult result
         (λ found. AreAttributesIn set index input.now (file_value file.now) (option_value (λ v. v.items) found))
-        (λ e. IsFailure (LacksAttributeIn set index input.now (file_value file.now)) e) }
+        (λ e. e ≡ Memory) }
 {
     let Some(signer) = file.signed_data.0.signers_infos.0.0.get(index) else {
         return Ok(None);
     };
-    let start = first_start(set, index, input);
-    Ok(Some(ranges_of(alloc, set, input, start, signer)?))
+    if has_none(set, signer) {
+        return Ok(Some(Vec::new(alloc)));
+    }
+    let found = some_ranges(alloc, set, index, input)?;
+    Ok(Some(found))
 }
 
 /// Where an input has each attribute of the signer with an index, in signed data with signers of every version and content
 /// of any type. `None` where there are fewer signers. Proved is what is of `certificate_ranges`.
-#[tactic(auto, using(crate::proofs::SignerAttributes::refused))]
+#[tactic(auto, using(crate::proofs::Items::signed_refused))]
 pub fn attribute_ranges(
     alloc: Global,
     set: AttributeSet,
@@ -90,7 +143,7 @@ pub fn attribute_ranges(
 ) -> Result<Option<Vec<Range<usize>>>, Refusal>
     ensures { MatchResult result
         (λ found. AreAttributesAt set index input.now (option_value (λ v. v.items) found))
-        (λ e. IsAttributeRefusal set index input.now e) }
+        (λ e. IsSignedRefusal input.now e) }
 {
     match from_bytes_located::<RawPkcs7Certificate>(alloc, input) {
         Ok(file) => match ranges_in(alloc, set, index, input, &file) {

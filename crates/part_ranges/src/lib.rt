@@ -5,8 +5,6 @@ pub mod attributes;
 pub mod certificates;
 pub mod envelope_parts;
 pub mod enveloped;
-mod items;
-mod places;
 
 pub use attributes::{AttributeSet, attribute_ranges};
 pub use certificates::certificate_ranges;

@@ -5,13 +5,13 @@ use Rattle.std.proofs.Common.{refl, sym, ap, ◌∙◌, subst, arith}
 use Rattle.std.proofs.lemmas.List.{length-map}
 use Rattle.asn1_core.specs.Der.{ElementOctets, Octets}
 use Rattle.asn1_core_element.specs.declared.error.Error.{Error}
-use Rattle.asn1_core_element.specs.declared.error.Error.TheVariants.{Malformed, Missing, Invalid, TooDeep, TooLong, Memory}
+use Rattle.asn1_core_element.specs.declared.error.Error.TheVariants.{Memory}
 use Rattle.asn1_core_format.specs.Whole.{IsValueOf}
 use Rattle.asn1_located.specs.Places.{Walk}
 use Rattle.asn1_located.specs.Routes.{◌▸◌}
 use Rattle.asn1_located.specs.declared.walks.Step.{Step}
 use Rattle.asn1_located.specs.declared.walks.Step.TheVariants.{Element, Nth}
-use Rattle.located_rows.proofs.RowLaws.{as_many, has_list, leads_after, range_is, skips_to}
+use Rattle.located_rows.proofs.RowLaws.{as_many, has_list, leads_after, only_memory, range_is, skips_to}
 use Rattle.located_rows.specs.Rows.{AreRows, HasNoList, IsRangeOf, LeadsTo}
 use Rattle.pkcs7_signed_crl.specs.Certificates.{certificate_choices, certificate_set, no_certificates}
 use Rattle.pkcs7_verifier.specs.Hashed.{AreContentsOf}
@@ -24,14 +24,6 @@ use Rattle.signer_ranges.specs.Signers.{FileValue, SignerValue, certificates_of,
 use Rattle.signer_ranges.specs.declared.parts.CertificateRow.{CertificateRow}
 use Rattle.signer_ranges.specs.declared.parts.SignerRow.{SignerRow}
 use Rattle.x509_pkcs7.specs.RawHashed.{content_of, IsRawHashed}
-
-pub only_memory : (e : Error) → (e ≢ Memory → ⊥) → e ≡ Memory
-only_memory Malformed h = absurd (h (λ m. (let x : Malformed ≡ Memory = m in cc)))
-only_memory Missing h = absurd (h (λ m. (let x : Missing ≡ Memory = m in cc)))
-only_memory Invalid h = absurd (h (λ m. (let x : Invalid ≡ Memory = m in cc)))
-only_memory TooDeep h = absurd (h (λ m. (let x : TooDeep ≡ Memory = m in cc)))
-only_memory TooLong h = absurd (h (λ m. (let x : TooLong ≡ Memory = m in cc)))
-only_memory Memory h = refl
 
 -- the item of which the function gives the item with an index
 from_map : {X Y : Type 0} (f : X → Y) (xs : List X) (j : ℕ) (y : Y) → slice_get (map f xs) j ≡ Some y → (x : X) × (slice_get xs j ≡ Some x) × (y ≡ f x)

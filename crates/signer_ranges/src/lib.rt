@@ -3,11 +3,9 @@
 #![tactic(auto)]
 
 mod parts;
-pub mod places;
 pub mod ranges;
 pub mod signers;
 
 pub use input_ranges::Refusal;
-pub use places::{FilePlaces, SignerPlaces, file_places, signer_places};
 pub use ranges::{SignedRanges, SignerRanges, Signers};
 pub use signers::signer_ranges;

@@ -1,6 +1,0 @@
-use Rattle.part_ranges.proofs.SignerAttributes.{refused}
-use Rattle.signer_ranges.specs.Files.{file_value}
-use Rattle.part_ranges.proofs.attributes.attribute_ranges.Goals as goal
-
-pub returns-in-Ok : goal.returns-in-Ok
-returns-in-Ok c = refused c.args.set c.args.index c.args.input.now (file_value c.in-Ok.file) c.in-Err-ranges_in.error c.refusal_of.result c.in-Ok.ensures c.in-Err-ranges_in.ensures c.refusal_of.ensures
