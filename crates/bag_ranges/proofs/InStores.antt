@@ -30,8 +30,8 @@ module _ (b : List ℕ) (content : ContentValue) where
       let p = q.at.is_part in
       let own = p.1 in
       let element : content.1.0 ≡ Some p.0 = own.1 ∙ ap Some (sym own.2) in
-      let bags = p.3.2 in
-      (p.0, element, subst (λ vs. (within 0x04 SAFE.format).Reads 64 p.0 vs) (sym bags) p.3.1)
+      let bags = p.2.2 in
+      (p.0, element, subst (λ vs. (within 0x04 SAFE.format).Reads 64 p.0 vs) (sym bags) p.2.1)
 
   pub no_data : (e : Refusal) → content.1.0 ≡ None → HasNoRows (AreOfData b content) e
   no_data e none = record { none = λ d p q. (let r = read_from p.0 p.1 p.2 q in let f : None ≡ Some r.0 = sym none ∙ r.1 in cc) }
@@ -82,7 +82,7 @@ module _ (b : List ℕ) (store : StoreValue) (is : IsValueOf (pfx raw) 64 b stor
   read_safe rows q =
       let p = q.at.place.is_part in
       let same : p.0 ≡ octets = (let f : Some octets ≡ Some p.0 = sym is_mac ∙ mac_part store p.0 p.1 in cc) in
-      subst (λ x. (within 0x30 (each CONTENT.format)).Reads 64 x q.contents) same (subst (λ vs. (within 0x30 (each CONTENT.format)).Reads 64 p.0 vs) (sym p.3.2) p.3.1)
+      subst (λ x. (within 0x30 (each CONTENT.format)).Reads 64 x q.contents) same (subst (λ vs. (within 0x30 (each CONTENT.format)).Reads 64 p.0 vs) (sym p.2.2) p.2.1)
 
   pub not_safe : (e : Refusal) → HasNone ((within 0x30 (each CONTENT.format)).Reads 64 octets) e → HasNone (AreOfSafe b store) e
   not_safe e n = without (λ rows q. (q.contents, read_safe rows q)) n
@@ -104,8 +104,10 @@ module _ (b : List ℕ) (store : StoreValue) (is : IsValueOf (pfx raw) 64 b stor
     are_of_safe list old new at a = also (λ rows q. record { contents = contents; place = list; at = at; all = q }) a
 
 module _ (b : List ℕ) (store : StoreValue) (is : IsValueOf (pfx raw) 64 b store) where
-  pub is_unread : (place : Range ℕ) (old new : List BagRanges) → LeadsTo auth_safe_element.steps 0 b place.start place.end → Adds (AreUnread place.start place.end) old new → Adds (IsUnreadSafe b store) old new
-  is_unread place old new leads a = also (λ rows q. record { place = place; at = range_is auth_safe_element 64 b store is.reads store.1.0 refl place.start place.end leads; are = q }) a
+  pub is_unread : (place : Range ℕ) (old new : List BagRanges) → LeadsTo auth_safe_element.steps 0 b place.start place.end → Adds (AreUnread place.start place.end) old new → (o : Option Octets) → o ≡ None → Adds (AreOfStore b store o) old new
+  is_unread place old new leads a o none =
+      let safe : Adds (IsUnreadSafe b store) old new = also (λ rows q. record { place = place; at = range_is auth_safe_element 64 b store is.reads store.1.0 refl place.start place.end leads; are = q }) a in
+      subst (λ x. Adds (AreOfStore b store x) old new) (sym none) safe
 
   module _ (o : Option Octets) (same : o ≡ mac_octets store) where
     pub are_bags : (old rows : List BagRanges) → old ≡ [] → Adds (AreOfStore b store o) old rows → AreBagsOf b rows

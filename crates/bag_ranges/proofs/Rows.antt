@@ -15,7 +15,7 @@ use Rattle.bag_ranges.proofs.Failures.{without}
 use Rattle.bag_ranges.proofs.InRanges.{cut, within}
 use Rattle.bag_ranges.specs.Bags.{InOrder, IsIn, Rows}
 use Rattle.bag_ranges.specs.Contained.{LeadsIn}
-use Rattle.bag_ranges.specs.Failures.{Adds, HasNone, HasNoRows, Pushes}
+use Rattle.bag_ranges.specs.Failures.{Adds, HasNone, HasNoRows, Pushes, PushesSome}
 use Rattle.bag_ranges.specs.declared.ranges.BagRanges.{BagRanges}
 
 -- rows that are of something else too
@@ -25,6 +25,9 @@ also f a = record { added = a.added; is = a.is; all = f a.added a.all }
 -- an error, where there are no rows
 pub no_rows : {A : Type 0} (Q : Rows) (m n : ℕ) (old new : List BagRanges) (r : Result A Refusal) (e : Refusal) → r ≡ Err e → HasNoRows Q e → Pushes Q m n old new r
 no_rows Q m n old new r e h none = subst (Pushes Q m n old new) (sym h) none
+
+pub none_pushed : {A : Type 0} (Q : List BagRanges → Type 0) (old new : List BagRanges) (r : Result A Refusal) (e : Refusal) → r ≡ Err e → HasNone Q e → PushesSome Q old new r
+none_pushed Q old new r e h none = subst (PushesSome Q old new) (sym h) none
 
 module _ {V : Type 0} (Q : V → Rows) where
   -- one more value after others

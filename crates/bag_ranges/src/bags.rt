@@ -156,7 +156,7 @@ fn index_of(attributes: &[Attribute], oid: &[u8]) -> usize
 }
 
 /// The range of a bag's friendly name. Several are refused, as `RawSafeBag::friendly_name` does.
-#[tactic(auto, using(crate::proofs::Attributes::is_named, crate::proofs::Attributes::is_not_named, crate::proofs::Attributes::no_name))]
+#[tactic(auto, using(crate::proofs::Attributes::is_absent, crate::proofs::Attributes::no_only))]
 fn name_range(
     alloc: Global,
     input: &[u8],
@@ -177,7 +177,7 @@ fn name_range(
 }
 
 /// The range of a bag's local key identifier, alike.
-#[tactic(auto, using(crate::proofs::Attributes::is_identified, crate::proofs::Attributes::is_not_identified, crate::proofs::Attributes::no_key_id))]
+#[tactic(auto, using(crate::proofs::Attributes::is_absent, crate::proofs::Attributes::no_only))]
 fn key_id_range(
     alloc: Global,
     input: &[u8],

@@ -2,6 +2,7 @@
 
 ghost use Rattle.std.specs.Prelude.{◌≡◌, length, map, MatchResult, Option, Some};
 ghost use Rattle.asn1_core.specs.Der.{each, IsValueOf, option_value, raw};
+ghost use Rattle.asn1_core_element.specs.declared.error.Error.TheVariants.{Memory};
 ghost use Rattle.bag_ranges.specs.BagRoutes.{CONTENT};
 ghost use Rattle.bag_ranges.specs.Bags.{InOrder, IsIn};
 ghost use Rattle.bag_ranges.specs.RawContentInfos.{raw_content_info_value};
@@ -18,7 +19,9 @@ use crate::places::{
 };
 use crate::ranges::{BagKind, BagRanges};
 use crate::raw_content_infos::RawContentInfo;
-use asn1_core::{Asn1SequenceOf, Error, OctetStringAsn1Container, from_bytes_located};
+use asn1_core::{
+    Asn1SequenceOf, DerSerialize, Error, OctetStringAsn1Container, from_bytes_located,
+};
 use input_ranges::Refusal;
 use pkcs12_bags::parts::oids::{DATA, is_oid_of};
 use std::alloc::Global;
@@ -143,7 +146,7 @@ fn push_by_octets(
     rows: &mut Vec<BagRanges>,
 ) -> Result<(), Refusal>
     requires file { IsValueOf (pfx raw) 64 input.now (⟦<RawPfx as DerSerialize>⟧.value file.now) }
-    requires octets { mac_octets (⟦<RawPfx as DerSerialize>⟧.value file.now) ≡ option_value (λ s. s.now) octets.entry }
+    requires octets { mac_octets (⟦<RawPfx as DerSerialize>⟧.value file.now) ≡ option_value (λ s. s.now) octets }
     ensures { PushesSome (AreOfStore input.now (⟦<RawPfx as DerSerialize>⟧.value file.now) (option_value (λ s. s.now) octets.entry)) rows.old.items rows.new.items result }
 {
     match octets {
