@@ -1,13 +1,15 @@
 -- The ranges of the items of signed data and of enveloped data.
-use Rattle.std.specs.Prelude.{◌≡◌, ◌≢◌, ◌≤◌, ◌<◌, ℕ, zero, suc, List, [], ◌∷◌, length, get_or, map, slice_get, Option, None, Some, Result, MatchResult}
+use Rattle.std.specs.Prelude.{◌≡◌, ◌≢◌, ◌↔◌, ◌≤◌, ◌<◌, ℕ, IsTrue, false, List, [], ◌∷◌, length, get_or, map, slice_get, Option, None, Some, Result, Ok, Err, MatchResult}
 use Rattle.std.specs.declared.ops.Range.{Range}
 use Rattle.std.proofs.Common.{refl, sym, ap, subst, ◌∙◌, arith}
-use Rattle.std.proofs.lemmas.List.{length-map}
+use Rattle.std.proofs.lemmas.List.{get_or-map, length-map}
+use Rattle.std.proofs.lemmas.Option.{slice_get-get_or}
 use Rattle.asn1_core.specs.Asn1.{ANY}
 use Rattle.asn1_core.specs.Der.{each}
 use Rattle.asn1_core_element.specs.declared.error.Error.{Error}
 use Rattle.asn1_core_element.specs.declared.error.Error.TheVariants.{Memory}
 use Rattle.asn1_core_format.specs.Whole.{IsValueOf}
+use Rattle.asn1_located.specs.Routes.{enclosed, ◌▸◌}
 use Rattle.input_ranges.specs.Failures.{is_refusal, memory_fails, refusal_of}
 use Rattle.input_ranges.specs.declared.ranges.Refusal.{Refusal}
 use Rattle.located_rows.proofs.RowLaws.{items_found, no_items, range_is}
@@ -22,15 +24,19 @@ use Rattle.part_ranges.specs.declared.attributes.AttributeSet.TheVariants.{Signe
 use Rattle.part_ranges.specs.declared.envelope_parts.EnvelopePart.TheVariants.{Recipients, EncryptedContent}
 use Rattle.pkcs7_signed_crl.specs.Certificates.{certificate_choices, certificate_set, no_certificates}
 use Rattle.signer_ranges.proofs.Between.{attributes_given, of_signer, only_none}
-use Rattle.signer_ranges.specs.SignerRoutes.{certificates, unsigned_attributes}
+use Rattle.signer_ranges.specs.SignerRoutes.{certificates, signed_attributes, unsigned_attributes}
 use Rattle.signer_ranges.specs.Signers.{FileValue, SignerValue, signed_file, signers_of}
 use Rattle.x509_base.specs.Names.{attribute}
 use Rattle.x509_pkcs7.specs.RawSigners.{raw_signer_info_value}
 use Rattle.x509_pkcs7.specs.declared.raw_signers.RawSignerInfo.{RawSignerInfo}
 
-pub none_mapped : {X Y : Type 0} (f : X → Y) (xs : List X) → map f xs ≡ [] → xs ≡ []
-none_mapped f [] e = refl
-none_mapped f (x ∷ xs) e = absurd (let g : f x ∷ map f xs ≡ [] = e in cc)
+-- what a test says that fails
+pub not_so : {P : Type 0} → (IsTrue false ↔ P) → P → ⊥
+not_so i p = let h : IsTrue false = i.1 p in cc
+
+pub of_found : {A : Type 0} {P Q : A → Type 0} → ((a : A) → P a → Q a) → (r : Result A Error) → MatchResult r P (λ e. e ≡ Memory) → MatchResult r Q (λ e. e ≡ Memory)
+of_found f (Ok a) p = f a p
+of_found f (Err e) p = p
 
 module _ (b : List ℕ) (v : FileValue) where
   pub no_certificate_ranges : choices_of v ≡ [] → (ranges : List (Range ℕ)) → ranges ≡ [] → AreCertificatesIn b v ranges
@@ -48,18 +54,24 @@ module _ (b : List ℕ) (v : FileValue) where
       unsigned_given some = (refl, λ j r. some (only_none 0xA1 ATTRIBUTE.format ATTRIBUTE.law j (unsigned_of s) r))
 
       has_attributes : (set : AttributeSet) → attributes_of set s ≢ [] → (attributes_in set index).IsPart v (attributes_of set s)
-      has_attributes Signed some = of_signer b v is.reads index s is_signer _ (attributes_of Signed s) (attributes_of Signed s, attributes_given b v is.reads index s is_signer some, refl)
-      has_attributes Unsigned some = of_signer b v is.reads index s is_signer _ (attributes_of Unsigned s) (attributes_of Unsigned s, unsigned_given some, refl)
+      has_attributes Signed some = of_signer b v is.reads index s is_signer (signed_attributes ▸ enclosed 0xA0 (omega arith) (each ATTRIBUTE.format)) (attributes_of Signed s) (attributes_of Signed s, attributes_given b v is.reads index s is_signer some, refl)
+      has_attributes Unsigned some = of_signer b v is.reads index s is_signer (unsigned_attributes ▸ enclosed 0xA1 (omega arith) (each ATTRIBUTE.format)) (attributes_of Unsigned s) (attributes_of Unsigned s, unsigned_given some, refl)
 
       pub no_attribute_ranges : (set : AttributeSet) → attributes_of set s ≡ [] → (ranges : List (Range ℕ)) → ranges ≡ [] → AreAttributesIn set index b v (Some ranges)
       no_attribute_ranges set e ranges none = (s, is_signer, no_items ATTRIBUTE.format ATTRIBUTE.law (attributes_in set index) b v (attributes_of set s) e ranges none)
 
-      attributes_found : (set : AttributeSet) → attributes_of set s ≢ [] → {A : Type 0} (ranges : A → List (Range ℕ)) (r : Result A Error) → MatchResult r (λ a. AreRows IsElementRange (attributes_in set index).steps 0 b (ranges a)) (λ e. e ≢ Memory → HasNoList (attributes_in set index).steps 0 b) → MatchResult r (λ a. AreAttributesOf set index b v s (ranges a)) (λ e. e ≡ Memory)
+      pub attributes_found : (set : AttributeSet) → attributes_of set s ≢ [] → {A : Type 0} (ranges : A → List (Range ℕ)) (r : Result A Error) → MatchResult r (λ a. AreRows IsElementRange (attributes_in set index).steps 0 b (ranges a)) (λ e. e ≢ Memory → HasNoList (attributes_in set index).steps 0 b) → MatchResult r (λ a. AreAttributesOf set index b v s (ranges a)) (λ e. e ≡ Memory)
       attributes_found set some ranges r h = items_found ATTRIBUTE.format ATTRIBUTE.law (attributes_in set index) b v (attributes_of set s) is.reads (has_attributes set some) ranges r h
 
 module _ (v : FileValue) (xs : List RawSignerInfo) (is : signers_of v ≡ map raw_signer_info_value xs) (index : ℕ) where
   pub fewer_signers : length xs ≤ index → length (signers_of v) ≤ index
   fewer_signers h = omega (arith, h, ap length is, length-map xs raw_signer_info_value)
+
+  pub signer_at : (x : RawSignerInfo) → index < length xs → x ≡ get_or xs index x → slice_get (signers_of v) index ≡ Some (raw_signer_info_value x)
+  signer_at x h e =
+      ap (λ ss. slice_get ss index) is
+      ∙ slice_get-get_or (map raw_signer_info_value xs) index (raw_signer_info_value x) (omega (arith, h, length-map xs raw_signer_info_value))
+      ∙ ap Some (get_or-map raw_signer_info_value xs index x (raw_signer_info_value x) h ∙ ap raw_signer_info_value (sym e))
 
 module _ (b : List ℕ) (v : EnvelopedFileValue) (is : IsValueOf enveloped_file 64 b v) where
   pub recipients_found : {A : Type 0} (ranges : A → List (Range ℕ)) (r : Result A Error) → MatchResult r (λ a. AreRows IsElementRange recipients.steps 0 b (ranges a)) (λ e. e ≢ Memory → HasNoList recipients.steps 0 b) → MatchResult r (λ a. AreEnvelopedIn Recipients b v (ranges a)) (λ e. e ≡ Memory)

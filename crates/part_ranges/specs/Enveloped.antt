@@ -1,6 +1,6 @@
 -- ContentInfo ::= SEQUENCE { contentType ContentType, content [0] EXPLICIT ANY DEFINED BY contentType } (RFC 5652, 3)
 --   of id-envelopedData
-use Rattle.std.specs.Prelude.{List, [], ◌∷◌}
+use Rattle.std.specs.Prelude.{ℕ, List, [], ◌∷◌}
 use Rattle.std.proofs.Common.{arith}
 use Rattle.asn1_core.specs.Asn1.{ANY}
 use Rattle.asn1_core.specs.Der.{arcs, explicit, ElementOctets, followed_by, Format, IsLawful, lawful_explicit, lawful_nothing, lawful_only_oid, lawful_sequence, nothing, only_oid, part, sequence}

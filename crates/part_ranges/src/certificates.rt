@@ -1,10 +1,10 @@
 //! The ranges of all certificates of signed data, from one reading of the file.
 
-ghost use Rattle.std.specs.Prelude.{◌≡◌, ◌≢◌, MatchResult};
+ghost use Rattle.std.specs.Prelude.{◌≡◌, ◌≢◌, ◌↔◌, IsTrue, [], MatchResult};
 ghost use Rattle.asn1_core_element.specs.declared.error.Error.TheVariants.{Memory};
 ghost use Rattle.asn1_core_format.specs.Whole.{IsValueOf};
 ghost use Rattle.located_rows.specs.Rows.{AreRows, HasNoList, IsElementRange};
-ghost use Rattle.part_ranges.specs.Ranges.{AreCertificatesAt, AreCertificatesIn, IsSignedRefusal};
+ghost use Rattle.part_ranges.specs.Ranges.{AreCertificatesAt, AreCertificatesIn, IsSignedRefusal, choices_of};
 ghost use Rattle.signer_ranges.specs.Files.{file_value};
 ghost use Rattle.signer_ranges.specs.SignerRoutes.{certificates};
 ghost use Rattle.signer_ranges.specs.Signers.{signed_file};
@@ -42,6 +42,13 @@ fn some_ranges(alloc: Global, input: &[u8]) -> Result<Vec<Range<usize>>, Error>
     )
 }
 
+/// Whether a file has none.
+fn has_none(file: &RawPkcs7Certificate<RawSignerInfo>) -> bool
+    ensures { IsTrue result ↔ (choices_of (file_value file.now) ≡ []) }
+{
+    file.signed_data.0.certificates.0.0.is_empty()
+}
+
 /// The ranges of the certificates of a file that was read.
 fn ranges_in(
     alloc: Global,
@@ -53,7 +60,7 @@ fn ranges_in(
         (λ found. AreCertificatesIn input.now (file_value file.now) found.items)
         (λ e. e ≡ Memory) }
 {
-    if file.signed_data.0.certificates.0.0.is_empty() {
+    if has_none(file) {
         return Ok(Vec::new(alloc));
     }
     some_ranges(alloc, input)
