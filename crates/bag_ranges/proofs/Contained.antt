@@ -1,12 +1,11 @@
 -- What bags hold.
 use Rattle.std.specs.Prelude.{◌≡◌, ℕ, List, Bool, true, false}
 use Rattle.std.specs.declared.ops.Range.{Range}
-use Rattle.std.proofs.Common.{refl, sym, ap, subst, ◌∙◌, inl, inr}
+use Rattle.std.proofs.Common.{refl, subst, ◌∙◌, inl, inr}
 use Rattle.asn1_core.specs.Asn1.{SEQUENCE}
-use Rattle.asn1_core.specs.Der.{ElementOctets, IsValueOf, Octets, OidOctets}
+use Rattle.asn1_core.specs.Der.{ElementOctets, Octets}
 use Rattle.input_ranges.specs.declared.ranges.Refusal.{Refusal}
-use Rattle.pkcs12_bags.specs.BagParts.{encrypted_key_bag, OctetsOrAny, x509_bag, x509_bag_value}
-use Rattle.pkcs12_bags.specs.declared.parts.bags.X509Bag.{X509Bag}
+use Rattle.pkcs12_bags.specs.BagParts.{encrypted_key_bag, OctetsOrAny, x509_bag}
 use Rattle.pkcs12_bags.specs.declared.parts.oids.TheConstants.{X509_CERTIFICATE, X509_CRL}
 use Rattle.bag_ranges.proofs.Failures.{without}
 use Rattle.bag_ranges.proofs.InRanges.{part_is}

@@ -1,9 +1,9 @@
 -- The rows of bags, and of those in bags.
-use Rattle.std.specs.Prelude.{◌≡◌, ◌≢◌, ◌≤◌, ℕ, zero, suc, ◌-◌, ◌<◌, List, [], ◌∷◌, ◌++◌, length, Option, slice_range}
+use Rattle.std.specs.Prelude.{◌≡◌, ◌≢◌, ℕ, zero, suc, ◌-◌, ◌<◌, List, [], ◌∷◌, ◌++◌}
 use Rattle.std.specs.declared.ops.Range.{Range}
 use Rattle.std.proofs.Common.{refl, sym, ap, subst, ◌∙◌, arith, inl, inr, ⊎_elim}
 use Rattle.std.proofs.lemmas.List.{append-nil, append_assoc}
-use Rattle.asn1_core.specs.Der.{IsValueOf, raw}
+use Rattle.asn1_core.specs.Der.{IsValueOf}
 use Rattle.input_ranges.specs.declared.ranges.Refusal.{Refusal}
 use Rattle.pkcs12_bags.specs.Oids.{oid}
 use Rattle.pkcs12_bags.specs.declared.parts.oids.TheConstants.{SAFE_CONTENTS_BAG}
@@ -13,7 +13,7 @@ use Rattle.bag_ranges.proofs.InRanges.{part_is}
 use Rattle.bag_ranges.proofs.OneKind.{is_named, is_safe, kinds_agree}
 use Rattle.bag_ranges.proofs.Rows.{also}
 use Rattle.bag_ranges.specs.BagRoutes.{BAG, SAFE, bags_in}
-use Rattle.bag_ranges.specs.Bags.{AreBags, AreIn, AreInBag, AreInside, AreOfBag, BagValue, InOrder, IsBagAt, IsIn, IsKeyIdAt, IsKind, IsNameAt, IsPartIn, IsValueAt, Rows}
+use Rattle.bag_ranges.specs.Bags.{AreBags, AreInBag, AreInside, AreOfBag, BagValue, InOrder, IsBagAt, IsIn, IsKeyIdAt, IsKind, IsNameAt, IsPartIn, IsValueAt, Rows}
 use Rattle.bag_ranges.specs.Contained.{IsHeld, LeadsIn, named_kind, value_steps}
 use Rattle.bag_ranges.specs.Failures.{Adds, HasNoKeyId, HasNoName, HasNoRow, HasNoRows, HasNone}
 use Rattle.bag_ranges.specs.Pieces.{IsElementIn}

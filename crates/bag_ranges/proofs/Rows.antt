@@ -14,7 +14,6 @@ use Rattle.located_rows.specs.Rows.{LeadsTo}
 use Rattle.bag_ranges.proofs.Failures.{without}
 use Rattle.bag_ranges.proofs.InRanges.{cut, within}
 use Rattle.bag_ranges.specs.Bags.{InOrder, IsIn, Rows}
-use Rattle.bag_ranges.specs.Contained.{LeadsIn}
 use Rattle.bag_ranges.specs.Failures.{Adds, HasNone, HasNoRows, Pushes, PushesSome}
 use Rattle.bag_ranges.specs.declared.ranges.BagRanges.{BagRanges}
 

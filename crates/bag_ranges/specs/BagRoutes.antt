@@ -7,15 +7,14 @@
 -- CertBag ::= SEQUENCE { certId OBJECT IDENTIFIER, certValue [0] EXPLICIT ANY DEFINED BY certId } (RFC 7292, 4.2.3), and
 -- CRLBag alike (4.2.4)
 -- Attribute ::= SEQUENCE { attrType OBJECT IDENTIFIER, attrValues SET OF ANY } (RFC 5652, 5.3)
-use Rattle.std.specs.Prelude.{◌≡◌, ℕ, ◌+◌, List, [], ◌∷◌, length}
-use Rattle.std.proofs.Common.{refl, sym, ap, ◌∙◌, subst, arith, inr}
-use Rattle.asn1_core.specs.Asn1.{Asn1, asn1, end, ◌then◌, ◌OPTIONAL◌, OBJECT_IDENTIFIER, OCTET_STRING, ANY, EXPLICIT, SET_OF, SEQUENCE}
-use Rattle.asn1_core.specs.Der.{Format, OidOctets, each, known, lawful_raw, lawful_version_3, leaf, otherwise, raw, verbatim, within}
+use Rattle.std.specs.Prelude.{◌≡◌, ℕ, List, [], ◌∷◌}
+use Rattle.std.proofs.Common.{refl, arith}
+use Rattle.asn1_core.specs.Asn1.{Asn1, asn1, end, ◌OPTIONAL◌, OBJECT_IDENTIFIER, OCTET_STRING, ANY, EXPLICIT, SET_OF, SEQUENCE}
+use Rattle.asn1_core.specs.Der.{OidOctets, each, lawful_raw, lawful_version_3, leaf, raw, verbatim, within}
 use Rattle.asn1_choices.specs.ByOid.{alone, any_oid}
 use Rattle.asn1_core_element.specs.Element.{IsTagByte}
 use Rattle.asn1_located.specs.Places.{Route}
 use Rattle.asn1_located.specs.Routes.{again, as_is, component, enclosed, fixed, item, known_body, octets, opened, ◌before◌, ◌here◌, ◌there◌, ◌▸◌}
-use Rattle.asn1_located.specs.declared.walks.Step.{Step}
 use Rattle.asn1_located.specs.declared.walks.Step.TheVariants.{Inside, Element, After, Nth}
 use Rattle.bag_ranges.specs.OtherBodies.{other_body}
 use Rattle.bag_ranges.specs.RawContentInfos.{raw_content_info}

@@ -2,8 +2,8 @@
 -- bag is. What is in the input b from m to n is what its octets from m up to n are an encoding of.
 use Rattle.std.specs.Prelude.{◌≡◌, ◌≢◌, ◌⊎◌, ◌≤◌, ◌-◌, ℕ, zero, suc, List, [], ◌∷◌, ◌++◌, length, Option, None, Some, slice_range}
 use Rattle.std.specs.declared.ops.Range.{Range}
-use Rattle.std.proofs.Common.{inl, inr, arith}
-use Rattle.asn1_core.specs.Der.{Format, each, octet_string, Octets, OidOctets, ElementOctets}
+use Rattle.std.proofs.Common.{arith}
+use Rattle.asn1_core.specs.Der.{Format, octet_string, Octets, OidOctets, ElementOctets}
 use Rattle.asn1_located.specs.Places.{Reading, Route, Walk}
 use Rattle.asn1_located.specs.Routes.{as_is}
 use Rattle.bag_ranges.specs.BagRoutes.{BAG, SAFE, attribute_octets, bag_value, bags_in, encrypted_key, other_element, x509_octets}

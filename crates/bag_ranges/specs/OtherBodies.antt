@@ -1,12 +1,10 @@
 -- A route to what follows an object identifier that isn't the known one.
-use Rattle.std.specs.Prelude.{◌≡◌, ◌⊎◌, ◌+◌, ℕ, List, [], ◌∷◌, length, None, Some}
+use Rattle.std.specs.Prelude.{◌≡◌, ◌⊎◌, ◌+◌, ℕ, List, [], ◌∷◌, length}
 use Rattle.std.proofs.Common.{refl, ap, subst, inl, inr, arith}
-use Rattle.asn1_core.specs.Der.{Format, IsOid, OidOctets, element, known, leaf, otherwise, verbatim, within}
-use Rattle.asn1_core_element.specs.Element.{IsTagByte}
+use Rattle.asn1_core.specs.Der.{Format, IsOid, OidOctets, known, otherwise, within}
 use Rattle.asn1_located.specs.Finding.{Found}
 use Rattle.asn1_located.specs.Places.{Route}
 use Rattle.asn1_located.specs.Routes.{into}
-use Rattle.asn1_located.specs.declared.walks.Step.{Step}
 use Rattle.asn1_located.specs.declared.walks.Step.TheVariants.{Inside, After}
 
 module _ {V W : Type 0} (o : List ℕ) (R : Format V) (S : Format W) where

@@ -58,11 +58,7 @@ fn kind_of(id: &ObjectIdentifierAsn1) -> BagKind
 }
 
 /// Whether what a bag of certificates or revocation lists holds is an X.509 one. Its element begins there in the input.
-fn is_x509<const KNOWN: usize>(
-    alloc: Global,
-    element: &[u8],
-    start: usize,
-) -> Result<bool, Refusal>
+fn is_x509<const KNOWN: usize>(alloc: Global, element: &[u8], start: usize) -> Result<bool, Refusal>
     ensures { Finds (IsEither KNOWN element.now) result }
 {
     let held: X509Bag<KNOWN> = read_at(alloc, element, start)?;

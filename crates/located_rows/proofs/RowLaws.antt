@@ -130,10 +130,10 @@ module _ {V W : Type 0} {R : Reading V} (F : Format W) (law : IsLawful F) (list 
     items_are : (ranges : List (Range ℕ)) → AreRows IsElementRange list.steps 0 b ranges → AreItemsOf F law list b v items ranges
     items_are ranges a = record {
       each = λ i less d w e.
-      (let at = a.each i less d in
-      let r = get_or ranges i d in
-      let leads : LeadsTo ((list.steps ++ Nth i ∷ []) ++ Element ∷ []) 0 b r.start r.end = leads_after (list.steps ++ Nth i ∷ []) (Element ∷ []) 0 b at.0 at.1 at.2 r.start r.end at.3 in
-      range_is (list ▸ entry F law i) 64 b v reads w (items, is, skips_to items i w e) r.start r.end (subst (λ steps. LeadsTo steps 0 b r.start r.end) (append_assoc list.steps (Nth i ∷ []) (Element ∷ [])) leads));
+          (let at = a.each i less d in
+          let r = get_or ranges i d in
+          let leads : LeadsTo ((list.steps ++ Nth i ∷ []) ++ Element ∷ []) 0 b r.start r.end = leads_after (list.steps ++ Nth i ∷ []) (Element ∷ []) 0 b at.0 at.1 at.2 r.start r.end at.3 in
+          range_is (list ▸ entry F law i) 64 b v reads w (items, is, skips_to items i w e) r.start r.end (subst (λ steps. LeadsTo steps 0 b r.start r.end) (append_assoc list.steps (Nth i ∷ []) (Element ∷ [])) leads));
       count = as_many F law list 64 b v reads items is IsElementRange ranges a;
     }
 

@@ -1,5 +1,5 @@
 -- The ranges of the items of signed data and of enveloped data.
-use Rattle.std.specs.Prelude.{◌≡◌, ◌≢◌, ◌↔◌, ◌≤◌, ◌<◌, ℕ, IsTrue, false, List, [], ◌∷◌, length, get_or, map, slice_get, Option, None, Some, Result, Ok, Err, MatchResult}
+use Rattle.std.specs.Prelude.{◌≡◌, ◌≢◌, ◌↔◌, ◌≤◌, ◌<◌, ℕ, IsTrue, false, List, [], ◌∷◌, length, get_or, map, slice_get, None, Some, Result, Ok, Err, MatchResult}
 use Rattle.std.specs.declared.ops.Range.{Range}
 use Rattle.std.proofs.Common.{refl, sym, ap, subst, ◌∙◌, arith}
 use Rattle.std.proofs.lemmas.List.{get_or-map, length-map}
@@ -26,7 +26,6 @@ use Rattle.pkcs7_signed_crl.specs.Certificates.{certificate_choices, certificate
 use Rattle.signer_ranges.proofs.Between.{attributes_given, of_signer, only_none}
 use Rattle.signer_ranges.specs.SignerRoutes.{certificates, signed_attributes, unsigned_attributes}
 use Rattle.signer_ranges.specs.Signers.{FileValue, SignerValue, signed_file, signers_of}
-use Rattle.x509_base.specs.Names.{attribute}
 use Rattle.x509_pkcs7.specs.RawSigners.{raw_signer_info_value}
 use Rattle.x509_pkcs7.specs.declared.raw_signers.RawSignerInfo.{RawSignerInfo}
 

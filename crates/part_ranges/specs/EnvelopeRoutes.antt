@@ -5,13 +5,12 @@
 --   OPTIONAL } (RFC 5652, 6.1)
 -- EncryptedContentInfo ::= SEQUENCE { contentType ContentType, contentEncryptionAlgorithm
 --   ContentEncryptionAlgorithmIdentifier, encryptedContent [0] IMPLICIT OCTET STRING OPTIONAL } (RFC 5652, 6.1)
-use Rattle.std.specs.Prelude.{◌≡◌, ℕ, ◌+◌, List, [], ◌∷◌}
+use Rattle.std.specs.Prelude.{◌≡◌, [], ◌∷◌}
 use Rattle.std.proofs.Common.{refl, arith}
 use Rattle.asn1_core.specs.Asn1.{Asn1, asn1, end, ◌then◌, ◌OPTIONAL◌, INTEGER_BELOW, OCTET_STRING, OBJECT_IDENTIFIER, ANY, IMPLICIT, SET_OF, SEQUENCE}
 use Rattle.asn1_core.specs.Der.{each, lawful_explicit, lawful_only_oid}
 use Rattle.asn1_located.specs.Places.{Route}
 use Rattle.asn1_located.specs.Routes.{Tagged, as_is, component, enclosed, octets, under, with_tag, ◌before◌, ◌here◌, ◌maybe◌, ◌there◌, ◌▸◌}
-use Rattle.asn1_located.specs.declared.walks.Step.{Step}
 use Rattle.asn1_located.specs.declared.walks.Step.TheVariants.{Inside, Element, After, Past}
 use Rattle.part_ranges.specs.Enveloped.{enveloped_data_oid, enveloped_file}
 use Rattle.pkcs7_enveloped.specs.Enveloped.{encrypted_content_info, enveloped, lawful_enveloped, originator_info}

@@ -126,7 +126,13 @@ fn ranges_in(
         EnvelopePart::Recipients => recipient_ranges(alloc, input),
         EnvelopePart::EncryptionAlgorithm => only(alloc, algorithm_range(input)),
         EnvelopePart::EncryptedContent => {
-            match &file.enveloped_data.0.encrypted_content_info.encrypted_content.0 {
+            match &file
+                .enveloped_data
+                .0
+                .encrypted_content_info
+                .encrypted_content
+                .0
+            {
                 Some(_octets) => only(alloc, content_range(input)),
                 None => Ok(Vec::new(alloc)),
             }

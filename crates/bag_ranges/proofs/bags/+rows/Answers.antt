@@ -8,11 +8,10 @@ use Rattle.bag_ranges.proofs.bags.+rows.Goals as goal
 
 pub push_all-push_bag-requires : goal.push_all-push_bag-requires
 push_all-push_bag-requires m c =
-    let so_far = c.loop-bag.invariant in
-    (
+    let so_far = c.loop-bag.invariant in (
       omega (arith, c.decreases),
       one_there (AreOfBag (AreBags c.args.below c.args.input.now) c.args.below c.args.input.now) BAG.format BAG.law raw_safe_bag_value c.args.bags.now c.args.input.now c.args.list.now.start c.args.list.now.end c.args.rows.now.items
-      c.loop-bag.bag-index c.loop-bag.start c.loop-bag.rows.items c.bag-item.result c.loop-bag-test.true c.bag-item.is so_far c.first_element-place.result (c.first_element-place.ensures so_far.inside.0 so_far.inside.1),
+          c.loop-bag.bag-index c.loop-bag.start c.loop-bag.rows.items c.bag-item.result c.loop-bag-test.true c.bag-item.is so_far c.first_element-place.result (c.first_element-place.ensures so_far.inside.0 so_far.inside.1),
     )
 
 pub push_all-returns-in_err-push_bag : goal.push_all-returns-in_err-push_bag

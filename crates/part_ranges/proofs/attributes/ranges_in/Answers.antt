@@ -1,4 +1,4 @@
-use Rattle.std.proofs.Common.{Err, Global, Ok, Vec, ℕ, ◌≡◌, refl, rules, subst}
+use Rattle.std.proofs.Common.{Err, Global, Ok, Vec, ℕ, ◌≡◌, rules}
 use Rattle.std.specs.declared.ops.Range.{Range}
 use Rattle.asn1_core_element.specs.declared.error.Error.TheVariants.{Memory}
 use Rattle.part_ranges.proofs.Items.{attributes_found, not_so, signer_at}
