@@ -1,11 +1,12 @@
-/* Checks and rewritings of DER, the parts of containers that a verifier needs, as octets, those of certificates, and
- * conversions of BER to DER: the static library der_c. Only der_from_ber takes BER. Pass every other call what it
- * wrote, and der_mac_ber and der_mac_part_ber where the MAC of a PKCS #12 file is to be verified.
+/* Checks and rewritings of DER, the parts of containers that a verifier needs, as octets, those of certificates and of
+ * the contents of signed data, and conversions of BER to DER: the static library der_c. Only der_from_ber takes BER.
+ * Pass every other call what it wrote, and der_mac_ber and der_mac_part_ber where the MAC of a PKCS #12 file is to be
+ * verified.
  *
  * What is proved of its calls der_check_word_limited, der_rewrite_word_limited, der_kind_word, der_part_octets,
  * der_signer_rows, der_part_ranges, der_attribute_ranges, der_mac_range, der_mac, der_from_ber, der_mac_ber,
- * der_mac_part_ber, der_name_text, der_oid_text, der_oid_name, der_integer_text, der_utf16_text, der_bag_rows and
- * der_certificate, for all inputs, and what isn't:
+ * der_mac_part_ber, der_name_text, der_oid_text, der_oid_name, der_integer_text, der_utf16_text, der_bag_rows,
+ * der_certificate, der_indirect, der_trust_list and der_trust_rows, for all inputs, and what isn't:
  *  - A call answers no status but those that are listed at it. What it writes into numbers and into out is as said
  *    below.
  *  - DER_NORMAL, DER_LOOSE, DER_UNKNOWN_KIND, DER_NO_ROOM, DER_NO_RANGE and DER_NO_PART are true where they are
@@ -26,8 +27,8 @@
  *    take null for an input or out of length 0. word and input point to so many bytes that can be read, out to so many
  *    that can be read and written.
  *  - A pointer to a number is aligned as a size_t is, and what it points to can be written. out of der_signer_rows,
- *    der_bag_rows and the calls for ranges points to out_len structs and not bytes, that of der_certificate to one, and
- *    is aligned so too.
+ *    der_bag_rows, der_trust_rows and the calls for ranges points to out_len structs and not bytes, that of
+ *    der_certificate, der_indirect and der_trust_list to one, and is aligned so too.
  *  - The string kind ends in a zero byte.
  *  - out and each number overlap nothing else that is passed, and not one another.
  *  - While a call runs nothing else reads or writes out or the numbers, and nothing writes word or input: no other
@@ -288,6 +289,91 @@ typedef struct der_certificate_parts {
  * certificate has no such part; which place a refusal has is tested. */
 DER_CALL
 uint32_t der_certificate(const uint8_t *input, size_t input_len, der_certificate_parts *out, size_t *place);
+
+/* Where signed data has the parts of its indirect data (SpcIndirectDataContent). A range that isn't there is 0 and 0. */
+typedef struct der_indirect_parts {
+  size_t has_attribute_value; /* 1: the attribute has a value */
+  size_t is_image;            /* 1: the attribute is SPC_PE_IMAGE_DATA_OBJID, and its value reads as SpcPeImageData */
+  size_t has_image_flags;     /* 1: these have flags; where they have none, they mean the bits 1 0 0 */
+  size_t has_image_link;      /* 1: they have a file */
+  der_range attribute_type;   /* the contents octets of the object identifier in data, which says what was hashed, a
+                                 program, a cabinet, a script: see der_oid_text */
+  der_range attribute_value;  /* the element of the value in data, whatever is in it */
+  der_range digest_algorithm; /* the element of the digest's AlgorithmIdentifier */
+  der_range digest;           /* the octets of the digest, of the file that was signed */
+  der_range image_flags;      /* the contents octets of the flags, a BIT STRING: first the count of unused bits */
+  der_range image_link;       /* the element in file, without the [0] around it: an SpcLink */
+} der_indirect_parts;
+
+/* Which digest an Authenticode signature has, and of what: where the input, signed data with signers of every version,
+ * has the parts of its content, where that is SpcIndirectDataContent, in one reading of the file and one of the
+ * content; image data are read once more. Nothing is judged: no signature is looked at, and no digest is compared with
+ * a file.
+ *  - DER_NORMAL: *out has the ranges.
+ *  - DER_MALFORMED to DER_TOO_DEEP: the input is no signed data, or its content has the type SPC_INDIRECT_DATA_OBJID and
+ *    isn't a SEQUENCE of data and DigestInfo, of which data are a SEQUENCE of an object identifier and one element of any
+ *    type, which may be absent. *place says where, as of der_locate.
+ *  - DER_NO_PART: the content has another type, or there is none.
+ *  - DER_NO_MEMORY: *place is an offset without use.
+ * Unless at DER_NORMAL all of *out is 0, and but for the refusals and DER_NO_MEMORY *place is 0. Proved is that each
+ * range is the place of that part itself, not only of equal octets, and that a range isn't there only where the content
+ * has no such part; which place a refusal has is tested. */
+DER_CALL
+uint32_t der_indirect(const uint8_t *input, size_t input_len, der_indirect_parts *out, size_t *place);
+
+/* Where signed data has the parts of its trust list (CertificateTrustList). A range that isn't there is 0 and 0. */
+typedef struct der_trust_list_parts {
+  size_t has_version;         /* 1: it has one; where it has none, it is v1 */
+  size_t has_list_identifier; /* 1: it has one */
+  size_t has_sequence_number; /* 1: it has one */
+  size_t has_next_update;     /* 1: it says when the next list comes */
+  size_t has_extensions;      /* 1: it has some */
+  der_range version;          /* the contents octets of the INTEGER: see der_integer_text */
+  der_range usages;           /* the element of subjectUsage, a SEQUENCE OF OBJECT IDENTIFIER */
+  der_range list_identifier;  /* the octets of listIdentifier */
+  der_range sequence_number;  /* the contents octets of the INTEGER */
+  der_range this_update;      /* the element of ctlThisUpdate, a UTCTime or a GeneralizedTime */
+  der_range next_update;      /* the element of ctlNextUpdate, one of these too */
+  der_range algorithm;        /* the element of subjectAlgorithm, an AlgorithmIdentifier: by which the entries are named */
+  der_range extensions;       /* the element in ctlExtensions, without the [0] around it, whatever is in it */
+} der_trust_list_parts;
+
+/* Where the input, signed data with signers of every version, has the parts of its content but the entries, where that is
+ * a CertificateTrustList, in one reading of the file and one of the list. Nothing is judged: no signature and no time is
+ * looked at.
+ *  - DER_NORMAL: *out has the ranges.
+ *  - DER_MALFORMED to DER_TOO_DEEP: the input is no signed data, or its content has the type szOID_CTL and is no list:
+ *    a SEQUENCE of version, an INTEGER that may be absent, subjectUsage, listIdentifier, an OCTET STRING that may be
+ *    absent, sequenceNumber, an INTEGER that may be absent, ctlThisUpdate, ctlNextUpdate, which may be absent,
+ *    subjectAlgorithm, trustedSubjects, a SEQUENCE OF entries that may be absent, and ctlExtensions, one element of any
+ *    type in [0] that may be absent. An entry is a SEQUENCE of subjectIdentifier, an OCTET STRING, and subjectAttributes,
+ *    a SET OF Attribute that may be absent. *place says where, as of der_locate.
+ *  - DER_NO_PART: the content has another type, or there is none.
+ *  - DER_NO_MEMORY: *place is an offset without use.
+ * Unless at DER_NORMAL all of *out is 0, and but for the refusals and DER_NO_MEMORY *place is 0. Proved is that each
+ * range is the place of that part itself, not only of equal octets, and that a range isn't there only where the list has
+ * no such part; which place a refusal has is tested. */
+DER_CALL
+uint32_t der_trust_list(const uint8_t *input, size_t input_len, der_trust_list_parts *out, size_t *place);
+
+/* Where a trust list has the parts of an entry (TrustedSubject). A range that isn't there is 0 and 0. */
+typedef struct der_trust_entry_parts {
+  size_t has_attributes; /* 1: it has some */
+  der_range identifier;  /* the octets of subjectIdentifier: of a certificate its digest, by the list's algorithm */
+  der_range attributes;  /* the element of subjectAttributes, a SET OF Attribute */
+} der_trust_entry_parts;
+
+/* Where the input, signed data, has each entry of its trust list, in one reading of the file and one of the list.
+ *  - DER_NORMAL: *count rows are at the front of out, in the order of the list, and the rest of out is as it was. Of a
+ *    list without trustedSubjects *count is 0.
+ *  - DER_NO_ROOM: there are *count rows, and out_len is less.
+ *  - Any other status is as of der_trust_list, with its *place.
+ * Unless at DER_NORMAL out is as it was, unless at DER_NORMAL and DER_NO_ROOM *count is 0, and but for the refusals and
+ * DER_NO_MEMORY *place is 0. Proved is that each entry has a row, and that each range is the place of that part itself,
+ * not only of equal octets; which place a refusal has is tested. */
+DER_CALL
+uint32_t der_trust_rows(const uint8_t *input, size_t input_len, der_trust_entry_parts *out, size_t out_len,
+                        size_t *count, size_t *place);
 
 /* Which octets of a PKCS #12 file a MAC covers: the contents octets of the OCTET STRING that is the content of
  * authSafe, without its tag and length.
@@ -562,6 +648,14 @@ static inline der_status der_bags(const uint8_t *input, size_t input_len, der_ba
                                   size_t *count, size_t *place) {
   return (der_status)der_bag_rows(der_given(input, input_len), input_len, (der_bag_parts *)der_room(out, out_len),
                                   out_len, count, place);
+}
+
+/* The same as der_trust_rows. */
+DER_LOOK
+static inline der_status der_trust_entries(const uint8_t *input, size_t input_len, der_trust_entry_parts *out,
+                                           size_t out_len, size_t *count, size_t *place) {
+  return (der_status)der_trust_rows(der_given(input, input_len), input_len,
+                                    (der_trust_entry_parts *)der_room(out, out_len), out_len, count, place);
 }
 
 /* Copies what the signature of a signer covers to out, which has room for covered.len bytes. */

@@ -45,6 +45,9 @@ WANTED = {
     "attributes": {0, 3, 4, 5, 8, 9, 11},
     "bags": {0, 3, 4, 5, 6, 8, 9},
     "certificate": {0, 3, 4, 5, 8},
+    "indirect": {0, 3, 4, 5, 8, 11},
+    "trust_list": {0, 3, 4, 5, 8, 11},
+    "trust_rows": {0, 3, 4, 5, 8, 9, 11},
     "integer_text": {0, 5, 8, 9},
 }
 
@@ -193,6 +196,19 @@ def lines_on_a_certificate(text):
     return [("certificate", status, where)]
 
 
+def lines_on_indirect_data(text):
+    status, _, where = answers.indirect(text)
+    return [("indirect", status, where)]
+
+
+def lines_on_a_trust_list(text):
+    """The lines on the parts of a trust list, and on its entries."""
+    status, _, where = answers.trust_list(text)
+    lines = [("trust_list", status, where)]
+    status, rows, where = answers.trust_rows(text)
+    return lines + (listed("trust_rows", len(rows)) if status == NORMAL else [("trust_rows", status, 0, where)])
+
+
 def lines_on_an_integer(text):
     """The lines on the number that the first octets of an input hold."""
     contents = text[:INTEGER_OCTETS]
@@ -207,8 +223,9 @@ def lines_on(status, size, text):
     numbers, mac_lines = lines_on_a_mac_over_ber(text)
     lines = [*lines_on_a_kind(status, size), *lines_on_the_mac(text), *lines_on_ber(text), *numbers]
     lines += [*lines_on_parts(text), *mac_lines, *lines_on_texts(text), *lines_on_signers(text)]
-    lines += lines_on_ranges(text) + lines_on_attributes(text)
-    return lines + lines_on_bags(text) + lines_on_a_certificate(text) + lines_on_an_integer(text)
+    lines += [*lines_on_ranges(text), *lines_on_attributes(text), *lines_on_bags(text)]
+    lines += [*lines_on_a_certificate(text), *lines_on_indirect_data(text), *lines_on_a_trust_list(text)]
+    return lines + lines_on_an_integer(text)
 
 
 class TestLimits(Comparing):

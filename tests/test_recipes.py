@@ -1,17 +1,22 @@
 """The verbs of example_containers over files of openssl, beside what openssl writes or says: a key store is openssl's
 octet for octet, and openssl opens it with a MAC that Python's hashlib makes; enveloped data are openssl's octet for
 octet, and openssl decrypts what was encrypted outside; certificates as signed data likewise; and time stamps, digests of
-programs, trust lists and revocation lists beside what openssl and osslsigncode say of them."""
+programs, trust lists and revocation lists beside what openssl and osslsigncode say of them. And c/examples/digest.c
+over signatures of a program and of a cabinet, beside what osslsigncode says, and over signed data by hand; and
+c/examples/entries.c over trust lists that openssl makes, and by hand."""
 import functools
 import random
 import re
 import unittest
 from pathlib import Path
 
-from support import built, macs, making, tools
+from support import built, inputs, macs, making, oids, tools
 from support.cases import Comparing
-from support.elements import at, contents, parts
+from support.containers import SHA256
+from support.elements import at, contents, octet_string, parts, sequence
+from support.inputs import CABINET, IMAGE, MAY_BE_ABSENT, TRUST_LIST, trust_entry, trust_list
 from support.making import put, run
+from support.signing import INDIRECT_DATA
 from support.tools import needs
 
 WRAPPING_KEY, KEY_ID = bytes(range(16)), bytes.fromhex("C0FFEE")
@@ -22,6 +27,10 @@ PASSWORD, ITERATIONS = "test", 2048
 NAMES = "a", "Größe", "x" * 40
 SIZES = 0, 1, 16, 1000, 70000
 MONTHS = "Jan Feb Mar Apr May Jun Jul Aug Sep Oct Nov Dec".split()
+DIGEST_IN_C, ENTRIES_IN_C = built.TOP / "c/examples/digest.c", built.TOP / "c/examples/entries.c"
+# How many octets these have room for, which read one less, and what they say where there is nothing to say.
+MOST_IN_C = 1 << 22
+NO_DIGEST, NO_LIST = (f"no {what}: the content has another type" for what in ("digest of a file", "trust list"))
 # What a program says of a file that is another than its type asks for.
 ILL = "a file isn't what its type asks for"
 OTHER = "the content has another type"
@@ -246,6 +255,7 @@ class Lists(Recipe):
         }
         making.made_of(sections, "trusted")
         self.same(listed("trusted", "trusted"), [*prints, FRIENDLY_NAME], "a trust list")
+        self.same(said_in_c(ENTRIES_IN_C, "trusted"), entry_lines(prints), "the entries in C")
         self.same(refusal("program", "trusted"), OTHER, "a trust list as a program")
         making.sign("signed", "-nodetach -md sha256", "one", random.randbytes(5000))
         self.same(refusal("trusted", "signed"), OTHER, "data as a trust list")
@@ -287,10 +297,7 @@ class Programs(Recipe):
 
     def test_the_digest_of_a_program_is_that_which_osslsigncode_makes_anew(self):
         for file in self.FILES:
-            # its status says that it doesn't trust the certificate
-            said = tools.ended("osslsigncode", "verify", f"{file}.signed").stdout.decode()
-            made = re.search(r"Calculated message digest *: (\w+)", said)[1].lower()
-            self.same(listed("program", file), [f"{SHA_256} {made}"], file)
+            self.same(listed("program", file), [f"{SHA_256} {made_anew(file)}"], file)
 
     def test_the_time_of_a_stamp_is_that_of_openssl(self):
         for file in self.FILES:
@@ -308,11 +315,132 @@ class Programs(Recipe):
             self.same(verified.strip(), b"Verification: OK", file, "at", time)
 
 
+def made_anew(file):
+    """The digest of a signed file that osslsigncode makes anew. It ends with 1, as it doesn't trust the certificate."""
+    said = tools.ended("osslsigncode", "verify", f"{file}.signed").stdout.decode()
+    return re.search(r"Calculated message digest *: (\w+)", said)[1].lower()
+
+
 def token_of(file):
     """The signer's only time stamp, which is the only signed data below the whole."""
     lines, whole = run(f"openssl asn1parse -inform DER -in {file}").decode().splitlines(), octets(file)
     inner = [number for number, line in enumerate(lines) if ":pkcs7-signedData" in line][1]
     return at(whole, int(lines[inner - 1].split(":")[0])).of(whole)
+
+
+def said_in_c(example, file, by=None):
+    """How an example in C ends over a file, and its lines, or what it complains of."""
+    ran = tools.ended(built.in_c(example, by=by), file)
+    return ran.returncode, (ran.stdout or ran.stderr).decode().splitlines()
+
+
+def digest_lines(kind, digest):
+    """The end and the lines of digest.c on a digest by SHA-256, in hexadecimal, of what has this type."""
+    return 0, [f"type: {kind}", f"algorithm: {SHA256.hex()}", f"digest: {digest}"]
+
+
+def entry_lines(identifiers):
+    """Those of entries.c on entries with these identifiers, in hexadecimal."""
+    return 0, [f"entries: {len(identifiers)}", *identifiers]
+
+
+class InC(Recipe):
+    """Tests of an example in C."""
+
+    def says(self, example, cases, by=None):
+        """Compares how it ends over inputs, and its lines."""
+        for made, said in cases:
+            put("made", made)
+            self.same(said_in_c(example, "made", by), said, example.name, made)
+
+    def reads_less_than_its_room(self, example, of, lines_on):
+        """Compares what it says of what is made of lengths: the longest that it reads, and longer ones."""
+        length = 2 * MOST_IN_C - 1000 - len(of(MOST_IN_C - 1000))
+        whole, less = of(length), of(length - 1)
+        self.same(len(whole), MOST_IN_C, "octets")
+        refused = 1, [f"not read, or longer than {MOST_IN_C - 1} octets"]
+        for made, said in ((whole + b"more", refused), (whole, refused), (less, lines_on(length - 1))):
+            put("long", made)
+            self.same(said_in_c(example, "long") == said, True, example.name, len(made), "octets")
+
+
+class Digests(InC):
+    """Which digest a signature has, and of what."""
+
+    @needs("osslsigncode")
+    def test_it_is_that_which_osslsigncode_makes_anew_of_a_program_and_of_a_cabinet(self):
+        making.certificate("one")
+        for file, whole, kind in (("program", making.image(), IMAGE), ("cabinet", making.cabinet(), CABINET)):
+            put("file", whole)
+            making.signed_file("file", file, "-certs one.pem -key one.key")
+            self.same(said_in_c(DIGEST_IN_C, file), digest_lines(kind, made_anew(file)), file)
+
+    def example_agrees(self, by=None):
+        """Compares what it says of signed data by hand: also of an object identifier with a number that 64 bits don't
+        hold, which has no dotted form."""
+        long = f"1.2.{2 ** 64}"
+        for kind, said in ((IMAGE, IMAGE), ("1.2.3", "1.2.3"), (long, oids.contents(long).hex())):
+            made = inputs.signed_over(INDIRECT_DATA, inputs.indirect_data(kind))
+            self.says(DIGEST_IN_C, [(made, digest_lines(said, 32 * "11"))], by)
+        text = octet_string(b"text")
+        other = inputs.signed_over(INDIRECT_DATA, text)
+        refused = [
+            (inputs.signed_over("data", text), NO_DIGEST),
+            (inputs.signed_over(INDIRECT_DATA), NO_DIGEST),
+            (other, f"refused: invalid at {other.index(text)}"),
+            (b"", "refused: missing at 0"),
+        ]
+        self.says(DIGEST_IN_C, [(made, (1, [said])) for made, said in refused], by)
+
+    def test_it_is_that_of_signed_data_by_hand(self):
+        self.example_agrees()
+
+    @needs("gcc", "clang")
+    def test_the_example_that_clang_builds_says_so_too(self):
+        self.example_agrees("clang")
+
+    def test_of_a_file_that_is_longer_than_the_example_reads_it_says_nothing(self):
+        def of(length):
+            attribute = sequence(oids.oid(IMAGE))
+            return inputs.signed_over(INDIRECT_DATA, sequence(attribute, sequence(SHA256, octet_string(bytes(length)))))
+
+        self.reads_less_than_its_room(DIGEST_IN_C, of, lambda length: digest_lines(IMAGE, "00" * length))
+
+
+class TrustLists(InC):
+    """The entries of a trust list."""
+
+    def example_agrees(self, by=None):
+        """Compares what it says of lists by hand: with all parts and without those that may be absent, of one entry
+        whose identifier is empty, and of many; and of what is no list."""
+        many = [number.to_bytes(2, "big") for number in range(1000)]
+        lists = [({}, [20 * b"\x11", 20 * b"\x22"]), (dict.fromkeys(MAY_BE_ABSENT, b""), [])]
+        lists += [({"entries": sequence(*map(trust_entry, its))}, its) for its in ([b""], many)]
+        for others, identifiers in lists:
+            made = inputs.signed_over(TRUST_LIST, trust_list(**others))
+            self.says(ENTRIES_IN_C, [(made, entry_lines([it.hex() for it in identifiers]))], by)
+        refused = [(made, f"refused: {reason} at {place}") for made, reason, place in inputs.refused_trust_lists()]
+        others = inputs.signed_over("data", trust_list()), inputs.signed_over(TRUST_LIST)
+        refused += [*((made, NO_LIST) for made in others), (b"", "refused: missing at 0")]
+        self.says(ENTRIES_IN_C, [(made, (1, [said])) for made, said in refused], by)
+
+    def test_they_are_those_of_lists_by_hand(self):
+        self.example_agrees()
+
+    def test_they_are_those_that_the_page_shows(self):
+        ended, lines = said_in_c(ENTRIES_IN_C, built.TOP / "crates/example_containers/data/trusted")
+        shown_there = "\n".join(["```text", *lines, "```"]) in (built.TOP / "docs/USING.md").read_text("utf-8")
+        self.same((ended, shown_there), (0, True), "docs/USING.md", lines)
+
+    @needs("gcc", "clang")
+    def test_the_example_that_clang_builds_says_so_too(self):
+        self.example_agrees("clang")
+
+    def test_of_a_file_that_is_longer_than_the_example_reads_it_says_nothing(self):
+        def of(length):
+            return inputs.signed_over(TRUST_LIST, trust_list(entries=sequence(trust_entry(bytes(length)))))
+
+        self.reads_less_than_its_room(ENTRIES_IN_C, of, lambda length: entry_lines(["00" * length]))
 
 
 if __name__ == "__main__":

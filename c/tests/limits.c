@@ -16,12 +16,12 @@ enum { LONGEST_INTEGER = 24 };
 /* The calls, by the word that begins their lines. */
 typedef enum {
   CHECK, LOCATE, LOOSE_END, REWRITE, MAC, MAC_NUMBERS, FROM_BER, MAC_BER, MAC_PART_BER, NAME, OID, OID_NAME, PART, KIND,
-  SIGNERS, SIGNER, RANGES, ATTRIBUTES, BAGS, CERTIFICATE, INTEGER, UTF16
+  SIGNERS, SIGNER, RANGES, ATTRIBUTES, BAGS, CERTIFICATE, INDIRECT, TRUST_LIST, TRUST_ROWS, INTEGER, UTF16
 } call;
 static const char *const calls[] = {
     "check",     "locate",   "loose_end", "rewrite", "mac",  "mac_numbers", "from_ber", "mac_ber", "mac_part_ber",
     "name_text", "oid_text", "oid_name",  "part",    "kind", "signers",     "signer",   "ranges",
-    "attributes", "bags", "certificate", "integer_text", "utf16_text"};
+    "attributes", "bags", "certificate", "indirect", "trust_list", "trust_rows", "integer_text", "utf16_text"};
 
 /* What a call is given: the index of a kind or of a signer, or the number of a part, where it takes one, and a limit if
  * there is one. */
@@ -77,10 +77,14 @@ static void fault(call it, const char *why) {
 
 static int is_marked(const number *it) { return it->before == MARKS && it->behind == MARKS; }
 
+/* Whether a call lists items, and writes how many there are and then a place. */
+static int lists(call it) {
+  return it == SIGNERS || it == RANGES || it == ATTRIBUTES || it == BAGS || it == TRUST_ROWS;
+}
+
 /* How many numbers a call writes. */
 static int numbers_of(call it) {
-  const int lists = it == SIGNERS || it == RANGES || it == ATTRIBUTES || it == BAGS;
-  const int two = it == MAC || it == FROM_BER || it == PART || lists;
+  const int two = it == MAC || it == FROM_BER || it == PART || lists(it);
   return it == MAC_NUMBERS || it == MAC_BER ? 3 : two ? 2 : 1;
 }
 
@@ -113,6 +117,24 @@ static der_status one_certificate(const given *its, uint8_t *out, size_t *place)
   der_status status = (der_status)der_certificate(its->input, its->len, parts, place);
   if (!memcmp(parts, &nothing, sizeof nothing) != (status != DER_NORMAL))
     fault(CERTIFICATE, "it writes what isn't the certificate's, or nothing of it");
+  return status;
+}
+
+/* Makes the call for indirect data. Unless at DER_NORMAL all that it writes is 0. */
+static der_status one_indirect(const given *its, uint8_t *out, size_t *place) {
+  der_indirect_parts *parts = (der_indirect_parts *)(void *)out, nothing = {0};
+  der_status status = (der_status)der_indirect(its->input, its->len, parts, place);
+  if (!memcmp(parts, &nothing, sizeof nothing) != (status != DER_NORMAL))
+    fault(INDIRECT, "it writes what isn't of indirect data, or nothing of it");
+  return status;
+}
+
+/* Makes the call for a trust list. Unless at DER_NORMAL all that it writes is 0. */
+static der_status one_trust_list(const given *its, uint8_t *out, size_t *place) {
+  der_trust_list_parts *parts = (der_trust_list_parts *)(void *)out, nothing = {0};
+  der_status status = (der_status)der_trust_list(its->input, its->len, parts, place);
+  if (!memcmp(parts, &nothing, sizeof nothing) != (status != DER_NORMAL))
+    fault(TRUST_LIST, "it writes what isn't of a trust list, or nothing of it");
   return status;
 }
 
@@ -209,6 +231,20 @@ static answer made(call it, const given *its, uint8_t *room, size_t out_len) {
     said.status = one_certificate(its, out, &first.it);
     written = sizeof(der_certificate_parts);
     break;
+  case INDIRECT:
+    said.status = one_indirect(its, out, &first.it);
+    written = sizeof(der_indirect_parts);
+    break;
+  case TRUST_LIST:
+    said.status = one_trust_list(its, out, &first.it);
+    written = sizeof(der_trust_list_parts);
+    break;
+  case TRUST_ROWS:
+    said.status = der_trust_entries(its->input, its->len, (der_trust_entry_parts *)(void *)out,
+                                    out_len / sizeof(der_trust_entry_parts), &first.it, &second.it);
+    if (said.status == DER_NORMAL)
+      written = first.it * sizeof(der_trust_entry_parts);
+    break;
   }
   said.first = first.it;
   said.second = second.it;
@@ -227,9 +263,8 @@ static answer made(call it, const given *its, uint8_t *room, size_t out_len) {
 
 /* Whether the numbers are 0, but for a place, which has no use where memory is refused. */
 static int is_without_use(call it, const answer *said) {
-  const int lists = it == SIGNERS || it == RANGES || it == ATTRIBUTES || it == BAGS;
-  const int has_place = it == FROM_BER || it == PART || lists;
-  const int begins_with_place = it == SIGNER || it == CERTIFICATE;
+  const int has_place = it == FROM_BER || it == PART || lists(it);
+  const int begins_with_place = it == SIGNER || it == CERTIFICATE || it == INDIRECT || it == TRUST_LIST;
   return (!said->first || begins_with_place) && (!said->second || has_place) && !said->third;
 }
 
@@ -376,6 +411,9 @@ int main(int count, char **words) {
   ranges(&its, room);
   listed(BAGS, &its, room, sizeof(der_bag_parts));
   tried(CERTIFICATE, &its, room, sizeof(der_certificate_parts));
+  tried(INDIRECT, &its, room, sizeof(der_indirect_parts));
+  tried(TRUST_LIST, &its, room, sizeof(der_trust_list_parts));
+  listed(TRUST_ROWS, &its, room, sizeof(der_trust_entry_parts));
   its.len = its.len < LONGEST_INTEGER ? its.len : LONGEST_INTEGER;
   text(INTEGER, &its, room);
   return 0;

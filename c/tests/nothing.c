@@ -20,6 +20,7 @@ static void no_input(void) {
   der_range range;
   der_signer_parts signer;
   der_bag_parts bag;
+  der_trust_entry_parts entry;
   same("der_check", der_check("pfx", NULL, 0, &len), DER_MISSING);
   same("der_check_limited", der_check_limited("pfx", 3, NULL, 0, &len), DER_MISSING);
   same("der_locate", der_locate("pfx", NULL, 0, &place), DER_MISSING);
@@ -32,6 +33,7 @@ static void no_input(void) {
   same("der_signers", der_signers(NULL, 0, 0, &signer, 1, &len, &place), DER_MISSING);
   same("der_signer", der_signer(0, NULL, 0, &signer, &place), DER_MISSING);
   same("der_bags", der_bags(NULL, 0, &bag, 1, &len, &place), DER_MISSING);
+  same("der_trust_entries", der_trust_entries(NULL, 0, &entry, 1, &len, &place), DER_MISSING);
 }
 
 /* With no room for octets or rows each call says how many are needed, or that there are none. */
@@ -44,6 +46,7 @@ static void no_room(const uint8_t *store, size_t store_len) {
   same("der_ranges", der_ranges(DER_PART_CERTIFICATE, store, store_len, NULL, 0, &len, &place), DER_INVALID);
   same("der_attributes", der_attributes(1, 0, store, store_len, NULL, 0, &len, &place), DER_INVALID);
   same("der_signers", der_signers(store, store_len, 0, NULL, 0, &len, &place), DER_INVALID);
+  same("der_trust_entries", der_trust_entries(store, store_len, NULL, 0, &len, &place), DER_INVALID);
 }
 
 int main(void) {

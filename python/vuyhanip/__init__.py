@@ -8,6 +8,9 @@ command `vuyhanip` over files, which is `python -m vuyhanip` too.
     library.store(data)             a Store: bags, certificates, keys, names, and what its MAC covers
     library.signed(data)            a SignedData: content, certificates, and signers with their attributes
     library.certificate(data)       a Certificate: its serial number, names, key and extensions
+    library.indirect(data)          an IndirectData: which digest an Authenticode signature has, and of what; or None
+    library.trust_list(data)        a TrustList: what a trust list is for, its number, times and algorithm; or None
+    library.trust_entries(data)     each TrustEntry of a trust list: its identifier and attributes; or None
     vuyhanip.mac_verdict(data, password).is_right   whether the MAC of a store is right, as the program openssl says
 
 help(vuyhanip.der) says what each call does. An installed package has the library for C in its folder, and its version.
@@ -27,6 +30,8 @@ from .der import (
     BagKind,
     Certificate,
     EnvelopePart,
+    ImageData,
+    IndirectData,
     Library,
     Mac,
     Part,
@@ -35,6 +40,8 @@ from .der import (
     Signer,
     SignerInfo,
     Store,
+    TrustEntry,
+    TrustList,
     UnknownKind,
     Verdict,
     attribute_oid,
@@ -45,9 +52,10 @@ from .der import (
 if TYPE_CHECKING:
     from .findings import Finding
 
-__all__ = ["MAX_NESTING", "BadAttributes", "Bag", "BagKind", "Certificate", "EnvelopePart", "Library", "Mac", "Part"]
-__all__ += ["Refused", "SignedData", "Signer", "SignerInfo", "Store", "UnknownKind", "Verdict", "attribute_oid"]
-__all__ += ["attribute_values", "dotted", "library", "mac_verdict"]
+__all__ = ["MAX_NESTING", "BadAttributes", "Bag", "BagKind", "Certificate", "EnvelopePart", "ImageData"]
+__all__ += ["IndirectData", "Library", "Mac", "Part", "Refused", "SignedData", "Signer", "SignerInfo", "Store"]
+__all__ += ["TrustEntry", "TrustList", "UnknownKind", "Verdict", "attribute_oid", "attribute_values", "dotted"]
+__all__ += ["library", "mac_verdict"]
 
 _HERE = os.path.dirname(os.path.realpath(__file__))
 

@@ -152,6 +152,79 @@ class CertificateParts(ctypes.Structure):
     key_identifier: Range
 
 
+class IndirectParts(ctypes.Structure):
+    """A der_indirect_parts."""
+
+    _fields_ = [
+        ("has_attribute_value", ctypes.c_size_t),
+        ("is_image", ctypes.c_size_t),
+        ("has_image_flags", ctypes.c_size_t),
+        ("has_image_link", ctypes.c_size_t),
+        ("attribute_type", Range),
+        ("attribute_value", Range),
+        ("digest_algorithm", Range),
+        ("digest", Range),
+        ("image_flags", Range),
+        ("image_link", Range),
+    ]
+    has_attribute_value: int
+    is_image: int
+    has_image_flags: int
+    has_image_link: int
+    attribute_type: Range
+    attribute_value: Range
+    digest_algorithm: Range
+    digest: Range
+    image_flags: Range
+    image_link: Range
+
+
+class TrustListParts(ctypes.Structure):
+    """A der_trust_list_parts."""
+
+    _fields_ = [
+        ("has_version", ctypes.c_size_t),
+        ("has_list_identifier", ctypes.c_size_t),
+        ("has_sequence_number", ctypes.c_size_t),
+        ("has_next_update", ctypes.c_size_t),
+        ("has_extensions", ctypes.c_size_t),
+        ("version", Range),
+        ("usages", Range),
+        ("list_identifier", Range),
+        ("sequence_number", Range),
+        ("this_update", Range),
+        ("next_update", Range),
+        ("algorithm", Range),
+        ("extensions", Range),
+    ]
+    has_version: int
+    has_list_identifier: int
+    has_sequence_number: int
+    has_next_update: int
+    has_extensions: int
+    version: Range
+    usages: Range
+    list_identifier: Range
+    sequence_number: Range
+    this_update: Range
+    next_update: Range
+    algorithm: Range
+    extensions: Range
+
+
+class TrustEntryParts(ctypes.Structure):
+    """A der_trust_entry_parts."""
+
+    _fields_ = [
+        ("has_attributes", ctypes.c_size_t),
+        ("identifier", Range),
+        ("attributes", Range),
+    ]
+    has_attributes: int
+    identifier: Range
+    attributes: Range
+
+
 # What calls answer, and what they take.
 STATUS = ctypes.c_uint32
 _BYTE, _SIZE = ctypes.c_uint8, ctypes.c_size_t
@@ -166,6 +239,9 @@ ARGUMENTS: Dict[str, Tuple[object, ...]] = {
     "der_signer_rows": (_OCTETS, _SIZE, _SIZE, ctypes.POINTER(SignerParts), _SIZE, _NUMBER, _NUMBER),
     "der_bag_rows": (_OCTETS, _SIZE, ctypes.POINTER(BagParts), _SIZE, _NUMBER, _NUMBER),
     "der_certificate": (_OCTETS, _SIZE, ctypes.POINTER(CertificateParts), _NUMBER),
+    "der_indirect": (_OCTETS, _SIZE, ctypes.POINTER(IndirectParts), _NUMBER),
+    "der_trust_list": (_OCTETS, _SIZE, ctypes.POINTER(TrustListParts), _NUMBER),
+    "der_trust_rows": (_OCTETS, _SIZE, ctypes.POINTER(TrustEntryParts), _SIZE, _NUMBER, _NUMBER),
     "der_mac_range": (_OCTETS, _SIZE, _NUMBER, _NUMBER),
     "der_mac": (_OCTETS, _SIZE, _NUMBER, _NUMBER, _NUMBER),
     "der_from_ber": (_OCTETS, _SIZE, _OCTETS, _SIZE, _NUMBER, _NUMBER),

@@ -14,6 +14,9 @@ DER, from Python.
     library.bags(store)              all Bag(kind=BagKind.CERTIFICATE, friendly_name='me', ..) that aren't encrypted
     library.store(store)             a Store: its bags, certificates and keys, the key of a certificate, its MAC
     library.certificate(data)        a Certificate: serial number, names, key, extensions, key identifier
+    library.indirect(signed)         an IndirectData: which digest an Authenticode signature has, and of what; or None
+    library.trust_list(signed)       a TrustList: what a trust list is for, its number, times and algorithm; or None
+    library.trust_entries(signed)    all TrustEntry(identifier=.., attributes=..) of a trust list; or None
     library.from_ber(data)           the DER of an input in BER, as bytes
     library.mac_ber(der)             as mac, of a file that from_ber returned
     library.kinds()                  ["macdata", ..]
@@ -60,6 +63,8 @@ FEW_SIGNERS = 64
 FEW_RANGES = 1024
 # How many bags there is room for at first, alike.
 FEW_BAGS = 64
+# How many entries of a trust list there is room for at first, alike.
+FEW_ENTRIES = 64
 # Tags of elements; of a signer's signed attributes and of its unsigned ones, and of crls in signed data.
 SEQUENCE, UTC_TIME, GENERALIZED_TIME = 0x30, 0x17, 0x18
 SIGNED, UNSIGNED, CRLS = 0xA0, 0xA1, 0xA1
@@ -497,6 +502,137 @@ class Certificate(NamedTuple):
         return None if self.key_algorithm is None else dotted(bytes(self.key_algorithm))
 
 
+class ImageData(NamedTuple):
+    """The parts of SpcPeImageData, which an Authenticode signature has of a program, as octets of the signed data."""
+
+    # the contents octets of the flags, a BIT STRING: first the count of unused bits; None where there are none, which
+    # means the bits 1 0 0
+    flags: Optional[memoryview]
+    # the element in file, an SpcLink, without the [0] around it; None where there is none
+    link: Optional[memoryview]
+
+    def __repr__(self) -> str:
+        return _shown(self, **self._asdict())
+
+    def __reduce__(self) -> Tuple[object, ...]:
+        return ImageData, _plain(self)
+
+
+class IndirectData(NamedTuple):
+    """The parts of SpcIndirectDataContent, as octets of the signed data: which digest an Authenticode signature has,
+    and of what. No signature is verified, and no digest is compared with a file. A part may be empty, and is false
+    then: compare with None.
+    """
+
+    # the contents octets of the attribute's object identifier, which says what was hashed: a program, a script
+    attribute_type: memoryview
+    # the element of the attribute's value, whatever is in it; None where there is none
+    attribute_value: Optional[memoryview]
+    # the AlgorithmIdentifier of the digest, with its parameters
+    digest_algorithm: memoryview
+    # the digest of the file that was signed
+    digest: memoryview
+    # None unless the attribute is that of a program, and its value reads as SpcPeImageData
+    image: Optional[ImageData]
+
+    def __repr__(self) -> str:
+        return _shown(self, **self._asdict())
+
+    def __reduce__(self) -> Tuple[object, ...]:
+        return IndirectData, _plain(self)
+
+    @property
+    def attribute_oid(self) -> str:
+        """The object identifier of the attribute, as "1.3.6.1.4.1.311.2.1.15", which is that of a program."""
+        return dotted(bytes(self.attribute_type))
+
+    @property
+    def digest_oid(self) -> str:
+        """The object identifier of digest_algorithm, as "2.16.840.1.101.3.4.2.1"."""
+        return _first_oid(self.digest_algorithm)
+
+
+class TrustList(NamedTuple):
+    """The parts of a trust list (CertificateTrustList) but its entries, as octets of the signed data. Nothing of it is
+    judged, neither its signature nor its times. A part may be empty, and is false then: compare with None.
+    """
+
+    # the contents octets of version, an INTEGER; None where there is none, which means v1
+    version_octets: Optional[memoryview]
+    # the element of subjectUsage, a SEQUENCE OF OBJECT IDENTIFIER
+    usages: memoryview
+    # the octets of listIdentifier, None where there is none
+    list_identifier: Optional[memoryview]
+    # the contents octets of sequenceNumber, an INTEGER; None where there is none
+    sequence_octets: Optional[memoryview]
+    # the element of ctlThisUpdate, a UTCTime or a GeneralizedTime
+    this_update: memoryview
+    # that of ctlNextUpdate, None where the list doesn't say when the next one comes
+    next_update: Optional[memoryview]
+    # the AlgorithmIdentifier by which the entries are named, with its parameters
+    algorithm: memoryview
+    # the element in ctlExtensions, without the [0] around it, whatever is in it; None where there are none
+    extensions: Optional[memoryview]
+
+    def __repr__(self) -> str:
+        return _shown(self, **self._asdict())
+
+    def __reduce__(self) -> Tuple[object, ...]:
+        return TrustList, _plain(self)
+
+    @property
+    def version(self) -> Optional[int]:
+        """The version, None where the list has none."""
+        return _number(self.version_octets)
+
+    @property
+    def usage_oids(self) -> Tuple[str, ...]:
+        """What the list is for: object identifiers, as "1.3.6.1.4.1.311.10.3.9", which is that of a list of roots."""
+        return tuple(dotted(bytes(it.contents)) for it in _inside(self.usages))
+
+    @property
+    def sequence_number(self) -> Optional[int]:
+        """The sequence number, None where the list has none."""
+        return _number(self.sequence_octets)
+
+    @property
+    def this_update_time(self) -> datetime.datetime:
+        """Since when the list is in force, in UTC. ValueError says that it is the year 0, which Python doesn't have."""
+        return _time(*_elements(self.this_update))
+
+    @property
+    def next_update_time(self) -> Optional[datetime.datetime]:
+        """When the next list comes, alike; None where the list doesn't say."""
+        return None if self.next_update is None else _time(*_elements(self.next_update))
+
+    @property
+    def algorithm_oid(self) -> str:
+        """The object identifier of algorithm, as "1.3.14.3.2.26"."""
+        return _first_oid(self.algorithm)
+
+
+class TrustEntry(NamedTuple):
+    """An entry of a trust list (TrustedSubject), as octets of the signed data. A part may be empty, and is false then:
+    compare with None.
+    """
+
+    # the octets of subjectIdentifier: of a certificate its digest, by the list's algorithm
+    identifier: memoryview
+    # the element of subjectAttributes, a SET OF Attribute; None where there is none
+    attributes: Optional[memoryview]
+
+    def __repr__(self) -> str:
+        return _shown(self, **self._asdict())
+
+    def __reduce__(self) -> Tuple[object, ...]:
+        return TrustEntry, _plain(self)
+
+
+def _number(contents: Optional[memoryview]) -> Optional[int]:
+    """The number that the contents octets of an INTEGER hold, None where it isn't there."""
+    return None if contents is None else int.from_bytes(contents, "big", signed=True)
+
+
 def _taken(it: _calls.Range, data: memoryview) -> memoryview:
     """The octets of the input in a range."""
     return data[it.start : it.start + it.len]
@@ -550,6 +686,44 @@ def _certificate(parts: _calls.CertificateParts, data: memoryview) -> Certificat
         _taken(parts.extensions, data) if parts.has_extensions else None,
         _taken(parts.key_identifier, data) if parts.has_key_identifier else None,
     )
+
+
+def _image(parts: _calls.IndirectParts, data: memoryview) -> ImageData:
+    """The image data that have these parts."""
+    return ImageData(
+        _taken(parts.image_flags, data) if parts.has_image_flags else None,
+        _taken(parts.image_link, data) if parts.has_image_link else None,
+    )
+
+
+def _indirect(parts: _calls.IndirectParts, data: memoryview) -> IndirectData:
+    """The indirect data that have these parts."""
+    return IndirectData(
+        _taken(parts.attribute_type, data),
+        _taken(parts.attribute_value, data) if parts.has_attribute_value else None,
+        _taken(parts.digest_algorithm, data),
+        _taken(parts.digest, data),
+        _image(parts, data) if parts.is_image else None,
+    )
+
+
+def _trust_list(parts: _calls.TrustListParts, data: memoryview) -> TrustList:
+    """The trust list that has these parts."""
+    return TrustList(
+        _taken(parts.version, data) if parts.has_version else None,
+        _taken(parts.usages, data),
+        _taken(parts.list_identifier, data) if parts.has_list_identifier else None,
+        _taken(parts.sequence_number, data) if parts.has_sequence_number else None,
+        _taken(parts.this_update, data),
+        _taken(parts.next_update, data) if parts.has_next_update else None,
+        _taken(parts.algorithm, data),
+        _taken(parts.extensions, data) if parts.has_extensions else None,
+    )
+
+
+def _trust_entry(row: _calls.TrustEntryParts, data: memoryview) -> TrustEntry:
+    """The entry of a trust list that has these parts."""
+    return TrustEntry(_taken(row.identifier, data), _taken(row.attributes, data) if row.has_attributes else None)
 
 
 class Store:
@@ -674,6 +848,27 @@ class SignedData:
         """The tag of the content, 4 where that is an OCTET STRING. None where the signature is detached."""
         _, *explicit = _inside(self._file.fields[2].whole)
         return next(_inside(explicit[0].whole)).tag if explicit else None
+
+    @functools.cached_property
+    def indirect(self) -> Optional[IndirectData]:
+        """The parts of the content, as Library.indirect gives them: None where its type isn't that of Authenticode.
+
+        Raises Refused where it is, and the content doesn't read.
+        """
+        return self._library.indirect(self._data)
+
+    @functools.cached_property
+    def trust_list(self) -> Optional[TrustList]:
+        """The parts of the content, as Library.trust_list gives them: None where its type isn't that of a trust list.
+
+        Raises Refused where it is, and the content doesn't read.
+        """
+        return self._library.trust_list(self._data)
+
+    @functools.cached_property
+    def trust_entries(self) -> Optional[Tuple[TrustEntry, ...]]:
+        """All entries of the trust list, as Library.trust_entries gives them. None, and Refused, as of trust_list."""
+        return self._library.trust_entries(self._data)
 
     @functools.cached_property
     def certificates(self) -> Tuple[memoryview, ...]:
@@ -894,6 +1089,57 @@ class Library:
         status = self._library.der_certificate(*_given(octets), ctypes.byref(parts), ctypes.byref(place))
         _raise_for(status, "", place.value)
         return _certificate(parts, memoryview(octets))
+
+    def indirect(self, data: Bytes) -> Optional[IndirectData]:
+        """The parts of the content of signed data, where that is SpcIndirectDataContent (Authenticode): they say which
+        digest is signed, and of what. None where the content is of another type, or there is none.
+
+        They are memoryviews of data, and of a copy where data could be written. Raises Refused where data are no signed
+        data, and where content of the type SpcIndirectDataContent doesn't read as that.
+        """
+        octets = _octets(data)
+        parts, place = _calls.IndirectParts(), ctypes.c_size_t()
+        status = self._library.der_indirect(*_given(octets), ctypes.byref(parts), ctypes.byref(place))
+        if status == NO_PART:
+            return None
+        _raise_for(status, "", place.value)
+        return _indirect(parts, memoryview(octets))
+
+    def trust_list(self, data: Bytes) -> Optional[TrustList]:
+        """The parts of the content of signed data, where that is a trust list (CertificateTrustList), but its entries,
+        which trust_entries gives. None where the content is of another type, or there is none.
+
+        They are memoryviews of data, and of a copy where data could be written. Raises Refused where data are no signed
+        data, and where content of the type of a trust list doesn't read as one, with its entries.
+        """
+        octets = _octets(data)
+        parts, place = _calls.TrustListParts(), ctypes.c_size_t()
+        status = self._library.der_trust_list(*_given(octets), ctypes.byref(parts), ctypes.byref(place))
+        if status == NO_PART:
+            return None
+        _raise_for(status, "", place.value)
+        return _trust_list(parts, memoryview(octets))
+
+    def trust_entries(self, data: Bytes) -> Optional[Tuple[TrustEntry, ...]]:
+        """All entries of the trust list that is the content of signed data, in order, in one reading or two. A list
+        without trustedSubjects has none. None where the content is of another type, or there is none.
+
+        The parts are memoryviews, and Refused is raised, as of trust_list.
+        """
+        octets = _octets(data)
+        room, count, place = FEW_ENTRIES, ctypes.c_size_t(), ctypes.c_size_t()
+        while True:
+            rows = (_calls.TrustEntryParts * room)()
+            status = self._library.der_trust_rows(
+                *_given(octets), rows, room, ctypes.byref(count), ctypes.byref(place)
+            )
+            if status == NORMAL:
+                whole = memoryview(octets)
+                return tuple(_trust_entry(row, whole) for row in rows[: count.value])
+            if status == NO_PART:
+                return None
+            _raise_for(status, "", place.value)
+            room = count.value
 
     def signed(self, data: Bytes) -> SignedData:
         """Signed data, with all that is in them. Raises Refused as signers does."""

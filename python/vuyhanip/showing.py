@@ -3,7 +3,7 @@ from typing import Callable, Dict, Iterator, List, NamedTuple, Optional, Tuple
 
 from . import der, library
 from .algorithms import algorithm, algorithm_oid, public_key
-from .checking import REFUSED, SIGNED_KINDS, Accepted, judge
+from .checking import INDIRECT_DATA, REFUSED, SIGNED_KINDS, TRUST_LIST, Accepted, judge
 from .containers import (
     CERT_BAG,
     COUNTER_SIGNATURE,
@@ -35,12 +35,14 @@ from .containers import (
 from .elements import OBJECT_IDENTIFIER, OCTET_STRING, SEQUENCE, Element, whole
 from .files import Given
 from .names import name_of
-from .values import hexadecimal, name, oid, printable, serial, string, time, value
+from .values import dotted, hexadecimal, name, oid, printable, serial, string, time, value
 
-# How many revoked certificates, and how many levels of nested signatures and bags are shown.
-MOST_REVOKED, MOST_LEVELS = 20, 8
+# How many revoked certificates, entries of a trust list, and levels of nested signatures and bags are shown.
+MOST_REVOKED, MOST_ENTRIES, MOST_LEVELS = 20, 20, 8
 ENVELOPED_DATA, ENCRYPTED_DATA = "1.2.840.113549.1.7.3", "1.2.840.113549.1.7.6"
 CRL_NUMBER, REASON = "2.5.29.20", "2.5.29.21"
+# The attribute of an entry of a trust list that names it (szOID_CERT_PROP_ID_PREFIX and CERT_FRIENDLY_NAME_PROP_ID).
+NAME_OF_ENTRY = "1.3.6.1.4.1.311.10.11.11"
 # Labels of rows in the place of what can't be shown.
 NOT_SHOWN = ("bags", "not read", "not shown", "refused")
 REASONS = "unspecified keyCompromise cACompromise affiliationChanged superseded cessationOfOperation certificateHold"
@@ -211,6 +213,10 @@ def signed_rows(data: bytes, level: int = 0) -> Rows:
     yield Row(0, "content", f"{name_of(it.content_type)}, {where}")
     if it.content_type == TST_INFO and it.content is not None:
         yield from deeper(stamp_rows(it.content))
+    if it.content_type == INDIRECT_DATA:
+        yield from deeper(indirect_rows(data))
+    if it.content_type == TRUST_LIST:
+        yield from deeper(trust_list_rows(data))
     for encoding in it.certificates:
         yield Row(0, "certificate", "")
         yield from deeper(any_certificate_rows(encoding))
@@ -279,6 +285,67 @@ def stamp_rows(content: bytes) -> Rows:
     yield Row(0, "serial number", serial(it.serial))
     yield Row(0, "policy", name_of(it.policy))
     yield Row(0, "stamps", f"{algorithm(it.digest_algorithm)} {hexadecimal(it.digest)}")
+
+
+def indirect_rows(data: bytes) -> Rows:
+    """What Authenticode signs of a file: as what it was hashed, and its digest."""
+    try:
+        it = library().indirect(data)
+    except der.Refused as fault:
+        yield Row(0, "refused", f"{fault}, as indirect data")
+        return
+    if it is not None:
+        scheme = name_of(algorithm_oid(whole(bytes(it.digest_algorithm))))
+        yield Row(0, "hashed", name_of(dotted(bytes(it.attribute_type))))
+        yield Row(0, "digest", f"{scheme} {hexadecimal(bytes(it.digest))}")
+
+
+def trust_list_rows(data: bytes) -> Rows:
+    """What a trust list says: what it is for, its number and its times, and what is in it."""
+    try:
+        it, entries = library().trust_list(data), library().trust_entries(data)
+    except der.Refused as fault:
+        yield Row(0, "refused", f"{fault}, as a trust list")
+        return
+    if it is None or entries is None:
+        return
+    usages = [name_of(oid(usage)) for usage in whole(bytes(it.usages)).children()]
+    yield Row(0, "usages", ", ".join(usages) or "none")
+    if it.list_identifier is not None:
+        yield Row(0, "list identifier", _list_identifier(bytes(it.list_identifier)))
+    if it.sequence_octets is not None:
+        yield Row(0, "sequence number", serial(bytes(it.sequence_octets)))
+    yield Row(0, "this update", time(whole(bytes(it.this_update))))
+    if it.next_update is not None:
+        yield Row(0, "next update", time(whole(bytes(it.next_update))))
+    yield Row(0, "algorithm", name_of(algorithm_oid(whole(bytes(it.algorithm)))))
+    yield Row(0, "entries", str(len(entries)))
+    for entry in entries[:MOST_ENTRIES]:
+        yield Row(1, "entry", hexadecimal(bytes(entry.identifier)))
+        yield from (Row(2, "friendly name", text) for text in _names_of(entry))
+    if len(entries) > MOST_ENTRIES:
+        yield Row(1, "..", f"{len(entries) - MOST_ENTRIES} more")
+
+
+def _wide(contents: bytes) -> str:
+    """The characters of UTF-16, the low octet of each unit first, without zeros at the end."""
+    return contents.decode("utf-16-le", "replace").rstrip("\0")
+
+
+def _list_identifier(contents: bytes) -> str:
+    """The identifier of a trust list: as text where it is one of ASCII in UTF-16, else its octets, since any octets may
+    be letters of some alphabet."""
+    text = _wide(contents)
+    return text if text.isascii() and text.isprintable() and text else hexadecimal(contents)
+
+
+def _names_of(entry: der.TrustEntry) -> Iterator[str]:
+    """The friendly names among the attributes of an entry."""
+    if entry.attributes is None:
+        return
+    for attribute in attributes(whole(bytes(entry.attributes))):
+        if attribute.oid == NAME_OF_ENTRY:
+            yield from (printable(_wide(it.contents)) for it in attribute.values if it.tag == OCTET_STRING)
 
 
 # Other content

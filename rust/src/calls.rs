@@ -112,6 +112,50 @@ pub struct CertificateParts {
     pub key_identifier: Range,
 }
 
+/// `der_indirect_parts`
+#[repr(C)]
+#[derive(Clone, Copy, Default)]
+pub struct IndirectParts {
+    pub has_attribute_value: usize,
+    pub is_image: usize,
+    pub has_image_flags: usize,
+    pub has_image_link: usize,
+    pub attribute_type: Range,
+    pub attribute_value: Range,
+    pub digest_algorithm: Range,
+    pub digest: Range,
+    pub image_flags: Range,
+    pub image_link: Range,
+}
+
+/// `der_trust_list_parts`
+#[repr(C)]
+#[derive(Clone, Copy, Default)]
+pub struct TrustListParts {
+    pub has_version: usize,
+    pub has_list_identifier: usize,
+    pub has_sequence_number: usize,
+    pub has_next_update: usize,
+    pub has_extensions: usize,
+    pub version: Range,
+    pub usages: Range,
+    pub list_identifier: Range,
+    pub sequence_number: Range,
+    pub this_update: Range,
+    pub next_update: Range,
+    pub algorithm: Range,
+    pub extensions: Range,
+}
+
+/// `der_trust_entry_parts`
+#[repr(C)]
+#[derive(Clone, Copy, Default)]
+pub struct TrustEntryParts {
+    pub has_attributes: usize,
+    pub identifier: Range,
+    pub attributes: Range,
+}
+
 extern "C" {
     pub fn der_check_word_limited(
         word: *const u8,
@@ -180,6 +224,16 @@ extern "C" {
         place: *mut usize,
     ) -> u32;
     pub fn der_certificate(input: *const u8, input_len: usize, out: *mut CertificateParts, place: *mut usize) -> u32;
+    pub fn der_indirect(input: *const u8, input_len: usize, out: *mut IndirectParts, place: *mut usize) -> u32;
+    pub fn der_trust_list(input: *const u8, input_len: usize, out: *mut TrustListParts, place: *mut usize) -> u32;
+    pub fn der_trust_rows(
+        input: *const u8,
+        input_len: usize,
+        out: *mut TrustEntryParts,
+        out_len: usize,
+        count: *mut usize,
+        place: *mut usize,
+    ) -> u32;
     pub fn der_mac_range(input: *const u8, input_len: usize, start: *mut usize, len: *mut usize) -> u32;
     pub fn der_mac(
         input: *const u8,

@@ -20,6 +20,25 @@ const ENVELOPE: &[u8] = &[
     0x30, 0x16, 6, 9, 0x2A, 0x86, 0x48, 0x86, 0xF7, 0x0D, 1, 7, 1, 0x30, 5, 6, 3, 0x2A, 3, 4, 0x80, 2, 7, 8,
 ];
 const SHA256: &[u8] = &[0x60, 0x86, 0x48, 1, 0x65, 3, 4, 2, 1];
+/// Object identifiers of Authenticode: indirect data, and what is hashed of a program and of a cabinet.
+const INDIRECT_DATA: &[u8] = &[6, 10, 0x2B, 6, 1, 4, 1, 0x82, 0x37, 2, 1, 4];
+const PROGRAM: &[u8] = &[6, 10, 0x2B, 6, 1, 4, 1, 0x82, 0x37, 2, 1, 15];
+const CABINET: &[u8] = &[6, 10, 0x2B, 6, 1, 4, 1, 0x82, 0x37, 2, 1, 25];
+/// The object identifier of a trust list.
+const TRUST_LIST: &[u8] = &[6, 9, 0x2B, 6, 1, 4, 1, 0x82, 0x37, 10, 1];
+/// All parts of a trust list, in their order: version, usages, an identifier, a number, both times, an algorithm, two
+/// entries, of which the second has attributes, and extensions. Those at 0, 2, 3, 5, 7 and 8 may be absent.
+const LIST: [&[u8]; 9] = [
+    &[2, 1, 0],
+    &[0x30, 5, 6, 3, 0x2A, 3, 4],
+    &[4, 2, 0x41, 0x42],
+    &[2, 2, 1, 0x2C],
+    b"\x17\x0D260102030405Z",
+    b"\x18\x0F20270102030405Z",
+    &[0x30, 9, 6, 5, 0x2B, 0x0E, 3, 2, 0x1A, 5, 0],
+    &[0x30, 24, 0x30, 4, 4, 2, 7, 8, 0x30, 16, 4, 1, 9, 0x31, 11, 0x30, 9, 6, 3, 0x2A, 3, 5, 0x31, 2, 5, 0],
+    &[0xA0, 2, 0x30, 0],
+];
 /// A digest info without the NULL that its algorithm has in DER, up to the digest.
 const LOOSE: &[u8] = &[0x30, 0x1F, 0x30, 7, 6, 5, 0x2B, 0x0E, 3, 2, 0x1A, 4, 0x14];
 const NORMAL: &[u8] = &[0x30, 0x21, 0x30, 9, 6, 5, 0x2B, 0x0E, 3, 2, 0x1A, 5, 0, 4, 0x14];
@@ -60,6 +79,25 @@ fn store(bags: &[&[u8]]) -> Vec<u8> {
     let contents = element(0x30, &[&element(0x30, &[DATA, &held])]);
     let safe = element(0x30, &[DATA, &element(0xA0, &[&element(4, &[&contents])])]);
     element(0x30, &[&[2, 1, 3], &safe])
+}
+
+/// Signed data without signers, over content that has these parts: its type, and what is under `[0]`.
+fn signed_over(content: &[&[u8]]) -> Vec<u8> {
+    let data = element(0x30, &[&DETACHED[17..22], &element(0x30, content), &[0x31, 0]]);
+    element(0x30, &[&DETACHED[2..13], &element(0xA0, &[&data])])
+}
+
+/// Signed data over the digest of a file, of two octets, beside an attribute: its type, and its value.
+fn signed_digest(attribute: &[&[u8]]) -> Vec<u8> {
+    let algorithm = element(0x30, &[&element(6, &[SHA256]), &[5, 0]]);
+    let digest = element(0x30, &[&algorithm, &[4, 2, 7, 8]]);
+    let content = element(0x30, &[&element(0x30, attribute), &digest]);
+    signed_over(&[INDIRECT_DATA, &element(0xA0, &[&content])])
+}
+
+/// Signed data over a trust list that has these parts.
+fn signed_list(parts: &[&[u8]]) -> Vec<u8> {
+    signed_over(&[TRUST_LIST, &element(0xA0, &[&element(0x30, parts)])])
 }
 
 /// Where octets begin in others.
@@ -175,6 +213,122 @@ fn parts_that_a_certificate_lacks() {
     let whole = certificate(&[5, 0]);
     let found = vuyhanip::certificate(&whole).unwrap();
     assert_eq!((found.subject_public_key_info, found.key), (&[5, 0][..], None));
+}
+
+/// Of a program, in the order of the file.
+#[test]
+fn parts_of_indirect_data() {
+    let value: &[u8] = &[0x30, 10, 3, 2, 5, 0x80, 0xA0, 4, 0xA2, 2, 0x80, 0];
+    let file = signed_digest(&[PROGRAM, value]);
+    let (found, at) = (vuyhanip::indirect(&file).unwrap().unwrap(), place(&file, PROGRAM));
+    assert_eq!((found.attribute_type, found.attribute_value), (&file[at + 2..at + 12], Some(&file[at + 12..at + 24])));
+    let image = found.image.unwrap();
+    assert_eq!((image.flags, image.link), (Some(&[5, 0x80][..]), Some(&[0xA2, 2, 0x80, 0][..])));
+    assert_eq!((found.digest_algorithm, found.digest), (&file[at + 26..at + 41], &[7, 8][..]));
+}
+
+/// A value that isn't there, one that is no image data, one without flags and a link, and one of a cabinet.
+#[test]
+fn parts_that_indirect_data_lack() {
+    let lacks_value = signed_digest(&[CABINET]);
+    let found = vuyhanip::indirect(&lacks_value).unwrap().unwrap();
+    assert_eq!((found.attribute_type, found.attribute_value, found.image), (&CABINET[2..], None, None));
+    let values = [(PROGRAM, [5, 0], false), (PROGRAM, [0x30, 0], true), (CABINET, [0x30, 0], false)];
+    for (attribute_type, value, is_image) in values {
+        let file = signed_digest(&[attribute_type, &value]);
+        let found = vuyhanip::indirect(&file).unwrap().unwrap();
+        assert_eq!((found.attribute_type, found.attribute_value), (&attribute_type[2..], Some(&value[..])));
+        assert_eq!(found.image.map(|it| (it.flags, it.link)), is_image.then_some((None, None)));
+        assert_eq!(found.digest, [7, 8]);
+    }
+}
+
+#[test]
+fn other_content_is_no_indirect_data() {
+    for file in [SIGNED, DETACHED, &signed_over(&[INDIRECT_DATA])[..]] {
+        assert_eq!(vuyhanip::indirect(file), Ok(None));
+    }
+    let refused = |reason, place| Err(Error::Refused { reason, place });
+    for (content, reason, within) in [([4, 0], Reason::Invalid, 0), ([0x30, 0], Reason::Missing, 2)] {
+        let file = signed_over(&[INDIRECT_DATA, &element(0xA0, &[&content])]);
+        assert_eq!(vuyhanip::indirect(&file), refused(reason, place(&file, &content) + within));
+    }
+    assert_eq!(vuyhanip::indirect(STORE), refused(Reason::Invalid, 4));
+    assert_eq!(vuyhanip::indirect(&[]), refused(Reason::Missing, 0));
+}
+
+/// All of them, in the order of the file.
+#[test]
+fn parts_of_a_trust_list() {
+    let file = signed_list(&LIST);
+    let found = vuyhanip::trust_list(&file).unwrap().unwrap();
+    assert_eq!((found.version, found.usages), (Some(&LIST[0][2..]), LIST[1]));
+    assert_eq!((found.list_identifier, found.sequence_number), (Some(&LIST[2][2..]), Some(&LIST[3][2..])));
+    assert_eq!((found.this_update, found.next_update), (LIST[4], Some(LIST[5])));
+    assert_eq!((found.algorithm, found.extensions), (LIST[6], Some(&LIST[8][2..])));
+    let entries = vuyhanip::trust_entries(&file).unwrap().unwrap();
+    let parts: Vec<_> = entries.iter().map(|it| (it.identifier, it.attributes)).collect();
+    assert_eq!(parts, [(&[7, 8][..], None), (&[9][..], Some(&LIST[7][13..]))]);
+}
+
+/// Each part that may be absent, by itself, and all of them.
+#[test]
+fn parts_that_a_trust_list_lacks() {
+    for absent in [&[0][..], &[2], &[3], &[5], &[7], &[8], &[0, 2, 3, 5, 7, 8]] {
+        let is_there = |index: &usize| !absent.contains(index);
+        let parts: Vec<_> = (0..LIST.len()).filter(is_there).map(|index| LIST[index]).collect();
+        let file = signed_list(&parts);
+        let found = vuyhanip::trust_list(&file).unwrap().unwrap();
+        let of = |index: usize, start: usize| is_there(&index).then(|| &LIST[index][start..]);
+        assert_eq!((found.version, found.list_identifier), (of(0, 2), of(2, 2)));
+        assert_eq!((found.sequence_number, found.next_update), (of(3, 2), of(5, 0)));
+        assert_eq!((found.usages, found.this_update, found.algorithm), (LIST[1], LIST[4], LIST[6]));
+        assert_eq!(found.extensions, of(8, 2));
+        let count = vuyhanip::trust_entries(&file).unwrap().unwrap().len();
+        assert_eq!(count, if is_there(&7) { 2 } else { 0 });
+    }
+}
+
+#[test]
+fn other_content_is_no_trust_list() {
+    for file in [SIGNED, DETACHED, &signed_over(&[TRUST_LIST])[..], &signed_digest(&[CABINET])] {
+        assert_eq!((vuyhanip::trust_list(file), vuyhanip::trust_entries(file)), (Ok(None), Ok(None)));
+    }
+    assert_eq!(vuyhanip::indirect(&signed_list(&LIST)), Ok(None));
+}
+
+/// What is no list, under the type of one, an entry that is none, what is left over, and what is no signed data.
+#[test]
+fn trust_lists_are_refused_where_they_are_wrong() {
+    let (no_time, no_entry, more) = (&[0x17, 1, 0x5A][..], &[0x30, 2, 5, 0][..], &[1, 1, 0xFF][..]);
+    let with = |index: usize, part| [&LIST[..index], &[part], &LIST[index + 1..]].concat();
+    let no_list = |content: &[u8]| signed_over(&[TRUST_LIST, &element(0xA0, &[content])]);
+    let [timeless, wrong, long] = [with(4, no_time), with(7, no_entry), with(8, more)].map(|it| signed_list(&it));
+    let [octets, empty] = [no_list(&[4, 0]), no_list(&[0x30, 0])];
+    for (file, reason, place) in [
+        (&octets[..], Reason::Invalid, place(&octets, &[0xA0, 2, 4, 0]) + 2),
+        (&empty, Reason::Missing, place(&empty, &[0xA0, 2, 0x30, 0]) + 4),
+        (&timeless, Reason::Invalid, place(&timeless, no_time)),
+        (&wrong, Reason::Invalid, place(&wrong, no_entry) + 2),
+        (&long, Reason::Malformed, place(&long, more)),
+        (STORE, Reason::Invalid, 4),
+        (&[], Reason::Missing, 0),
+    ] {
+        let refused = Some(Error::Refused { reason, place });
+        assert_eq!((vuyhanip::trust_list(file).err(), vuyhanip::trust_entries(file).err()), (refused, refused));
+    }
+}
+
+/// Also where there are more than there is room for at first.
+#[test]
+fn many_entries_are_all_there() {
+    for count in [0, 1, 63, 64, 65, 100] {
+        let entries: Vec<u8> = (0..count).flat_map(|number| [0x30, 3, 4, 1, number]).collect();
+        let file = signed_list(&[LIST[1], LIST[4], LIST[6], &element(0x30, &[&entries])]);
+        let found = vuyhanip::trust_entries(&file).unwrap().unwrap();
+        assert!(found.iter().map(|it| it.identifier).eq(entries.chunks_exact(5).map(|it| &it[4..])));
+        assert!(found.iter().all(|it| it.attributes.is_none()));
+    }
 }
 
 /// Of a signer that is named by its key.

@@ -2,9 +2,9 @@
 what is found, and the place of a refusal. It shares nothing with tests/support."""
 import functools
 
-from . import bags, ber, certificates, signed
+from . import bags, ber, certificates, contents, signed
 
-STATUSES = {"malformed": 3, "missing": 4, "invalid": 5, "too deep": 6}
+STATUSES = {"malformed": 3, "missing": 4, "invalid": 5, "too deep": 6, "no part": 11}
 
 
 def answered(nothing, read, *given):
@@ -41,6 +41,21 @@ def bags_of(check, text):
 def certificate(text):
     """Where a certificate has its parts."""
     return answered(certificates.Certificate(), certificates.row, text)
+
+
+def indirect(text):
+    """Where signed data has the parts of its indirect data."""
+    return answered(contents.Indirect(), contents.row, text)
+
+
+def trust_list(text):
+    """Where signed data has the parts of its trust list, but the entries."""
+    return answered(contents.TrustList(), contents.trust_list, text)
+
+
+def trust_rows(text):
+    """The rows of the entries of a trust list."""
+    return answered([], contents.trust_rows, text)
 
 
 def der_of(text):

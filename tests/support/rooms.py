@@ -11,9 +11,11 @@ from .statuses import NORMAL, NO_ROOM
 # What surrounds the room for a call's answer, and what is in it before.
 MARK = b"\xEE"
 MARKS = 64 * MARK
-# How many bytes a number has, a range, a row of der_bag_rows and of der_signer_rows, and what der_certificate writes.
+# How many bytes a number has, a range, a row of der_bag_rows, of der_signer_rows and of der_trust_rows, and what
+# der_certificate, der_indirect and der_trust_list write.
 NUMBER = ctypes.sizeof(ctypes.c_size_t)
-RANGE, BAG_ROW, SIGNER_ROW, CERTIFICATE = 2 * NUMBER, 12 * NUMBER, 18 * NUMBER, 24 * NUMBER
+RANGE, BAG_ROW, SIGNER_ROW, TRUST_ENTRY = 2 * NUMBER, 12 * NUMBER, 18 * NUMBER, 5 * NUMBER
+CERTIFICATE, INDIRECT, TRUST_LIST = 24 * NUMBER, 16 * NUMBER, 21 * NUMBER
 
 
 @functools.lru_cache(maxsize=None)

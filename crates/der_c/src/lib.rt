@@ -1,5 +1,6 @@
 //! Checks and rewritings of inputs of all kinds, conversions of BER to DER, what verifiers of signers and of MACs need,
-//! the parts of certificates, and texts, for callers in C. `der.h` has the declarations, and what a caller has to keep to.
+//! the parts of certificates and of contents, and texts, for callers in C. `der.h` has the declarations, and what a
+//! caller has to keep to.
 #![tactic(auto)]
 
 ghost use Rattle.std.specs.Prelude.{◌≤◌, length, MatchOption};
@@ -9,6 +10,7 @@ ghost use Rattle.der_c.specs.Conversions.{ConvertsBer};
 
 pub mod bags;
 pub mod certificates;
+pub mod contents;
 pub mod lists;
 mod macs;
 mod outputs;
@@ -17,6 +19,7 @@ pub mod ranges;
 pub mod signers;
 pub mod status;
 mod texts;
+pub mod trust_lists;
 
 use ber_der::to_der_located;
 use outputs::{place_where, put_octets};

@@ -4,6 +4,8 @@
 #[cfg(test)]
 mod certificates_in_place;
 #[cfg(test)]
+mod contents_in_place;
+#[cfg(test)]
 mod parts_in_place;
 #[cfg(test)]
 mod raw_signers;

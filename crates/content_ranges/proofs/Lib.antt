@@ -1,0 +1,4 @@
+pub mod ContentPlaces
+pub mod Parts
+pub mod TrustParts
+pub mod EntryPlaces

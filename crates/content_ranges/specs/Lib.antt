@@ -1,0 +1,10 @@
+pub mod Heads
+pub mod IndirectRoutes
+pub mod Contents
+pub mod Indirect
+pub mod IndirectParts
+pub mod TrustHeads
+pub mod PastTimes
+pub mod TrustRoutes
+pub mod TrustLists
+pub mod TrustParts
