@@ -30,7 +30,7 @@ pub struct Indirect {
 }
 
 /// What is there of no indirect data.
-const NO_INDIRECT: Indirect = Indirect {
+pub(crate) const NO_INDIRECT: Indirect = Indirect {
     has_attribute_value: 0,
     is_image: 0,
     has_image_flags: 0,

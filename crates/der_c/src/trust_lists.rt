@@ -30,7 +30,7 @@ pub struct TrustList {
 }
 
 /// What is there of no list.
-const NO_LIST: TrustList = TrustList {
+pub(crate) const NO_TRUST_LIST: TrustList = TrustList {
     has_version: 0,
     has_list_identifier: 0,
     has_sequence_number: 0,
@@ -80,7 +80,7 @@ pub extern "C" fn der_trust_list(
 ) -> u32
     ensures { FindsTrustList input.now out.new place.new result }
 {
-    *out = NO_LIST;
+    *out = NO_TRUST_LIST;
     *place = 0;
     match trust_list_ranges(alloc, input) {
         Ok(Some(ranges)) => {
