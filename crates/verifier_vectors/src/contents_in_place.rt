@@ -133,11 +133,17 @@ fn other_content_has_no_indirect_data(rt: HostRuntime) -> Result<(), Fail> {
 fn refused_indirect_data(rt: HostRuntime) -> Result<(), Fail> {
     match indirect_ranges(rt.alloc(), without_digest()) {
         Ok(_) => return Err(Fail::new("it is read")),
-        Err(refusal) => expect(refusal == Refusal::Part(Error::Missing, 65), "another refusal")?,
+        Err(refusal) => expect(
+            refusal == Refusal::Part(Error::Missing, 65),
+            "another refusal",
+        )?,
     }
     match indirect_ranges(rt.alloc(), b"\x30\x00\x00") {
         Ok(_) => Err(Fail::new("it is read")),
-        Err(refusal) => expect(refusal == Refusal::Refused(Error::Missing, 2), "another refusal"),
+        Err(refusal) => expect(
+            refusal == Refusal::Refused(Error::Missing, 2),
+            "another refusal",
+        ),
     }
 }
 
@@ -205,7 +211,10 @@ fn entries_of_trust_lists(rt: HostRuntime) -> Result<(), Fail> {
 
 #[test]
 fn other_content_is_no_trust_list(rt: HostRuntime) -> Result<(), Fail> {
-    match (trust_list_ranges(rt.alloc(), of_an_image()), trust_rows(rt.alloc(), of_data())) {
+    match (
+        trust_list_ranges(rt.alloc(), of_an_image()),
+        trust_rows(rt.alloc(), of_data()),
+    ) {
         (Ok(list), Ok(rows)) => expect(list.is_none() && rows.is_none(), "there is one"),
         _ => Err(Fail::new("it is refused")),
     }
