@@ -293,16 +293,19 @@ uint32_t der_certificate(const uint8_t *input, size_t input_len, der_certificate
 /* Where signed data has the parts of its indirect data (SpcIndirectDataContent). A range that isn't there is 0 and 0. */
 typedef struct der_indirect_parts {
   size_t has_attribute_value; /* 1: the attribute has a value */
-  size_t is_image;            /* 1: the attribute is SPC_PE_IMAGE_DATA_OBJID, and its value reads as SpcPeImageData */
+  size_t is_image;            /* 1: the attribute is SPC_PE_IMAGE_DATA_OBJID, and its value reads as image data: a
+                                 SEQUENCE of flags, a BIT STRING, and file, any element in [0], each of which may be
+                                 absent */
   size_t has_image_flags;     /* 1: these have flags; where they have none, they mean the bits 1 0 0 */
   size_t has_image_link;      /* 1: they have a file */
   der_range attribute_type;   /* the contents octets of the object identifier in data, which says what was hashed, a
                                  program, a cabinet, a script: see der_oid_text */
   der_range attribute_value;  /* the element of the value in data, whatever is in it */
   der_range digest_algorithm; /* the element of the digest's AlgorithmIdentifier */
-  der_range digest;           /* the octets of the digest, of the file that was signed */
+  der_range digest;           /* the octets of the digest */
   der_range image_flags;      /* the contents octets of the flags, a BIT STRING: first the count of unused bits */
-  der_range image_link;       /* the element in file, without the [0] around it: an SpcLink */
+  der_range image_link;       /* the element in file, without the [0] around it, whatever is in it: in signatures an
+                                 SpcLink */
 } der_indirect_parts;
 
 /* Which digest an Authenticode signature has, and of what: where the input, signed data with signers of every version,

@@ -532,7 +532,8 @@ class IndirectData(NamedTuple):
     digest_algorithm: memoryview
     # the digest of the file that was signed
     digest: memoryview
-    # None unless the attribute is that of a program, and its value reads as SpcPeImageData
+    # None unless the attribute is that of a program, and its value a SEQUENCE of a BIT STRING and of any element in [0],
+    # each of which may be absent
     image: Optional[ImageData]
 
     def __repr__(self) -> str:

@@ -14,10 +14,10 @@ pub struct Indirect<'a> {
     pub attribute_value: Option<&'a [u8]>,
     /// The element of the digest's AlgorithmIdentifier.
     pub digest_algorithm: &'a [u8],
-    /// The octets of the digest, of the file that was signed.
+    /// The octets of the digest.
     pub digest: &'a [u8],
-    /// The parts of the value. `None` where the type isn't SPC_PE_IMAGE_DATA_OBJID, or the value doesn't read as
-    /// SpcPeImageData.
+    /// The parts of the value. `None` where the type isn't SPC_PE_IMAGE_DATA_OBJID, or the value isn't a SEQUENCE of a
+    /// BIT STRING and of any element in `[0]`, each of which may be absent.
     pub image: Option<Image<'a>>,
 }
 
@@ -27,7 +27,7 @@ pub struct Indirect<'a> {
 pub struct Image<'a> {
     /// The contents octets of the flags, a BIT STRING: first the count of unused bits. `None` means the bits 1 0 0.
     pub flags: Option<&'a [u8]>,
-    /// The element in file, an SpcLink, without the `[0]` around it.
+    /// The element in file, in signatures an SpcLink, without the `[0]` around it.
     pub link: Option<&'a [u8]>,
 }
 
