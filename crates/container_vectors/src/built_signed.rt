@@ -67,15 +67,14 @@ const SIGNER: &[u8] = b"\
 const SIGNER_OF_VERSION_3: &[u8] = b"\
     \x30\x15\x02\x01\x03\x80\x00\x30\x05\x06\x03\x2A\x03\x04\x30\x05\x06\x03\x2A\x03\x04\x04\x00";
 
-fn signer_of_version_3(alloc: Global) -> Result<SignerInfo, Error> {
-    let mut signer: SignerInfo = from_bytes(alloc, SIGNER)?;
+fn with_version_3(mut signer: SignerInfo) -> SignerInfo {
     signer.version = CmsVersion::V3;
-    Ok(signer)
+    signer
 }
 
 #[test]
 fn a_signer_of_version_3(rt: HostRuntime) -> Result<(), Fail> {
-    let signer = signer_of_version_3(rt.alloc())?;
+    let signer = with_version_3(from_bytes(rt.alloc(), SIGNER)?);
     is_refused(rt.alloc(), &signer, SIGNER_OF_VERSION_3, Error::Invalid)
 }
 
@@ -86,10 +85,14 @@ const LIST: &[u8] = b"\
 const LIST_OF_VERSION_1: &[u8] = b"\
     \x30\x1B\x02\x01\x00\x30\x05\x06\x03\x2A\x03\x04\x30\x00\x17\x0D210420065224Z";
 
+fn with_version_1(mut list: TbsCertList) -> TbsCertList {
+    list.version = Some(Version::V1);
+    list
+}
+
 #[test]
 fn a_revocation_list_of_version_1(rt: HostRuntime) -> Result<(), Fail> {
-    let mut list: TbsCertList = from_bytes(rt.alloc(), LIST)?;
-    list.version = Some(Version::V1);
+    let list = with_version_1(from_bytes(rt.alloc(), LIST)?);
     is_refused(rt.alloc(), &list, LIST_OF_VERSION_1, Error::Invalid)
 }
 
@@ -105,16 +108,15 @@ const SIGNED_AS_DATA: &[u8] = b"\
 /// The object identifier of data.
 const DATA: &[u8] = b"\x2A\x86\x48\x86\xF7\x0D\x01\x07\x01";
 
-fn signed_as_data(alloc: Global) -> Result<Pkcs7Certificate, Error> {
-    let oid = object(alloc, DATA)?;
-    let mut signed: Pkcs7Certificate = from_bytes(alloc, SIGNED_DATA)?;
+fn with_oid(mut signed: Pkcs7Certificate, oid: ObjectIdentifierAsn1) -> Pkcs7Certificate {
     signed.oid = oid;
-    Ok(signed)
+    signed
 }
 
 #[test]
 fn signed_data_as_data(rt: HostRuntime) -> Result<(), Fail> {
-    let signed = signed_as_data(rt.alloc())?;
+    let oid = object(rt.alloc(), DATA)?;
+    let signed = with_oid(from_bytes(rt.alloc(), SIGNED_DATA)?, oid);
     is_refused(rt.alloc(), &signed, SIGNED_AS_DATA, Error::Invalid)
 }
 
@@ -127,11 +129,16 @@ const NULL_AS_COUNTER_SIGNATURE: &[u8] = b"\
 /// The object identifier of counter signatures (RFC 5652, 11.4).
 const COUNTER_SIGNATURE: &[u8] = b"\x2A\x86\x48\x86\xF7\x0D\x01\x09\x06";
 
+fn with_type(mut attribute: UnsignedAttribute, ty: ObjectIdentifierAsn1) -> UnsignedAttribute {
+    attribute.ty = ty;
+    attribute
+}
+
 /// `Unknown` with the object identifier of counter signatures.
 #[test]
 fn an_unknown_attribute_of_a_known_kind(rt: HostRuntime) -> Result<(), Fail> {
-    let mut attribute: UnsignedAttribute = from_bytes(rt.alloc(), UNKNOWN)?;
-    attribute.ty = object(rt.alloc(), COUNTER_SIGNATURE)?;
+    let ty = object(rt.alloc(), COUNTER_SIGNATURE)?;
+    let attribute = with_type(from_bytes(rt.alloc(), UNKNOWN)?, ty);
     is_refused(
         rt.alloc(),
         &attribute,

@@ -18,15 +18,16 @@ const EMPTY_PFX: &[u8] = b"\
 const VERSION_2: &[u8] = b"\
     \x30\x16\x02\x01\x02\x30\x11\x06\x09\x2A\x86\x48\x86\xF7\x0D\x01\x07\x01\xA0\x04\x04\x02\x30\x00";
 
-fn of_version_2(alloc: Global) -> Result<Pfx<ParsedAuthenticatedSafeDataRepr>, Error> {
-    let mut pfx: Pfx<ParsedAuthenticatedSafeDataRepr> = from_bytes(alloc, EMPTY_PFX)?;
+fn with_version_2(
+    mut pfx: Pfx<ParsedAuthenticatedSafeDataRepr>,
+) -> Pfx<ParsedAuthenticatedSafeDataRepr> {
     pfx.version = 2;
-    Ok(pfx)
+    pfx
 }
 
 #[test]
 fn a_file_of_version_2(rt: HostRuntime) -> Result<(), Fail> {
-    let pfx = of_version_2(rt.alloc())?;
+    let pfx = with_version_2(from_bytes(rt.alloc(), EMPTY_PFX)?);
     is_refused(rt.alloc(), &pfx, VERSION_2, Error::Invalid)
 }
 
@@ -88,13 +89,16 @@ fn is_sha1(info: &Pkcs12DigestInfo) -> bool {
     matches!(&info.digest_algorithm, Pkcs12DigestAlgorithm::Sha1)
 }
 
+fn with_algorithm(mut info: Pkcs12DigestInfo, raw: Pkcs12DigestAlgorithm) -> Pkcs12DigestInfo {
+    info.digest_algorithm = raw;
+    info
+}
+
 /// `Unknown` with the object identifier of SHA-1 is read as `Sha1`.
 #[test]
 fn an_unknown_digest_of_a_known_kind(rt: HostRuntime) -> Result<(), Fail> {
-    let mut info: Pkcs12DigestInfo = from_bytes(rt.alloc(), BY_SHA1)?;
-    expect(is_sha1(&info), "another digest")?;
-    info.digest_algorithm = Pkcs12DigestAlgorithm::Unknown(from_bytes(rt.alloc(), SHA1)?);
-    is_ill_formed(rt.alloc(), &info, BY_SHA1)?;
-    let again: Pkcs12DigestInfo = from_bytes(rt.alloc(), BY_SHA1)?;
-    expect(is_sha1(&again), "another digest is read")
+    let known: Pkcs12DigestInfo = from_bytes(rt.alloc(), BY_SHA1)?;
+    expect(is_sha1(&known), "another digest is read")?;
+    let raw = Pkcs12DigestAlgorithm::Unknown(from_bytes(rt.alloc(), SHA1)?);
+    is_ill_formed(rt.alloc(), &with_algorithm(known, raw), BY_SHA1)
 }

@@ -35,14 +35,21 @@ const DIGESTS: [(&str, &str); 6] = [
     ("1.2.3.4", "unknown"),
 ];
 
+fn is_digest(alloc: Global, text: &str, word: &str) -> Result<(), Fail> {
+    let digest = Pkcs12DigestAlgorithm::from_raw(identifier(alloc, text)?);
+    let is_so = Pkcs12DigestAlgorithm::name(&digest) == word;
+    is_plain(
+        alloc,
+        &Pkcs12DigestAlgorithm::into_raw(digest, alloc)?,
+        text,
+    )?;
+    expect(is_so, "another digest")
+}
+
 #[test]
 fn digests(rt: HostRuntime) -> Result<(), Fail> {
     for (text, word) in DIGESTS {
-        let digest = Pkcs12DigestAlgorithm::from_raw(identifier(rt.alloc(), text)?);
-        let name = Pkcs12DigestAlgorithm::name(&digest);
-        expect(name == word, "another digest")?;
-        let raw = Pkcs12DigestAlgorithm::into_raw(digest, rt.alloc())?;
-        is_plain(rt.alloc(), &raw, text)?;
+        is_digest(rt.alloc(), text, word)?;
     }
     Ok(())
 }
@@ -57,64 +64,70 @@ const FUNCTIONS: [(&str, &str); 6] = [
     ("1.2.3.4", "unknown"),
 ];
 
+fn is_function(alloc: Global, text: &str, word: &str) -> Result<(), Fail> {
+    let function = Pbkdf2Prf::from_raw(identifier(alloc, text)?);
+    let is_so = Pbkdf2Prf::name(&function) == word;
+    is_plain(alloc, &Pbkdf2Prf::into_raw(function, alloc)?, text)?;
+    expect(is_so, "another function")
+}
+
 #[test]
 fn functions(rt: HostRuntime) -> Result<(), Fail> {
     for (text, word) in FUNCTIONS {
-        let function = Pbkdf2Prf::from_raw(identifier(rt.alloc(), text)?);
-        let name = Pbkdf2Prf::name(&function);
-        expect(name == word, "another function")?;
-        let raw = Pbkdf2Prf::into_raw(function, rt.alloc())?;
-        is_plain(rt.alloc(), &raw, text)?;
+        is_function(rt.alloc(), text, word)?;
     }
     Ok(())
 }
 
-/// Encryption by a password (RFC 7292, appendix C) and by AES (RFC 8018, appendix B.2.5), by the words of `openssl pkcs12 -info`.
+fn is_encryption(
+    alloc: Global,
+    kind: &Pbes1AlgorithmKind,
+    text: &str,
+    word: &str,
+) -> Result<(), Fail> {
+    expect(Pbes1AlgorithmKind::name(kind) == word, "another encryption")?;
+    is_spelled(alloc, &Pbes1AlgorithmKind::to_oid(kind, alloc)?, text)
+}
+
+/// Encryption by a password (RFC 7292, appendix C), by the words of `openssl pkcs12 -info`.
 #[test]
 fn encryptions(rt: HostRuntime) -> Result<(), Fail> {
-    for (kind, text, word) in [
-        (
-            Pbes1AlgorithmKind::ShaAnd3Key3DesCbc,
-            "1.2.840.113549.1.12.1.3",
-            "pbeWithSHA1And3-KeyTripleDES-CBC",
-        ),
-        (
-            Pbes1AlgorithmKind::ShaAnd40BitRc2Cbc,
-            "1.2.840.113549.1.12.1.6",
-            "pbeWithSHA1And40BitRC2-CBC",
-        ),
-    ] {
-        let name = Pbes1AlgorithmKind::name(&kind);
-        expect(name == word, "another encryption")?;
-        let known = Pbes1AlgorithmKind::to_oid(&kind, rt.alloc())?;
-        is_spelled(rt.alloc(), &known, text)?;
-    }
-    Ok(())
+    let (text, word) = (
+        "1.2.840.113549.1.12.1.3",
+        "pbeWithSHA1And3-KeyTripleDES-CBC",
+    );
+    is_encryption(
+        rt.alloc(),
+        &Pbes1AlgorithmKind::ShaAnd3Key3DesCbc,
+        text,
+        word,
+    )?;
+    let (text, word) = ("1.2.840.113549.1.12.1.6", "pbeWithSHA1And40BitRC2-CBC");
+    is_encryption(
+        rt.alloc(),
+        &Pbes1AlgorithmKind::ShaAnd40BitRc2Cbc,
+        text,
+        word,
+    )
 }
 
+fn is_cipher(
+    alloc: Global,
+    kind: &Pbes2AesCbcEncryption,
+    text: &str,
+    word: &str,
+) -> Result<(), Fail> {
+    expect(Pbes2AesCbcEncryption::name(kind) == word, "another cipher")?;
+    is_spelled(alloc, &Pbes2AesCbcEncryption::to_oid(kind, alloc)?, text)
+}
+
+/// AES (RFC 8018, appendix B.2.5), by the same words.
 #[test]
 fn ciphers(rt: HostRuntime) -> Result<(), Fail> {
-    for (kind, text, word) in [
-        (
-            Pbes2AesCbcEncryption::Aes128,
-            "2.16.840.1.101.3.4.1.2",
-            "AES-128-CBC",
-        ),
-        (
-            Pbes2AesCbcEncryption::Aes192,
-            "2.16.840.1.101.3.4.1.22",
-            "AES-192-CBC",
-        ),
-        (
-            Pbes2AesCbcEncryption::Aes256,
-            "2.16.840.1.101.3.4.1.42",
-            "AES-256-CBC",
-        ),
-    ] {
-        let name = Pbes2AesCbcEncryption::name(&kind);
-        expect(name == word, "another cipher")?;
-        let known = Pbes2AesCbcEncryption::to_oid(&kind, rt.alloc())?;
-        is_spelled(rt.alloc(), &known, text)?;
-    }
-    Ok(())
+    let (text, word) = ("2.16.840.1.101.3.4.1.2", "AES-128-CBC");
+    is_cipher(rt.alloc(), &Pbes2AesCbcEncryption::Aes128, text, word)?;
+    let (text, word) = ("2.16.840.1.101.3.4.1.22", "AES-192-CBC");
+    is_cipher(rt.alloc(), &Pbes2AesCbcEncryption::Aes192, text, word)?;
+    let (text, word) = ("2.16.840.1.101.3.4.1.42", "AES-256-CBC");
+    is_cipher(rt.alloc(), &Pbes2AesCbcEncryption::Aes256, text, word)
 }

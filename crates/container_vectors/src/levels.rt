@@ -85,13 +85,15 @@ fn attribute_of(alloc: Global, signer: SignerInfo) -> Result<UnsignedAttribute, 
     })
 }
 
+fn with_attributes(mut signer: SignerInfo, attributes: Vec<UnsignedAttribute>) -> SignerInfo {
+    signer.unsigned_attrs = Optional(UnsignedAttributes(attributes));
+    signer
+}
+
 /// A signer with that counter signature.
 fn countersigned(alloc: Global, inner: SignerInfo) -> Result<SignerInfo, Error> {
-    let mut attributes = Vec::new(alloc);
-    attributes.push(attribute_of(alloc, inner)?)?;
-    let mut signer: SignerInfo = from_bytes(alloc, SIGNER)?;
-    signer.unsigned_attrs = Optional(UnsignedAttributes(attributes));
-    Ok(signer)
+    let attributes = Vec::from_array(alloc, [attribute_of(alloc, inner)?])?;
+    Ok(with_attributes(from_bytes(alloc, SIGNER)?, attributes))
 }
 
 /// A signer with that many counter signatures inside one another.

@@ -5,9 +5,9 @@ use crate::texts;
 use std::alloc::Global;
 use x509_containers::prelude::ReadComponents;
 use x509_containers::{
-    Asn1SetOf, BitString, BitStringAsn1, BmpString, CertificateSet, CmsVersion, ContentInfo,
-    DigestAlgorithmIdentifiers, EncapsulatedContentInfo, Error, ExplicitContextTag0, File,
-    MAX_NESTING, ObjectIdentifier, ObjectIdentifierAsn1, OctetStringAsn1, Optional,
+    Asn1SetOf, BitString, BitStringAsn1, BmpString, CertificateChoices, CertificateSet, CmsVersion,
+    ContentInfo, DigestAlgorithmIdentifiers, EncapsulatedContentInfo, Error, ExplicitContextTag0,
+    File, MAX_NESTING, ObjectIdentifier, ObjectIdentifierAsn1, OctetStringAsn1, Optional,
     ParsedAuthenticatedSafeDataRepr, Pbes1AlgorithmKind, Pbes2AesCbcEncryption, Pbkdf2Prf, Pfx,
     Pkcs7Certificate, Pkcs12DigestAlgorithm, Reader, SafeBag, SignedData, SignersInfos, SpcLink,
     SpcPeImageFlags, SpcSerializedObject, SpcString, SpcUuid, TryClone, from_bytes, mac_range,
@@ -54,57 +54,61 @@ fn is_dotted(
     expect(text?.as_str() == dotted, "the text of an object identifier")
 }
 
-/// Kinds of encryption as object identifiers, by their clones, which rows copy.
+/// The kind of PBES1 as an object identifier, by its clone.
+fn is_pbes1(rt: &HostRuntime, kind: &Pbes1AlgorithmKind, octets: &[u8]) -> Result<(), Stop> {
+    names(rt, "Pbes1AlgorithmKind::to_oid", kind.name())?;
+    let oid = kind.try_clone(rt.alloc())?.to_oid(rt.alloc())?;
+    has_octets(&oid, octets)
+}
+
+/// The kind of AES as an object identifier, by its clone.
+fn is_aes(rt: &HostRuntime, kind: &Pbes2AesCbcEncryption, octets: &[u8]) -> Result<(), Stop> {
+    names(rt, "Pbes2AesCbcEncryption::to_oid", kind.name())?;
+    let oid = kind.try_clone(rt.alloc())?.to_oid(rt.alloc())?;
+    has_octets(&oid, octets)
+}
+
+/// Kinds of encryption as object identifiers.
 pub fn of_encryptions(rt: &HostRuntime) -> Result<(), Stop> {
-    let alloc = rt.alloc();
-    for (kind, octets) in [
-        (Pbes1AlgorithmKind::ShaAnd3Key3DesCbc, texts::TRIPLE_DES),
-        (Pbes1AlgorithmKind::ShaAnd40BitRc2Cbc, texts::RC2_40),
-    ] {
-        names(rt, "Pbes1AlgorithmKind::to_oid", kind.name())?;
-        let oid = kind.try_clone(alloc)?.to_oid(alloc)?;
-        expect(oid.octets() == octets, "an object identifier of PBES1")?;
-    }
-    for (kind, octets) in [
-        (Pbes2AesCbcEncryption::Aes128, texts::AES_128),
-        (Pbes2AesCbcEncryption::Aes192, texts::AES_192),
-        (Pbes2AesCbcEncryption::Aes256, texts::AES_256),
-    ] {
-        names(rt, "Pbes2AesCbcEncryption::to_oid", kind.name())?;
-        let oid = kind.try_clone(alloc)?.to_oid(alloc)?;
-        expect(oid.octets() == octets, "an object identifier of PBES2")?;
-    }
-    Ok(())
+    is_pbes1(
+        rt,
+        &Pbes1AlgorithmKind::ShaAnd3Key3DesCbc,
+        texts::TRIPLE_DES,
+    )?;
+    is_pbes1(rt, &Pbes1AlgorithmKind::ShaAnd40BitRc2Cbc, texts::RC2_40)?;
+    is_aes(rt, &Pbes2AesCbcEncryption::Aes128, texts::AES_128)?;
+    is_aes(rt, &Pbes2AesCbcEncryption::Aes192, texts::AES_192)?;
+    is_aes(rt, &Pbes2AesCbcEncryption::Aes256, texts::AES_256)
+}
+
+/// The digest as an algorithm identifier.
+fn is_digest(rt: &HostRuntime, known: Pkcs12DigestAlgorithm, text: &[u8]) -> Result<(), Stop> {
+    names(rt, "Pkcs12DigestAlgorithm::into_raw", known.name())?;
+    is_made(known.into_raw(rt.alloc()), text)
 }
 
 /// Known digests as algorithm identifiers.
 pub fn of_digests(rt: &HostRuntime) -> Result<(), Stop> {
-    for (known, text) in [
-        (Pkcs12DigestAlgorithm::Sha1, texts::SHA_1),
-        (Pkcs12DigestAlgorithm::Sha224, texts::SHA_224),
-        (Pkcs12DigestAlgorithm::Sha256, texts::SHA_256),
-        (Pkcs12DigestAlgorithm::Sha384, texts::SHA_384),
-        (Pkcs12DigestAlgorithm::Sha512, texts::SHA_512),
-    ] {
-        names(rt, "Pkcs12DigestAlgorithm::into_raw", known.name())?;
-        is_made(known.into_raw(rt.alloc()), text)?;
-    }
-    Ok(())
+    is_digest(rt, Pkcs12DigestAlgorithm::Sha1, texts::SHA_1)?;
+    is_digest(rt, Pkcs12DigestAlgorithm::Sha224, texts::SHA_224)?;
+    is_digest(rt, Pkcs12DigestAlgorithm::Sha256, texts::SHA_256)?;
+    is_digest(rt, Pkcs12DigestAlgorithm::Sha384, texts::SHA_384)?;
+    is_digest(rt, Pkcs12DigestAlgorithm::Sha512, texts::SHA_512)
+}
+
+/// The pseudorandom function as an algorithm identifier.
+fn is_function(rt: &HostRuntime, known: Pbkdf2Prf, text: &[u8]) -> Result<(), Stop> {
+    names(rt, "Pbkdf2Prf::into_raw", known.name())?;
+    is_made(known.into_raw(rt.alloc()), text)
 }
 
 /// Known pseudorandom functions as algorithm identifiers.
 pub fn of_functions(rt: &HostRuntime) -> Result<(), Stop> {
-    for (known, text) in [
-        (Pbkdf2Prf::HmacWithSha1, texts::HMAC_WITH_SHA_1),
-        (Pbkdf2Prf::HmacWithSha224, texts::HMAC_WITH_SHA_224),
-        (Pbkdf2Prf::HmacWithSha256, texts::HMAC_WITH_SHA_256),
-        (Pbkdf2Prf::HmacWithSha384, texts::HMAC_WITH_SHA_384),
-        (Pbkdf2Prf::HmacWithSha512, texts::HMAC_WITH_SHA_512),
-    ] {
-        names(rt, "Pbkdf2Prf::into_raw", known.name())?;
-        is_made(known.into_raw(rt.alloc()), text)?;
-    }
-    Ok(())
+    is_function(rt, Pbkdf2Prf::HmacWithSha1, texts::HMAC_WITH_SHA_1)?;
+    is_function(rt, Pbkdf2Prf::HmacWithSha224, texts::HMAC_WITH_SHA_224)?;
+    is_function(rt, Pbkdf2Prf::HmacWithSha256, texts::HMAC_WITH_SHA_256)?;
+    is_function(rt, Pbkdf2Prf::HmacWithSha384, texts::HMAC_WITH_SHA_384)?;
+    is_function(rt, Pbkdf2Prf::HmacWithSha512, texts::HMAC_WITH_SHA_512)
 }
 
 /// Defaults of Authenticode.
@@ -161,9 +165,16 @@ pub fn of_contents(rt: &HostRuntime) -> Result<(), Stop> {
     has_text(&outcome?, b"\x04\x02\x30\x00")
 }
 
-/// The certificates, one after another, as signed data that hold them alone.
-fn bundle_of(alloc: Global, certificates: &[u8]) -> Result<Pkcs7Certificate, Error> {
-    let certificates = Vec::read_components(alloc, &mut Reader::new(certificates), MAX_NESTING)?;
+/// The certificates, one after another.
+fn certificates_of(alloc: Global, octets: &[u8]) -> Result<Vec<CertificateChoices>, Error> {
+    Vec::read_components(alloc, &mut Reader::new(octets), MAX_NESTING)
+}
+
+/// Signed data that hold the certificates alone.
+fn bundle_of(
+    alloc: Global,
+    certificates: Vec<CertificateChoices>,
+) -> Result<Pkcs7Certificate, Error> {
     Ok(Pkcs7Certificate {
         oid: ObjectIdentifierAsn1(ObjectIdentifier::from_text(alloc, "1.2.840.113549.1.7.2")?),
         signed_data: ExplicitContextTag0(SignedData {
@@ -184,7 +195,8 @@ pub fn of_certificates(rt: &HostRuntime) -> Result<(), Stop> {
         "read_components, from_text and new_pkcs7_data",
         "signed data",
     )?;
-    is_made(bundle_of(rt.alloc(), texts::CERTIFICATES), texts::BUNDLE)
+    let certificates = certificates_of(rt.alloc(), texts::CERTIFICATES)?;
+    is_made(bundle_of(rt.alloc(), certificates), texts::BUNDLE)
 }
 
 /// Which octets of a file its MAC covers.

@@ -132,46 +132,42 @@ fn is_cloned<T: DerDeserialize + TryClone>(
 
 /// The MACs of PKCS #12: 2048 iterations, one and 2^32 - 1, and no count.
 pub fn macs(rt: &HostRuntime) -> Result<(), Stop> {
-    for text in [
-        texts::MAC_DATA,
-        texts::MAC_OF_ONE,
-        texts::MAC_OF_MOST,
-        texts::MAC_WITHOUT_COUNT,
-    ] {
-        is_cloned::<MacData>(rt, "MacData", text, text)?;
-    }
-    Ok(())
+    is_cloned::<MacData>(rt, "MacData", texts::MAC_DATA, texts::MAC_DATA)?;
+    is_cloned::<MacData>(rt, "MacData", texts::MAC_OF_ONE, texts::MAC_OF_ONE)?;
+    is_cloned::<MacData>(rt, "MacData", texts::MAC_OF_MOST, texts::MAC_OF_MOST)?;
+    let none = texts::MAC_WITHOUT_COUNT;
+    is_cloned::<MacData>(rt, "MacData", none, none)
+}
+
+/// A store, its parts read and its data kept as they are.
+fn of_store(rt: &HostRuntime, input: &[u8], text: &[u8]) -> Result<(), Stop> {
+    is_cloned::<ParsedPfx>(rt, "Pfx", input, text)?;
+    is_cloned::<RawPfx>(rt, "RawPfx", input, input)
 }
 
 /// Values of PKCS #12.
 pub fn store_values(rt: &HostRuntime) -> Result<(), Stop> {
     let name = texts::FRIENDLY_NAME;
     is_cloned::<Pkcs12Attribute>(rt, "Pkcs12Attribute", name, name)?;
-    for (input, text) in [
-        (texts::NAMED_KEY, texts::NAMED_KEY),
-        (texts::LOOSE_STORE, texts::STORE),
-    ] {
-        is_cloned::<ParsedPfx>(rt, "Pfx", input, text)?;
-        is_cloned::<RawPfx>(rt, "RawPfx", input, input)?;
-    }
-    Ok(())
+    of_store(rt, texts::NAMED_KEY, texts::NAMED_KEY)?;
+    of_store(rt, texts::LOOSE_STORE, texts::STORE)
+}
+
+fn of_signed(rt: &HostRuntime, input: &[u8], text: &[u8]) -> Result<(), Stop> {
+    is_cloned::<SignedData>(rt, "SignedData", input, text)
+}
+
+fn of_image(rt: &HostRuntime, input: &[u8], text: &[u8]) -> Result<(), Stop> {
+    is_cloned::<SpcPeImageData>(rt, "SpcPeImageData", input, text)
 }
 
 /// Values of PKCS #7 and Authenticode.
 pub fn content_values(rt: &HostRuntime) -> Result<(), Stop> {
-    for (input, text) in [
-        (texts::SIGNED_DATA, texts::SIGNED_DATA),
-        (texts::EMPTY_LISTS, texts::EMPTY_LISTS),
-        (texts::EMPTY_CERTIFICATES, texts::SIGNED_DATA),
-    ] {
-        is_cloned::<SignedData>(rt, "SignedData", input, text)?;
-    }
-    for (input, text) in [
-        (texts::PAGE_FLAGS, texts::PAGE_FLAGS),
-        (texts::PAGE_DEFAULTS, texts::PAGE_RESOURCES),
-    ] {
-        is_cloned::<SpcPeImageData>(rt, "SpcPeImageData", input, text)?;
-    }
+    of_signed(rt, texts::SIGNED_DATA, texts::SIGNED_DATA)?;
+    of_signed(rt, texts::EMPTY_LISTS, texts::EMPTY_LISTS)?;
+    of_signed(rt, texts::EMPTY_CERTIFICATES, texts::SIGNED_DATA)?;
+    of_image(rt, texts::PAGE_FLAGS, texts::PAGE_FLAGS)?;
+    of_image(rt, texts::PAGE_DEFAULTS, texts::PAGE_RESOURCES)?;
     let text = texts::DESCRIPTOR;
     is_cloned::<GeneralProtectionDescriptor>(rt, "GeneralProtectionDescriptor", text, text)
 }

@@ -344,32 +344,50 @@ fn measure_numbers(rt: &HostRuntime) -> Result<(), Failure> {
     Ok(())
 }
 
+/// As `measure`, of an encoding that was made.
+fn measure_made<T: DerDeserialize + TryClone>(
+    rt: &HostRuntime,
+    name: &str,
+    made: Result<Vec<u8>, Error>,
+) -> Result<(), Failure> {
+    measure::<T>(rt, name, &made?)
+}
+
 fn measure_lists(rt: &HostRuntime) -> Result<(), Failure> {
     let alloc = rt.alloc();
-    measure::<Extensions>(rt, "extensions, 20000", &extensions(alloc, 20_000)?)?;
-    measure::<CertificateList>(
-        rt,
-        "revocation list, 20000",
-        &revocation_list(alloc, 20_000)?,
-    )?;
-    measure::<SignedData>(rt, "signed data, 100", &signed_data(alloc, 100)?)?;
-    measure::<Name>(rt, "name, 2000 parts", &name(alloc, 2_000)?)
+    measure_made::<Extensions>(rt, "extensions, 20000", extensions(alloc, 20_000))?;
+    let list = revocation_list(alloc, 20_000);
+    measure_made::<CertificateList>(rt, "revocation list, 20000", list)?;
+    measure_made::<SignedData>(rt, "signed data, 100", signed_data(alloc, 100))?;
+    measure_made::<Name>(rt, "name, 2000 parts", name(alloc, 2_000))
+}
+
+/// A PFX of so many octets.
+fn large_store(alloc: Global, size: usize) -> Result<Vec<u8>, Error> {
+    pfx(alloc, &octets(alloc, 0x04, size)?)
+}
+
+/// A store of so many certificates, each of 1,200 octets.
+fn certificate_store(alloc: Global, count: usize) -> Result<Vec<u8>, Error> {
+    store(alloc, CERTIFICATE_BAG, &certificate(alloc, 1_200)?, count)
+}
+
+/// A store of so many keys, each of 40 octets.
+fn key_store(alloc: Global, count: usize) -> Result<Vec<u8>, Error> {
+    store(alloc, KEY_BAG, &octets(alloc, 0x04, 40)?, count)
 }
 
 fn measure_stores(rt: &HostRuntime) -> Result<(), Failure> {
     let alloc = rt.alloc();
-    let data = octets(alloc, 0x04, 1_000_000)?;
-    measure::<RawPfx>(rt, "raw pfx, 1 MB", &pfx(alloc, &data)?)?;
-    let few = store(alloc, CERTIFICATE_BAG, &certificate(alloc, 1_200)?, 100)?;
-    measure::<Store>(rt, "pfx, 100 certificates", &few)?;
-    let many = store(alloc, KEY_BAG, &octets(alloc, 0x04, 40)?, 10_000)?;
-    measure::<Store>(rt, "pfx, 10000 bags", &many)
+    measure_made::<RawPfx>(rt, "raw pfx, 1 MB", large_store(alloc, 1_000_000))?;
+    measure_made::<Store>(rt, "pfx, 100 certificates", certificate_store(alloc, 100))?;
+    measure_made::<Store>(rt, "pfx, 10000 bags", key_store(alloc, 10_000))
 }
 
 fn measure_strings(rt: &HostRuntime) -> Result<(), Failure> {
     let alloc = rt.alloc();
-    measure::<IA5StringAsn1>(rt, "IA5 string, 100000", &octets(alloc, 0x16, 100_000)?)?;
-    measure::<BmpStringAsn1>(rt, "BMP string, 100000", &octets(alloc, 0x1E, 100_000)?)
+    measure_made::<IA5StringAsn1>(rt, "IA5 string, 100000", octets(alloc, 0x16, 100_000))?;
+    measure_made::<BmpStringAsn1>(rt, "BMP string, 100000", octets(alloc, 0x1E, 100_000))
 }
 
 /// Prints a line for each value that is measured.

@@ -49,23 +49,46 @@ fn content(
     })
 }
 
-/// Enveloped data for one recipient, as content of its type.
-fn enveloped(
+/// Enveloped data for one recipient.
+fn data(
     alloc: Global,
     recipient: RecipientInfo,
     encrypted_content_info: EncryptedContentInfo,
-) -> Result<ContentInfo, Error> {
-    let enveloped = EnvelopedData {
+) -> Result<EnvelopedData, Error> {
+    Ok(EnvelopedData {
         version: CmsVersion::V2,
         originator_info: Optional(None),
         recipient_infos: Asn1SetOf(Vec::from_array(alloc, [recipient])?),
         encrypted_content_info,
         unprotected_attrs: Optional(None),
-    };
+    })
+}
+
+/// Enveloped data as content of its type.
+fn enveloped(alloc: Global, data: &EnvelopedData) -> Result<ContentInfo, Error> {
+    let octets = Asn1RawDer(to_vec(alloc, data)?);
     Ok(ContentInfo {
         content_type: ObjectIdentifierAsn1(ObjectIdentifier::from_text(alloc, ENVELOPED_DATA)?),
-        content: ExplicitContextTag0(Asn1RawDer(to_vec(alloc, &enveloped)?)),
+        content: ExplicitContextTag0(octets),
     })
+}
+
+fn recipient_of(
+    rt: &HostRuntime,
+    key_id: &str,
+    wrapped_key: &str,
+) -> Result<RecipientInfo, ExampleError> {
+    let (key_id, wrapped_key) = (fs::read(rt, key_id)?, fs::read(rt, wrapped_key)?);
+    Ok(recipient(rt.alloc(), key_id, wrapped_key)?)
+}
+
+fn content_of(
+    rt: &HostRuntime,
+    vector: &str,
+    ciphertext: &str,
+) -> Result<EncryptedContentInfo, ExampleError> {
+    let (vector, ciphertext) = (fs::read(rt, vector)?, fs::read(rt, ciphertext)?);
+    Ok(content(rt.alloc(), vector, ciphertext)?)
 }
 
 /// Writes enveloped data of the files of a key identifier, a wrapped key, an initialization vector and the ciphertext.
@@ -76,9 +99,8 @@ pub fn send_enveloped(
     vector: &str,
     ciphertext: &str,
 ) -> Result<(), ExampleError> {
-    let (key_id, wrapped_key) = (fs::read(rt, key_id)?, fs::read(rt, wrapped_key)?);
-    let recipient = recipient(rt.alloc(), key_id, wrapped_key)?;
-    let (vector, ciphertext) = (fs::read(rt, vector)?, fs::read(rt, ciphertext)?);
-    let content = content(rt.alloc(), vector, ciphertext)?;
-    send(rt, &enveloped(rt.alloc(), recipient, content)?)
+    let recipient = recipient_of(rt, key_id, wrapped_key)?;
+    let content = content_of(rt, vector, ciphertext)?;
+    let data = data(rt.alloc(), recipient, content)?;
+    send(rt, &enveloped(rt.alloc(), &data)?)
 }

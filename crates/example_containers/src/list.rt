@@ -2,14 +2,16 @@
 //! the contents that are encrypted, the MAC, and how many octets that covers.
 
 use crate::{ExampleError, print_octets};
-use pkcs12_ber::read_ber_pfx;
+use pkcs12_ber::{BerPfx, read_ber_pfx};
 use std::alloc::Global;
 use x509_containers::{
     AuthenticatedSafeContentInfo, BmpString, CertificateBag, CrlBag, Error,
     ParsedAuthenticatedSafeDataRepr, Pbes2EncryptionScheme, Pbes2KeyDerivationFunc, Pbes2Params,
-    Pkcs12EncryptionAlgorithm, RawPfx, SafeBag, SafeBagKind, SafeContentsContentInfo, from_bytes,
-    to_vec,
+    Pfx, Pkcs12EncryptionAlgorithm, RawPfx, SafeBag, SafeBagKind, SafeContentsContentInfo,
+    from_bytes, to_vec,
 };
+
+type Store = Pfx<ParsedAuthenticatedSafeDataRepr>;
 
 fn pbes2_text(alloc: Global, params: &Pbes2Params) -> Result<String, Error> {
     let scheme = match &params.encryption_scheme {
@@ -83,20 +85,31 @@ fn covered(alloc: Global, file: &[u8]) -> Result<(Option<usize>, Vec<u8>), Error
     Ok((count, text))
 }
 
-pub fn list(rt: &HostRuntime, file: &[u8]) -> Result<(), ExampleError> {
-    let (octets, pfx) = match read_ber_pfx::<ParsedAuthenticatedSafeDataRepr>(rt.alloc(), file) {
-        Ok(both) => both,
-        Err((error, _)) => return Err(ExampleError::Refused(error)),
-    };
+fn list_bags(rt: &HostRuntime, pfx: &Store) -> Result<(), ExampleError> {
     for bag in &pfx.all_bags(rt.alloc())? {
         list_bag(rt, bag)?;
     }
+    Ok(())
+}
+
+fn list_encrypted(rt: &HostRuntime, content: &SafeContentsContentInfo) -> Result<(), ExampleError> {
+    if let SafeContentsContentInfo::EncryptedData(encrypted) = content {
+        let text = algorithm_text(rt.alloc(), &encrypted.algorithm)?;
+        println!(rt; "encrypted contents: {text}")?;
+    }
+    Ok(())
+}
+
+fn list_store(
+    rt: &HostRuntime,
+    file: &[u8],
+    octets: &BerPfx,
+    pfx: &Store,
+) -> Result<(), ExampleError> {
+    list_bags(rt, pfx)?;
     if let AuthenticatedSafeContentInfo::Data(contents) = &pfx.auth_safe {
         for content in contents {
-            if let SafeContentsContentInfo::EncryptedData(encrypted) = content {
-                let text = algorithm_text(rt.alloc(), &encrypted.algorithm)?;
-                println!(rt; "encrypted contents: {text}")?;
-            }
+            list_encrypted(rt, content)?;
         }
     }
     if let Some(mac) = &pfx.mac_data {
@@ -105,6 +118,13 @@ pub fn list(rt: &HostRuntime, file: &[u8]) -> Result<(), ExampleError> {
         list_covered(rt, file, octets.mac_octets())?;
     }
     Ok(())
+}
+
+pub fn list(rt: &HostRuntime, file: &[u8]) -> Result<(), ExampleError> {
+    match read_ber_pfx::<ParsedAuthenticatedSafeDataRepr>(rt.alloc(), file) {
+        Ok((octets, pfx)) => list_store(rt, file, &octets, &pfx),
+        Err((error, _)) => Err(ExampleError::Refused(error)),
+    }
 }
 
 /// How many octets the MAC covers, and whether the file is written as it was: one in BER isn't.

@@ -5,8 +5,10 @@ use std::alloc::Global;
 use x509_containers::{
     AuthenticatedSafeContentInfo, BmpString, Error, ParsedAuthenticatedSafeDataRepr, Pfx,
     Pkcs12Attribute, SafeBag, SafeBagKind, SafeContents, SafeContentsContentInfo, StdSink,
-    TryClone, from_bytes, write_to,
+    StringError, TryClone, from_bytes, write_to,
 };
+
+type Store = Pfx<ParsedAuthenticatedSafeDataRepr>;
 
 /// The name that is looked for, and the one that takes its place.
 #[derive(Drop)]
@@ -47,26 +49,41 @@ impl Names {
     }
 }
 
-/// Writes the file with each bag of the old name under the new one.
-pub fn rename(rt: &HostRuntime, old: &str, new: &str, file: &[u8]) -> Result<(), ExampleError> {
-    let names = Names {
-        old: BmpString::from_text(rt.alloc(), old)?,
-        new: BmpString::from_text(rt.alloc(), new)?,
-    };
-    let mut pfx: Pfx<ParsedAuthenticatedSafeDataRepr> = from_bytes(rt.alloc(), file)?;
-    if pfx.mac_data.is_some() {
-        return Err(ExampleError::HasMac);
-    }
+/// Whether a bag of the store had the old name.
+fn rename_store(names: &Names, alloc: Global, pfx: &mut Store) -> Result<bool, Error> {
     let mut found = false;
     if let AuthenticatedSafeContentInfo::Data(contents) = &mut pfx.auth_safe {
         for content in contents.iter_mut() {
             if let SafeContentsContentInfo::Data(bags) = content {
-                found |= names.rename_bags(rt.alloc(), bags)?;
+                found |= names.rename_bags(alloc, bags)?;
             }
         }
     }
-    if !found {
+    Ok(found)
+}
+
+fn send_renamed(rt: &HostRuntime, names: &Names, pfx: &mut Store) -> Result<(), ExampleError> {
+    if pfx.mac_data.is_some() {
+        return Err(ExampleError::HasMac);
+    }
+    if !rename_store(names, rt.alloc(), pfx)? {
         return Err(ExampleError::NoSuchName);
     }
-    write_to(&pfx, &mut StdSink::new(rt.stdout())).map_err(|_| ExampleError::Output)
+    write_to(pfx, &mut StdSink::new(rt.stdout())).map_err(|_| ExampleError::Output)
+}
+
+fn both(alloc: Global, old: &str, new: &str) -> Result<Names, StringError> {
+    let old = BmpString::from_text(alloc, old)?;
+    let new = BmpString::from_text(alloc, new)?;
+    Ok(Names { old, new })
+}
+
+fn send_file(rt: &HostRuntime, names: &Names, file: &[u8]) -> Result<(), ExampleError> {
+    let mut pfx: Store = from_bytes(rt.alloc(), file)?;
+    send_renamed(rt, names, &mut pfx)
+}
+
+/// Writes the file with each bag of the old name under the new one.
+pub fn rename(rt: &HostRuntime, old: &str, new: &str, file: &[u8]) -> Result<(), ExampleError> {
+    send_file(rt, &both(rt.alloc(), old, new)?, file)
 }

@@ -28,6 +28,10 @@ fn list_entry(rt: &HostRuntime, entry: &RevokedCertificate) -> Result<(), Exampl
 /// The entries of a revocation list.
 pub fn list_revoked(rt: &HostRuntime, file: &[u8]) -> Result<(), ExampleError> {
     let list: CertificateList = from_bytes(rt.alloc(), file)?;
+    list_entries(rt, &list)
+}
+
+fn list_entries(rt: &HostRuntime, list: &CertificateList) -> Result<(), ExampleError> {
     if let Some(entries) = &list.tbs_cert_list.revoked_certificates {
         for entry in &entries.0.0 {
             list_entry(rt, entry)?;

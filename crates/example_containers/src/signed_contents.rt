@@ -6,6 +6,10 @@ use x509_containers::{CTLEntry, ContentValue, Pkcs7Certificate, from_bytes};
 /// The digest of the program that the signature is of.
 pub fn list_program(rt: &HostRuntime, signature: &[u8]) -> Result<(), ExampleError> {
     let file: Pkcs7Certificate = from_bytes(rt.alloc(), signature)?;
+    list_indirect(rt, &file)
+}
+
+fn list_indirect(rt: &HostRuntime, file: &Pkcs7Certificate) -> Result<(), ExampleError> {
     let Some(content) = &file.signed_data.0.content_info.content else {
         return Err(ExampleError::OtherContent);
     };
@@ -28,6 +32,10 @@ fn list_entry(rt: &HostRuntime, entry: &CTLEntry) -> Result<(), ExampleError> {
 /// The entries of a trust list.
 pub fn list_trusted(rt: &HostRuntime, file: &[u8]) -> Result<(), ExampleError> {
     let file: Pkcs7Certificate = from_bytes(rt.alloc(), file)?;
+    list_entries(rt, &file)
+}
+
+fn list_entries(rt: &HostRuntime, file: &Pkcs7Certificate) -> Result<(), ExampleError> {
     let Some(content) = &file.signed_data.0.content_info.content else {
         return Err(ExampleError::OtherContent);
     };

@@ -46,6 +46,11 @@ fn list_signer(
     }
     let digest = signer.digest_algorithm.0.algorithm().to_text(rt.alloc())?;
     println!(rt; "  digest algorithm: {digest}")?;
+    list_attributes(rt, signer)
+}
+
+/// The types of the signed attributes, and what the signature is over.
+fn list_attributes(rt: &HostRuntime, signer: &SignerInfo) -> Result<(), ExampleError> {
     for attribute in &signer.signed_attrs.0.0.0 {
         let ty = attribute.ty.0.to_text(rt.alloc())?;
         println!(rt; "  signed attribute: {ty}")?;
@@ -67,12 +72,15 @@ fn list_content(rt: &HostRuntime, signed: &SignedData) -> Result<(), ExampleErro
     }
 }
 
-pub fn list_signers(rt: &HostRuntime, file: &[u8]) -> Result<(), ExampleError> {
-    let certificate: Pkcs7Certificate = from_bytes(rt.alloc(), file)?;
-    let signed = &certificate.signed_data.0;
+fn list_signed(rt: &HostRuntime, signed: &SignedData) -> Result<(), ExampleError> {
     list_content(rt, signed)?;
     for signer in signers(signed) {
         list_signer(rt, signer, certificates(signed))?;
     }
     Ok(())
+}
+
+pub fn list_signers(rt: &HostRuntime, file: &[u8]) -> Result<(), ExampleError> {
+    let certificate: Pkcs7Certificate = from_bytes(rt.alloc(), file)?;
+    list_signed(rt, &certificate.signed_data.0)
 }

@@ -10,6 +10,10 @@ fn list_stamp(rt: &HostRuntime, stamp: &[u8]) -> Result<(), ExampleError> {
         return Err(ExampleError::OtherContent);
     };
     let info: TstInfo = from_bytes(rt.alloc(), octets)?;
+    list_info(rt, &info)
+}
+
+fn list_info(rt: &HostRuntime, info: &TstInfo) -> Result<(), ExampleError> {
     print!(rt; "  ")?;
     for octet in &info.gen_time.0 {
         let character = char::from(*octet);
@@ -22,6 +26,10 @@ fn list_stamp(rt: &HostRuntime, stamp: &[u8]) -> Result<(), ExampleError> {
 /// The time stamps of each signer.
 pub fn list_stamps(rt: &HostRuntime, file: &[u8]) -> Result<(), ExampleError> {
     let file: RawPkcs7Certificate = from_bytes(rt.alloc(), file)?;
+    list_stamps_of(rt, &file)
+}
+
+fn list_stamps_of(rt: &HostRuntime, file: &RawPkcs7Certificate) -> Result<(), ExampleError> {
     for signer in &file.signed_data.0.signers_infos.0.0 {
         for stamp in &signer.time_stamps(rt.alloc())? {
             list_stamp(rt, &stamp.0)?;

@@ -6,9 +6,9 @@ use std::alloc::Global;
 use std::test::Fail;
 use vector_checks::checks::expect;
 use x509_containers::{
-    Asn1RawDer, Attributes, CertificateSet, DerSerialize, Error, RawPkcs7Certificate,
-    RawSignedData, RawSignerInfo, SignerIdentifier, TryClone, attribute_values, from_bytes,
-    signer_certificates, to_vec,
+    Asn1RawDer, Attributes, CertificateSet, DerSerialize, Error, ExplicitContextTag0,
+    RawPkcs7Certificate, RawSignedData, RawSignerInfo, SignerIdentifier, TryClone,
+    attribute_values, from_bytes, signer_certificates, to_vec,
 };
 
 /// "hello, world", with a signer that is named by a key, and one of version 1. The first certificate has 06 07 08 as
@@ -93,16 +93,22 @@ fn hashed(rt: HostRuntime) -> Result<(), Fail> {
     expect(hashed == Some(b"hello, world".as_slice()), "other octets")
 }
 
+fn with_content(
+    mut file: RawPkcs7Certificate,
+    content: Option<ExplicitContextTag0<Asn1RawDer>>,
+) -> RawPkcs7Certificate {
+    file.signed_data.0.content_info.content = content;
+    file
+}
+
 /// Asks of the hashed octets of a file's content, after its content is another element or bytes.
 fn is_hashed_as(
     alloc: Global,
     content: &[u8],
     wanted: Result<Option<&[u8]>, Error>,
 ) -> Result<(), Fail> {
-    let mut file = read_file(alloc)?;
-    if let Some(held) = &mut file.signed_data.0.content_info.content {
-        held.0 = Asn1RawDer(Vec::from_slice(alloc, content)?);
-    }
+    let content = ExplicitContextTag0(Asn1RawDer(Vec::from_slice(alloc, content)?));
+    let file = with_content(read_file(alloc)?, Some(content));
     let hashed = file.signed_data.0.content_info.hashed_octets();
     expect(hashed == wanted, "other octets")
 }
@@ -122,8 +128,7 @@ fn hashed_of_elements(rt: HostRuntime) -> Result<(), Fail> {
 
 #[test]
 fn hashed_of_absent_content(rt: HostRuntime) -> Result<(), Fail> {
-    let mut file = read_file(rt.alloc())?;
-    file.signed_data.0.content_info.content = None;
+    let file = with_content(read_file(rt.alloc())?, None);
     let hashed = file.signed_data.0.content_info.hashed_octets()?;
     expect(hashed.is_none(), "some octets")
 }
@@ -266,14 +271,22 @@ fn certificates_of_all(rt: HostRuntime) -> Result<(), Fail> {
     are_found(rt.alloc(), signed, &signed.certificates.0)
 }
 
-/// The same after others that aren't read as certificates.
+/// The certificates after others that aren't read as certificates.
+fn after_others(alloc: Global, certificates: &CertificateSet) -> Result<CertificateSet, Error> {
+    let mut all: CertificateSet = from_bytes(alloc, b"\xA0\x04\x30\x00\xA1\x00")?;
+    for certificate in &certificates.0 {
+        all.0.push(certificate.try_clone(alloc)?)?;
+    }
+    Ok(all)
+}
+
+fn are_found_after_others(alloc: Global, signed: &RawSignedData) -> Result<(), Fail> {
+    let all = after_others(alloc, &signed.certificates.0)?;
+    are_found(alloc, signed, &all)
+}
+
 #[test]
 fn certificates_after_others(rt: HostRuntime) -> Result<(), Fail> {
     let file = read_file(rt.alloc())?;
-    let signed = &file.signed_data.0;
-    let mut all: CertificateSet = from_bytes(rt.alloc(), b"\xA0\x04\x30\x00\xA1\x00")?;
-    for certificate in &signed.certificates.0.0 {
-        all.0.push(certificate.try_clone(rt.alloc())?)?;
-    }
-    are_found(rt.alloc(), signed, &all)
+    are_found_after_others(rt.alloc(), &file.signed_data.0)
 }

@@ -5,10 +5,11 @@ use crate::rows::Row;
 use std::alloc::Global;
 use std::test::Fail;
 use x509_containers::{
-    AuthenticodeKind, CertificateSet, EnvelopedKind, KekRecipientInfo, Kind, OriginatorInfo,
-    OtherRevocationInfoFormat, RawPfx, RevocationInfoChoices, SignedPartKind, SpcSerializedObject,
-    StoreKind, algorithm_kinds, at_type, authenticode_kinds, content_kinds, enveloped_kinds,
-    from_bytes, mac_range, signed_data_kinds, signed_part_kinds, store_kinds, trust_list_kinds,
+    AlgorithmKind, AuthenticodeKind, CertificateSet, ContentKind, EnvelopedKind, KekRecipientInfo,
+    Kind, OriginatorInfo, OtherRevocationInfoFormat, RawPfx, RevocationInfoChoices, SignedDataKind,
+    SignedPartKind, SpcSerializedObject, StoreKind, TrustListKind, algorithm_kinds, at_type,
+    authenticode_kinds, content_kinds, enveloped_kinds, from_bytes, mac_range, signed_data_kinds,
+    signed_part_kinds, store_kinds, trust_list_kinds,
 };
 
 /// Asks what a row says of the type of a kind.
@@ -19,15 +20,47 @@ pub fn is_so(alloc: Global, kind: Kind, row: &Row) -> Result<(), Fail> {
 
 fn is_so_at_its_type(alloc: Global, kind: Kind, row: &Row) -> Result<(), Fail> {
     match kind {
-        Kind::Algorithm(kind) => algorithm_kinds!(at_type(kind, at, (alloc, row))),
-        Kind::Authenticode(kind) => authenticode_kinds!(at_type(kind, at, (alloc, row))),
-        Kind::Content(kind) => content_kinds!(at_type(kind, at, (alloc, row))),
-        Kind::Enveloped(kind) => enveloped_kinds!(at_type(kind, at, (alloc, row))),
-        Kind::SignedData(kind) => signed_data_kinds!(at_type(kind, at, (alloc, row))),
-        Kind::SignedPart(kind) => signed_part_kinds!(at_type(kind, at, (alloc, row))),
-        Kind::Store(kind) => store_kinds!(at_type(kind, at, (alloc, row))),
-        Kind::TrustList(kind) => trust_list_kinds!(at_type(kind, at, (alloc, row))),
+        Kind::Algorithm(kind) => algorithm(alloc, kind, row),
+        Kind::Authenticode(kind) => authenticode(alloc, kind, row),
+        Kind::Content(kind) => content(alloc, kind, row),
+        Kind::Enveloped(kind) => enveloped(alloc, kind, row),
+        Kind::SignedData(kind) => signed_data(alloc, kind, row),
+        Kind::SignedPart(kind) => signed_part(alloc, kind, row),
+        Kind::Store(kind) => store(alloc, kind, row),
+        Kind::TrustList(kind) => trust_list(alloc, kind, row),
     }
+}
+
+fn algorithm(alloc: Global, kind: AlgorithmKind, row: &Row) -> Result<(), Fail> {
+    algorithm_kinds!(at_type(kind, at, (alloc, row)))
+}
+
+fn authenticode(alloc: Global, kind: AuthenticodeKind, row: &Row) -> Result<(), Fail> {
+    authenticode_kinds!(at_type(kind, at, (alloc, row)))
+}
+
+fn content(alloc: Global, kind: ContentKind, row: &Row) -> Result<(), Fail> {
+    content_kinds!(at_type(kind, at, (alloc, row)))
+}
+
+fn enveloped(alloc: Global, kind: EnvelopedKind, row: &Row) -> Result<(), Fail> {
+    enveloped_kinds!(at_type(kind, at, (alloc, row)))
+}
+
+fn signed_data(alloc: Global, kind: SignedDataKind, row: &Row) -> Result<(), Fail> {
+    signed_data_kinds!(at_type(kind, at, (alloc, row)))
+}
+
+fn signed_part(alloc: Global, kind: SignedPartKind, row: &Row) -> Result<(), Fail> {
+    signed_part_kinds!(at_type(kind, at, (alloc, row)))
+}
+
+fn store(alloc: Global, kind: StoreKind, row: &Row) -> Result<(), Fail> {
+    store_kinds!(at_type(kind, at, (alloc, row)))
+}
+
+fn trust_list(alloc: Global, kind: TrustListKind, row: &Row) -> Result<(), Fail> {
+    trust_list_kinds!(at_type(kind, at, (alloc, row)))
 }
 
 /// Asks that what a MAC covers is looked for in what is accepted alone, and the rest refused alike.
