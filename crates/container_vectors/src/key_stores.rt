@@ -1,6 +1,7 @@
 //! What a reader of a key store asks of it.
 
 use asn1_core::from_bytes;
+use std::alloc::Global;
 use std::test::Fail;
 use vector_checks::checks::expect;
 use x509_containers::{
@@ -54,9 +55,13 @@ fn is_certificate(bags: &[&SafeBag]) -> Result<(), Fail> {
 #[test]
 fn a_key_and_its_certificate(rt: HostRuntime) -> Result<(), Fail> {
     let read: Pfx<ParsedAuthenticatedSafeDataRepr> = from_bytes(rt.alloc(), store())?;
-    let keys = read.keys(rt.alloc())?.len();
+    has_both(rt.alloc(), &read)
+}
+
+fn has_both(alloc: Global, read: &Pfx<ParsedAuthenticatedSafeDataRepr>) -> Result<(), Fail> {
+    let keys = read.keys(alloc)?.len();
     expect(keys == 1, "other keys")?;
-    let certificates = read.certificates(rt.alloc())?;
+    let certificates = read.certificates(alloc)?;
     is_certificate(certificates.as_slice())
 }
 

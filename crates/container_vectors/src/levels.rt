@@ -41,18 +41,34 @@ fn has_levels<T: DerDeserialize + EqualByText + TryClone>(
     expect(outcome.err() == Some(Error::TooDeep), "another refusal")
 }
 
+/// The contents in a bag of kind SafeContents.
+fn in_a_bag(alloc: Global, contents: SafeContents) -> Result<SafeContents, Error> {
+    let bag = SafeBag {
+        kind: SafeBagKind::SafeContents(contents),
+        attributes: None,
+    };
+    Ok(SafeContents(Vec::from_array(alloc, [bag])?))
+}
+
 /// Empty contents in that many bags of kind SafeContents.
 fn nested(alloc: Global, levels: u8) -> Result<SafeContents, Error> {
     let mut contents = SafeContents(Vec::new(alloc));
     for _ in 0..levels {
-        let mut bags = Vec::new(alloc);
-        bags.push(SafeBag {
-            kind: SafeBagKind::SafeContents(contents),
-            attributes: None,
-        })?;
-        contents = SafeContents(bags);
+        contents = in_a_bag(alloc, contents)?;
     }
     Ok(contents)
+}
+
+/// Asks besides for as many bags as levels.
+fn has_levels_of_bags(
+    alloc: Global,
+    contents: &SafeContents,
+    levels: u8,
+    size: usize,
+) -> Result<(), Fail> {
+    has_levels(alloc, contents, levels, size)?;
+    let bags = contents.all_bags(alloc)?;
+    expect(bags.len() == usize::from(levels), "other bags")
 }
 
 /// Values of any number of levels are written and cloned, and up to 64 levels are read.
@@ -60,9 +76,7 @@ fn nested(alloc: Global, levels: u8) -> Result<SafeContents, Error> {
 fn levels_of_bags(rt: HostRuntime) -> Result<(), Fail> {
     for (levels, size) in [(0u8, 2), (1, 21), (64, 1546), (65, 1571), (200, 4946)] {
         let contents = nested(rt.alloc(), levels)?;
-        has_levels(rt.alloc(), &contents, levels, size)?;
-        let bags = contents.all_bags(rt.alloc())?;
-        expect(bags.len() == usize::from(levels), "other bags")?;
+        has_levels_of_bags(rt.alloc(), &contents, levels, size)?;
     }
     Ok(())
 }

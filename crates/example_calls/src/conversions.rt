@@ -111,12 +111,16 @@ pub fn of_functions(rt: &HostRuntime) -> Result<(), Stop> {
     is_function(rt, Pbkdf2Prf::HmacWithSha512, texts::HMAC_WITH_SHA_512)
 }
 
-/// Defaults of Authenticode.
-pub fn of_defaults(rt: &HostRuntime) -> Result<(), Stop> {
+/// Defaults of links in Authenticode.
+pub fn of_default_links(rt: &HostRuntime) -> Result<(), Stop> {
     names(rt, "default_in", "SpcLink")?;
     is_made(SpcLink::default_in(rt.alloc()), texts::OBSOLETE_FILE)?;
     names(rt, "default_in", "File")?;
-    is_made(File::default_in(rt.alloc()), texts::OBSOLETE_FILE)?;
+    is_made(File::default_in(rt.alloc()), texts::OBSOLETE_FILE)
+}
+
+/// The other defaults of Authenticode.
+pub fn of_defaults(rt: &HostRuntime) -> Result<(), Stop> {
     names(rt, "default_in", "SpcSerializedObject")?;
     is_made(
         SpcSerializedObject::default_in(rt.alloc()),

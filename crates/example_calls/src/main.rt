@@ -30,6 +30,7 @@ fn calls(rt: &HostRuntime) -> Result<(), Stop> {
     conversions::of_encryptions(rt)?;
     conversions::of_digests(rt)?;
     conversions::of_functions(rt)?;
+    conversions::of_default_links(rt)?;
     conversions::of_defaults(rt)?;
     conversions::of_strings(rt)?;
     conversions::of_data(rt)?;
@@ -48,6 +49,7 @@ fn calls_without_memory(rt: &HostRuntime) -> Result<(), Stop> {
     without_memory::streams(rt)?;
     without_memory::reads(rt)?;
     without_memory::reader(rt)?;
+    without_memory::elements(rt)?;
     without_memory::representations(rt)?;
     without_memory::parts(rt)?;
     without_memory::covered(rt)?;
@@ -60,7 +62,8 @@ fn calls_without_memory(rt: &HostRuntime) -> Result<(), Stop> {
     without_memory::changed_bits(rt)?;
     without_memory::utc_times(rt)?;
     without_memory::general_times(rt)?;
-    without_memory::values(rt)?;
+    without_memory::store_values(rt)?;
+    without_memory::content_values(rt)?;
     without_memory::tags(rt)
 }
 

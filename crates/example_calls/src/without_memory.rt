@@ -54,14 +54,23 @@ pub fn algorithms(rt: &HostRuntime) -> Result<(), Stop> {
     has_text(&made, BY_SHA)
 }
 
+/// Asks for the parts of an algorithm identifier without parameters.
+fn has_algorithm(
+    rt: &HostRuntime,
+    made: &RawAlgorithmIdentifier,
+    octets: &[u8],
+) -> Result<(), Stop> {
+    names_free(rt, "RawAlgorithmIdentifier::algorithm and parameters")?;
+    expect(made.algorithm().octets() == octets, "another algorithm")?;
+    expect(made.parameters().is_none(), "parameters")
+}
+
 /// An algorithm identifier without parameters, and its getters.
 fn raw(rt: &HostRuntime, octets: &[u8]) -> Result<RawAlgorithmIdentifier, Stop> {
     let oid = oid(rt, octets)?;
     names_free(rt, "RawAlgorithmIdentifier::from_parts")?;
     let made = RawAlgorithmIdentifier::from_parts(oid, None);
-    names_free(rt, "RawAlgorithmIdentifier::algorithm and parameters")?;
-    expect(made.algorithm().octets() == octets, "another algorithm")?;
-    expect(made.parameters().is_none(), "parameters")?;
+    has_algorithm(rt, &made, octets)?;
     Ok(made)
 }
 
@@ -105,13 +114,18 @@ pub fn streams(rt: &HostRuntime) -> Result<(), Stop> {
     expect(sink.failures() == 0, "a failure of a sink")
 }
 
+/// Asks that no bytes are left after the value, which has this encoding.
+fn is_whole<T: DerDeserialize>(value: &T, left: usize, text: &[u8]) -> Result<(), Stop> {
+    expect(left == 0, "bytes are left")?;
+    has_text(value, text)
+}
+
 /// Asks that the encoding is read whole, as a value that has it.
 fn is_read<T: DerDeserialize>(rt: &HostRuntime, call: &str, text: &[u8]) -> Result<(), Stop> {
     names_free(rt, call)?;
     let mut r = Reader::new(text);
     let value = T::read(rt.alloc(), &mut r, 64)?;
-    expect(r.unread() == 0, "bytes are left")?;
-    has_text(&value, text)
+    is_whole(&value, r.unread(), text)
 }
 
 /// Reading of types that hold no lists.
@@ -127,16 +141,24 @@ pub fn reads(rt: &HostRuntime) -> Result<(), Stop> {
     is_read::<GeneralizedTimeAsn1>(rt, "GeneralizedTimeAsn1::read", text)
 }
 
-/// The calls of a reader.
+/// A SEQUENCE of the number 7, and NULL after it.
+const NUMBER_AND_NULL: &[u8] = b"\x30\x03\x02\x01\x07\x05\x00";
+
+/// A reader at the start of its input.
 pub fn reader(rt: &HostRuntime) -> Result<(), Stop> {
     names_free(rt, "Reader::new, peek, left, unread and from_header")?;
-    let mut r = Reader::new(b"\x30\x03\x02\x01\x07\x05\x00");
+    let r = Reader::new(NUMBER_AND_NULL);
     expect(r.peek() == Some(0x30) && r.left() == 7, "another input")?;
-    expect(r.unread() == 7 && r.from_header() == 7, "another place")?;
+    expect(r.unread() == 7 && r.from_header() == 7, "another place")
+}
+
+/// A reader that goes over the elements of its input.
+pub fn elements(rt: &HostRuntime) -> Result<(), Stop> {
     names_free(
         rt,
         "Reader::header, open, whole_element, end and headers_read",
     )?;
+    let mut r = Reader::new(NUMBER_AND_NULL);
     let (_, len) = r.header()?;
     let outer = r.open(len);
     let item = r.whole_element()?;
@@ -314,24 +336,50 @@ pub fn general_times(rt: &HostRuntime) -> Result<(), Stop> {
     expect(time.spelled() == *b"20500102030405Z", "other contents")
 }
 
-/// Asks what a value is, and sends it, into a sink that takes no memory.
-fn is_sent<T: EqualByText>(rt: &HostRuntime, value: &T, text: &[u8]) -> Result<(), Stop> {
+/// Asks that a value is well-formed, and equal to itself.
+fn is_well_formed<T: EqualByText>(rt: &HostRuntime, value: &T) -> Result<(), Stop> {
     names_free(rt, "well_formed, well_formed_at and ==")?;
     expect(
         value.well_formed() && value.well_formed_at(64),
         "an ill-formed value",
     )?;
-    expect(value == value, "a value differs from itself")?;
+    expect(value == value, "a value differs from itself")
+}
+
+/// Asks how long the encoding of a value is.
+fn has_size<T: EqualByText>(rt: &HostRuntime, value: &T, size: usize) -> Result<(), Stop> {
     names_free(rt, "encoded_len")?;
-    expect(value.encoded_len()? == text.len(), "another length")?;
+    expect(value.encoded_len()? == size, "another length")
+}
+
+/// Asks that a sink refused nothing, and holds this text.
+fn is_taken(is_accepted: bool, held: &[u8], text: &[u8]) -> Result<(), Stop> {
+    expect(is_accepted, "a refusal")?;
+    expect(held == text, "other bytes")
+}
+
+/// Sends a value by `write_to` into a sink that takes no memory.
+fn is_written_to<T: EqualByText>(rt: &HostRuntime, value: &T, text: &[u8]) -> Result<(), Stop> {
     names_free(rt, "write_to")?;
     let mut sink = InMemory::new();
-    expect(write_to(value, &mut sink).is_ok(), "a refusal")?;
-    expect(sink.bytes() == text, "other bytes")?;
+    let is_accepted = write_to(value, &mut sink).is_ok();
+    is_taken(is_accepted, sink.bytes(), text)
+}
+
+/// Sends a value by `emit` into a sink that takes no memory.
+fn is_emitted<T: EqualByText>(rt: &HostRuntime, value: &T, text: &[u8]) -> Result<(), Stop> {
     names_free(rt, "emit")?;
     let mut sink = InMemory::new();
-    expect(value.emit(&mut sink).is_ok(), "a refusal")?;
-    expect(sink.bytes() == text, "other bytes")
+    let is_accepted = value.emit(&mut sink).is_ok();
+    is_taken(is_accepted, sink.bytes(), text)
+}
+
+/// Asks what a value is, and sends it, into sinks that take no memory.
+fn is_sent<T: EqualByText>(rt: &HostRuntime, value: &T, text: &[u8]) -> Result<(), Stop> {
+    is_well_formed(rt, value)?;
+    has_size(rt, value, text.len())?;
+    is_written_to(rt, value, text)?;
+    is_emitted(rt, value, text)
 }
 
 fn of_value<T: DerDeserialize + EqualByText>(
@@ -344,11 +392,15 @@ fn of_value<T: DerDeserialize + EqualByText>(
     is_sent(rt, &value, text)
 }
 
-/// Values of each layer.
-pub fn values(rt: &HostRuntime) -> Result<(), Stop> {
+/// Values of PKCS #12.
+pub fn store_values(rt: &HostRuntime) -> Result<(), Stop> {
     of_value::<MacData>(rt, "MacData", texts::MAC_DATA)?;
     of_value::<RawPfx>(rt, "RawPfx", texts::NAMED_KEY)?;
-    of_value::<Pfx<ParsedAuthenticatedSafeDataRepr>>(rt, "Pfx", texts::STORE)?;
+    of_value::<Pfx<ParsedAuthenticatedSafeDataRepr>>(rt, "Pfx", texts::STORE)
+}
+
+/// Values of PKCS #7 and Authenticode.
+pub fn content_values(rt: &HostRuntime) -> Result<(), Stop> {
     of_value::<SignedData>(rt, "SignedData", texts::EMPTY_LISTS)?;
     of_value::<SpcPeImageData>(rt, "SpcPeImageData", texts::PAGE_RESOURCES)?;
     let name = "GeneralProtectionDescriptor";

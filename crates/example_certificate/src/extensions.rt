@@ -56,40 +56,48 @@ fn list_alternative_names(rt: &HostRuntime, octets: &[u8]) -> Result<(), ListErr
     names::list_names(rt, "alternative name", &names)
 }
 
+fn is_cloned_so<T: DerDeserialize + TryClone + PartialEq>(
+    alloc: Global,
+    value: &T,
+    octets: &[u8],
+) -> Result<bool, Error> {
+    let clone = value.try_clone(alloc)?;
+    Ok(clone == *value && to_vec(alloc, &clone)?.as_slice() == octets)
+}
+
 /// Whether the octets are what a clone of the value is written as, and the clone equals the value.
 pub fn is_written_so<T: DerDeserialize + TryClone + PartialEq>(
     alloc: Global,
     octets: &[u8],
 ) -> Result<bool, Error> {
     let value: T = from_bytes(alloc, octets)?;
-    let clone = value.try_clone(alloc)?;
-    Ok(clone == value && to_vec(alloc, &clone)?.as_slice() == octets)
+    is_cloned_so(alloc, &value, octets)
 }
 
 /// The same, of a value of the type that the object identifier says. `None` where the example knows none.
 fn is_normal(alloc: Global, id: &ObjectIdentifier, octets: &[u8]) -> Result<Option<bool>, Error> {
     let normal = if is_oid_of(id, &ID_CE_KEY_USAGE) {
-        is_written_so::<KeyUsage>(alloc, octets)?
+        is_written_so::<KeyUsage>(alloc, octets)
     } else if is_oid_of(id, &ID_CE_BASIC_CONSTRAINTS) {
-        is_written_so::<BasicConstraints>(alloc, octets)?
+        is_written_so::<BasicConstraints>(alloc, octets)
     } else if is_oid_of(id, &ID_CE_SUBJECT_ALT_NAME) {
-        is_written_so::<SubjectAltName>(alloc, octets)?
+        is_written_so::<SubjectAltName>(alloc, octets)
     } else if is_oid_of(id, &ID_CE_AUTHORITY_KEY_IDENTIFIER) {
-        is_written_so::<AuthorityKeyIdentifier>(alloc, octets)?
+        is_written_so::<AuthorityKeyIdentifier>(alloc, octets)
     } else if is_oid_of(id, &ID_CE_SUBJECT_KEY_IDENTIFIER) {
-        is_written_so::<SubjectKeyIdentifier>(alloc, octets)?
+        is_written_so::<SubjectKeyIdentifier>(alloc, octets)
     } else if is_oid_of(id, &ID_CE_CRL_DISTRIBUTION_POINTS) {
-        is_written_so::<CrlDistributionPoints>(alloc, octets)?
+        is_written_so::<CrlDistributionPoints>(alloc, octets)
     } else if is_oid_of(id, &ID_CE_CERTIFICATE_POLICIES) {
-        is_written_so::<CertificatePolicies>(alloc, octets)?
+        is_written_so::<CertificatePolicies>(alloc, octets)
     } else if is_oid_of(id, &ID_CE_EXT_KEY_USAGE) {
-        is_written_so::<ExtKeyUsageSyntax>(alloc, octets)?
+        is_written_so::<ExtKeyUsageSyntax>(alloc, octets)
     } else if is_oid_of(id, &ID_PE_AUTHORITY_INFO_ACCESS) {
-        is_written_so::<AuthorityInfoAccessSyntax>(alloc, octets)?
+        is_written_so::<AuthorityInfoAccessSyntax>(alloc, octets)
     } else {
         return is_rare_normal(alloc, id, octets);
     };
-    Ok(Some(normal))
+    Ok(Some(normal?))
 }
 
 fn is_rare_normal(
@@ -98,23 +106,23 @@ fn is_rare_normal(
     octets: &[u8],
 ) -> Result<Option<bool>, Error> {
     let normal = if is_oid_of(id, &ID_CE_NAME_CONSTRAINTS) {
-        is_written_so::<NameConstraints>(alloc, octets)?
+        is_written_so::<NameConstraints>(alloc, octets)
     } else if is_oid_of(id, &ID_CE_POLICY_CONSTRAINTS) {
-        is_written_so::<PolicyConstraints>(alloc, octets)?
+        is_written_so::<PolicyConstraints>(alloc, octets)
     } else if is_oid_of(id, &ID_CE_POLICY_MAPPINGS) {
-        is_written_so::<PolicyMappings>(alloc, octets)?
+        is_written_so::<PolicyMappings>(alloc, octets)
     } else if is_oid_of(id, &ID_CE_INHIBIT_ANY_POLICY) {
-        is_written_so::<InhibitAnyPolicy>(alloc, octets)?
+        is_written_so::<InhibitAnyPolicy>(alloc, octets)
     } else if is_oid_of(id, &ID_CE_ISSUER_ALT_NAME) {
-        is_written_so::<IssuerAltName>(alloc, octets)?
+        is_written_so::<IssuerAltName>(alloc, octets)
     } else if is_oid_of(id, &ID_CE_PRIVATE_KEY_USAGE_PERIOD) {
-        is_written_so::<PrivateKeyUsagePeriod>(alloc, octets)?
+        is_written_so::<PrivateKeyUsagePeriod>(alloc, octets)
     } else if is_oid_of(id, &ID_CE_SUBJECT_DIRECTORY_ATTRIBUTES) {
-        is_written_so::<SubjectDirectoryAttributes>(alloc, octets)?
+        is_written_so::<SubjectDirectoryAttributes>(alloc, octets)
     } else {
         return is_revocation_normal(alloc, id, octets);
     };
-    Ok(Some(normal))
+    Ok(Some(normal?))
 }
 
 /// The same of extensions of revocation lists and of their entries.
@@ -124,23 +132,23 @@ fn is_revocation_normal(
     octets: &[u8],
 ) -> Result<Option<bool>, Error> {
     let normal = if is_oid_of(id, &ID_CE_CRL_NUMBER) {
-        is_written_so::<CrlNumber>(alloc, octets)?
+        is_written_so::<CrlNumber>(alloc, octets)
     } else if is_oid_of(id, &ID_CE_DELTA_CRL_INDICATOR) {
-        is_written_so::<BaseCrlNumber>(alloc, octets)?
+        is_written_so::<BaseCrlNumber>(alloc, octets)
     } else if is_oid_of(id, &ID_CE_CRL_REASONS) {
-        is_written_so::<CrlReason>(alloc, octets)?
+        is_written_so::<CrlReason>(alloc, octets)
     } else if is_oid_of(id, &ID_CE_INVALIDITY_DATE) {
-        is_written_so::<InvalidityDate>(alloc, octets)?
+        is_written_so::<InvalidityDate>(alloc, octets)
     } else if is_oid_of(id, &ID_CE_ISSUING_DISTRIBUTION_POINT) {
-        is_written_so::<IssuingDistributionPoint>(alloc, octets)?
+        is_written_so::<IssuingDistributionPoint>(alloc, octets)
     } else if is_oid_of(id, &ID_CE_CERTIFICATE_ISSUER) {
-        is_written_so::<CertificateIssuer>(alloc, octets)?
+        is_written_so::<CertificateIssuer>(alloc, octets)
     } else if is_oid_of(id, &ID_CE_FRESHEST_CRL) {
-        is_written_so::<FreshestCrl>(alloc, octets)?
+        is_written_so::<FreshestCrl>(alloc, octets)
     } else {
         return Ok(None);
     };
-    Ok(Some(normal))
+    Ok(Some(normal?))
 }
 
 /// An object identifier with dots, and its name, where it has one.

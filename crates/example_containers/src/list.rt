@@ -1,17 +1,15 @@
 //! Lists what a PKCS #12 file holds, in DER or in BER as NSS writes it, without its password: each bag, those in bags too,
 //! the contents that are encrypted, the MAC, and how many octets that covers.
 
-use crate::{ExampleError, print_octets};
+use crate::{ExampleError, Store, print_octets};
 use pkcs12_ber::{BerPfx, read_ber_pfx};
 use std::alloc::Global;
 use x509_containers::{
     AuthenticatedSafeContentInfo, BmpString, CertificateBag, CrlBag, Error,
     ParsedAuthenticatedSafeDataRepr, Pbes2EncryptionScheme, Pbes2KeyDerivationFunc, Pbes2Params,
-    Pfx, Pkcs12EncryptionAlgorithm, RawPfx, SafeBag, SafeBagKind, SafeContentsContentInfo,
-    from_bytes, to_vec,
+    Pkcs12EncryptionAlgorithm, RawPfx, SafeBag, SafeBagKind, SafeContentsContentInfo, from_bytes,
+    to_vec,
 };
-
-type Store = Pfx<ParsedAuthenticatedSafeDataRepr>;
 
 fn pbes2_text(alloc: Global, params: &Pbes2Params) -> Result<String, Error> {
     let scheme = match &params.encryption_scheme {

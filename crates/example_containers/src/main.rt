@@ -18,7 +18,13 @@ use std::env::args;
 use std::process::ExitCode;
 use std::{fs, io};
 use thiserror::Error as ThisError;
-use x509_containers::{DerSerialize, DigestInfo, Error, StdSink, StringError, write_to};
+use x509_containers::{
+    DerSerialize, DigestInfo, Error, ParsedAuthenticatedSafeDataRepr, Pfx, StdSink, StringError,
+    write_to,
+};
+
+/// A PKCS #12 file with parsed bags.
+pub type Store = Pfx<ParsedAuthenticatedSafeDataRepr>;
 
 /// Why a program ended.
 #[derive(Debug, Drop, ThisError)]
@@ -55,11 +61,21 @@ pub fn print_octets(rt: &HostRuntime, before: &str, octets: &[u8]) -> Result<(),
     Ok(())
 }
 
+/// Octets after the text of an algorithm.
+fn print_after(rt: &HostRuntime, algorithm: &str, octets: &[u8]) -> Result<(), ExampleError> {
+    print!(rt; "  {algorithm}")?;
+    print_octets(rt, " ", octets)
+}
+
 /// A digest after its algorithm in dotted form.
 pub fn print_digest(rt: &HostRuntime, info: &DigestInfo) -> Result<(), ExampleError> {
     let algorithm = info.oid.algorithm().to_text(rt.alloc())?;
-    print!(rt; "  {algorithm}")?;
-    print_octets(rt, " ", &info.digest.0)
+    print_after(rt, algorithm.as_str(), &info.digest.0)
+}
+
+/// Writes a value as it is.
+pub fn write_out<T: DerSerialize>(rt: &HostRuntime, value: &T) -> Result<(), ExampleError> {
+    write_to(value, &mut StdSink::new(rt.stdout())).map_err(|_| ExampleError::Output)
 }
 
 /// Writes a value, where it is well-formed: another one might not be read again.
@@ -67,7 +83,7 @@ pub fn send<T: DerSerialize>(rt: &HostRuntime, value: &T) -> Result<(), ExampleE
     if !value.well_formed() {
         return Err(ExampleError::IllFormed);
     }
-    write_to(value, &mut StdSink::new(rt.stdout())).map_err(|_| ExampleError::Output)
+    write_out(rt, value)
 }
 
 /// What lists what a file holds.

@@ -1,14 +1,11 @@
 //! Renames bags of a PKCS #12 file without a MAC, those in bags too.
 
-use crate::ExampleError;
+use crate::{ExampleError, Store, write_out};
 use std::alloc::Global;
 use x509_containers::{
-    AuthenticatedSafeContentInfo, BmpString, Error, ParsedAuthenticatedSafeDataRepr, Pfx,
-    Pkcs12Attribute, SafeBag, SafeBagKind, SafeContents, SafeContentsContentInfo, StdSink,
-    StringError, TryClone, from_bytes, write_to,
+    AuthenticatedSafeContentInfo, BmpString, Error, Pkcs12Attribute, SafeBag, SafeBagKind,
+    SafeContents, SafeContentsContentInfo, StringError, TryClone, from_bytes,
 };
-
-type Store = Pfx<ParsedAuthenticatedSafeDataRepr>;
 
 /// The name that is looked for, and the one that takes its place.
 #[derive(Drop)]
@@ -18,19 +15,30 @@ struct Names {
 }
 
 impl Names {
+    /// Whether one of the attributes was the old name.
+    fn rename_attributes(
+        &self,
+        alloc: Global,
+        attributes: &mut Vec<Pkcs12Attribute>,
+    ) -> Result<bool, Error> {
+        let mut found = false;
+        for attribute in attributes.iter_mut() {
+            if let Pkcs12Attribute::FriendlyName(name) = attribute {
+                if *name == self.old {
+                    *name = self.new.try_clone(alloc)?;
+                    found = true;
+                }
+            }
+        }
+        Ok(found)
+    }
+
     /// Whether the bag, or one in it, had the old name.
     #[cycle(rename)]
     fn rename_bag(&self, alloc: Global, bag: &mut SafeBag) -> Result<bool, Error> {
         let mut found = false;
         if let Some(attributes) = &mut bag.attributes {
-            for attribute in attributes.iter_mut() {
-                if let Pkcs12Attribute::FriendlyName(name) = attribute {
-                    if *name == self.old {
-                        *name = self.new.try_clone(alloc)?;
-                        found = true;
-                    }
-                }
-            }
+            found |= self.rename_attributes(alloc, attributes)?;
         }
         if let SafeBagKind::SafeContents(held) = &mut bag.kind {
             found |= self.rename_bags(alloc, held)?;
@@ -69,10 +77,11 @@ fn send_renamed(rt: &HostRuntime, names: &Names, pfx: &mut Store) -> Result<(), 
     if !rename_store(names, rt.alloc(), pfx)? {
         return Err(ExampleError::NoSuchName);
     }
-    write_to(pfx, &mut StdSink::new(rt.stdout())).map_err(|_| ExampleError::Output)
+    write_out(rt, pfx)
 }
 
-fn both(alloc: Global, old: &str, new: &str) -> Result<Names, StringError> {
+/// The names of these texts.
+fn names_of(alloc: Global, old: &str, new: &str) -> Result<Names, StringError> {
     let old = BmpString::from_text(alloc, old)?;
     let new = BmpString::from_text(alloc, new)?;
     Ok(Names { old, new })
@@ -85,5 +94,5 @@ fn send_file(rt: &HostRuntime, names: &Names, file: &[u8]) -> Result<(), Example
 
 /// Writes the file with each bag of the old name under the new one.
 pub fn rename(rt: &HostRuntime, old: &str, new: &str, file: &[u8]) -> Result<(), ExampleError> {
-    send_file(rt, &both(rt.alloc(), old, new)?, file)
+    send_file(rt, &names_of(rt.alloc(), old, new)?, file)
 }

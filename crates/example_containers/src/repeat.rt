@@ -49,6 +49,42 @@ fn repeat_as<T: DerDeserialize + TryClone>(
     }
 }
 
+/// Does it to a value of the type of PKCS #7 or CMS that has this word.
+fn repeat_content(
+    alloc: Global,
+    word: &str,
+    operation: &str,
+    count: u32,
+    file: &[u8],
+) -> Result<(), ExampleError> {
+    match word {
+        "encapsulatedcontentinfo" => {
+            repeat_as::<EncapsulatedContentInfo>(alloc, operation, count, file)
+        }
+        "pkcs7certificate" => repeat_as::<Pkcs7Certificate>(alloc, operation, count, file),
+        "envelopeddata" => repeat_as::<EnvelopedData>(alloc, operation, count, file),
+        "certificatelist" => repeat_as::<CertificateList>(alloc, operation, count, file),
+        _ => Err(ExampleError::Usage),
+    }
+}
+
+/// Does it to a value of the type of PKCS #12 that has this word, or of another type.
+fn repeat_word(
+    alloc: Global,
+    word: &str,
+    operation: &str,
+    count: u32,
+    file: &[u8],
+) -> Result<(), ExampleError> {
+    match word {
+        "rawpfx" => repeat_as::<RawPfx>(alloc, operation, count, file),
+        "pfx" => repeat_as::<Pfx<ParsedAuthenticatedSafeDataRepr>>(alloc, operation, count, file),
+        "macdata" => repeat_as::<MacData>(alloc, operation, count, file),
+        "safecontents" => repeat_as::<SafeContents>(alloc, operation, count, file),
+        _ => repeat_content(alloc, word, operation, count, file),
+    }
+}
+
 /// Does it to a value of the type that `derbox` knows by this word.
 pub fn repeat(
     alloc: Global,
@@ -60,17 +96,5 @@ pub fn repeat(
     let Ok(count) = count.parse::<u32>() else {
         return Err(ExampleError::Usage);
     };
-    match word {
-        "rawpfx" => repeat_as::<RawPfx>(alloc, operation, count, file),
-        "pfx" => repeat_as::<Pfx<ParsedAuthenticatedSafeDataRepr>>(alloc, operation, count, file),
-        "macdata" => repeat_as::<MacData>(alloc, operation, count, file),
-        "safecontents" => repeat_as::<SafeContents>(alloc, operation, count, file),
-        "encapsulatedcontentinfo" => {
-            repeat_as::<EncapsulatedContentInfo>(alloc, operation, count, file)
-        }
-        "pkcs7certificate" => repeat_as::<Pkcs7Certificate>(alloc, operation, count, file),
-        "envelopeddata" => repeat_as::<EnvelopedData>(alloc, operation, count, file),
-        "certificatelist" => repeat_as::<CertificateList>(alloc, operation, count, file),
-        _ => Err(ExampleError::Usage),
-    }
+    repeat_word(alloc, word, operation, count, file)
 }

@@ -13,15 +13,23 @@ use x509_containers::{
 /// How often the key derivation of the MAC hashes.
 const ITERATIONS: u32 = 2048;
 
-/// A friendly name and a local key identifier, sorted as DER has a SET OF: by their encodings.
-fn attributes(
+/// Whether the encoding of an attribute is less than that of another.
+fn is_first(
     alloc: Global,
-    name: &BmpString,
-    key_id: &[u8],
+    attribute: &Pkcs12Attribute,
+    other: &Pkcs12Attribute,
+) -> Result<bool, Error> {
+    let is_less = to_vec(alloc, attribute)? < to_vec(alloc, other)?;
+    Ok(is_less)
+}
+
+/// Both attributes, sorted as DER has a SET OF: by their encodings.
+fn in_order(
+    alloc: Global,
+    name: Pkcs12Attribute,
+    key_id: Pkcs12Attribute,
 ) -> Result<Vec<Pkcs12Attribute>, Error> {
-    let name = Pkcs12Attribute::FriendlyName(name.try_clone(alloc)?);
-    let key_id = Pkcs12Attribute::LocalKeyId(OctetStringAsn1(Vec::from_slice(alloc, key_id)?));
-    let is_name_first = to_vec(alloc, &name)? < to_vec(alloc, &key_id)?;
+    let is_name_first = is_first(alloc, &name, &key_id)?;
     let sorted = if is_name_first {
         [name, key_id]
     } else {
@@ -30,12 +38,19 @@ fn attributes(
     Ok(Vec::from_array(alloc, sorted)?)
 }
 
-fn cloned(alloc: Global, attributes: &[Pkcs12Attribute]) -> Result<Vec<Pkcs12Attribute>, Error> {
-    let mut all = Vec::new(alloc);
-    for attribute in attributes {
-        all.push(attribute.try_clone(alloc)?)?;
-    }
-    Ok(all)
+/// A friendly name and a local key identifier, in order.
+fn attributes(
+    alloc: Global,
+    name: &BmpString,
+    key_id: &[u8],
+) -> Result<Vec<Pkcs12Attribute>, Error> {
+    let name = name.try_clone(alloc)?;
+    let key_id = OctetStringAsn1(Vec::from_slice(alloc, key_id)?);
+    in_order(
+        alloc,
+        Pkcs12Attribute::FriendlyName(name),
+        Pkcs12Attribute::LocalKeyId(key_id),
+    )
 }
 
 fn content_of(
@@ -58,7 +73,7 @@ fn store(
     attributes: Vec<Pkcs12Attribute>,
 ) -> Result<Pfx<ParsedAuthenticatedSafeDataRepr>, Error> {
     let certificate = SafeBagKind::Certificate(CertificateBag::X509(OctetStringAsn1(certificate)));
-    let certificate = content_of(alloc, certificate, cloned(alloc, &attributes)?)?;
+    let certificate = content_of(alloc, certificate, attributes.try_clone(alloc)?)?;
     let key = content_of(alloc, SafeBagKind::Key(Asn1RawDer(key)), attributes)?;
     Ok(Pfx {
         version: 3,

@@ -5,41 +5,55 @@ use crate::rows::Row;
 use std::alloc::Global;
 use std::test::Fail;
 
-/// Certificates, revocation lists and what they hold.
+/// Certificates and what they hold, and after them revocation lists.
 fn certificates(alloc: Global, word: &str, row: &Row) -> Option<Result<(), Fail>> {
     Some(match word {
         "rfc5280::Certificate" => at::<rfc5280::Certificate>(alloc, row),
-        "rfc5280::CertificateList" => at::<rfc5280::CertificateList>(alloc, row),
         "rfc5280::DirectoryString" => at::<rfc5280::DirectoryString>(alloc, row),
         "rfc5280::RelativeDistinguishedName" => at::<rfc5280::RelativeDistinguishedName>(
             alloc, row,
         ),
         "rfc5280::SubjectPublicKeyInfo" => at::<rfc5280::SubjectPublicKeyInfo>(alloc, row),
+        "rfc5280::TbsCertificate" => at::<rfc5280::TbsCertificate>(alloc, row),
+        "rfc5280::Validity" => at::<rfc5280::Validity>(alloc, row),
+        _ => return revocation_lists(alloc, word, row),
+    })
+}
+
+/// Revocation lists and what they hold.
+fn revocation_lists(alloc: Global, word: &str, row: &Row) -> Option<Result<(), Fail>> {
+    Some(match word {
+        "rfc5280::CertificateList" => at::<rfc5280::CertificateList>(alloc, row),
         "rfc5280::TbsCertList" => at::<rfc5280::TbsCertList>(alloc, row),
         "rfc5280::TbsCertListRevokedCertificates" => at::<rfc5280::TbsCertListRevokedCertificates>(
             alloc, row,
         ),
-        "rfc5280::TbsCertificate" => at::<rfc5280::TbsCertificate>(alloc, row),
-        "rfc5280::Validity" => at::<rfc5280::Validity>(alloc, row),
         _ => return None,
     })
 }
 
-/// General names, and extensions that hold them.
+/// General names, and after them extensions that hold them.
 fn names(alloc: Global, word: &str, row: &Row) -> Option<Result<(), Fail>> {
     Some(match word {
-        "rfc5280::AccessDescription" => at::<rfc5280::AccessDescription>(alloc, row),
         "rfc5280::AnotherName" => at::<rfc5280::AnotherName>(alloc, row),
-        "rfc5280::AuthorityInfoAccessSyntax" => at::<rfc5280::AuthorityInfoAccessSyntax>(
-            alloc, row,
-        ),
-        "rfc5280::AuthorityKeyIdentifier" => at::<rfc5280::AuthorityKeyIdentifier>(alloc, row),
         "rfc5280::EdiPartyName" => at::<rfc5280::EdiPartyName>(alloc, row),
         "rfc5280::GeneralName" => at::<rfc5280::GeneralName>(alloc, row),
         "rfc5280::GeneralNames" => at::<rfc5280::GeneralNames>(alloc, row),
         "rfc5280::GeneralSubtree" => at::<rfc5280::GeneralSubtree>(alloc, row),
-        "rfc5280::NameConstraints" => at::<rfc5280::NameConstraints>(alloc, row),
         "rfc5280::OrAddress" => at::<rfc5280::OrAddress>(alloc, row),
+        _ => return name_extensions(alloc, word, row),
+    })
+}
+
+/// Extensions that hold general names.
+fn name_extensions(alloc: Global, word: &str, row: &Row) -> Option<Result<(), Fail>> {
+    Some(match word {
+        "rfc5280::AccessDescription" => at::<rfc5280::AccessDescription>(alloc, row),
+        "rfc5280::AuthorityInfoAccessSyntax" => at::<rfc5280::AuthorityInfoAccessSyntax>(
+            alloc, row,
+        ),
+        "rfc5280::AuthorityKeyIdentifier" => at::<rfc5280::AuthorityKeyIdentifier>(alloc, row),
+        "rfc5280::NameConstraints" => at::<rfc5280::NameConstraints>(alloc, row),
         _ => return None,
     })
 }
@@ -108,28 +122,42 @@ fn requests(alloc: Global, word: &str, row: &Row) -> Option<Result<(), Fail>> {
     })
 }
 
-/// What an OCSP responder returns, and values of extensions.
+/// What an OCSP responder returns, and after it what that signs.
 fn responses(alloc: Global, word: &str, row: &Row) -> Option<Result<(), Fail>> {
     Some(match word {
-        "rfc6960::AcceptableResponses" => at::<rfc6960::AcceptableResponses>(alloc, row),
         "rfc6960::BasicOcspResponse" => at::<rfc6960::BasicOcspResponse>(alloc, row),
         "rfc6960::BasicResponseBytes" => at::<rfc6960::BasicResponseBytes>(alloc, row),
-        "rfc6960::CertStatus" => at::<rfc6960::CertStatus>(alloc, row),
-        "rfc6960::CrlId" => at::<rfc6960::CrlId>(alloc, row),
         "rfc6960::OcspResponse" => at::<rfc6960::OcspResponse>(alloc, row),
         "rfc6960::OcspResponseStatus" => at::<rfc6960::OcspResponseStatus>(alloc, row),
+        "rfc6960::ResponseBytes" => at::<rfc6960::ResponseBytes>(alloc, row),
+        _ => return statuses(alloc, word, row),
+    })
+}
+
+/// What an OCSP responder signs, and after it values of extensions.
+fn statuses(alloc: Global, word: &str, row: &Row) -> Option<Result<(), Fail>> {
+    Some(match word {
+        "rfc6960::CertStatus" => at::<rfc6960::CertStatus>(alloc, row),
+        "rfc6960::ResponderId" => at::<rfc6960::ResponderId>(alloc, row),
+        "rfc6960::ResponseData" => at::<rfc6960::ResponseData>(alloc, row),
+        "rfc6960::RevokedInfo" => at::<rfc6960::RevokedInfo>(alloc, row),
+        "rfc6960::SingleResponse" => at::<rfc6960::SingleResponse>(alloc, row),
+        _ => return ocsp_extensions(alloc, word, row),
+    })
+}
+
+/// Values of extensions of OCSP.
+fn ocsp_extensions(alloc: Global, word: &str, row: &Row) -> Option<Result<(), Fail>> {
+    Some(match word {
+        "rfc6960::AcceptableResponses" => at::<rfc6960::AcceptableResponses>(alloc, row),
+        "rfc6960::CrlId" => at::<rfc6960::CrlId>(alloc, row),
         "rfc6960::PreferredSignatureAlgorithm" => at::<rfc6960::PreferredSignatureAlgorithm>(
             alloc, row,
         ),
         "rfc6960::PreferredSignatureAlgorithms" => at::<rfc6960::PreferredSignatureAlgorithms>(
             alloc, row,
         ),
-        "rfc6960::ResponderId" => at::<rfc6960::ResponderId>(alloc, row),
-        "rfc6960::ResponseBytes" => at::<rfc6960::ResponseBytes>(alloc, row),
-        "rfc6960::ResponseData" => at::<rfc6960::ResponseData>(alloc, row),
-        "rfc6960::RevokedInfo" => at::<rfc6960::RevokedInfo>(alloc, row),
         "rfc6960::ServiceLocator" => at::<rfc6960::ServiceLocator>(alloc, row),
-        "rfc6960::SingleResponse" => at::<rfc6960::SingleResponse>(alloc, row),
         _ => return None,
     })
 }

@@ -54,17 +54,21 @@ const MESSAGE_DIGEST: &[u8] = b"\x2A\x86\x48\x86\xF7\x0D\x01\x09\x04";
 
 const TIME: &[u8] = b"\x17\x0D210420065224Z";
 
+fn is_written_as<T: DerSerialize>(alloc: Global, value: &T, text: &[u8]) -> Result<(), Fail> {
+    let octets = to_vec(alloc, value)?;
+    expect(octets.as_slice() == text, "another encoding")
+}
+
 /// Asks that a value is found, with this encoding.
 fn is_found<T: DerSerialize + Drop>(
     alloc: Global,
     found: Option<T>,
     text: &[u8],
 ) -> Result<(), Fail> {
-    let Some(value) = found else {
-        return Err(Fail::new("nothing is found"));
-    };
-    let octets = to_vec(alloc, &value)?;
-    expect(octets.as_slice() == text, "another encoding")
+    match found {
+        Some(value) => is_written_as(alloc, &value, text),
+        None => Err(Fail::new("nothing is found")),
+    }
 }
 
 /// Each by its name, and all as the signature covers them.

@@ -134,8 +134,17 @@ fn is_signature(
     hashes: &[u8],
 ) -> Result<(), Fail> {
     let read: Pkcs7Certificate = from_bytes(alloc, signature)?;
-    has_nested(alloc, &read.signed_data.0, nested)?;
-    has_hashes(&read.signed_data.0.content_info, hashes)
+    has_both(alloc, &read.signed_data.0, nested, hashes)
+}
+
+fn has_both(
+    alloc: Global,
+    signed: &SignedData,
+    nested: Option<&[u8]>,
+    hashes: &[u8],
+) -> Result<(), Fail> {
+    has_nested(alloc, signed, nested)?;
+    has_hashes(&signed.content_info, hashes)
 }
 
 fn has_hashes(info: &EncapsulatedContentInfo, wanted: &[u8]) -> Result<(), Fail> {
