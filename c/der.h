@@ -1,12 +1,13 @@
 /* Checks and rewritings of DER, the parts of containers that a verifier needs, as octets, those of certificates and of
- * the contents of signed data, and conversions of BER to DER: the static library der_c. Only der_from_ber takes BER.
- * Pass every other call what it wrote, and der_mac_ber and der_mac_part_ber where the MAC of a PKCS #12 file is to be
- * verified.
+ * the contents of signed data, the parameters of encryption with a password, and conversions of BER to DER: the static
+ * library der_c. Only der_from_ber takes BER. Pass every other call what it wrote, and der_mac_ber and der_mac_part_ber
+ * where the MAC of a PKCS #12 file is to be verified.
  *
  * What is proved of its calls der_check_word_limited, der_rewrite_word_limited, der_kind_word, der_part_octets,
  * der_signer_rows, der_part_ranges, der_attribute_ranges, der_mac_range, der_mac, der_from_ber, der_mac_ber,
  * der_mac_part_ber, der_name_text, der_oid_text, der_oid_name, der_integer_text, der_utf16_text, der_bag_rows,
- * der_certificate, der_indirect, der_trust_list and der_trust_rows, for all inputs, and what isn't:
+ * der_certificate, der_indirect, der_trust_list, der_trust_rows and der_password_parameters, for all inputs, and what
+ * isn't:
  *  - A call answers no status but those that are listed at it. What it writes into numbers and into out is as said
  *    below.
  *  - DER_NORMAL, DER_LOOSE, DER_UNKNOWN_KIND, DER_NO_ROOM, DER_NO_RANGE and DER_NO_PART are true where they are
@@ -28,7 +29,7 @@
  *    that can be read and written.
  *  - A pointer to a number is aligned as a size_t is, and what it points to can be written. out of der_signer_rows,
  *    der_bag_rows, der_trust_rows and the calls for ranges points to out_len structs and not bytes, that of
- *    der_certificate, der_indirect and der_trust_list to one, and is aligned so too.
+ *    der_certificate, der_indirect, der_trust_list and der_password_parameters to one, and is aligned so too.
  *  - The string kind ends in a zero byte.
  *  - out and each number overlap nothing else that is passed, and not one another.
  *  - While a call runs nothing else reads or writes out or the numbers, and nothing writes word or input: no other
@@ -82,7 +83,7 @@ const char *der_processor(void);
 typedef enum der_status {
   DER_NORMAL = 0,       /* the input is normal; of a call that writes more than a length: it is done */
   DER_LOOSE = 1,        /* the input has another encoding, which is normal */
-  DER_UNKNOWN_KIND = 2, /* no kind has that word, or that index; no part has that number */
+  DER_UNKNOWN_KIND = 2, /* no kind has that word, or that index; no part, or no holder, has that number */
   DER_MALFORMED = 3,    /* 3 to 6: the input is no encoding of the kind: bytes that are no element, or too many */
   DER_MISSING = 4,      /* an element isn't there */
   DER_INVALID = 5,      /* a tag, version, object identifier, character or number that can't be there */
@@ -377,6 +378,80 @@ typedef struct der_trust_entry_parts {
 DER_CALL
 uint32_t der_trust_rows(const uint8_t *input, size_t input_len, der_trust_entry_parts *out, size_t out_len,
                         size_t *count, size_t *place);
+
+/* What the input of der_password_parameters is. */
+typedef enum der_password_holder {
+  DER_HOLDER_ALGORITHM = 0, /* an AlgorithmIdentifier */
+  DER_HOLDER_KEY = 1,       /* an EncryptedPrivateKeyInfo (RFC 5958, 3): the value of a bag of kind
+                               DER_BAG_SHROUDED_KEY, or the DER of a file "ENCRYPTED PRIVATE KEY" of PKCS #8 */
+  DER_HOLDER_CONTENTS = 2   /* a ContentInfo of encryptedData (RFC 2315, 13; RFC 5652, 8, of version 0 and without
+                               attributes): the element of a row of kind DER_BAG_UNREAD, where it is one */
+} der_password_holder;
+
+/* How data is encrypted with a password. A number that isn't there is 0, and a range 0 and 0. */
+typedef struct der_password_parts {
+  size_t has_parameters;            /* 1: the algorithm has parameters */
+  size_t is_pbes1;                  /* 1: the algorithm is one of the six of RFC 8018, A.3, which are
+                                       1.2.840.113549.1.5.1, .3, .4, .6, .10 and .11, and they read as PBEParameter,
+                                       with a salt of any length */
+  size_t is_pkcs12;                 /* 1: the algorithm is one of pkcs-12PbeIds, which are 1.2.840.113549.1.12.1.1 to
+                                       .6, and they read as pkcs-12PbeParams (RFC 7292, C) */
+  size_t is_pbes2;                  /* 1: the algorithm is id-PBES2, and they read as PBES2-params (RFC 8018, A.4) */
+  size_t has_derivation_parameters; /* 1: of PBES2, the key derivation has parameters */
+  size_t is_pbkdf2;                 /* 1: of PBES2, the key derivation is id-PBKDF2, and its parameters read as
+                                       PBKDF2-params (RFC 8018, A.2) */
+  size_t has_salt;                  /* 1: there is a salt: of PBES1 and PKCS #12 always, of PBKDF2 where it is specified
+                                       and doesn't come from another source */
+  size_t has_key_length;            /* 1: of PBKDF2, keyLength is there */
+  size_t has_prf;                   /* 1: of PBKDF2, prf is there; where it is left out, it is HMAC with SHA-1 */
+  size_t has_encryption_parameters; /* 1: of PBES2, the encryption scheme has parameters */
+  size_t has_initialization_vector; /* 1: these read as OCTET STRING, as those of AES, DES and triple DES in CBC mode */
+  size_t has_encrypted;             /* 1: the input has what is encrypted: of a key always, of contents unless they are
+                                       elsewhere, of an algorithm never */
+  size_t iterations;                /* of PBES1, PKCS #12 and PBKDF2: the iteration count, below 2^32; it may be 0 */
+  size_t key_length;                /* of PBKDF2: keyLength, in octets, below 2^32 */
+  der_range algorithm;              /* the contents octets of the algorithm's object identifier: see der_oid_name */
+  der_range parameters;             /* the element of its parameters, whatever is in it */
+  der_range derivation;             /* of PBES2: the contents octets of the key derivation's object identifier */
+  der_range derivation_parameters;  /* the element of its parameters, whatever is in it */
+  der_range salt;                   /* the octets of the salt */
+  der_range prf;                    /* of PBKDF2: the contents octets of the object identifier in prf */
+  der_range encryption;             /* of PBES2: the contents octets of the encryption scheme's object identifier */
+  der_range encryption_parameters;  /* the element of its parameters, whatever is in it */
+  der_range initialization_vector;  /* the octets of that OCTET STRING */
+  der_range encrypted;              /* the octets of encryptedData, or of encryptedContent */
+} der_password_parts;
+
+/* How data is encrypted with a password: the parameters of RFC 8018 and RFC 7292, as numbers and ranges of the input.
+ * With them a caller opens a store by PBES1, by the algorithms of PKCS #12, or by PBES2 with PBKDF2 and a cipher whose
+ * parameters are its initialization vector, as AES in CBC mode, and reads no DER but what is decrypted. holder is a
+ * der_password_holder, which says what the input is. No key is derived, and nothing is decrypted. A flag says how the
+ * key is derived:
+ *  - is_pbes1: key and vector by PBKDF1, from the octets of the password as they are (RFC 8018, 5.1 and 6.1).
+ *  - is_pkcs12: key and vector as RFC 7292, B.2, says, from the password as a BMPString that ends in two zero octets.
+ *  - is_pbkdf2: the key by PBKDF2, from the octets of the password as they are (RFC 8018, 5.2 and 6.2).
+ * Nothing is judged, and all of it is what the file says: limit the count before a key is derived, and compare
+ * key_length and the length of initialization_vector with what the cipher takes before they are used. A vector that is
+ * empty, or of 3 octets, is given as it is, and EVP_DecryptInit_ex reads a whole block from there.
+ *  - DER_NORMAL: *out has the numbers and the ranges. Other algorithms are given as their object identifier and as the
+ *    element of their parameters, whatever is in it, and have neither salt nor count: AES in GCM and CCM mode, PBMAC1,
+ *    PBKDF2 outside of PBES2, and in PBES2 scrypt and RC2. So are parameters with a part in BER that isn't DER, and
+ *    those with a count or a length that is negative, or 2^32 or more. Parameters of the PRF are only in
+ *    derivation_parameters.
+ *  - DER_UNKNOWN_KIND: no holder has that number.
+ *  - DER_MALFORMED to DER_TOO_DEEP: the input isn't what the holder says, and *place says where, as of der_locate. An
+ *    AlgorithmIdentifier is a SEQUENCE of an object identifier and one element of any type, which may be absent, and is
+ *    malformed where its tag has several octets; an EncryptedPrivateKeyInfo is a SEQUENCE of an AlgorithmIdentifier and
+ *    an OCTET STRING; a ContentInfo of encryptedData one of the object identifier 1.2.840.113549.1.7.6 and, in [0], a
+ *    SEQUENCE of the INTEGER 0 and EncryptedContentInfo, which is a SEQUENCE of any object identifier, an
+ *    AlgorithmIdentifier, and an implicit [0] OCTET STRING, which may be absent.
+ *  - DER_NO_MEMORY: *place is an offset without use.
+ * Unless at DER_NORMAL all of *out is 0, and but for the refusals and DER_NO_MEMORY *place is 0. Proved is that each
+ * range is the place of that part itself, not only of equal octets, that numbers are those of the parameters, and that
+ * a part isn't there only where the input doesn't read as is said at its field; which place a refusal has is tested. */
+DER_CALL
+uint32_t der_password_parameters(size_t holder, const uint8_t *input, size_t input_len, der_password_parts *out,
+                                 size_t *place);
 
 /* Which octets of a PKCS #12 file a MAC covers: the contents octets of the OCTET STRING that is the content of
  * authSafe, without its tag and length.

@@ -13,11 +13,12 @@ from loaded import script  # noqa: E402
 
 calls = script(built.TOP / "tools/calls")
 C, PYTHON, RUST, FILE = calls.HEADER, calls.PYTHON, calls.RUST, calls.FILE
-NAMES, CHECK = "python/vuyhanip/der.py", "rust/tests/check.rs"
+NAMES, HOLDERS, CHECK = "python/vuyhanip/der.py", "rust/src/passwords.rs", "rust/tests/check.rs"
 STATUS, BAGS, LISTS, MACS, LIB = (f"crates/der_c/src/{name}.rt" for name in ("status", "bags", "lists", "macs", "lib"))
 CERTIFICATES = "crates/der_c/src/certificates.rt"
 SIGNERS, PARTS, PARTS_IN_SPECS = "crates/der_c/src/signers.rt", *(path for path, *_ in calls.LISTED)
 RANGES_IN_SPECS = "crates/der_c/specs/Ranges.antt"
+PASSWORDS, PASSWORDS_IN_SPECS = "crates/der_c/src/passwords.rt", "crates/der_c/specs/Passwords.antt"
 # What tools/calls reads.
 READ = (FILE, C, PYTHON, NAMES, "rust/src/*.rs", CHECK, "crates/der_c/src/*.rt", "crates/der_c/specs/*.antt", PARTS,
         PARTS_IN_SPECS, *calls.LEVELS)
@@ -59,6 +60,10 @@ BY_HAND = {
     "C, the last status": (C, "<= DER_BAD_ATTRIBUTES ?", "<= DER_NO_PART ?", "DER_BAD_ATTRIBUTES"),
     "Python, a name": (NAMES, " ISSUER = _calls.PART_ISSUER", " ISSUER = _calls.PART_SIGNATURE", "ISSUER", NAMES),
     "Python, no name": (NAMES, "    OTHER_CRL = _calls.BAG_OTHER_CRL\n", "", "DER_BAG_OTHER_CRL", f"{NAMES}:1"),
+    "Python, a holder": (NAMES, " KEY = _calls.HOLDER_KEY", " KEY = _calls.HOLDER_CONTENTS", "KEY", NAMES),
+    "Python, no holder": (
+        NAMES, "    ALGORITHM = _calls.HOLDER_ALGORITHM\n", "", "DER_HOLDER_ALGORITHM", f"{NAMES}:1"),
+    "Rust, a holder": (HOLDERS, "Key = calls::HOLDER_KEY", "Key = calls::HOLDER_CONTENTS", "Key"),
     "Rust, a name": ("rust/src/lib.rs", "Issuer = calls::PART_ISSUER", "Issuer = calls::PART_SIGNATURE", "Issuer"),
     "Rust, a kind": ("rust/src/bags.rs", "BAG_CRL => BagKind::Crl", "BAG_CRL => BagKind::OtherCrl", "OtherCrl"),
     "Rust, no name": ("rust/src/ranges.rs", "calls::PART_RECIPIENT", "16", "DER_PART_RECIPIENT", "rust/src/bags.rs:1"),
@@ -78,6 +83,8 @@ BY_HAND = {
     "proved, another call": (MACS, '"C" fn der_mac(', '"C" fn der_any_mac(', "der_any_mac"),
     "proved, a kind": (BAGS, "BagKind::Crl => 4,", "BagKind::Crl => 5,", "DER_BAG_CRL"),
     "specs, a kind": ("crates/der_c/specs/Bags.antt", "kind_number Crl = 4", "kind_number Crl = 5", "DER_BAG_CRL"),
+    "proved, a holder": (PASSWORDS, "1 => Some(Holder::Key)", "3 => Some(Holder::Key)", "DER_HOLDER_KEY"),
+    "specs, a holder": (PASSWORDS_IN_SPECS, "number_of Key = 1", "number_of Key = 3", "DER_HOLDER_KEY"),
     "proved, a part": (LISTS, "16 => Some(", "19 => Some(", "DER_PART_RECIPIENT"),
     "specs, a part": (RANGES_IN_SPECS, "number_of Recipients = 16", "number_of Recipients = 19", "DER_PART_RECIPIENT"),
     "proved, a number": (LISTS, "CERTIFICATES: usize = 1;", "CERTIFICATES: usize = 2;", "DER_PART_CERTIFICATE", LISTS),

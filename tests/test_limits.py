@@ -48,6 +48,7 @@ WANTED = {
     "indirect": {0, 3, 4, 5, 8, 11},
     "trust_list": {0, 3, 4, 5, 8, 11},
     "trust_rows": {0, 3, 4, 5, 8, 9, 11},
+    "password": {0, 2, 3, 4, 5, 8},
     "integer_text": {0, 5, 8, 9},
 }
 
@@ -209,6 +210,13 @@ def lines_on_a_trust_list(text):
     return lines + (listed("trust_rows", len(rows)) if status == NORMAL else [("trust_rows", status, 0, where)])
 
 
+def lines_on_passwords(text):
+    """The lines on parameters of encryption with a password, of each holder, and of a number that no holder has."""
+    holders = [holder.value for holder in der.PasswordHolder]
+    said = [answers.password(number, text) for number in (*holders, len(holders))]
+    return [("password", status, where) for status, _, where in said]
+
+
 def lines_on_an_integer(text):
     """The lines on the number that the first octets of an input hold."""
     contents = text[:INTEGER_OCTETS]
@@ -225,7 +233,7 @@ def lines_on(status, size, text):
     lines += [*lines_on_parts(text), *mac_lines, *lines_on_texts(text), *lines_on_signers(text)]
     lines += [*lines_on_ranges(text), *lines_on_attributes(text), *lines_on_bags(text)]
     lines += [*lines_on_a_certificate(text), *lines_on_indirect_data(text), *lines_on_a_trust_list(text)]
-    return lines + lines_on_an_integer(text)
+    return [*lines, *lines_on_passwords(text), *lines_on_an_integer(text)]
 
 
 class TestLimits(Comparing):

@@ -2,17 +2,18 @@
 octet for octet, and openssl opens it with a MAC that Python's hashlib makes; enveloped data are openssl's octet for
 octet, and openssl decrypts what was encrypted outside; certificates as signed data likewise; and time stamps, digests of
 programs, trust lists and revocation lists beside what openssl and osslsigncode say of them. And c/examples/digest.c
-over signatures of a program and of a cabinet, beside what osslsigncode says, and over signed data by hand; and
-c/examples/entries.c over trust lists that openssl makes, and by hand."""
+over signatures of a program and of a cabinet, beside what osslsigncode says, and over signed data by hand;
+c/examples/entries.c over trust lists that openssl makes, and by hand; and c/examples/parameters.c over stores of
+openssl, by what it was asked for, and by hand."""
 import functools
 import random
 import re
 import unittest
 from pathlib import Path
 
-from support import built, inputs, macs, making, oids, tools
+from support import built, encrypted, inputs, macs, making, oids, tools
 from support.cases import Comparing
-from support.containers import SHA256
+from support.containers import SHA256, bare_bag, store_of
 from support.elements import at, contents, octet_string, parts, sequence
 from support.inputs import CABINET, IMAGE, MAY_BE_ABSENT, TRUST_LIST, trust_entry, trust_list
 from support.making import put, run
@@ -27,7 +28,9 @@ PASSWORD, ITERATIONS = "test", 2048
 NAMES = "a", "Größe", "x" * 40
 SIZES = 0, 1, 16, 1000, 70000
 MONTHS = "Jan Feb Mar Apr May Jun Jul Aug Sep Oct Nov Dec".split()
-DIGEST_IN_C, ENTRIES_IN_C = built.TOP / "c/examples/digest.c", built.TOP / "c/examples/entries.c"
+DIGEST_IN_C, ENTRIES_IN_C, PARAMETERS_IN_C = (
+    built.TOP / f"c/examples/{name}.c" for name in ("digest", "entries", "parameters")
+)
 # How many octets these have room for, which read one less, and what they say where there is nothing to say.
 MOST_IN_C = 1 << 22
 NO_DIGEST, NO_LIST = (f"no {what}: the content has another type" for what in ("digest of a file", "trust list"))
@@ -441,6 +444,55 @@ class TrustLists(InC):
             return inputs.signed_over(TRUST_LIST, trust_list(entries=sequence(trust_entry(bytes(length)))))
 
         self.reads_less_than_its_room(ENTRIES_IN_C, of, lambda length: entry_lines(["00" * length]))
+
+
+class Parameters(InC):
+    """How a store is encrypted."""
+
+    def example_agrees(self, by=None):
+        """Compares what it says of stores by hand, also of an object identifier with a number that 64 bits don't hold,
+        which has no dotted form, and of what is no store."""
+        self.says(PARAMETERS_IN_C, [(made, (0, lines)) for made, lines in encrypted.stores_of_examples()], by)
+        key = encrypted.encrypted_key(encrypted.algorithm(f"1.2.{2 ** 64}"))
+        signed = inputs.signed_over("data")
+        self.says(PARAMETERS_IN_C, [
+            (store_of(bare_bag("shrouded key bag", key)), (0, ["key: unknown"])),
+            (signed, (1, [f"refused: invalid at {signed.index(oids.oid('signed data'))}"])),
+            (b"", (1, ["refused: missing at 0"])),
+        ], by)
+
+    def test_it_is_that_of_stores_by_hand(self):
+        self.example_agrees()
+
+    @needs("gcc", "clang")
+    def test_the_example_that_clang_builds_says_so_too(self):
+        self.example_agrees("clang")
+
+    def test_it_is_that_which_the_page_shows(self):
+        ended, lines = said_in_c(PARAMETERS_IN_C, built.TOP / "crates/example_containers/data/store.p12")
+        shown_there = "\n".join(["```text", *lines, "```"]) in (built.TOP / "docs/USING.md").read_text("utf-8")
+        self.same((ended, shown_there), (0, True), "docs/USING.md", lines)
+
+    def test_it_is_that_which_openssl_was_asked_for(self):
+        """The salts are as long as openssl has them."""
+        making.certificate("one")
+        by_aes = ", ".join(["PBES2, PBKDF2", "{} iterations", r"salt of \d+ octets", "hmacWithSHA256", "aes-{}-cbc"])
+        by_des = "pbeWithSHA1And3-KeyTripleDES-CBC, 2048 iterations, salt of 8 octets"
+        for options, contents_said, key_said in (
+            ("-certpbe AES-256-CBC -keypbe AES-128-CBC -iter 7", by_aes.format(7, 256), by_aes.format(7, 128)),
+            ("-certpbe PBE-SHA1-3DES -keypbe PBE-SHA1-3DES", by_des, by_des),
+        ):
+            making.store("store", options)
+            ended, lines = said_in_c(PARAMETERS_IN_C, "store")
+            wanted = f"contents: {contents_said}\nkey: {key_said}"
+            self.same((ended, bool(re.fullmatch(wanted, "\n".join(lines)))), (0, True), options, lines)
+
+    def test_of_a_file_that_is_longer_than_the_example_reads_it_says_nothing(self):
+        def of(length):
+            return store_of(bare_bag("shrouded key bag", encrypted.encrypted_key(encrypted.pkcs12(), bytes(length))))
+
+        line = "key: pbeWithSHA1And3-KeyTripleDES-CBC, 2048 iterations, salt of 8 octets"
+        self.reads_less_than_its_room(PARAMETERS_IN_C, of, lambda length: (0, [line]))
 
 
 if __name__ == "__main__":

@@ -16,15 +16,16 @@ enum { LONGEST_INTEGER = 24 };
 /* The calls, by the word that begins their lines. */
 typedef enum {
   CHECK, LOCATE, LOOSE_END, REWRITE, MAC, MAC_NUMBERS, FROM_BER, MAC_BER, MAC_PART_BER, NAME, OID, OID_NAME, PART, KIND,
-  SIGNERS, SIGNER, RANGES, ATTRIBUTES, BAGS, CERTIFICATE, INDIRECT, TRUST_LIST, TRUST_ROWS, INTEGER, UTF16
+  SIGNERS, SIGNER, RANGES, ATTRIBUTES, BAGS, CERTIFICATE, INDIRECT, TRUST_LIST, TRUST_ROWS, PASSWORD, INTEGER, UTF16
 } call;
 static const char *const calls[] = {
     "check",     "locate",   "loose_end", "rewrite", "mac",  "mac_numbers", "from_ber", "mac_ber", "mac_part_ber",
     "name_text", "oid_text", "oid_name",  "part",    "kind", "signers",     "signer",   "ranges",
-    "attributes", "bags", "certificate", "indirect", "trust_list", "trust_rows", "integer_text", "utf16_text"};
+    "attributes", "bags", "certificate", "indirect", "trust_list", "trust_rows", "password", "integer_text",
+    "utf16_text"};
 
-/* What a call is given: the index of a kind or of a signer, or the number of a part, where it takes one, and a limit if
- * there is one. */
+/* What a call is given: the index of a kind or of a signer, or the number of a part or of a holder, where it takes one,
+ * and a limit if there is one. */
 typedef struct {
   const char *kind;
   const uint8_t *input;
@@ -138,6 +139,15 @@ static der_status one_trust_list(const given *its, uint8_t *out, size_t *place) 
   return status;
 }
 
+/* Makes the call for parameters of encryption with a password. Unless at DER_NORMAL all that it writes is 0. */
+static der_status one_password(const given *its, uint8_t *out, size_t *place) {
+  der_password_parts *parts = (der_password_parts *)(void *)out, nothing = {0};
+  der_status status = (der_status)der_password_parameters(its->index, its->input, its->len, parts, place);
+  if (!memcmp(parts, &nothing, sizeof nothing) != (status != DER_NORMAL))
+    fault(PASSWORD, "it writes what isn't the holder's, or nothing of it");
+  return status;
+}
+
 /* Makes a call, with so many bytes of out between marks. */
 static answer made(call it, const given *its, uint8_t *room, size_t out_len) {
   number first = {MARKS, MARKS, MARKS}, second = {MARKS, numbers_of(it) > 1 ? MARKS : 0, MARKS};
@@ -245,6 +255,10 @@ static answer made(call it, const given *its, uint8_t *room, size_t out_len) {
     if (said.status == DER_NORMAL)
       written = first.it * sizeof(der_trust_entry_parts);
     break;
+  case PASSWORD:
+    said.status = one_password(its, out, &first.it);
+    written = sizeof(der_password_parts);
+    break;
   }
   said.first = first.it;
   said.second = second.it;
@@ -261,11 +275,15 @@ static answer made(call it, const given *its, uint8_t *room, size_t out_len) {
   return said;
 }
 
+/* Whether a call writes one struct, and then a place as its only number. */
+static int fills(call it) {
+  return it == SIGNER || it == CERTIFICATE || it == INDIRECT || it == TRUST_LIST || it == PASSWORD;
+}
+
 /* Whether the numbers are 0, but for a place, which has no use where memory is refused. */
 static int is_without_use(call it, const answer *said) {
   const int has_place = it == FROM_BER || it == PART || lists(it);
-  const int begins_with_place = it == SIGNER || it == CERTIFICATE || it == INDIRECT || it == TRUST_LIST;
-  return (!said->first || begins_with_place) && (!said->second || has_place) && !said->third;
+  return (!said->first || fills(it)) && (!said->second || has_place) && !said->third;
 }
 
 /* Makes a call, says what it answers, and then refuses its requests for memory in turn. */
@@ -369,6 +387,12 @@ static void ranges(given *its, uint8_t *room) {
     listed(ATTRIBUTES, its, room, sizeof(der_range));
 }
 
+/* Asks how the input is encrypted with a password, as each holder, and as a number that no holder has. */
+static void passwords(given *its, uint8_t *room) {
+  for (its->index = 0; its->index <= DER_HOLDER_CONTENTS + 1; its->index++)
+    tried(PASSWORD, its, room, sizeof(der_password_parts));
+}
+
 int main(int count, char **words) {
   static uint8_t input[LONGEST];
   static _Alignas(der_signer_parts) uint8_t room[MARGIN + 2 * LONGEST + MARGIN];
@@ -414,6 +438,7 @@ int main(int count, char **words) {
   tried(INDIRECT, &its, room, sizeof(der_indirect_parts));
   tried(TRUST_LIST, &its, room, sizeof(der_trust_list_parts));
   listed(TRUST_ROWS, &its, room, sizeof(der_trust_entry_parts));
+  passwords(&its, room);
   its.len = its.len < LONGEST_INTEGER ? its.len : LONGEST_INTEGER;
   text(INTEGER, &its, room);
   return 0;

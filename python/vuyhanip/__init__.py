@@ -11,6 +11,7 @@ command `vuyhanip` over files, which is `python -m vuyhanip` too.
     library.indirect(data)          an IndirectData: which digest an Authenticode signature has, and of what; or None
     library.trust_list(data)        a TrustList: what a trust list is for, its number, times and algorithm; or None
     library.trust_entries(data)     each TrustEntry of a trust list: its identifier and attributes; or None
+    library.password_parameters(data, PasswordHolder.KEY)   PasswordParameters: how a key is encrypted with a password
     vuyhanip.mac_verdict(data, password).is_right   whether the MAC of a store is right, as the program openssl says
 
 help(vuyhanip.der) says what each call does. An installed package has the library for C in its folder, and its version.
@@ -35,6 +36,8 @@ from .der import (
     Library,
     Mac,
     Part,
+    PasswordHolder,
+    PasswordParameters,
     Refused,
     SignedData,
     Signer,
@@ -53,9 +56,9 @@ if TYPE_CHECKING:
     from .findings import Finding
 
 __all__ = ["MAX_NESTING", "BadAttributes", "Bag", "BagKind", "Certificate", "EnvelopePart", "ImageData"]
-__all__ += ["IndirectData", "Library", "Mac", "Part", "Refused", "SignedData", "Signer", "SignerInfo", "Store"]
-__all__ += ["TrustEntry", "TrustList", "UnknownKind", "Verdict", "attribute_oid", "attribute_values", "dotted"]
-__all__ += ["library", "mac_verdict"]
+__all__ += ["IndirectData", "Library", "Mac", "Part", "PasswordHolder", "PasswordParameters", "Refused", "SignedData"]
+__all__ += ["Signer", "SignerInfo", "Store", "TrustEntry", "TrustList", "UnknownKind", "Verdict", "attribute_oid"]
+__all__ += ["attribute_values", "dotted", "library", "mac_verdict"]
 
 _HERE = os.path.dirname(os.path.realpath(__file__))
 

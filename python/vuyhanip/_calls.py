@@ -53,6 +53,11 @@ BAG_UNREAD: Final = 7
 BAG_OTHER_CERTIFICATE: Final = 8
 BAG_OTHER_CRL: Final = 9
 
+# der_password_holder
+HOLDER_ALGORITHM: Final = 0
+HOLDER_KEY: Final = 1
+HOLDER_CONTENTS: Final = 2
+
 
 class Range(ctypes.Structure):
     """A der_range."""
@@ -225,6 +230,61 @@ class TrustEntryParts(ctypes.Structure):
     attributes: Range
 
 
+class PasswordParts(ctypes.Structure):
+    """A der_password_parts."""
+
+    _fields_ = [
+        ("has_parameters", ctypes.c_size_t),
+        ("is_pbes1", ctypes.c_size_t),
+        ("is_pkcs12", ctypes.c_size_t),
+        ("is_pbes2", ctypes.c_size_t),
+        ("has_derivation_parameters", ctypes.c_size_t),
+        ("is_pbkdf2", ctypes.c_size_t),
+        ("has_salt", ctypes.c_size_t),
+        ("has_key_length", ctypes.c_size_t),
+        ("has_prf", ctypes.c_size_t),
+        ("has_encryption_parameters", ctypes.c_size_t),
+        ("has_initialization_vector", ctypes.c_size_t),
+        ("has_encrypted", ctypes.c_size_t),
+        ("iterations", ctypes.c_size_t),
+        ("key_length", ctypes.c_size_t),
+        ("algorithm", Range),
+        ("parameters", Range),
+        ("derivation", Range),
+        ("derivation_parameters", Range),
+        ("salt", Range),
+        ("prf", Range),
+        ("encryption", Range),
+        ("encryption_parameters", Range),
+        ("initialization_vector", Range),
+        ("encrypted", Range),
+    ]
+    has_parameters: int
+    is_pbes1: int
+    is_pkcs12: int
+    is_pbes2: int
+    has_derivation_parameters: int
+    is_pbkdf2: int
+    has_salt: int
+    has_key_length: int
+    has_prf: int
+    has_encryption_parameters: int
+    has_initialization_vector: int
+    has_encrypted: int
+    iterations: int
+    key_length: int
+    algorithm: Range
+    parameters: Range
+    derivation: Range
+    derivation_parameters: Range
+    salt: Range
+    prf: Range
+    encryption: Range
+    encryption_parameters: Range
+    initialization_vector: Range
+    encrypted: Range
+
+
 # What calls answer, and what they take.
 STATUS = ctypes.c_uint32
 _BYTE, _SIZE = ctypes.c_uint8, ctypes.c_size_t
@@ -242,6 +302,7 @@ ARGUMENTS: Dict[str, Tuple[object, ...]] = {
     "der_indirect": (_OCTETS, _SIZE, ctypes.POINTER(IndirectParts), _NUMBER),
     "der_trust_list": (_OCTETS, _SIZE, ctypes.POINTER(TrustListParts), _NUMBER),
     "der_trust_rows": (_OCTETS, _SIZE, ctypes.POINTER(TrustEntryParts), _SIZE, _NUMBER, _NUMBER),
+    "der_password_parameters": (_SIZE, _OCTETS, _SIZE, ctypes.POINTER(PasswordParts), _NUMBER),
     "der_mac_range": (_OCTETS, _SIZE, _NUMBER, _NUMBER),
     "der_mac": (_OCTETS, _SIZE, _NUMBER, _NUMBER, _NUMBER),
     "der_from_ber": (_OCTETS, _SIZE, _OCTETS, _SIZE, _NUMBER, _NUMBER),

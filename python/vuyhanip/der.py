@@ -17,6 +17,7 @@ DER, from Python.
     library.indirect(signed)         an IndirectData: which digest an Authenticode signature has, and of what; or None
     library.trust_list(signed)       a TrustList: what a trust list is for, its number, times and algorithm; or None
     library.trust_entries(signed)    all TrustEntry(identifier=.., attributes=..) of a trust list; or None
+    library.password_parameters(key, PasswordHolder.KEY)   PasswordParameters: how a key is encrypted with a password
     library.from_ber(data)           the DER of an input in BER, as bytes
     library.mac_ber(der)             as mac, of a file that from_ber returned
     library.kinds()                  ["macdata", ..]
@@ -85,6 +86,19 @@ DIGESTS = {
     "2.16.840.1.101.3.4.2.9": "sha3_384",
     "2.16.840.1.101.3.4.2.10": "sha3_512",
 }
+
+# The digests of pseudorandom functions (RFC 8018, B.1), by the object identifiers of these, as hashlib names them; and
+# the function where PBKDF2 names none.
+PRFS = {
+    "1.2.840.113549.2.7": "sha1",
+    "1.2.840.113549.2.8": "sha224",
+    "1.2.840.113549.2.9": "sha256",
+    "1.2.840.113549.2.10": "sha384",
+    "1.2.840.113549.2.11": "sha512",
+    "1.2.840.113549.2.12": "sha512_224",
+    "1.2.840.113549.2.13": "sha512_256",
+}
+HMAC_WITH_SHA1 = "1.2.840.113549.2.7"
 
 Bytes = Union[bytes, bytearray, memoryview]
 # The octets of an input as they are kept.
@@ -629,6 +643,92 @@ class TrustEntry(NamedTuple):
         return TrustEntry, _plain(self)
 
 
+class PasswordHolder(enum.Enum):
+    """What the input of password_parameters is, by its number in der.h."""
+
+    # an AlgorithmIdentifier
+    ALGORITHM = _calls.HOLDER_ALGORITHM
+    # an EncryptedPrivateKeyInfo: what Store.encrypted_keys has, or the DER of a file "ENCRYPTED PRIVATE KEY" of PKCS #8
+    KEY = _calls.HOLDER_KEY
+    # a ContentInfo of encryptedData, of version 0 and without attributes: what Store.unread has may be one
+    CONTENTS = _calls.HOLDER_CONTENTS
+
+
+class PasswordParameters(NamedTuple):
+    """How data is encrypted with a password (RFC 8018; RFC 7292, C), as numbers, and as octets of the input. Nothing is
+    derived, decrypted or judged, and whoever made the input chose all of this: limit the count before a key is derived,
+    and compare key_length and the length of the vector with what the cipher takes.
+
+    A part may be empty, and is false then, as a number may be 0: compare with None.
+    """
+
+    # the contents octets of the algorithm's object identifier
+    algorithm: memoryview
+    # the element of its parameters, whatever is in it; None where there are none
+    parameters: Optional[memoryview]
+    # whether the algorithm is one of PBES1 (RFC 8018, A.3), and these read as PBEParameter: PBKDF1 derives the key, and
+    # the vector with it
+    is_pbes1: bool
+    # whether the algorithm is one of pkcs-12PbeIds, and these read as pkcs-12PbeParams: the key and the vector are
+    # derived as RFC 7292, B.2, says
+    is_pkcs12: bool
+    # whether the algorithm is id-PBES2, and they read as PBES2-params
+    is_pbes2: bool
+    # of PBES2, else None: the contents octets of the object identifier of the key derivation
+    derivation: Optional[memoryview]
+    # the element of its parameters; None where there are none
+    derivation_parameters: Optional[memoryview]
+    # whether the key derivation is id-PBKDF2, and these read as PBKDF2-params; it is looked at only within PBES2
+    is_pbkdf2: bool
+    # of PBES1, PKCS #12 and PBKDF2, else None: the octets of the salt; None also where PBKDF2 has another source of it
+    salt: Optional[memoryview]
+    # of these three, else None: the iteration count
+    iterations: Optional[int]
+    # of PBKDF2, else None: the length of the key in octets; None also where it isn't said
+    key_length: Optional[int]
+    # of PBKDF2, else None: the contents octets of the object identifier of the pseudorandom function; where is_pbkdf2,
+    # None means HMAC with SHA-1
+    prf: Optional[memoryview]
+    # of PBES2, else None: the contents octets of the object identifier of the encryption scheme
+    encryption: Optional[memoryview]
+    # the element of its parameters; None where there are none
+    encryption_parameters: Optional[memoryview]
+    # the octets of these, where they read as OCTET STRING, as those of AES in CBC mode
+    initialization_vector: Optional[memoryview]
+    # what is encrypted: the octets of encryptedData or encryptedContent; None where there are none
+    encrypted: Optional[memoryview]
+
+    def __repr__(self) -> str:
+        return _shown(self, **self._asdict())
+
+    def __reduce__(self) -> Tuple[object, ...]:
+        return PasswordParameters, _plain(self)
+
+    @property
+    def algorithm_oid(self) -> str:
+        """The object identifier of the algorithm, as "1.2.840.113549.1.5.13", which is that of PBES2."""
+        return dotted(bytes(self.algorithm))
+
+    @property
+    def derivation_oid(self) -> Optional[str]:
+        """The object identifier of the key derivation, as "1.2.840.113549.1.5.12"; None unless it is PBES2."""
+        return None if self.derivation is None else dotted(bytes(self.derivation))
+
+    @property
+    def prf_oid(self) -> Optional[str]:
+        """The object identifier of the pseudorandom function, which prf_digest takes: where PBKDF2 names none, that of
+        HMAC with SHA-1. None unless it is PBKDF2.
+        """
+        if not self.is_pbkdf2:
+            return None
+        return HMAC_WITH_SHA1 if self.prf is None else dotted(bytes(self.prf))
+
+    @property
+    def encryption_oid(self) -> Optional[str]:
+        """The object identifier of the encryption scheme, as "2.16.840.1.101.3.4.1.42"; None unless it is PBES2."""
+        return None if self.encryption is None else dotted(bytes(self.encryption))
+
+
 def _number(contents: Optional[memoryview]) -> Optional[int]:
     """The number that the contents octets of an INTEGER hold, None where it isn't there."""
     return None if contents is None else int.from_bytes(contents, "big", signed=True)
@@ -725,6 +825,28 @@ def _trust_list(parts: _calls.TrustListParts, data: memoryview) -> TrustList:
 def _trust_entry(row: _calls.TrustEntryParts, data: memoryview) -> TrustEntry:
     """The entry of a trust list that has these parts."""
     return TrustEntry(_taken(row.identifier, data), _taken(row.attributes, data) if row.has_attributes else None)
+
+
+def _password_parameters(parts: _calls.PasswordParts, data: memoryview) -> PasswordParameters:
+    """The parameters that these parts are of."""
+    return PasswordParameters(
+        _taken(parts.algorithm, data),
+        _taken(parts.parameters, data) if parts.has_parameters else None,
+        bool(parts.is_pbes1),
+        bool(parts.is_pkcs12),
+        bool(parts.is_pbes2),
+        _taken(parts.derivation, data) if parts.is_pbes2 else None,
+        _taken(parts.derivation_parameters, data) if parts.has_derivation_parameters else None,
+        bool(parts.is_pbkdf2),
+        _taken(parts.salt, data) if parts.has_salt else None,
+        parts.iterations if parts.is_pbes1 or parts.is_pkcs12 or parts.is_pbkdf2 else None,
+        parts.key_length if parts.has_key_length else None,
+        _taken(parts.prf, data) if parts.has_prf else None,
+        _taken(parts.encryption, data) if parts.is_pbes2 else None,
+        _taken(parts.encryption_parameters, data) if parts.has_encryption_parameters else None,
+        _taken(parts.initialization_vector, data) if parts.has_initialization_vector else None,
+        _taken(parts.encrypted, data) if parts.has_encrypted else None,
+    )
 
 
 class Store:
@@ -1142,6 +1264,23 @@ class Library:
             _raise_for(status, "", place.value)
             room = count.value
 
+    def password_parameters(self, data: Bytes, holder: PasswordHolder) -> PasswordParameters:
+        """How data is encrypted with a password: the parameters of an algorithm, of an encrypted key, as
+        Store.encrypted_keys has it, or of encrypted contents, as those that Store.unread has. The holder says which of
+        these data are. With the parameters a caller opens a store by PBES1, by the algorithms of PKCS #12, or by PBES2
+        with PBKDF2 and AES in CBC mode, and reads no DER but what is decrypted.
+
+        The octets are memoryviews of data, and of a copy where data could be written. Raises Refused where data aren't
+        what the holder says; parameters of other algorithms, as those of scrypt, are no refusal.
+        """
+        octets = _octets(data)
+        parts, place = _calls.PasswordParts(), ctypes.c_size_t()
+        status = self._library.der_password_parameters(
+            PasswordHolder(holder).value, *_given(octets), ctypes.byref(parts), ctypes.byref(place)
+        )
+        _raise_for(status, "", place.value)
+        return _password_parameters(parts, memoryview(octets))
+
     def signed(self, data: Bytes) -> SignedData:
         """Signed data, with all that is in them. Raises Refused as signers does."""
         octets = _octets(data)
@@ -1273,6 +1412,14 @@ def attribute_values(attribute: memoryview) -> Tuple[memoryview, ...]:
 def digest_name(oid: str) -> Optional[str]:
     """The name in hashlib of a digest, where it has that digest."""
     name = DIGESTS.get(oid)
+    return name if name in hashlib.algorithms_available else None
+
+
+def prf_digest(oid: Optional[str]) -> Optional[str]:
+    """The name in hashlib of the digest of a pseudorandom function, where it has that digest: of HMAC with SHA-256
+    "sha256", which hashlib.pbkdf2_hmac takes. None of None.
+    """
+    name = None if oid is None else PRFS.get(oid)
     return name if name in hashlib.algorithms_available else None
 
 

@@ -53,6 +53,11 @@ pub const BAG_UNREAD: usize = 7;
 pub const BAG_OTHER_CERTIFICATE: usize = 8;
 pub const BAG_OTHER_CRL: usize = 9;
 
+// der_password_holder
+pub const HOLDER_ALGORITHM: usize = 0;
+pub const HOLDER_KEY: usize = 1;
+pub const HOLDER_CONTENTS: usize = 2;
+
 /// `der_range`
 #[repr(C)]
 #[derive(Clone, Copy, Default)]
@@ -156,6 +161,36 @@ pub struct TrustEntryParts {
     pub attributes: Range,
 }
 
+/// `der_password_parts`
+#[repr(C)]
+#[derive(Clone, Copy, Default)]
+pub struct PasswordParts {
+    pub has_parameters: usize,
+    pub is_pbes1: usize,
+    pub is_pkcs12: usize,
+    pub is_pbes2: usize,
+    pub has_derivation_parameters: usize,
+    pub is_pbkdf2: usize,
+    pub has_salt: usize,
+    pub has_key_length: usize,
+    pub has_prf: usize,
+    pub has_encryption_parameters: usize,
+    pub has_initialization_vector: usize,
+    pub has_encrypted: usize,
+    pub iterations: usize,
+    pub key_length: usize,
+    pub algorithm: Range,
+    pub parameters: Range,
+    pub derivation: Range,
+    pub derivation_parameters: Range,
+    pub salt: Range,
+    pub prf: Range,
+    pub encryption: Range,
+    pub encryption_parameters: Range,
+    pub initialization_vector: Range,
+    pub encrypted: Range,
+}
+
 extern "C" {
     pub fn der_check_word_limited(
         word: *const u8,
@@ -232,6 +267,13 @@ extern "C" {
         out: *mut TrustEntryParts,
         out_len: usize,
         count: *mut usize,
+        place: *mut usize,
+    ) -> u32;
+    pub fn der_password_parameters(
+        holder: usize,
+        input: *const u8,
+        input_len: usize,
+        out: *mut PasswordParts,
         place: *mut usize,
     ) -> u32;
     pub fn der_mac_range(input: *const u8, input_len: usize, start: *mut usize, len: *mut usize) -> u32;

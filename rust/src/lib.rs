@@ -1,6 +1,6 @@
 //! Safe calls of the library for C: checks and rewritings of DER, the parts of containers that a verifier needs, as
 //! octets, the certificates and signers of signed data, the bags of stores, the parts of certificates, of what
-//! Authenticode signs and of trust lists, and conversions of BER to DER.
+//! Authenticode signs and of trust lists, the parameters of encryption with a password, and conversions of BER to DER.
 //!
 //! ```
 //! // the shortest PKCS #12 file
@@ -20,6 +20,7 @@ mod bags;
 mod calls;
 mod certificates;
 mod contents;
+mod passwords;
 mod ranges;
 mod signers;
 mod trust_lists;
@@ -27,6 +28,7 @@ mod trust_lists;
 pub use bags::{bags, Bag, BagKind};
 pub use certificates::{certificate, Certificate, Key};
 pub use contents::{indirect, Image, Indirect};
+pub use passwords::{password_parameters, PasswordHolder, PasswordParameters};
 pub use ranges::{attributes, certificates, encrypted_content, encryption_algorithm, recipients};
 pub use signers::{signers, BadAttributes, Signer};
 pub use trust_lists::{trust_entries, trust_list, TrustEntry, TrustList};

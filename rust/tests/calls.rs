@@ -1,6 +1,6 @@
 //! Each call, over files that openssl made, whose offsets and octets are those that `openssl asn1parse` shows, and over
 //! examples of X.690.
-use vuyhanip::{BadAttributes, BagKind, Error, Part, Reason, Verdict};
+use vuyhanip::{BadAttributes, BagKind, Error, Part, PasswordHolder, Reason, Verdict};
 
 /// A key store.
 const STORE: &[u8] = include_bytes!("store.p12");
@@ -39,6 +39,17 @@ const LIST: [&[u8]; 9] = [
     &[0x30, 24, 0x30, 4, 4, 2, 7, 8, 0x30, 16, 4, 1, 9, 0x31, 11, 0x30, 9, 6, 3, 0x2A, 3, 5, 0x31, 2, 5, 0],
     &[0xA0, 2, 0x30, 0],
 ];
+/// Object identifiers of RFC 8018, and that of encrypted data.
+const PBES2: &[u8] = &[6, 9, 0x2A, 0x86, 0x48, 0x86, 0xF7, 0x0D, 1, 5, 13];
+const PBKDF2: &[u8] = &[6, 9, 0x2A, 0x86, 0x48, 0x86, 0xF7, 0x0D, 1, 5, 12];
+const PBE_MD5_DES: &[u8] = &[6, 9, 0x2A, 0x86, 0x48, 0x86, 0xF7, 0x0D, 1, 5, 3];
+const ENCRYPTED_DATA: &[u8] = &[6, 9, 0x2A, 0x86, 0x48, 0x86, 0xF7, 0x0D, 1, 7, 6];
+/// An algorithm of RFC 7292, C, and one of AES in GCM mode, whose parameters have the same form.
+const PBE_SHA1_RC2: &[u8] = &[6, 10, 0x2A, 0x86, 0x48, 0x86, 0xF7, 0x0D, 1, 12, 1, 6];
+const AES_GCM: &[u8] = &[6, 9, 0x60, 0x86, 0x48, 1, 0x65, 3, 4, 1, 46];
+/// Algorithms: one without parameters, and one with an OCTET STRING as these.
+const BARE: &[u8] = &[0x30, 5, 6, 3, 0x2A, 3, 4];
+const WITH_VECTOR: &[u8] = &[0x30, 9, 6, 3, 0x2A, 3, 5, 4, 2, 5, 6];
 /// A digest info without the NULL that its algorithm has in DER, up to the digest.
 const LOOSE: &[u8] = &[0x30, 0x1F, 0x30, 7, 6, 5, 0x2B, 0x0E, 3, 2, 0x1A, 4, 0x14];
 const NORMAL: &[u8] = &[0x30, 0x21, 0x30, 9, 6, 5, 0x2B, 0x0E, 3, 2, 0x1A, 5, 0, 4, 0x14];
@@ -98,6 +109,18 @@ fn signed_digest(attribute: &[&[u8]]) -> Vec<u8> {
 /// Signed data over a trust list that has these parts.
 fn signed_list(parts: &[&[u8]]) -> Vec<u8> {
     signed_over(&[TRUST_LIST, &element(0xA0, &[&element(0x30, parts)])])
+}
+
+/// PBES2, with the parts of the parameters of PBKDF2, and an encryption scheme.
+fn pbes2(derivation: &[&[u8]], encryption: &[u8]) -> Vec<u8> {
+    let derivation = element(0x30, &[PBKDF2, &element(0x30, derivation)]);
+    element(0x30, &[PBES2, &element(0x30, &[&derivation, encryption])])
+}
+
+/// Contents that an algorithm encrypts: what they are, or nothing.
+fn encrypted_contents(algorithm: &[u8], encrypted: &[u8]) -> Vec<u8> {
+    let data = element(0x30, &[&[2, 1, 0], &element(0x30, &[DATA, algorithm, encrypted])]);
+    element(0x30, &[ENCRYPTED_DATA, &element(0xA0, &[&data])])
 }
 
 /// Where octets begin in others.
@@ -328,6 +351,118 @@ fn many_entries_are_all_there() {
         let found = vuyhanip::trust_entries(&file).unwrap().unwrap();
         assert!(found.iter().map(|it| it.identifier).eq(entries.chunks_exact(5).map(|it| &it[4..])));
         assert!(found.iter().all(|it| it.attributes.is_none()));
+    }
+}
+
+/// Of the file: encrypted contents, by PBES2, and an encrypted key, by an algorithm of RFC 7292.
+#[test]
+fn how_a_store_is_encrypted() {
+    let found = vuyhanip::password_parameters(PasswordHolder::Contents, &STORE[34..648]).unwrap();
+    assert_eq!((found.is_pbes1, found.is_pkcs12), (false, false));
+    assert_eq!((found.is_pbes2, found.is_pbkdf2), (true, true));
+    assert_eq!((found.algorithm, found.parameters), (&STORE[79..88], Some(&STORE[88..164])));
+    assert_eq!((found.derivation, found.derivation_parameters), (Some(&STORE[94..103]), Some(&STORE[103..133])));
+    assert_eq!((found.salt, found.iterations), (Some(&STORE[107..115]), Some(2048)));
+    assert_eq!((found.key_length, found.prf), (None, Some(&STORE[123..131])));
+    assert_eq!((found.encryption, found.encryption_parameters), (Some(&STORE[137..146]), Some(&STORE[146..164])));
+    assert_eq!((found.initialization_vector, found.encrypted), (Some(&STORE[148..164]), Some(&STORE[168..648])));
+    let found = vuyhanip::password_parameters(PasswordHolder::Key, &STORE[695..875]).unwrap();
+    assert_eq!((found.is_pbes1, found.is_pkcs12), (false, true));
+    assert_eq!((found.is_pbes2, found.is_pbkdf2), (false, false));
+    assert_eq!((found.algorithm, found.parameters), (&STORE[702..712], Some(&STORE[712..728])));
+    assert_eq!((found.salt, found.iterations), (Some(&STORE[716..724]), Some(2048)));
+    assert_eq!((found.derivation, found.encryption, found.encrypted), (None, None, Some(&STORE[731..875])));
+}
+
+/// By hand, of each holder, with all parts, which are the same in each.
+#[test]
+fn parameters_of_each_holder() {
+    let count = [2, 5, 0, 0xFF, 0xFF, 0xFF, 0xFF];
+    let algorithm = pbes2(&[&[4, 2, 7, 8], &count, &[2, 1, 16], BARE], WITH_VECTOR);
+    let octets: &[u8] = &[1, 2, 3];
+    let key = element(0x30, &[&algorithm, &element(4, &[octets])]);
+    let contents = encrypted_contents(&algorithm, &element(0x80, &[octets]));
+    for (holder, input, encrypted) in [
+        (PasswordHolder::Algorithm, &algorithm, None),
+        (PasswordHolder::Key, &key, Some(octets)),
+        (PasswordHolder::Contents, &contents, Some(octets)),
+    ] {
+        let found = vuyhanip::password_parameters(holder, input).unwrap();
+        assert_eq!((found.algorithm, found.derivation), (&PBES2[2..], Some(&PBKDF2[2..])));
+        assert_eq!((found.salt, found.prf), (Some(&[7, 8][..]), Some(&BARE[4..])));
+        assert_eq!((found.iterations, found.key_length), (Some(0xFFFF_FFFF), Some(16)));
+        assert_eq!((found.encryption, found.initialization_vector), (Some(&WITH_VECTOR[4..7]), Some(&[5, 6][..])));
+        assert_eq!((found.encryption_parameters, found.encrypted), (Some(&WITH_VECTOR[7..]), encrypted));
+    }
+    let elsewhere = encrypted_contents(BARE, &[]);
+    let found = vuyhanip::password_parameters(PasswordHolder::Contents, &elsewhere).unwrap();
+    assert_eq!((found.algorithm, found.encrypted), (&BARE[4..], None));
+}
+
+/// Whether an algorithm's parameters are those of PBES1, of PKCS #12, of PBES2 and of PBKDF2, and the count in them.
+fn parameters_of(algorithm: &[u8]) -> ([bool; 4], Option<usize>) {
+    let found = vuyhanip::password_parameters(PasswordHolder::Algorithm, algorithm).unwrap();
+    ([found.is_pbes1, found.is_pkcs12, found.is_pbes2, found.is_pbkdf2], found.iterations)
+}
+
+#[test]
+fn parameters_that_are_absent_or_other() {
+    let of_kind = |kind: &[u8], parameters: &[u8]| element(0x30, &[kind, parameters]);
+    let other = ([false, false, false, false], None);
+    // a salt from another source, and nothing else that may be absent
+    let least = pbes2(&[BARE, &[2, 1, 0]], BARE);
+    assert_eq!(parameters_of(&least), ([false, false, true, true], Some(0)));
+    let found = vuyhanip::password_parameters(PasswordHolder::Algorithm, &least).unwrap();
+    assert_eq!((found.salt, found.key_length, found.prf, found.initialization_vector), (None, None, None, None));
+    assert_eq!((found.encryption_parameters, found.encrypted), (None, None));
+    // a count of 2^32, and one below 0
+    for count in [&[2, 5, 1, 0, 0, 0, 0][..], &[2, 1, 0x80]] {
+        assert_eq!(parameters_of(&pbes2(&[&[4, 0], count], WITH_VECTOR)), ([false, false, true, false], None));
+        for kind in [PBE_MD5_DES, PBE_SHA1_RC2] {
+            assert_eq!(parameters_of(&of_kind(kind, &element(0x30, &[&[4, 0], count]))), other);
+        }
+    }
+    // a salt and a count, which other algorithms haven't
+    for (kind, flags) in [
+        (PBE_MD5_DES, [true, false, false, false]),
+        (PBE_SHA1_RC2, [false, true, false, false]),
+        (PBES2, other.0),
+        (PBKDF2, other.0),
+        (AES_GCM, other.0),
+        (DATA, other.0),
+    ] {
+        let algorithm = of_kind(kind, &[0x30, 6, 4, 1, 7, 2, 1, 9]);
+        let is_known = flags != other.0;
+        assert_eq!(parameters_of(&algorithm), (flags, is_known.then_some(9)));
+        let found = vuyhanip::password_parameters(PasswordHolder::Algorithm, &algorithm).unwrap();
+        assert_eq!((found.salt, found.parameters), (is_known.then_some(&[7][..]), Some(&algorithm[2 + kind.len()..])));
+        assert_eq!((parameters_of(&of_kind(kind, &[])), parameters_of(&of_kind(kind, &[5, 0]))), (other, other));
+    }
+    // the parameters of PBES2 under another object identifier
+    assert_eq!(parameters_of(&of_kind(DATA, &least[2 + PBES2.len()..])), other);
+}
+
+#[test]
+fn what_is_no_holder_is_refused_where_it_is_wrong() {
+    let (key, contents) = (element(0x30, &[BARE, &[4, 0]]), encrypted_contents(BARE, &[0x80, 0]));
+    let (long, wrong) = (encrypted_contents(BARE, &[0xA0, 0]), element(0x30, &[DATA, &[0xA0, 0]]));
+    let mut later = contents.clone();
+    let version = place(&later, &[2, 1, 0]);
+    later[version + 2] = 2;
+    for (holder, input, reason, place) in [
+        (PasswordHolder::Algorithm, &key[..], Reason::Invalid, 2),
+        (PasswordHolder::Key, &contents, Reason::Invalid, 2),
+        (PasswordHolder::Contents, &key, Reason::Invalid, 2),
+        (PasswordHolder::Contents, &wrong, Reason::Invalid, 2),
+        (PasswordHolder::Contents, &later, Reason::Invalid, version),
+        (PasswordHolder::Contents, &long, Reason::Malformed, long.len() - 2),
+        (PasswordHolder::Key, &key[..key.len() - 1], Reason::Malformed, 0),
+        (PasswordHolder::Key, &[&[0x30, BARE.len() as u8], BARE].concat(), Reason::Missing, 2 + BARE.len()),
+        (PasswordHolder::Algorithm, &[BARE, &[5, 0]].concat(), Reason::Malformed, BARE.len()),
+        (PasswordHolder::Algorithm, &[], Reason::Missing, 0),
+    ] {
+        let refused = Err(Error::Refused { reason, place });
+        assert_eq!(vuyhanip::password_parameters(holder, input), refused);
     }
 }
 

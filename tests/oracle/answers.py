@@ -2,9 +2,9 @@
 what is found, and the place of a refusal. It shares nothing with tests/support."""
 import functools
 
-from . import bags, ber, certificates, contents, signed
+from . import bags, ber, certificates, contents, passwords, signed
 
-STATUSES = {"malformed": 3, "missing": 4, "invalid": 5, "too deep": 6, "no part": 11}
+STATUSES = {"unknown kind": 2, "malformed": 3, "missing": 4, "invalid": 5, "too deep": 6, "no part": 11}
 
 
 def answered(nothing, read, *given):
@@ -56,6 +56,11 @@ def trust_list(text):
 def trust_rows(text):
     """The rows of the entries of a trust list."""
     return answered([], contents.trust_rows, text)
+
+
+def password(holder, text):
+    """How data is encrypted with a password, of the holder with that number."""
+    return answered(passwords.Parameters(), passwords.row, holder, text)
 
 
 def der_of(text):

@@ -4,7 +4,7 @@ import functools
 import os
 import random
 
-from . import oids, rows
+from . import encrypted, oids, rows
 from .containers import NULL, SHA256, attribute, content_info, long_signed, long_stores, mac_data, nested, store
 from .elements import element, explicit, integer, octet_string, part, parts, sequence, set_of
 from .oids import oid
@@ -221,14 +221,16 @@ def checked(kinds):
 
 
 def cases(kinds, over_attributes):
-    """Inputs of all kinds, those by hand, what der_name_text, der_oid_text and der_certificate take, which no kind
-    reads, signed data with signers whose attributes are bad, which `over_attributes` is asked for, and signed data over
-    indirect data and trust lists."""
+    """Inputs of all kinds, those by hand, what der_name_text, der_oid_text, der_certificate and der_password_parameters
+    take, which no kind reads, signed data with signers whose attributes are bad, which `over_attributes` is asked for,
+    and signed data over indirect data and trust lists."""
     inputs = of_rows()
     found = by_hand()
     found += [("name", text) for text in inputs["name"]]
     found += [("oid", oids.octets(name)) for name in ("subjectKeyIdentifier", "key bag")]
     found += [("certificate", text) for text in certificates()[:4]]
+    schemes = encrypted.pbes2(), encrypted.pbes1(), encrypted.pkcs12()
+    found += [("password", encrypted.held(holder, it)) for holder in encrypted.HOLDERS for it in schemes]
     signed = [*inputs["rawpkcs7certificate"], *bad_attributes(over_attributes)][:20]
     signed += [*over_indirect_data(), *trust_lists()[:2], trust_lists()[-1]]
     found += [("rawpkcs7certificate", text) for text in signed]

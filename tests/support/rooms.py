@@ -12,10 +12,10 @@ from .statuses import NORMAL, NO_ROOM
 MARK = b"\xEE"
 MARKS = 64 * MARK
 # How many bytes a number has, a range, a row of der_bag_rows, of der_signer_rows and of der_trust_rows, and what
-# der_certificate, der_indirect and der_trust_list write.
+# der_certificate, der_indirect, der_trust_list and der_password_parameters write.
 NUMBER = ctypes.sizeof(ctypes.c_size_t)
 RANGE, BAG_ROW, SIGNER_ROW, TRUST_ENTRY = 2 * NUMBER, 12 * NUMBER, 18 * NUMBER, 5 * NUMBER
-CERTIFICATE, INDIRECT, TRUST_LIST = 24 * NUMBER, 16 * NUMBER, 21 * NUMBER
+CERTIFICATE, INDIRECT, TRUST_LIST, PASSWORD = 24 * NUMBER, 16 * NUMBER, 21 * NUMBER, 34 * NUMBER
 
 
 @functools.lru_cache(maxsize=None)
@@ -35,12 +35,12 @@ def in_room(name, given, room, numbers=1, item=1):
     return status, *(number.value for number in written), out.raw
 
 
-def in_struct(name, octets, size):
+def in_struct(name, octets, size, *numbers):
     """What a call answers that writes a struct of so many bytes and a place: the status, the place, and what is in the
-    struct and around it."""
+    struct and around it. It is given some numbers before the octets, if it takes any."""
     out, place = ctypes.create_string_buffer(marked(b"", size), 2 * len(MARKS) + size), ctypes.c_size_t()
     given = octets, ctypes.c_size_t(len(octets)), ctypes.byref(out, len(MARKS)), ctypes.byref(place)
-    return calls()[name](*given), place.value, out.raw
+    return calls()[name](*map(ctypes.c_size_t, numbers), *given), place.value, out.raw
 
 
 def marked(octets, size):

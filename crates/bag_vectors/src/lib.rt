@@ -1,4 +1,5 @@
-//! Tests of where the bags of PKCS #12 stores and the parts of a caller's own type are, by public calls.
+//! Tests of where the bags of PKCS #12 stores, the parameters of passwords and the parts of a caller's own type are, by
+//! public calls.
 #![tactic(auto)]
 
 #[cfg(test)]
@@ -7,5 +8,7 @@ mod bags_in_place;
 mod content_infos;
 #[cfg(test)]
 mod parcels_in_place;
+#[cfg(test)]
+mod passwords_in_place;
 #[cfg(test)]
 mod stores;

@@ -1,6 +1,6 @@
 //! Checks and rewritings of inputs of all kinds, conversions of BER to DER, what verifiers of signers and of MACs need,
-//! the parts of certificates and of contents, and texts, for callers in C. `der.h` has the declarations, and what a
-//! caller has to keep to.
+//! the parts of certificates and of contents, how a password encrypts, and texts, for callers in C. `der.h` has the
+//! declarations, and what a caller has to keep to.
 #![tactic(auto)]
 
 ghost use Rattle.std.specs.Prelude.{◌≤◌, length, MatchOption};
@@ -15,6 +15,7 @@ pub mod lists;
 mod macs;
 mod outputs;
 mod parts;
+pub mod passwords;
 pub mod ranges;
 pub mod signers;
 pub mod status;

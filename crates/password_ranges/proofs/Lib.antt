@@ -1,0 +1,4 @@
+pub mod Known
+pub mod Places
+pub mod Moved
+pub mod Held

@@ -1,0 +1,15 @@
+//! How data is encrypted with a password: the parameters of RFC 8018 and of RFC 7292, appendix C, as numbers and as ranges
+//! of an input.
+#![tactic(auto)]
+
+mod algorithms;
+mod heads;
+mod holders;
+pub mod ranges;
+mod salt_kinds;
+mod schemes;
+mod steps;
+
+pub use holders::{encrypted_contents_ranges, encrypted_key_ranges, password_ranges};
+pub use input_ranges::Refusal;
+pub use ranges::{EncryptedRanges, PasswordRanges, Pbes2Ranges, Pbkdf2Ranges, SaltRanges};
