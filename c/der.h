@@ -435,9 +435,9 @@ typedef struct der_password_parts {
  * empty, or of 3 octets, is given as it is, and EVP_DecryptInit_ex reads a whole block from there.
  *  - DER_NORMAL: *out has the numbers and the ranges. Other algorithms are given as their object identifier and as the
  *    element of their parameters, whatever is in it, and have neither salt nor count: AES in GCM and CCM mode, PBMAC1,
- *    PBKDF2 outside of PBES2, and in PBES2 scrypt and RC2. So are parameters with a part in BER that isn't DER, and
- *    those with a count or a length that is negative, or 2^32 or more. Parameters of the PRF are only in
- *    derivation_parameters.
+ *    PBKDF2 outside of PBES2, and in PBES2 scrypt. So are parameters with a part in BER that isn't DER, and those with a
+ *    count or a length that is negative, or 2^32 or more. The vector of RC2 in PBES2 is only in encryption_parameters,
+ *    and parameters of the PRF are only in derivation_parameters.
  *  - DER_UNKNOWN_KIND: no holder has that number.
  *  - DER_MALFORMED to DER_TOO_DEEP: the input isn't what the holder says, and *place says where, as of der_locate. An
  *    AlgorithmIdentifier is a SEQUENCE of an object identifier and one element of any type, which may be absent, and is
