@@ -1,5 +1,5 @@
-//! Tests of where the bags of PKCS #12 stores, the parameters of passwords and the parts of a caller's own type are, by
-//! public calls.
+//! Tests of where the bags of PKCS #12 stores, the parameters of passwords and the parts of a caller's own type are, and of
+//! algorithms that encrypt with a password and are written from their parts, by public calls.
 #![tactic(auto)]
 
 #[cfg(test)]
@@ -10,5 +10,7 @@ mod content_infos;
 mod parcels_in_place;
 #[cfg(test)]
 mod passwords_in_place;
+#[cfg(test)]
+mod passwords_written;
 #[cfg(test)]
 mod stores;

@@ -5,8 +5,8 @@ use Rattle.asn1_choices.specs.Tables.{IsTable, Table}
 use Rattle.asn1_core.specs.Der.{arcs}
 use Rattle.password_ranges.specs.declared.salt_kinds.Pbes1Kind.{Pbes1Kind}
 use Rattle.password_ranges.specs.declared.salt_kinds.Pbes1Kind.TheVariants.{Md2AndDes, Md5AndDes, Md2AndRc2, Md5AndRc2, Sha1AndDes, Sha1AndRc2}
-use Rattle.password_ranges.specs.declared.salt_kinds.PkcsKind.{PkcsKind}
-use Rattle.password_ranges.specs.declared.salt_kinds.PkcsKind.TheVariants.{ShaAnd128BitRc4, ShaAnd40BitRc4, ShaAnd3Key3Des, ShaAnd2Key3Des, ShaAnd128BitRc2, ShaAnd40BitRc2}
+use Rattle.password_ranges.specs.declared.salt_kinds.Pkcs12Kind.{Pkcs12Kind}
+use Rattle.password_ranges.specs.declared.salt_kinds.Pkcs12Kind.TheVariants.{ShaAnd128BitRc4, ShaAnd40BitRc4, ShaAnd3Key3Des, ShaAnd2Key3Des, ShaAnd128BitRc2, ShaAnd40BitRc2}
 use Rattle.pkcs12_algs.specs.TableLaws.{is_table}
 use Rattle.pkcs12_algs.specs.Tables.{alternative_with, table}
 
@@ -45,7 +45,7 @@ pub pbes1_is_table : IsTable pbes1_table
 pbes1_is_table = is_table pbes1_oid pbes1_kinds found_pbes1
 
 -- pkcs-12PbeIds (RFC 7292, appendix C)
-abbrev pub pkcs12_oid : PkcsKind → List ℕ
+abbrev pub pkcs12_oid : Pkcs12Kind → List ℕ
 pkcs12_oid ShaAnd128BitRc4 = pkcs12_pbe 1  -- pbeWithSHAAnd128BitRC4
 pkcs12_oid ShaAnd40BitRc4 = pkcs12_pbe 2  -- pbeWithSHAAnd40BitRC4
 pkcs12_oid ShaAnd3Key3Des = pkcs12_pbe 3  -- pbeWithSHAAnd3-KeyTripleDES-CBC
@@ -53,13 +53,13 @@ pkcs12_oid ShaAnd2Key3Des = pkcs12_pbe 4  -- pbeWithSHAAnd2-KeyTripleDES-CBC
 pkcs12_oid ShaAnd128BitRc2 = pkcs12_pbe 5  -- pbeWithSHAAnd128BitRC2-CBC
 pkcs12_oid ShaAnd40BitRc2 = pkcs12_pbe 6  -- pbewithSHAAnd40BitRC2-CBC
 
-abbrev pub pkcs12_kinds : List PkcsKind
+abbrev pub pkcs12_kinds : List Pkcs12Kind
 pkcs12_kinds = ShaAnd128BitRc4 ∷ ShaAnd40BitRc4 ∷ ShaAnd3Key3Des ∷ ShaAnd2Key3Des ∷ ShaAnd128BitRc2 ∷ ShaAnd40BitRc2 ∷ []
 
-abbrev pub pkcs12_table : Table PkcsKind
+abbrev pub pkcs12_table : Table Pkcs12Kind
 pkcs12_table = table pkcs12_oid pkcs12_kinds
 
-found_pkcs12 : (a : PkcsKind) → alternative_with pkcs12_oid pkcs12_kinds (pkcs12_oid a) ≡ Some a
+found_pkcs12 : (a : Pkcs12Kind) → alternative_with pkcs12_oid pkcs12_kinds (pkcs12_oid a) ≡ Some a
 found_pkcs12 ShaAnd128BitRc4 = search rules
 found_pkcs12 ShaAnd40BitRc4 = search rules
 found_pkcs12 ShaAnd3Key3Des = search rules

@@ -6,14 +6,12 @@ ghost use Rattle.asn1_core.specs.Der.{followed_by, lawful_nothing, lawful_sequen
 ghost use Rattle.password_ranges.specs.Heads.{encrypted_content_head, encrypted_data_oid, pbkdf2_head};
 ghost use Rattle.password_ranges.specs.HeadValues.{encrypted_content_value, pbkdf2_value};
 
+use crate::oids::ENCRYPTED_DATA;
 use asn1_choices::{Named, OnlyOid};
 use asn1_core::prelude::*;
 use pkcs12_algs::Pbkdf2SaltSource;
 use std::alloc::Global;
 use x509_base::AlgorithmIdentifier;
-
-/// `encryptedData` (RFC 5652, 8)
-const ENCRYPTED_DATA: [u8; 9] = [0x2A, 0x86, 0x48, 0x86, 0xF7, 0x0D, 0x01, 0x07, 0x06];
 
 /// Names `encryptedData`.
 #[derive(Drop)]

@@ -5,11 +5,13 @@
 mod algorithms;
 mod heads;
 mod holders;
+pub mod oids;
 pub mod ranges;
-mod salt_kinds;
+pub mod salt_kinds;
 mod schemes;
 mod steps;
 
 pub use holders::{encrypted_contents_ranges, encrypted_key_ranges, password_ranges};
 pub use input_ranges::Refusal;
 pub use ranges::{EncryptedRanges, PasswordRanges, Pbes2Ranges, Pbkdf2Ranges, SaltRanges};
+pub use salt_kinds::{Pbes1Kind, Pkcs12Kind};

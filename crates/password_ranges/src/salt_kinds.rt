@@ -18,7 +18,7 @@ const SHA1_AND_RC2: &[u8] = &[0x2A, 0x86, 0x48, 0x86, 0xF7, 0x0D, 0x01, 0x05, 0x
 
 /// Those of PBES1 (RFC 8018, appendix A.3).
 #[derive(Clone, Copy, Debug, PartialEq, Eq)]
-pub(crate) enum Pbes1Kind {
+pub enum Pbes1Kind {
     /// `pbeWithMD2AndDES-CBC`
     Md2AndDes,
     /// `pbeWithMD5AndDES-CBC`
@@ -76,7 +76,7 @@ const SHA_AND_40_BIT_RC2: &[u8] = &[0x2A, 0x86, 0x48, 0x86, 0xF7, 0x0D, 0x01, 0x
 
 /// `pkcs-12PbeIds` (RFC 7292, appendix C).
 #[derive(Clone, Copy, Debug, PartialEq, Eq)]
-pub(crate) enum PkcsKind {
+pub enum Pkcs12Kind {
     /// `pbeWithSHAAnd128BitRC4`
     ShaAnd128BitRc4,
     /// `pbeWithSHAAnd40BitRC4`
@@ -91,7 +91,7 @@ pub(crate) enum PkcsKind {
     ShaAnd40BitRc2,
 }
 
-impl OidTable for PkcsKind {
+impl OidTable for Pkcs12Kind {
     ghost table = { pkcs12_table };
 
     fn octets(self) -> &'static [u8] {

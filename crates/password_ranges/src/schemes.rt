@@ -15,8 +15,9 @@ ghost use Rattle.x509_base.specs.AlgorithmParts.{algorithm_identifier_value};
 
 use crate::algorithms::{known_parameters_of, parameters_of, parameters_of_kind};
 use crate::heads::{Pbes2Head, Pbkdf2Head};
+use crate::oids::{PBES2, PBKDF2};
 use crate::ranges::{PasswordRanges, Pbes2Ranges, Pbkdf2Ranges, SaltRanges};
-use crate::salt_kinds::{Pbes1Kind, PkcsKind};
+use crate::salt_kinds::{Pbes1Kind, Pkcs12Kind};
 use crate::steps::steps;
 use asn1_core::{Error, OctetStringAsn1};
 use asn1_located::Step;
@@ -25,12 +26,6 @@ use pkcs12_algs::{Pbes1Params, Pbkdf2SaltSource};
 use std::alloc::Global;
 use std::ops::Range;
 use x509_base::AlgorithmIdentifier;
-
-/// `id-PBES2` (RFC 8018, appendix A.4)
-const PBES2: [u8; 9] = [0x2A, 0x86, 0x48, 0x86, 0xF7, 0x0D, 0x01, 0x05, 0x0D];
-
-/// `id-PBKDF2` (RFC 8018, appendix A.2)
-const PBKDF2: [u8; 9] = [0x2A, 0x86, 0x48, 0x86, 0xF7, 0x0D, 0x01, 0x05, 0x0C];
 
 /// What the parameters of PBES2 were read as.
 #[derive(Drop)]
@@ -298,7 +293,7 @@ pub(crate) fn ranges_at(
         (λ e. e ≡ Memory) }
 {
     let pbes1 = parameters_of_kind::<Pbes1Kind, Pbes1Params>(alloc, algorithm)?;
-    let pkcs12 = parameters_of_kind::<PkcsKind, Pbes1Params>(alloc, algorithm)?;
+    let pkcs12 = parameters_of_kind::<Pkcs12Kind, Pbes1Params>(alloc, algorithm)?;
     let pbes2 = read_pbes2(alloc, algorithm)?;
     Ok(PasswordRanges {
         algorithm: algorithm_oid(start, octets),

@@ -1,0 +1,3 @@
+pub mod Nulls
+pub mod ReadBack
+pub mod Texts

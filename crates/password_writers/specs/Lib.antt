@@ -1,0 +1,4 @@
+pub mod Given
+pub mod Values
+pub mod Written
+pub mod Holders
