@@ -1,13 +1,13 @@
 /* Checks and rewritings of DER, the parts of containers that a verifier needs, as octets, those of certificates and of
- * the contents of signed data, the parameters of encryption with a password, and conversions of BER to DER: the static
- * library der_c. Only der_from_ber takes BER. Pass every other call what it wrote, and der_mac_ber and der_mac_part_ber
- * where the MAC of a PKCS #12 file is to be verified.
+ * the contents of signed data, the parameters of encryption with a password, which are built too, and conversions of
+ * BER to DER: the static library der_c. Only der_from_ber takes BER. Pass every other call what it wrote, and
+ * der_mac_ber and der_mac_part_ber where the MAC of a PKCS #12 file is to be verified.
  *
  * What is proved of its calls der_check_word_limited, der_rewrite_word_limited, der_kind_word, der_part_octets,
  * der_signer_rows, der_part_ranges, der_attribute_ranges, der_mac_range, der_mac, der_from_ber, der_mac_ber,
- * der_mac_part_ber, der_name_text, der_oid_text, der_oid_name, der_integer_text, der_utf16_text, der_bag_rows,
- * der_certificate, der_indirect, der_trust_list, der_trust_rows and der_password_parameters, for all inputs, and what
- * isn't:
+ * der_mac_part_ber, der_name_text, der_oid_text, der_oid_octets, der_oid_name, der_integer_text, der_utf16_text,
+ * der_bag_rows, der_certificate, der_indirect, der_trust_list, der_trust_rows, der_password_parameters and
+ * der_build_parameters, for all inputs, and what isn't:
  *  - A call answers no status but those that are listed at it. What it writes into numbers and into out is as said
  *    below.
  *  - DER_NORMAL, DER_LOOSE, DER_UNKNOWN_KIND, DER_NO_ROOM, DER_NO_RANGE and DER_NO_PART are true where they are
@@ -15,8 +15,9 @@
  *    an empty set of signed attributes it is proved that the signer's value has none, and that the input has the
  *    signer's algorithms with the octets A0 00 between them.
  *  - At DER_MALFORMED, DER_MISSING, DER_INVALID and DER_TOO_DEEP the input is no encoding of the kind, of der_from_ber
- *    it has no DER, of the calls for parts, signers and ranges it isn't what has the part, and of those that write text
- *    it has none, as said there. Which of the four it is isn't proved: tests tell them apart.
+ *    it has no DER, of the calls for parts, signers and ranges it isn't what has the part, of those that write text it
+ *    has none, of der_oid_octets the text spells no octets, and of der_build_parameters nothing can be built from what
+ *    is given, as said there. Which of the four it is isn't proved: tests tell them apart.
  *  - Of the bags of a store, and of parts of these, the same is said at the four and at DER_TOO_LONG: the input has no
  *    such rows as der_bag_rows writes at DER_NORMAL.
  *  - That memory was refused where a call answers DER_NO_MEMORY isn't proved. Tests show that calls with memory enough
@@ -24,16 +25,18 @@
  *  - The functions in this file, in C, are tested and not proved, nor are der_version and der_processor.
  *
  * What a caller has to keep to:
- *  - word, input, out and the pointers to numbers aren't null, also where a length is 0; but the functions in this file
- *    take null for an input or out of length 0. word and input point to so many bytes that can be read, out to so many
- *    that can be read and written.
+ *  - word, input, octets, text, given, out and the pointers to numbers aren't null, also where a length is 0; but the
+ *    functions in this file take null for an input or out of length 0. word, input, octets and text point to so many
+ *    bytes that can be read, given to one der_password_parts that can be read, and out to so many bytes that can be
+ *    read and written.
  *  - A pointer to a number is aligned as a size_t is, and what it points to can be written. out of der_signer_rows,
  *    der_bag_rows, der_trust_rows and the calls for ranges points to out_len structs and not bytes, that of
- *    der_certificate, der_indirect, der_trust_list and der_password_parameters to one, and is aligned so too.
+ *    der_certificate, der_indirect, der_trust_list and der_password_parameters to one, and is aligned so too. So is
+ *    given.
  *  - The string kind ends in a zero byte.
- *  - out and each number overlap nothing else that is passed, and not one another.
- *  - While a call runs nothing else reads or writes out or the numbers, and nothing writes word or input: no other
- *    thread, and no signal handler.
+ *  - out and each number overlap nothing else that is passed, given neither, and not one another.
+ *  - While a call runs nothing else reads or writes out or the numbers, and nothing writes word, input, octets, text or
+ *    given: no other thread, and no signal handler.
  *  - Lengths are below 2^63.
  *  - Memory comes from malloc, realloc and free, which are those of one allocator. A block of malloc and of realloc is
  *    aligned to each power of two up to 16 that divides its size.
@@ -86,9 +89,9 @@ typedef enum der_status {
   DER_UNKNOWN_KIND = 2, /* no kind has that word, or that index; no part, or no holder, has that number */
   DER_MALFORMED = 3,    /* 3 to 6: the input is no encoding of the kind: bytes that are no element, or too many */
   DER_MISSING = 4,      /* an element isn't there */
-  DER_INVALID = 5,      /* a tag, version, object identifier, character or number that can't be there */
+  DER_INVALID = 5,      /* a tag, version, object identifier, character, number or part that can't be there */
   DER_TOO_DEEP = 6,     /* more levels of nesting than the limit */
-  DER_TOO_LONG = 7,     /* its normal encoding, or that of the part, has 2^64 bytes or more */
+  DER_TOO_LONG = 7,     /* its normal encoding, that of the part, or what is built has 2^64 bytes or more */
   DER_NO_MEMORY = 8,    /* a request for memory was refused: nothing is said of the input */
   DER_NO_ROOM = 9,      /* out is too short: the number of bytes, or of ranges, that are needed is written */
   DER_NO_RANGE = 10,    /* authSafe isn't data, so no octets are covered by a MAC */
@@ -379,7 +382,7 @@ DER_CALL
 uint32_t der_trust_rows(const uint8_t *input, size_t input_len, der_trust_entry_parts *out, size_t out_len,
                         size_t *count, size_t *place);
 
-/* What the input of der_password_parameters is. */
+/* What the input of der_password_parameters is, and what der_build_parameters writes. */
 typedef enum der_password_holder {
   DER_HOLDER_ALGORITHM = 0, /* an AlgorithmIdentifier */
   DER_HOLDER_KEY = 1,       /* an EncryptedPrivateKeyInfo (RFC 5958, 3): the value of a bag of kind
@@ -388,7 +391,8 @@ typedef enum der_password_holder {
                                attributes): the element of a row of kind DER_BAG_UNREAD, where it is one */
 } der_password_holder;
 
-/* How data is encrypted with a password. A number that isn't there is 0, and a range 0 and 0. */
+/* How data is encrypted with a password. Where der_password_parameters wrote it a number that isn't there is 0, and a
+ * range 0 and 0. */
 typedef struct der_password_parts {
   size_t has_parameters;            /* 1: the algorithm has parameters */
   size_t is_pbes1;                  /* 1: the algorithm is one of the six of RFC 8018, A.3, which are
@@ -452,6 +456,65 @@ typedef struct der_password_parts {
 DER_CALL
 uint32_t der_password_parameters(size_t holder, const uint8_t *input, size_t input_len, der_password_parts *out,
                                  size_t *place);
+
+/* Which part der_build_parameters can't write, and why. An object identifier is given as its contents octets. */
+typedef enum der_password_part {
+  DER_PASSWORD_ALGORITHM = 1,             /* not inside of the input, no object identifier, or not of the scheme */
+  DER_PASSWORD_PARAMETERS = 2,            /* not inside of the input, or no element */
+  DER_PASSWORD_DERIVATION = 3,            /* not inside of the input, or no object identifier */
+  DER_PASSWORD_DERIVATION_PARAMETERS = 4, /* not inside of the input, or no element */
+  DER_PASSWORD_SALT = 5,                  /* not inside of the input; or has_salt is 0, of PBES1 or PKCS #12, or of
+                                             PBKDF2 that has no derivation_parameters either */
+  DER_PASSWORD_PRF = 6,                   /* not inside of the input, or no object identifier */
+  DER_PASSWORD_ENCRYPTION = 7,            /* not inside of the input, or no object identifier */
+  DER_PASSWORD_ENCRYPTION_PARAMETERS = 8, /* not inside of the input, or no element */
+  DER_PASSWORD_INITIALIZATION_VECTOR = 9, /* not inside of the input */
+  DER_PASSWORD_ENCRYPTED = 10,            /* not inside of the input, or of a key not given */
+  DER_PASSWORD_ITERATIONS = 11,           /* 2^32 or more */
+  DER_PASSWORD_KEY_LENGTH = 12,           /* 2^32 or more */
+  DER_PASSWORD_SCHEME = 13                /* more than one of is_pbes1, is_pkcs12 and is_pbes2 isn't 0 */
+} der_password_part;
+
+/* Writes an AlgorithmIdentifier, an EncryptedPrivateKeyInfo or a ContentInfo of encryptedData, which holder says, to
+ * the front of out, as der_password_parameters reads it. A ContentInfo has version 0, and its content the type data
+ * (1.2.840.113549.1.7.1), as in PKCS #12. given has the numbers, and says where the input has the octets of each part,
+ * in any order; ranges may overlap. No key is derived, and nothing is encrypted. Set all of given to 0 first: a flag
+ * is set where it isn't 0. Of is_pbes1, is_pkcs12 and is_pbes2 at most one is:
+ *  - is_pbes1 or is_pkcs12: the algorithm is algorithm, one of six (see der_password_parts), with salt, for which
+ *    has_salt must be set too, and iterations.
+ *  - is_pbes2: the algorithm is id-PBES2. Where is_pbkdf2 and has_salt are set, the key derivation is id-PBKDF2 with
+ *    salt and iterations, with key_length where has_key_length is set, and with prf where has_prf is set, whose
+ *    parameters are NULL (RFC 8018, B.1). Otherwise it is derivation, with the element derivation_parameters where
+ *    has_derivation_parameters is set, as it must be where is_pbkdf2 is: that is PBKDF2 whose salt is from another
+ *    source, and no number is written then. The encryption scheme is encryption, with initialization_vector as an
+ *    OCTET STRING where has_initialization_vector is set, and otherwise with the element encryption_parameters where
+ *    has_encryption_parameters is set.
+ *  - None of them: the algorithm is algorithm, with the element parameters where has_parameters is set.
+ * For a key has_encrypted must be set, and encrypted is written; for contents it is written where has_encrypted is
+ * set. An element has a tag of one octet and a length as DER has it, and whatever is in it. What isn't written isn't
+ * looked at, and may be anything. So what der_password_parameters wrote can be given with its input, and changed
+ * before. But encrypted is written as given: after a change of salt, count, PRF, scheme or vector derive the key anew,
+ * and encrypt anew. Unchanged, the input is written again where it is DER, the parameters of the PRF are NULL, and
+ * contents have the type data. A prf that is given is written, also HMAC with SHA-1, which DER leaves out as the
+ * default (X.690, 11.5): leave has_prf 0 for that. Nothing is judged: counts and key lengths of 0, and salts and
+ * vectors of any length, are written too. Take a new random salt and vector for each encryption, a count that is high
+ * enough, and a key and a vector of the cipher's lengths.
+ *  - DER_NORMAL: *written bytes were written, and the rest of out is as it was.
+ *  - DER_NO_ROOM: *written bytes are needed, and out_len, which may be 0, is less.
+ *  - DER_UNKNOWN_KIND: no holder has that number.
+ *  - DER_INVALID: a part can't be written, and *part is its der_password_part: of several the first, where the scheme
+ *    comes first, then the parts in the order in which they are written, and then encrypted.
+ *  - DER_TOO_LONG: it would have 2^64 bytes or more.
+ *  - DER_NO_MEMORY.
+ * Unless at DER_NORMAL out is as it was, unless at DER_NORMAL and DER_NO_ROOM *written is 0, and unless at DER_INVALID
+ * *part is 0. Proved is that what is written is normal, and reads as a value of that type, in which each part that is
+ * written is in its place. So der_password_parameters gives each number and part that was written, as a range of equal
+ * octets and with 1 as its flag, and the object identifiers and elements around them; of an element that was given
+ * also what it finds in it. And that at DER_INVALID nothing can be built from what is given. Which part *part says is
+ * tested. */
+DER_CALL
+uint32_t der_build_parameters(size_t holder, const uint8_t *input, size_t input_len, const der_password_parts *given,
+                              uint8_t *out, size_t out_len, size_t *written, size_t *part);
 
 /* Which octets of a PKCS #12 file a MAC covers: the contents octets of the OCTET STRING that is the content of
  * authSafe, without its tag and length.
@@ -543,6 +606,14 @@ uint32_t der_name_text(const uint8_t *input, size_t input_len, uint8_t *out, siz
  * identifier's, or have a number that 64 bits don't hold. */
 DER_CALL
 uint32_t der_oid_text(const uint8_t *octets, size_t octets_len, uint8_t *out, size_t out_len, size_t *written);
+
+/* Writes the contents octets of an object identifier, by its text as der_oid_text writes it, to the front of out: of
+ * "1.2.840.113549" 2A 86 48 86 F7 0D. The text is numbers in decimal without leading zeros, joined by dots, and
+ * text_len counts no zero byte after it. What it answers is as of der_name_text, and the refusal, by tests alone,
+ * always DER_INVALID: where the text is anything else, or has fewer than two numbers, a first one above 2, after 0 or
+ * 1 a second one above 39, a number of 2^64 or more, or after 2 a second one of 2^64 - 80 or more. */
+DER_CALL
+uint32_t der_oid_octets(const uint8_t *text, size_t text_len, uint8_t *out, size_t out_len, size_t *written);
 
 /* Writes the name of an object identifier, by its contents octets, as "sha256WithRSAEncryption" to the front of out, in
  * ASCII without a zero byte after it: the long name that openssl 3.0 prints, or where it has none that of the document

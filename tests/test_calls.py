@@ -19,6 +19,7 @@ CERTIFICATES = "crates/der_c/src/certificates.rt"
 SIGNERS, PARTS, PARTS_IN_SPECS = "crates/der_c/src/signers.rt", *(path for path, *_ in calls.LISTED)
 RANGES_IN_SPECS = "crates/der_c/specs/Ranges.antt"
 PASSWORDS, PASSWORDS_IN_SPECS = "crates/der_c/src/passwords.rt", "crates/der_c/specs/Passwords.antt"
+BUILT, BUILT_IN_RUST = "crates/der_c/src/built.rt", "rust/src/build.rs"
 # What tools/calls reads.
 READ = (FILE, C, PYTHON, NAMES, "rust/src/*.rs", CHECK, "crates/der_c/src/*.rt", "crates/der_c/specs/*.antt", PARTS,
         PARTS_IN_SPECS, *calls.LEVELS)
@@ -39,6 +40,8 @@ MADE = {
     "C, a type": (C, "der_kind_word(size_t index,", "der_kind_word(uint32_t index,", "index"),
     "C, what is returned": (C, "uint32_t der_mac(", "size_t der_mac(", "der_mac"),
     "C, a part": (C, "DER_PART_ISSUER = 3,", "DER_PART_ISSUER = 4,", "DER_PART_ISSUER"),
+    "C, a password part": (C, "DER_PASSWORD_SALT = 5,", "DER_PASSWORD_SALT = 6,", "DER_PASSWORD_SALT"),
+    "C, a struct that is read": (C, "const der_password_parts *given,", "der_password_parts *given,", "given"),
     "C, levels": (C, "#define DER_MAX_NESTING 64", "#define DER_MAX_NESTING 65", "DER_MAX_NESTING"),
     "C, blanks": (C, "size_t out_len, size_t *written);", "size_t out_len,  size_t *written);", "size_t out_len"),
     "Python, a status": (PYTHON, "NO_ROOM: Final = 9", "NO_ROOM: Final = 8", "DER_NO_ROOM"),
@@ -46,11 +49,14 @@ MADE = {
         PYTHON, '("kind", ctypes.c_size_t),\n        ("level", ctypes.c_size_t)',
         '("level", ctypes.c_size_t),\n        ("kind", ctypes.c_size_t)', "kind"),
     "Python, a type": (PYTHON, '"der_kind_word": (_SIZE,', '"der_kind_word": (_BYTE,', "der_kind_word"),
+    "Python, a password part": (PYTHON, "PASSWORD_SALT: Final = 5", "PASSWORD_SALT: Final = 6", "DER_PASSWORD_SALT"),
     "Python, a call": (PYTHON, RANGE_IN_PYTHON, "", "der_mac_range"),
     "Rust, a status": (RUST, "NO_ROOM: u32 = 9;", "NO_ROOM: u32 = 8;", "DER_NO_ROOM"),
     "Rust, two fields": (
         RUST, "pub kind: usize,\n    pub level: usize,", "pub level: usize,\n    pub kind: usize,", "kind"),
     "Rust, a type": (RUST, "der_kind_word(index: usize,", "der_kind_word(index: u32,", "der_kind_word"),
+    "Rust, a password part": (RUST, "PASSWORD_SALT: usize = 5;", "PASSWORD_SALT: usize = 6;", "DER_PASSWORD_SALT"),
+    "Rust, a struct that is read": (RUST, "given: *const PasswordParts,", "given: *mut PasswordParts,", "given"),
     "Rust, a call": (RUST, RANGE_IN_RUST, "", "der_mac_range"),
 }
 # What is written by hand. A fifth word is the place that is told, where that isn't the line that is turned.
@@ -63,6 +69,10 @@ BY_HAND = {
     "Python, a holder": (NAMES, " KEY = _calls.HOLDER_KEY", " KEY = _calls.HOLDER_CONTENTS", "KEY", NAMES),
     "Python, no holder": (
         NAMES, "    ALGORITHM = _calls.HOLDER_ALGORITHM\n", "", "DER_HOLDER_ALGORITHM", f"{NAMES}:1"),
+    "Python, a password part": (NAMES, " SALT = _calls.PASSWORD_SALT", " SALT = _calls.PASSWORD_PRF", "SALT", NAMES),
+    "Python, no password part": (
+        NAMES, "    SCHEME = _calls.PASSWORD_SCHEME\n", "", "DER_PASSWORD_SCHEME", f"{NAMES}:1"),
+    "Rust, a password part": (BUILT_IN_RUST, "Salt = calls::PASSWORD_SALT", "Salt = calls::PASSWORD_PRF", "Salt"),
     "Rust, a holder": (HOLDERS, "Key = calls::HOLDER_KEY", "Key = calls::HOLDER_CONTENTS", "Key"),
     "Rust, a name": ("rust/src/lib.rs", "Issuer = calls::PART_ISSUER", "Issuer = calls::PART_SIGNATURE", "Issuer"),
     "Rust, a kind": ("rust/src/bags.rs", "BAG_CRL => BagKind::Crl", "BAG_CRL => BagKind::OtherCrl", "OtherCrl"),
@@ -87,6 +97,8 @@ BY_HAND = {
     "specs, a holder": (PASSWORDS_IN_SPECS, "number_of Key = 1", "number_of Key = 3", "DER_HOLDER_KEY"),
     "proved, a part": (LISTS, "16 => Some(", "19 => Some(", "DER_PART_RECIPIENT"),
     "specs, a part": (RANGES_IN_SPECS, "number_of Recipients = 16", "number_of Recipients = 19", "DER_PART_RECIPIENT"),
+    "proved, a password part": (BUILT, "const SALT: usize = 5;", "const SALT: usize = 6;", "DER_PASSWORD_SALT"),
+    "proved, a struct that is read": (BUILT, "    given: &Password,", "    given: &mut Password,", "given"),
     "proved, a number": (LISTS, "CERTIFICATES: usize = 1;", "CERTIFICATES: usize = 2;", "DER_PART_CERTIFICATE", LISTS),
     "specs, a number": (
         RANGES_IN_SPECS, "\ncertificates = 1", "\ncertificates = 2", "DER_PART_CERTIFICATE", RANGES_IN_SPECS),

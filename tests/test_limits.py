@@ -9,13 +9,14 @@ from support import built, inputs
 from support.cases import Comparing
 from support.containers import bare_bag, store_of
 from support.elements import sequence
+from support.oids import spelt
 from support.parts import certificate_places, covered, mac_parts, over_any_octets
 from support.statuses import (
     INVALID, LOOSE, NO_MEMORY, NO_PART, NO_RANGE, NO_ROOM, NORMAL, UNKNOWN_KIND, answered,
     checked, outcome, place, status_and_length,
 )
 from support.tools import needs
-from oracle import answers
+from oracle import answers, building
 from vuyhanip import der
 
 LIMITS = built.TOP / "c/tests/limits.c"
@@ -33,6 +34,7 @@ WANTED = {
     "from_ber": {0, 3, 4, 5, 6, 8, 9},
     "name_text": {0, 3, 4, 5, 8, 9},
     "oid_text": {0, 5, 8, 9},
+    "oid_octets": {0, 5, 8, 9},
     "oid_name": {0, 9, 11},
     "mac_ber": {0, 3, 4, 5, 8, 10, 11},
     "mac_part_ber": {0, 2, 3, 4, 5, 8, 9, 11},
@@ -49,6 +51,7 @@ WANTED = {
     "trust_list": {0, 3, 4, 5, 8, 11},
     "trust_rows": {0, 3, 4, 5, 8, 9, 11},
     "password": {0, 2, 3, 4, 5, 8},
+    "build": {0, 2, 5, 8, 9},
     "integer_text": {0, 5, 8, 9},
 }
 
@@ -134,9 +137,12 @@ def lines_on_parts(text):
 
 
 def lines_on_texts(text):
-    """The lines on texts for people: what Python is told, which tests/test_names.py compares."""
+    """The lines on texts for people: what Python is told, which tests/test_names.py compares; and on the octets of an
+    object identifier, where the input is the text of one."""
     library = built.library()
     lines = lines_on_a_text("name_text", library.name_text, text) + lines_on_a_text("oid_text", library.oid_text, text)
+    octets = spelt(text)
+    lines += [("oid_octets", INVALID)] if octets is None else written("oid_octets", len(octets))
     name = library.oid_name(text)
     lines += [("oid_name", NO_PART)] if name is None else written("oid_name", len(name))
     return lines + lines_on_a_text("utf16_text", library.utf16_text, text)
@@ -211,10 +217,22 @@ def lines_on_a_trust_list(text):
 
 
 def lines_on_passwords(text):
-    """The lines on parameters of encryption with a password, of each holder, and of a number that no holder has."""
-    holders = [holder.value for holder in der.PasswordHolder]
-    said = [answers.password(number, text) for number in (*holders, len(holders))]
-    return [("password", status, where) for status, _, where in said]
+    """The lines on parameters of encryption with a password, of each holder, and of a number that no holder has; and
+    after each of them those on what is built from the same."""
+    lines = []
+    for number in range(len(der.PasswordHolder) + 1):
+        status, row, where = answers.password(number, text)
+        lines += [("password", status, where), *lines_on_building(number, text, row)]
+    return lines
+
+
+def lines_on_building(number, text, row):
+    """The lines on what is built for a holder. Where nothing was found, that is nothing: of the parts that can't be
+    written the algorithm is met first."""
+    if number == len(der.PasswordHolder):
+        return [("build", UNKNOWN_KIND)]
+    made, wrong = building.text(number, text, row)
+    return [("build", INVALID, 0, wrong[0])] if wrong else written("build", len(made))
 
 
 def lines_on_an_integer(text):

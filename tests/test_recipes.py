@@ -4,17 +4,20 @@ octet, and openssl decrypts what was encrypted outside; certificates as signed d
 programs, trust lists and revocation lists beside what openssl and osslsigncode say of them. And c/examples/digest.c
 over signatures of a program and of a cabinet, beside what osslsigncode says, and over signed data by hand;
 c/examples/entries.c over trust lists that openssl makes, and by hand; and c/examples/parameters.c over stores of
-openssl, by what it was asked for, and by hand."""
+openssl, by what it was asked for, and by hand. Keys that c/examples/encrypt.c and python/examples/encrypt.py encrypt
+openssl opens, with their password and with no other."""
 import functools
+import hashlib
 import random
 import re
+import sys
 import unittest
 from pathlib import Path
 
 from support import built, encrypted, inputs, macs, making, oids, tools
 from support.cases import Comparing
 from support.containers import SHA256, bare_bag, store_of
-from support.elements import at, contents, octet_string, parts, sequence
+from support.elements import at, contents, octet_string, part, parts, sequence
 from support.inputs import CABINET, IMAGE, MAY_BE_ABSENT, TRUST_LIST, trust_entry, trust_list
 from support.making import put, run
 from support.signing import INDIRECT_DATA
@@ -28,9 +31,13 @@ PASSWORD, ITERATIONS = "test", 2048
 NAMES = "a", "Größe", "x" * 40
 SIZES = 0, 1, 16, 1000, 70000
 MONTHS = "Jan Feb Mar Apr May Jun Jul Aug Sep Oct Nov Dec".split()
-DIGEST_IN_C, ENTRIES_IN_C, PARAMETERS_IN_C = (
-    built.TOP / f"c/examples/{name}.c" for name in ("digest", "entries", "parameters")
+DIGEST_IN_C, ENTRIES_IN_C, PARAMETERS_IN_C, ENCRYPT_IN_C = (
+    built.TOP / f"c/examples/{name}.c" for name in ("digest", "entries", "parameters", "encrypt")
 )
+ENCRYPT_IN_PYTHON = built.TOP / "python/examples/encrypt.py"
+# Passwords, and what an example says of a key that it encrypted with one.
+PASSWORDS = PASSWORD, "Größe, with blanks \r", "x" * 300
+ENCRYPTED = "key: PBES2, PBKDF2, 600000 iterations, salt of 16 octets, hmacWithSHA256, aes-256-cbc"
 # How many octets these have room for, which read one less, and what they say where there is nothing to say.
 MOST_IN_C = 1 << 22
 NO_DIGEST, NO_LIST = (f"no {what}: the content has another type" for what in ("digest of a file", "trust list"))
@@ -493,6 +500,100 @@ class Parameters(InC):
 
         line = "key: pbeWithSHA1And3-KeyTripleDES-CBC, 2048 iterations, salt of 8 octets"
         self.reads_less_than_its_room(PARAMETERS_IN_C, of, lambda length: (0, [line]))
+
+
+class Encryption(InC):
+    """What is encrypted with a password."""
+
+    def setUp(self):
+        super().setUp()
+        for file in keys().iterdir():
+            put(file.name, file.read_bytes())
+
+    def in_c(self, *files, text, by=None):
+        """How the example in C ends over a file, where it reads a text, and what it writes."""
+        return tools.ended(built.in_c(ENCRYPT_IN_C, "-lcrypto", by=by), *files, text=text)
+
+    def in_python(self, *files, text):
+        """The same of the example in Python."""
+        package = {"PYTHONPATH": str(built.TOP / "python"), "VUYHANIP_LIBRARY": str(built.shared())}
+        environment = {**tools.ENVIRONMENT, **package, "PYTHONDONTWRITEBYTECODE": "1"}
+        return tools.ended(sys.executable, ENCRYPT_IN_PYTHON, *files, text=text, env=environment)
+
+    def encrypts(self, example):
+        """Compares what openssl takes out of each key that an example encrypts, and what parameters.c says of it. No
+        two are encrypted alike."""
+        asked, seen = [("one", PASSWORD), ("two", PASSWORD), *(("one", it) for it in PASSWORDS)], set()
+        for key, password in asked:
+            ran = example(f"{key}.pkcs8", text=f"{password}\n".encode())
+            said = ran.returncode, ran.stderr, decrypted(ran.stdout, password), decrypted(ran.stdout, "other")
+            wanted = run(f"openssl pkey -in {key}.key -outform DER")
+            self.same(said, (0, b"", wanted, "refused"), key, "with", password)
+            store = store_of(bare_bag("shrouded key bag", ran.stdout))
+            self.says(PARAMETERS_IN_C, [(store, (0, [ENCRYPTED]))])
+            seen |= set(salt_and_vector(ran.stdout))
+        self.same(len(seen), 2 * len(asked), "salts and vectors")
+
+    def test_openssl_opens_what_the_example_in_c_encrypts(self):
+        self.encrypts(self.in_c)
+
+    @needs("gcc", "clang")
+    def test_openssl_opens_what_the_example_that_clang_builds_encrypts(self):
+        self.encrypts(functools.partial(self.in_c, by="clang"))
+
+    def test_openssl_opens_what_the_example_in_python_encrypts(self):
+        self.encrypts(self.in_python)
+
+    def test_a_file_of_any_length_up_to_the_room_of_the_example_is_encrypted(self):
+        """What is in it isn't looked at."""
+        password = f"{PASSWORD}\n".encode()
+        refused = 1, b"", f"not read, or longer than {MOST_IN_C - 1} octets\n".encode()
+        for length in (MOST_IN_C, MOST_IN_C + 1):
+            put("long", bytes(length))
+            ran = self.in_c("long", text=password)
+            self.same((ran.returncode, ran.stdout, ran.stderr), refused, length, "octets")
+        for length in (0, 1, 15, 16, 17, MOST_IN_C - 1):
+            put("file", random.Random(length).randbytes(length))
+            for example in (self.in_c, self.in_python):
+                ran = example("file", text=password)
+                is_right = ran.returncode == 0 and decrypted_by_hand(ran.stdout) == octets("file")
+                self.same(is_right, True, "what is encrypted of", length, "octets")
+
+    def test_without_a_password_or_a_file_nothing_is_encrypted(self):
+        line = f"{PASSWORD}\n".encode()
+        for example in (self.in_c, self.in_python):
+            ran = example("nothing", text=line)
+            self.same((ran.returncode > 0, ran.stdout), (True, b""), example.__name__, "a file that isn't there")
+            for text in (b"", line[:-1], b"\n", b"\n" + line):
+                ran = example("one.pkcs8", text=text)
+                said = ran.returncode, ran.stdout, ran.stderr
+                self.same(said, (1, b"", b"no line with a password\n"), example.__name__, text)
+
+    def test_without_the_name_of_one_file_nothing_is_encrypted(self):
+        line = f"{PASSWORD}\n".encode()
+        for example, usage in ((self.in_c, b""), (self.in_python, b"usage: encrypt.py FILE < PASSWORD\n")):
+            for files in ([], ["one.pkcs8", "two.pkcs8"]):
+                ran = example(*files, text=line)
+                self.same((ran.returncode, ran.stdout, ran.stderr), (2, b"", usage), example.__name__, files)
+
+
+def decrypted(key, password):
+    """The key that openssl takes out of an encrypted one."""
+    ran = tools.ended("openssl", "pkey", "-inform", "DER", "-passin", f"pass:{password}", "-outform", "DER", text=key)
+    return ran.stdout if ran.returncode == 0 else "refused"
+
+
+def salt_and_vector(key):
+    """The salt and the vector of a key by PBES2."""
+    derivation, scheme = parts(part(key, 0, 1))
+    return contents(part(derivation, 1, 0)), contents(part(scheme, 1))
+
+
+def decrypted_by_hand(key):
+    """What is encrypted in what may be no key, by PBKDF2 of hashlib and openssl enc."""
+    salt, vector = salt_and_vector(key)
+    derived = hashlib.pbkdf2_hmac("sha256", PASSWORD.encode(), salt, 600000, 32)
+    return run(f"openssl enc -d -aes-256-cbc -K {derived.hex()} -iv {vector.hex()}", contents(part(key, 1)))
 
 
 if __name__ == "__main__":

@@ -15,23 +15,24 @@ enum { LONGEST_INTEGER = 24 };
 
 /* The calls, by the word that begins their lines. */
 typedef enum {
-  CHECK, LOCATE, LOOSE_END, REWRITE, MAC, MAC_NUMBERS, FROM_BER, MAC_BER, MAC_PART_BER, NAME, OID, OID_NAME, PART, KIND,
-  SIGNERS, SIGNER, RANGES, ATTRIBUTES, BAGS, CERTIFICATE, INDIRECT, TRUST_LIST, TRUST_ROWS, PASSWORD, INTEGER, UTF16
+  CHECK, LOCATE, LOOSE_END, REWRITE, MAC, MAC_NUMBERS, FROM_BER, MAC_BER, MAC_PART_BER, NAME, OID, OID_OCTETS, OID_NAME,
+  PART, KIND, SIGNERS, SIGNER, RANGES, ATTRIBUTES, BAGS, CERTIFICATE, INDIRECT, TRUST_LIST, TRUST_ROWS, PASSWORD, BUILD,
+  INTEGER, UTF16
 } call;
 static const char *const calls[] = {
     "check",     "locate",   "loose_end", "rewrite", "mac",  "mac_numbers", "from_ber", "mac_ber", "mac_part_ber",
-    "name_text", "oid_text", "oid_name",  "part",    "kind", "signers",     "signer",   "ranges",
-    "attributes", "bags", "certificate", "indirect", "trust_list", "trust_rows", "password", "integer_text",
-    "utf16_text"};
+    "name_text", "oid_text", "oid_octets", "oid_name", "part", "kind", "signers", "signer", "ranges", "attributes",
+    "bags", "certificate", "indirect", "trust_list", "trust_rows", "password", "build", "integer_text", "utf16_text"};
 
 /* What a call is given: the index of a kind or of a signer, or the number of a part or of a holder, where it takes one,
- * and a limit if there is one. */
+ * a limit if there is one, and what it builds from. */
 typedef struct {
   const char *kind;
   const uint8_t *input;
   size_t len, index;
   int is_limited;
   unsigned limit;
+  der_password_parts parts;
 } given;
 
 /* What a call answers: its status, and its numbers, 0 where it has but one. */
@@ -85,14 +86,14 @@ static int lists(call it) {
 
 /* How many numbers a call writes. */
 static int numbers_of(call it) {
-  const int two = it == MAC || it == FROM_BER || it == PART || lists(it);
+  const int two = it == MAC || it == FROM_BER || it == PART || it == BUILD || lists(it);
   return it == MAC_NUMBERS || it == MAC_BER ? 3 : two ? 2 : 1;
 }
 
 /* Whether a call writes so many bytes as its first number says. */
 static int says_written(call it) {
-  return it == REWRITE || it == FROM_BER || it == MAC_PART_BER || it == NAME || it == OID || it == OID_NAME ||
-         it == INTEGER || it == UTF16 || it == PART || it == KIND;
+  return it == REWRITE || it == FROM_BER || it == MAC_PART_BER || it == NAME || it == OID || it == OID_OCTETS ||
+         it == OID_NAME || it == INTEGER || it == UTF16 || it == PART || it == KIND || it == BUILD;
 }
 
 /* How many bytes a call writes of signers, of which there are so many from that index on. */
@@ -193,6 +194,9 @@ static answer made(call it, const given *its, uint8_t *room, size_t out_len) {
   case OID:
     said.status = (der_status)der_oid_text(its->input, its->len, out, out_len, &first.it);
     break;
+  case OID_OCTETS:
+    said.status = (der_status)der_oid_octets(its->input, its->len, out, out_len, &first.it);
+    break;
   case OID_NAME:
     said.status = (der_status)der_oid_name(its->input, its->len, out, out_len, &first.it);
     break;
@@ -259,6 +263,10 @@ static answer made(call it, const given *its, uint8_t *room, size_t out_len) {
     said.status = one_password(its, out, &first.it);
     written = sizeof(der_password_parts);
     break;
+  case BUILD:
+    said.status = (der_status)der_build_parameters(its->index, its->input, its->len, &its->parts, out, out_len,
+                                                   &first.it, &second.it);
+    break;
   }
   said.first = first.it;
   said.second = second.it;
@@ -311,7 +319,7 @@ static answer tried(call it, const given *its, uint8_t *room, size_t out_len) {
 
 static int kinds(void) {
   static uint8_t room[MARGIN + 64 + MARGIN];
-  given its = {NULL, NULL, 0, 0, 0, 0};
+  given its = {NULL, NULL, 0, 0, 0, 0, {0}};
   answer said;
   while ((said = tried(KIND, &its, room, 64)).status == DER_NORMAL) {
     tried(KIND, &its, room, said.first);
@@ -332,11 +340,12 @@ static void parts(call it, given *its, uint8_t *room) {
   }
 }
 
-/* Makes a call that writes text, with room enough and a byte less. */
-static void text(call it, const given *its, uint8_t *room) {
+/* Makes a call that writes text, octets of a text, or what it builds, with room enough and a byte less. */
+static answer text(call it, const given *its, uint8_t *room) {
   answer said = tried(it, its, room, 8 * its->len + SPARE);
   if (said.status == DER_NORMAL && said.first)
     tried(it, its, room, said.first - 1);
+  return said;
 }
 
 /* Asks for signers: for all, with room for one more, for just them, for one less and for none, for those from the
@@ -387,16 +396,61 @@ static void ranges(given *its, uint8_t *room) {
     listed(ATTRIBUTES, its, room, sizeof(der_range));
 }
 
-/* Asks how the input is encrypted with a password, as each holder, and as a number that no holder has. */
+/* Builds with what can't be written in the place of each part in turn: that part is told, or isn't looked at. Then
+ * without the salt where the scheme has one, and by two schemes. */
+static void wrong_parts(given its, uint8_t *room, size_t size) {
+  static const size_t most = (size_t)-1, wrong[][2] = {
+      {DER_PASSWORD_ALGORITHM, offsetof(der_password_parts, algorithm)},
+      {DER_PASSWORD_PARAMETERS, offsetof(der_password_parts, parameters)},
+      {DER_PASSWORD_DERIVATION, offsetof(der_password_parts, derivation)},
+      {DER_PASSWORD_DERIVATION_PARAMETERS, offsetof(der_password_parts, derivation_parameters)},
+      {DER_PASSWORD_SALT, offsetof(der_password_parts, salt)},
+      {DER_PASSWORD_PRF, offsetof(der_password_parts, prf)},
+      {DER_PASSWORD_ENCRYPTION, offsetof(der_password_parts, encryption)},
+      {DER_PASSWORD_ENCRYPTION_PARAMETERS, offsetof(der_password_parts, encryption_parameters)},
+      {DER_PASSWORD_INITIALIZATION_VECTOR, offsetof(der_password_parts, initialization_vector)},
+      {DER_PASSWORD_ENCRYPTED, offsetof(der_password_parts, encrypted)},
+      {DER_PASSWORD_ITERATIONS, offsetof(der_password_parts, iterations)},
+      {DER_PASSWORD_KEY_LENGTH, offsetof(der_password_parts, key_length)}};
+  const der_password_parts right = its.parts;
+  answer said;
+  for (size_t nth = 0; nth < sizeof wrong / sizeof *wrong; nth++) {
+    its.parts = right;
+    memcpy((uint8_t *)&its.parts + wrong[nth][1], &most, sizeof most);
+    said = made(BUILD, &its, room, size);
+    if (said.status == DER_NORMAL ? said.first != size : said.status != DER_INVALID || said.second != wrong[nth][0])
+      fault(BUILD, "it tells another part");
+  }
+  its.parts = right;
+  its.parts.has_salt = its.parts.has_derivation_parameters = 0;
+  if (right.is_pbes1 || right.is_pkcs12 || right.is_pbkdf2) {
+    said = made(BUILD, &its, room, size);
+    if (said.status != DER_INVALID || said.second != DER_PASSWORD_SALT)
+      fault(BUILD, "it takes a scheme without its salt");
+  }
+  its.parts = right;
+  its.parts.is_pbes1 = its.parts.is_pkcs12 = 1;
+  said = made(BUILD, &its, room, size);
+  if (said.status != DER_INVALID || said.second != DER_PASSWORD_SCHEME)
+    fault(BUILD, "it takes two schemes");
+}
+
+/* Asks how the input is encrypted with a password, as each holder, and as a number that no holder has, and builds the
+ * same from what is found. Where that is nothing, there is nothing to build from. */
 static void passwords(given *its, uint8_t *room) {
-  for (its->index = 0; its->index <= DER_HOLDER_CONTENTS + 1; its->index++)
+  for (its->index = 0; its->index <= DER_HOLDER_CONTENTS + 1; its->index++) {
     tried(PASSWORD, its, room, sizeof(der_password_parts));
+    memcpy(&its->parts, room + MARGIN, sizeof its->parts);
+    const answer said = text(BUILD, its, room);
+    if (said.status == DER_NORMAL)
+      wrong_parts(*its, room, said.first);
+  }
 }
 
 int main(int count, char **words) {
   static uint8_t input[LONGEST];
   static _Alignas(der_signer_parts) uint8_t room[MARGIN + 2 * LONGEST + MARGIN];
-  given its = {count > 1 ? words[1] : NULL, input, 0, 0, count == 3, 0};
+  given its = {count > 1 ? words[1] : NULL, input, 0, 0, count == 3, 0, {0}};
   answer said;
   if (count == 1)
     return kinds();
@@ -429,6 +483,7 @@ int main(int count, char **words) {
     return 2;
   text(NAME, &its, room);
   text(OID, &its, room);
+  text(OID_OCTETS, &its, room);
   text(OID_NAME, &its, room);
   text(UTF16, &its, room);
   signers(&its, room);

@@ -12,6 +12,8 @@ command `vuyhanip` over files, which is `python -m vuyhanip` too.
     library.trust_list(data)        a TrustList: what a trust list is for, its number, times and algorithm; or None
     library.trust_entries(data)     each TrustEntry of a trust list: its identifier and attributes; or None
     library.password_parameters(data, PasswordHolder.KEY)   PasswordParameters: how a key is encrypted with a password
+    library.build_parameters(PasswordHolder.KEY, its)       the DER of a key that is encrypted so
+    vuyhanip.build.pbes2(..)        PasswordParameters from scratch, with which build.encrypted_key makes a key
     vuyhanip.mac_verdict(data, password).is_right   whether the MAC of a store is right, as the program openssl says
 
 help(vuyhanip.der) says what each call does. An installed package has the library for C in its folder, and its version.
@@ -27,6 +29,7 @@ from . import der as der
 from .der import (
     MAX_NESTING,
     BadAttributes,
+    BadParameters,
     Bag,
     BagKind,
     Certificate,
@@ -38,6 +41,7 @@ from .der import (
     Part,
     PasswordHolder,
     PasswordParameters,
+    PasswordPart,
     Refused,
     SignedData,
     Signer,
@@ -55,10 +59,10 @@ from .der import (
 if TYPE_CHECKING:
     from .findings import Finding
 
-__all__ = ["MAX_NESTING", "BadAttributes", "Bag", "BagKind", "Certificate", "EnvelopePart", "ImageData"]
-__all__ += ["IndirectData", "Library", "Mac", "Part", "PasswordHolder", "PasswordParameters", "Refused", "SignedData"]
-__all__ += ["Signer", "SignerInfo", "Store", "TrustEntry", "TrustList", "UnknownKind", "Verdict", "attribute_oid"]
-__all__ += ["attribute_values", "dotted", "library", "mac_verdict"]
+__all__ = ["MAX_NESTING", "BadAttributes", "BadParameters", "Bag", "BagKind", "Certificate", "EnvelopePart"]
+__all__ += ["ImageData", "IndirectData", "Library", "Mac", "Part", "PasswordHolder", "PasswordParameters"]
+__all__ += ["PasswordPart", "Refused", "SignedData", "Signer", "SignerInfo", "Store", "TrustEntry", "TrustList"]
+__all__ += ["UnknownKind", "Verdict", "attribute_oid", "attribute_values", "dotted", "library", "mac_verdict"]
 
 _HERE = os.path.dirname(os.path.realpath(__file__))
 
@@ -108,3 +112,7 @@ def mac_verdict(store: bytes, password: str) -> "Finding":
     from .verifying import mac_verdict as verdict
 
     return verdict(store, password)
+
+
+# it takes the library by the function above
+from . import build as build  # noqa: E402

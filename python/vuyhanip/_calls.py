@@ -58,6 +58,21 @@ HOLDER_ALGORITHM: Final = 0
 HOLDER_KEY: Final = 1
 HOLDER_CONTENTS: Final = 2
 
+# der_password_part
+PASSWORD_ALGORITHM: Final = 1
+PASSWORD_PARAMETERS: Final = 2
+PASSWORD_DERIVATION: Final = 3
+PASSWORD_DERIVATION_PARAMETERS: Final = 4
+PASSWORD_SALT: Final = 5
+PASSWORD_PRF: Final = 6
+PASSWORD_ENCRYPTION: Final = 7
+PASSWORD_ENCRYPTION_PARAMETERS: Final = 8
+PASSWORD_INITIALIZATION_VECTOR: Final = 9
+PASSWORD_ENCRYPTED: Final = 10
+PASSWORD_ITERATIONS: Final = 11
+PASSWORD_KEY_LENGTH: Final = 12
+PASSWORD_SCHEME: Final = 13
+
 
 class Range(ctypes.Structure):
     """A der_range."""
@@ -303,6 +318,7 @@ ARGUMENTS: Dict[str, Tuple[object, ...]] = {
     "der_trust_list": (_OCTETS, _SIZE, ctypes.POINTER(TrustListParts), _NUMBER),
     "der_trust_rows": (_OCTETS, _SIZE, ctypes.POINTER(TrustEntryParts), _SIZE, _NUMBER, _NUMBER),
     "der_password_parameters": (_SIZE, _OCTETS, _SIZE, ctypes.POINTER(PasswordParts), _NUMBER),
+    "der_build_parameters": (_SIZE, _OCTETS, _SIZE, ctypes.POINTER(PasswordParts), _OCTETS, _SIZE, _NUMBER, _NUMBER),
     "der_mac_range": (_OCTETS, _SIZE, _NUMBER, _NUMBER),
     "der_mac": (_OCTETS, _SIZE, _NUMBER, _NUMBER, _NUMBER),
     "der_from_ber": (_OCTETS, _SIZE, _OCTETS, _SIZE, _NUMBER, _NUMBER),
@@ -310,6 +326,7 @@ ARGUMENTS: Dict[str, Tuple[object, ...]] = {
     "der_mac_part_ber": (_SIZE, _OCTETS, _SIZE, _OCTETS, _SIZE, _NUMBER),
     "der_name_text": (_OCTETS, _SIZE, _OCTETS, _SIZE, _NUMBER),
     "der_oid_text": (_OCTETS, _SIZE, _OCTETS, _SIZE, _NUMBER),
+    "der_oid_octets": (_OCTETS, _SIZE, _OCTETS, _SIZE, _NUMBER),
     "der_oid_name": (_OCTETS, _SIZE, _OCTETS, _SIZE, _NUMBER),
     "der_integer_text": (_OCTETS, _SIZE, _OCTETS, _SIZE, _NUMBER),
     "der_utf16_text": (_OCTETS, _SIZE, _OCTETS, _SIZE, _NUMBER),

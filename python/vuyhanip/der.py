@@ -18,6 +18,8 @@ DER, from Python.
     library.trust_list(signed)       a TrustList: what a trust list is for, its number, times and algorithm; or None
     library.trust_entries(signed)    all TrustEntry(identifier=.., attributes=..) of a trust list; or None
     library.password_parameters(key, PasswordHolder.KEY)   PasswordParameters: how a key is encrypted with a password
+    library.build_parameters(PasswordHolder.KEY, its)      the DER of a key that is encrypted so, as bytes
+    library.oid_octets("1.3.14.3.2.26")   the contents octets of an object identifier, as bytes
     library.from_ber(data)           the DER of an input in BER, as bytes
     library.mac_ber(der)             as mac, of a file that from_ber returned
     library.kinds()                  ["macdata", ..]
@@ -66,6 +68,9 @@ FEW_RANGES = 1024
 FEW_BAGS = 64
 # How many entries of a trust list there is room for at first, alike.
 FEW_ENTRIES = 64
+# What a call gets as a number that isn't given, or that no size_t holds, and as the place of a part that isn't given:
+# where it looks at that, it refuses it.
+NOT_GIVEN = (1 << 64) - 1
 # Tags of elements; of a signer's signed attributes and of its unsigned ones, and of crls in signed data.
 SEQUENCE, UTC_TIME, GENERALIZED_TIME = 0x30, 0x17, 0x18
 SIGNED, UNSIGNED, CRLS = 0xA0, 0xA1, 0xA1
@@ -644,7 +649,7 @@ class TrustEntry(NamedTuple):
 
 
 class PasswordHolder(enum.Enum):
-    """What the input of password_parameters is, by its number in der.h."""
+    """What the input of password_parameters is, and what build_parameters makes, by its number in der.h."""
 
     # an AlgorithmIdentifier
     ALGORITHM = _calls.HOLDER_ALGORITHM
@@ -654,49 +659,96 @@ class PasswordHolder(enum.Enum):
     CONTENTS = _calls.HOLDER_CONTENTS
 
 
+class PasswordPart(enum.Enum):
+    """What of PasswordParameters can't be written, by its number in der.h: a field, in capitals, or the scheme."""
+
+    # it isn't given, or is no object identifier, or not one of PBES1 or of PKCS #12 where a flag says that
+    ALGORITHM = _calls.PASSWORD_ALGORITHM
+    # it is no element
+    PARAMETERS = _calls.PASSWORD_PARAMETERS
+    # it isn't given, or is no object identifier
+    DERIVATION = _calls.PASSWORD_DERIVATION
+    # it is no element
+    DERIVATION_PARAMETERS = _calls.PASSWORD_DERIVATION_PARAMETERS
+    # it isn't given, of PBES1 or PKCS #12, or of PBKDF2 without derivation_parameters; any octets can be written
+    SALT = _calls.PASSWORD_SALT
+    # it is no object identifier
+    PRF = _calls.PASSWORD_PRF
+    # it isn't given, or is no object identifier
+    ENCRYPTION = _calls.PASSWORD_ENCRYPTION
+    # it is no element
+    ENCRYPTION_PARAMETERS = _calls.PASSWORD_ENCRYPTION_PARAMETERS
+    # never from Python: any octets can be written
+    INITIALIZATION_VECTOR = _calls.PASSWORD_INITIALIZATION_VECTOR
+    # of a key: it isn't given
+    ENCRYPTED = _calls.PASSWORD_ENCRYPTED
+    # it isn't given, or is negative, or 2**32 or more
+    ITERATIONS = _calls.PASSWORD_ITERATIONS
+    # it is negative, or 2**32 or more
+    KEY_LENGTH = _calls.PASSWORD_KEY_LENGTH
+    # more than one of is_pbes1, is_pkcs12 and is_pbes2 is true
+    SCHEME = _calls.PASSWORD_SCHEME
+
+
+class BadParameters(ValueError):
+    """Parameters that build_parameters doesn't write. part is a PasswordPart: the first that can't be written."""
+
+    def __init__(self, part: PasswordPart) -> None:
+        super().__init__(part)
+        self.part = part
+
+    def __str__(self) -> str:
+        return f"{self.part.name.lower()} can't be written"
+
+
 class PasswordParameters(NamedTuple):
-    """How data is encrypted with a password (RFC 8018; RFC 7292, C), as numbers, and as octets of the input. Nothing is
-    derived, decrypted or judged, and whoever made the input chose all of this: limit the count before a key is derived,
-    and compare key_length and the length of the vector with what the cipher takes.
+    """How data is encrypted with a password (RFC 8018; RFC 7292, C), as numbers and octets, which password_parameters
+    gives as memoryviews of its input. Nothing is derived, decrypted or judged, and whoever made the input chose all of
+    this: limit the count before a key is derived, and compare key_length and the length of the vector with what the
+    cipher takes.
+
+    build_parameters writes them: as they were read, with other fields by _replace, or made by a caller, who leaves out
+    what isn't written. It writes encrypted as it is given: with another salt, count, function, scheme or vector derive
+    the key anew, and encrypt anew, since otherwise nobody can decrypt it.
 
     A part may be empty, and is false then, as a number may be 0: compare with None.
     """
 
     # the contents octets of the algorithm's object identifier
-    algorithm: memoryview
+    algorithm: Bytes = b""
     # the element of its parameters, whatever is in it; None where there are none
-    parameters: Optional[memoryview]
+    parameters: Optional[Bytes] = None
     # whether the algorithm is one of PBES1 (RFC 8018, A.3), and these read as PBEParameter: PBKDF1 derives the key, and
     # the vector with it
-    is_pbes1: bool
+    is_pbes1: bool = False
     # whether the algorithm is one of pkcs-12PbeIds, and these read as pkcs-12PbeParams: the key and the vector are
     # derived as RFC 7292, B.2, says
-    is_pkcs12: bool
+    is_pkcs12: bool = False
     # whether the algorithm is id-PBES2, and they read as PBES2-params
-    is_pbes2: bool
+    is_pbes2: bool = False
     # of PBES2, else None: the contents octets of the object identifier of the key derivation
-    derivation: Optional[memoryview]
+    derivation: Optional[Bytes] = None
     # the element of its parameters; None where there are none
-    derivation_parameters: Optional[memoryview]
+    derivation_parameters: Optional[Bytes] = None
     # whether the key derivation is id-PBKDF2, and these read as PBKDF2-params; it is looked at only within PBES2
-    is_pbkdf2: bool
+    is_pbkdf2: bool = False
     # of PBES1, PKCS #12 and PBKDF2, else None: the octets of the salt; None also where PBKDF2 has another source of it
-    salt: Optional[memoryview]
+    salt: Optional[Bytes] = None
     # of these three, else None: the iteration count
-    iterations: Optional[int]
+    iterations: Optional[int] = None
     # of PBKDF2, else None: the length of the key in octets; None also where it isn't said
-    key_length: Optional[int]
+    key_length: Optional[int] = None
     # of PBKDF2, else None: the contents octets of the object identifier of the pseudorandom function; where is_pbkdf2,
     # None means HMAC with SHA-1
-    prf: Optional[memoryview]
+    prf: Optional[Bytes] = None
     # of PBES2, else None: the contents octets of the object identifier of the encryption scheme
-    encryption: Optional[memoryview]
+    encryption: Optional[Bytes] = None
     # the element of its parameters; None where there are none
-    encryption_parameters: Optional[memoryview]
+    encryption_parameters: Optional[Bytes] = None
     # the octets of these, where they read as OCTET STRING, as those of AES in CBC mode
-    initialization_vector: Optional[memoryview]
+    initialization_vector: Optional[Bytes] = None
     # what is encrypted: the octets of encryptedData or encryptedContent; None where there are none
-    encrypted: Optional[memoryview]
+    encrypted: Optional[Bytes] = None
 
     def __repr__(self) -> str:
         return _shown(self, **self._asdict())
@@ -711,7 +763,7 @@ class PasswordParameters(NamedTuple):
 
     @property
     def derivation_oid(self) -> Optional[str]:
-        """The object identifier of the key derivation, as "1.2.840.113549.1.5.12"; None unless it is PBES2."""
+        """The object identifier of the key derivation, as "1.2.840.113549.1.5.12"; None where there is none."""
         return None if self.derivation is None else dotted(bytes(self.derivation))
 
     @property
@@ -725,7 +777,7 @@ class PasswordParameters(NamedTuple):
 
     @property
     def encryption_oid(self) -> Optional[str]:
-        """The object identifier of the encryption scheme, as "2.16.840.1.101.3.4.1.42"; None unless it is PBES2."""
+        """The object identifier of the encryption scheme, as "2.16.840.1.101.3.4.1.42"; None where there is none."""
         return None if self.encryption is None else dotted(bytes(self.encryption))
 
 
@@ -847,6 +899,55 @@ def _password_parameters(parts: _calls.PasswordParts, data: memoryview) -> Passw
         _taken(parts.initialization_vector, data) if parts.has_initialization_vector else None,
         _taken(parts.encrypted, data) if parts.has_encrypted else None,
     )
+
+
+def _size(number: Optional[int]) -> int:
+    """A number as the call takes it that writes parameters."""
+    return number if number is not None and 0 <= number <= NOT_GIVEN else NOT_GIVEN
+
+
+def _password_parts(holder: PasswordHolder, given: PasswordParameters) -> Tuple[_calls.PasswordParts, bytes]:
+    """Parameters as the call takes them that writes them: their parts, and the octets that these have ranges of. An
+    algorithm has nothing that is encrypted.
+    """
+    encrypted = None if holder is PasswordHolder.ALGORITHM else given.encrypted
+    octets: List[_Whole] = []
+
+    def put(part: Optional[Bytes]) -> _calls.Range:
+        """Where a part is among these octets, to which it is added."""
+        if part is None:
+            return _calls.Range(NOT_GIVEN, 0)
+        start = sum(map(len, octets))
+        octets.append(_octets(part))
+        return _calls.Range(start, len(octets[-1]))
+
+    parts = _calls.PasswordParts(
+        has_parameters=given.parameters is not None,
+        is_pbes1=bool(given.is_pbes1),
+        is_pkcs12=bool(given.is_pkcs12),
+        is_pbes2=bool(given.is_pbes2),
+        has_derivation_parameters=given.derivation_parameters is not None,
+        is_pbkdf2=bool(given.is_pbkdf2),
+        has_salt=given.salt is not None,
+        has_key_length=given.key_length is not None,
+        has_prf=given.prf is not None,
+        has_encryption_parameters=given.encryption_parameters is not None,
+        has_initialization_vector=given.initialization_vector is not None,
+        has_encrypted=encrypted is not None,
+        iterations=_size(given.iterations),
+        key_length=_size(given.key_length),
+        algorithm=put(given.algorithm),
+        parameters=put(given.parameters),
+        derivation=put(given.derivation),
+        derivation_parameters=put(given.derivation_parameters),
+        salt=put(given.salt),
+        prf=put(given.prf),
+        encryption=put(given.encryption),
+        encryption_parameters=put(given.encryption_parameters),
+        initialization_vector=put(given.initialization_vector),
+        encrypted=put(encrypted),
+    )
+    return parts, b"".join(octets)
 
 
 class Store:
@@ -1281,6 +1382,39 @@ class Library:
         _raise_for(status, "", place.value)
         return _password_parameters(parts, memoryview(octets))
 
+    def build_parameters(self, holder: PasswordHolder, given: PasswordParameters) -> bytes:
+        """The DER of an algorithm, of an encrypted key or of encrypted contents, as the holder says, with these
+        parameters, which password_parameters reads of it again. The type of contents is data, as in PKCS #12. Nothing
+        is derived, encrypted or judged: neither a number nor a length. What password_parameters returned may be given
+        as it is, or changed. But encrypted is written as it is given: with another salt, count, function, scheme or
+        vector derive the key anew, and encrypt anew, since otherwise nobody can decrypt it:
+
+            its._replace(salt=salt, iterations=600_000, initialization_vector=vector, encrypted=octets)
+
+        What is written:
+
+        - where is_pbes1 or is_pkcs12, algorithm, salt and iterations;
+        - where is_pbes2, a key derivation: PBKDF2 with salt, iterations, key_length and prf, whose parameters are NULL
+          (RFC 8018, B.1), where is_pbkdf2 and salt isn't None; otherwise derivation and derivation_parameters, which
+          may be None unless is_pbkdf2;
+        - and an encryption scheme: encryption and initialization_vector; where that is None, encryption and
+          encryption_parameters;
+        - where none of the three, algorithm and parameters;
+        - of a key encrypted, and of contents too, unless it is None.
+
+        The rest may be anything. For HMAC with SHA-1 give None as prf: DER leaves it out as the default (X.690, 11.5),
+        and what is given is written. Raises BadParameters where a part can't be written.
+        """
+        holder, part = PasswordHolder(holder), ctypes.c_size_t()
+        parts, octets = _password_parts(holder, given)
+        arguments = holder.value, *_given(octets), ctypes.byref(parts)
+        # headers, numbers and the object identifiers that aren't given take less than 256 octets
+        status, text = _written(self._library.der_build_parameters, arguments, len(octets) + 256, ctypes.byref(part))
+        if status == _calls.INVALID:
+            raise BadParameters(PasswordPart(part.value))
+        _raise_for(status, "", 0)
+        return text
+
     def signed(self, data: Bytes) -> SignedData:
         """Signed data, with all that is in them. Raises Refused as signers does."""
         octets = _octets(data)
@@ -1346,6 +1480,15 @@ class Library:
     def oid_text(self, contents: Bytes) -> str:
         """An object identifier, as "1.3.14.3.2.26", by its contents octets. Raises Refused where they are none."""
         return self._text(self._library.der_oid_text, contents)
+
+    def oid_octets(self, text: str) -> bytes:
+        """The contents octets of an object identifier, by its text, as "1.3.14.3.2.26": numbers without leading zeros,
+        joined by dots. Raises Refused where it spells none, or has a number that 64 bits don't hold.
+        """
+        data = text.encode("utf-8", "surrogatepass")
+        status, octets = _written(self._library.der_oid_octets, _given(data), len(data) + 16)
+        _raise_for(status, "", 0)
+        return octets
 
     def oid_name(self, contents: Bytes) -> Optional[str]:
         """The name of an object identifier, as "sha256", by its contents octets.

@@ -58,6 +58,21 @@ pub const HOLDER_ALGORITHM: usize = 0;
 pub const HOLDER_KEY: usize = 1;
 pub const HOLDER_CONTENTS: usize = 2;
 
+// der_password_part
+pub const PASSWORD_ALGORITHM: usize = 1;
+pub const PASSWORD_PARAMETERS: usize = 2;
+pub const PASSWORD_DERIVATION: usize = 3;
+pub const PASSWORD_DERIVATION_PARAMETERS: usize = 4;
+pub const PASSWORD_SALT: usize = 5;
+pub const PASSWORD_PRF: usize = 6;
+pub const PASSWORD_ENCRYPTION: usize = 7;
+pub const PASSWORD_ENCRYPTION_PARAMETERS: usize = 8;
+pub const PASSWORD_INITIALIZATION_VECTOR: usize = 9;
+pub const PASSWORD_ENCRYPTED: usize = 10;
+pub const PASSWORD_ITERATIONS: usize = 11;
+pub const PASSWORD_KEY_LENGTH: usize = 12;
+pub const PASSWORD_SCHEME: usize = 13;
+
 /// `der_range`
 #[repr(C)]
 #[derive(Clone, Copy, Default)]
@@ -276,6 +291,16 @@ extern "C" {
         out: *mut PasswordParts,
         place: *mut usize,
     ) -> u32;
+    pub fn der_build_parameters(
+        holder: usize,
+        input: *const u8,
+        input_len: usize,
+        given: *const PasswordParts,
+        out: *mut u8,
+        out_len: usize,
+        written: *mut usize,
+        part: *mut usize,
+    ) -> u32;
     pub fn der_mac_range(input: *const u8, input_len: usize, start: *mut usize, len: *mut usize) -> u32;
     pub fn der_mac(
         input: *const u8,
@@ -309,6 +334,7 @@ extern "C" {
     ) -> u32;
     pub fn der_name_text(input: *const u8, input_len: usize, out: *mut u8, out_len: usize, written: *mut usize) -> u32;
     pub fn der_oid_text(octets: *const u8, octets_len: usize, out: *mut u8, out_len: usize, written: *mut usize) -> u32;
+    pub fn der_oid_octets(text: *const u8, text_len: usize, out: *mut u8, out_len: usize, written: *mut usize) -> u32;
     pub fn der_oid_name(octets: *const u8, octets_len: usize, out: *mut u8, out_len: usize, written: *mut usize) -> u32;
     pub fn der_integer_text(
         octets: *const u8,

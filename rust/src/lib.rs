@@ -1,6 +1,7 @@
 //! Safe calls of the library for C: checks and rewritings of DER, the parts of containers that a verifier needs, as
 //! octets, the certificates and signers of signed data, the bags of stores, the parts of certificates, of what
-//! Authenticode signs and of trust lists, the parameters of encryption with a password, and conversions of BER to DER.
+//! Authenticode signs and of trust lists, the parameters of encryption with a password, which are built too, and
+//! conversions of BER to DER.
 //!
 //! ```
 //! // the shortest PKCS #12 file
@@ -17,6 +18,7 @@
 #![warn(missing_docs)]
 
 mod bags;
+mod build;
 mod calls;
 mod certificates;
 mod contents;
@@ -26,6 +28,7 @@ mod signers;
 mod trust_lists;
 
 pub use bags::{bags, Bag, BagKind};
+pub use build::{build_parameters, BuildError, PasswordPart};
 pub use certificates::{certificate, Certificate, Key};
 pub use contents::{indirect, Image, Indirect};
 pub use passwords::{password_parameters, PasswordHolder, PasswordParameters};
@@ -333,6 +336,23 @@ pub fn name_text(encoding: &[u8]) -> Result<String, Error> {
 /// An object identifier, by its contents octets, as `1.2.840.113549.1.1.11`. Where it is refused, the place is 0.
 pub fn oid_text(octets: &[u8]) -> Result<String, Error> {
     text_written(octets, calls::der_oid_text)
+}
+
+/// The contents octets of an object identifier, by its text, as [`oid_text`] writes it: numbers in decimal without
+/// leading zeros, joined by dots. Where it is refused, the place is 0: the text spells none, or a number in the octets
+/// would be one that 64 bits don't hold.
+///
+/// ```
+/// let octets = vuyhanip::oid_octets("2.16.840.1.101.3.4.1.42")?;
+/// assert_eq!(vuyhanip::oid_name(&octets).as_deref(), Some("aes-256-cbc"));
+/// # Ok::<(), vuyhanip::Error>(())
+/// ```
+pub fn oid_octets(text: &str) -> Result<Vec<u8>, Error> {
+    let (status, out) = written(text.len(), |out, out_len, written| {
+        // SAFETY: as above
+        unsafe { calls::der_oid_octets(text.as_ptr(), text.len(), out, out_len, written) }
+    });
+    if status == NORMAL { Ok(out) } else { Err(error(status, 0)) }
 }
 
 /// The name of an object identifier, as `sha256`, by its contents octets: the long name that openssl 3.0 prints, or where

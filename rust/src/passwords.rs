@@ -2,7 +2,7 @@
 use crate::calls::{self, PasswordParts, Range};
 use crate::{error, Error, NORMAL};
 
-/// What the input of [`password_parameters`] is.
+/// What the input of [`password_parameters`] is, and what [`build_parameters`](crate::build_parameters) builds.
 #[derive(Debug, Clone, Copy, PartialEq, Eq)]
 pub enum PasswordHolder {
     /// An AlgorithmIdentifier.
@@ -17,7 +17,8 @@ pub enum PasswordHolder {
 
 /// How data is encrypted with a password (RFC 8018; RFC 7292, C). Nothing is derived, decrypted or judged, and whoever
 /// made the input chose all of this: limit the count before a key is derived, and compare `key_length` and the length
-/// of the vector with what the cipher takes.
+/// of the vector with what the cipher takes. Such parameters are also what
+/// [`build_parameters`](crate::build_parameters) takes.
 #[derive(Debug, Clone, Copy, PartialEq, Eq)]
 #[non_exhaustive]
 pub struct PasswordParameters<'a> {

@@ -1,6 +1,8 @@
 //! Each call, over files that openssl made, whose offsets and octets are those that `openssl asn1parse` shows, and over
 //! examples of X.690.
-use vuyhanip::{BadAttributes, BagKind, Error, Part, PasswordHolder, Reason, Verdict};
+use vuyhanip::{
+    BadAttributes, BagKind, BuildError, Error, Part, PasswordHolder, PasswordParameters, PasswordPart, Reason, Verdict,
+};
 
 /// A key store.
 const STORE: &[u8] = include_bytes!("store.p12");
@@ -50,6 +52,14 @@ const AES_GCM: &[u8] = &[6, 9, 0x60, 0x86, 0x48, 1, 0x65, 3, 4, 1, 46];
 /// Algorithms: one without parameters, and one with an OCTET STRING as these.
 const BARE: &[u8] = &[0x30, 5, 6, 3, 0x2A, 3, 4];
 const WITH_VECTOR: &[u8] = &[0x30, 9, 6, 3, 0x2A, 3, 5, 4, 2, 5, 6];
+/// The first of these with NULL as its parameters.
+const WITH_NULL: &[u8] = &[0x30, 7, 6, 3, 0x2A, 3, 4, 5, 0];
+/// Parameters: a salt of one octet, and a count.
+const SALT_AND_COUNT: &[u8] = &[0x30, 6, 4, 1, 7, 2, 1, 9];
+/// The greatest count.
+const GREATEST: &[u8] = &[2, 5, 0, 0xFF, 0xFF, 0xFF, 0xFF];
+/// Octets that are no object identifier and no element.
+const NEITHER: Option<&[u8]> = Some(&[0x80]);
 /// A digest info without the NULL that its algorithm has in DER, up to the digest.
 const LOOSE: &[u8] = &[0x30, 0x1F, 0x30, 7, 6, 5, 0x2B, 0x0E, 3, 2, 0x1A, 4, 0x14];
 const NORMAL: &[u8] = &[0x30, 0x21, 0x30, 9, 6, 5, 0x2B, 0x0E, 3, 2, 0x1A, 5, 0, 4, 0x14];
@@ -466,6 +476,222 @@ fn what_is_no_holder_is_refused_where_it_is_wrong() {
     }
 }
 
+/// What is built from what is listed.
+fn built_again(holder: PasswordHolder, input: &[u8]) -> Result<Vec<u8>, BuildError> {
+    vuyhanip::build_parameters(holder, &vuyhanip::password_parameters(holder, input).unwrap())
+}
+
+/// Of the file, and by hand of each holder.
+#[test]
+fn what_is_listed_is_built_again() {
+    for (holder, input) in [(PasswordHolder::Contents, &STORE[34..648]), (PasswordHolder::Key, &STORE[695..875])] {
+        assert_eq!(built_again(holder, input).as_deref(), Ok(input));
+    }
+    let of_kind = |kind: &[u8], parameters: &[u8]| element(0x30, &[kind, parameters]);
+    for algorithm in [
+        pbes2(&[&[4, 2, 7, 8], GREATEST, &[2, 1, 16], WITH_NULL], WITH_VECTOR),
+        pbes2(&[&[4, 0], &[2, 1, 0]], BARE),
+        // a salt from another source, and a count of 2^32
+        pbes2(&[BARE, &[2, 1, 9], &[2, 1, 16], BARE], WITH_VECTOR),
+        pbes2(&[&[4, 0], &[2, 5, 1, 0, 0, 0, 0]], WITH_NULL),
+        of_kind(PBE_MD5_DES, SALT_AND_COUNT),
+        of_kind(PBE_SHA1_RC2, SALT_AND_COUNT),
+        // what isn't known
+        of_kind(PBE_SHA1_RC2, &[5, 0]),
+        of_kind(PBES2, SALT_AND_COUNT),
+        of_kind(AES_GCM, SALT_AND_COUNT),
+        BARE.to_vec(),
+    ] {
+        for (holder, input) in [
+            (PasswordHolder::Algorithm, algorithm.clone()),
+            (PasswordHolder::Key, element(0x30, &[&algorithm, &[4, 3, 1, 2, 3]])),
+            (PasswordHolder::Contents, encrypted_contents(&algorithm, &[0x80, 3, 1, 2, 3])),
+            (PasswordHolder::Contents, encrypted_contents(&algorithm, &[])),
+        ] {
+            assert_eq!(built_again(holder, &input), Ok(input));
+        }
+    }
+}
+
+/// A PRF gets NULL as its parameters (RFC 8018, B.1), and contents are data.
+#[test]
+fn what_no_parameters_say_is_built_as_usual() {
+    let of_prf = |prf| pbes2(&[&[4, 0], &[2, 1, 9], prf], BARE);
+    assert_eq!(built_again(PasswordHolder::Algorithm, &of_prf(BARE)), Ok(of_prf(WITH_NULL)));
+    let contents = encrypted_contents(BARE, &[]);
+    let mut other = contents.clone();
+    // the last octet of the type
+    other[place(&contents, DATA) + 10] = 5;
+    assert_eq!(built_again(PasswordHolder::Contents, &other), Ok(contents));
+}
+
+/// Of the file: what is set anew reads back, and nothing else is another.
+#[test]
+fn what_is_changed_reads_back() {
+    let mut given = vuyhanip::password_parameters(PasswordHolder::Contents, &STORE[34..648]).unwrap();
+    given.salt = Some(&[1; 16]);
+    given.iterations = Some(600_000);
+    given.key_length = Some(32);
+    given.initialization_vector = Some(&[2; 12]);
+    given.encrypted = None;
+    let built = vuyhanip::build_parameters(PasswordHolder::Contents, &given).unwrap();
+    let mut found = vuyhanip::password_parameters(PasswordHolder::Contents, &built).unwrap();
+    let derivation = element(0x30, &[&[4, 16], &[1; 16], &[2, 3, 9, 0x27, 0xC0, 2, 1, 32], &STORE[119..133]]);
+    assert_eq!(found.derivation_parameters, Some(&derivation[..]));
+    assert_eq!(found.encryption_parameters, Some(&element(4, &[&[2; 12]])[..]));
+    // the elements that hold what was changed
+    found.parameters = given.parameters;
+    found.derivation_parameters = given.derivation_parameters;
+    found.encryption_parameters = given.encryption_parameters;
+    assert_eq!(found, given);
+    // of the key, by an algorithm of RFC 7292
+    let mut given = vuyhanip::password_parameters(PasswordHolder::Key, &STORE[695..875]).unwrap();
+    assert_eq!(vuyhanip::build_parameters(PasswordHolder::Algorithm, &given).as_deref(), Ok(&STORE[698..728]));
+    for count in [0, 0x7F, 0x80, 0xFFFF, 600_000, 0xFFFF_FFFF] {
+        given.iterations = Some(count);
+        let built = vuyhanip::build_parameters(PasswordHolder::Key, &given).unwrap();
+        let mut found = vuyhanip::password_parameters(PasswordHolder::Key, &built).unwrap();
+        found.parameters = given.parameters;
+        assert_eq!(found, given);
+    }
+}
+
+/// By hand, of each holder.
+#[test]
+fn parameters_are_built_from_scratch() {
+    let salted = |kind: &[u8]| element(0x30, &[kind, SALT_AND_COUNT]);
+    let least = PasswordParameters::pbes2(&WITH_VECTOR[4..7], &[5, 6], &[7, 8], 0xFFFF_FFFF, None);
+    let mut whole = PasswordParameters::pbes2(&WITH_VECTOR[4..7], &[5, 6], &[7, 8], 0xFFFF_FFFF, Some(&BARE[4..]));
+    whole.key_length = Some(16);
+    // another key derivation, and an encryption scheme whose parameters are no vector
+    let mut others = least;
+    others.is_pbkdf2 = false;
+    others.derivation = Some(&AES_GCM[2..]);
+    others.derivation_parameters = Some(SALT_AND_COUNT);
+    others.initialization_vector = None;
+    others.encryption_parameters = Some(&[5, 0]);
+    let schemes = element(0x30, &[&salted(AES_GCM), &[0x30, 7], &WITH_VECTOR[2..7], &[5, 0]]);
+    for (mut given, algorithm) in [
+        (least, pbes2(&[&[4, 2, 7, 8], GREATEST], WITH_VECTOR)),
+        (whole, pbes2(&[&[4, 2, 7, 8], GREATEST, &[2, 1, 16], WITH_NULL], WITH_VECTOR)),
+        (others, element(0x30, &[PBES2, &schemes])),
+        (PasswordParameters::pkcs12(&PBE_SHA1_RC2[2..], &[7], 9), salted(PBE_SHA1_RC2)),
+        (PasswordParameters::pbes1(&PBE_MD5_DES[2..], &[7], 9), salted(PBE_MD5_DES)),
+        (PasswordParameters::other(&AES_GCM[2..], Some(SALT_AND_COUNT)), salted(AES_GCM)),
+        (PasswordParameters::other(&BARE[4..], None), BARE.to_vec()),
+    ] {
+        let elsewhere = encrypted_contents(&algorithm, &[]);
+        assert_eq!(vuyhanip::build_parameters(PasswordHolder::Contents, &given), Ok(elsewhere));
+        let refused = Err(BuildError::Refused(PasswordPart::Encrypted));
+        assert_eq!(vuyhanip::build_parameters(PasswordHolder::Key, &given), refused);
+        given.encrypted = Some(&[1, 2, 3]);
+        let key = element(0x30, &[&algorithm, &[4, 3, 1, 2, 3]]);
+        assert_eq!(vuyhanip::build_parameters(PasswordHolder::Key, &given), Ok(key));
+        let contents = encrypted_contents(&algorithm, &[0x80, 3, 1, 2, 3]);
+        assert_eq!(vuyhanip::build_parameters(PasswordHolder::Contents, &given), Ok(contents));
+        assert_eq!(vuyhanip::build_parameters(PasswordHolder::Algorithm, &given), Ok(algorithm));
+    }
+}
+
+/// What a scheme doesn't have may be anything.
+#[test]
+fn parts_of_other_schemes_are_not_looked_at() {
+    let vector = &WITH_VECTOR[9..];
+    let mut with_schemes = PasswordParameters::pbes2(&WITH_VECTOR[4..7], vector, &[7, 8], 9, None);
+    with_schemes.algorithm = &[];
+    with_schemes.parameters = NEITHER;
+    with_schemes.derivation = NEITHER;
+    with_schemes.derivation_parameters = NEITHER;
+    with_schemes.encryption_parameters = NEITHER;
+    let built = vuyhanip::build_parameters(PasswordHolder::Algorithm, &with_schemes);
+    assert_eq!(built, Ok(pbes2(&[&[4, 2, 7, 8], &[2, 1, 9]], WITH_VECTOR)));
+    for (its, kind) in [
+        (PasswordParameters::pkcs12(&PBE_SHA1_RC2[2..], &[7], 9), PBE_SHA1_RC2),
+        (PasswordParameters::pbes1(&PBE_MD5_DES[2..], &[7], 9), PBE_MD5_DES),
+        (PasswordParameters::other(&AES_GCM[2..], Some(SALT_AND_COUNT)), AES_GCM),
+    ] {
+        let mut given = its;
+        given.is_pbkdf2 = true;
+        given.parameters = its.parameters.or(NEITHER);
+        given.salt = its.salt.or(NEITHER);
+        given.iterations = its.iterations.or(Some(usize::MAX));
+        given.key_length = Some(usize::MAX);
+        given.derivation = NEITHER;
+        given.derivation_parameters = NEITHER;
+        given.prf = NEITHER;
+        given.encryption = NEITHER;
+        given.encryption_parameters = NEITHER;
+        given.initialization_vector = NEITHER;
+        let built = vuyhanip::build_parameters(PasswordHolder::Algorithm, &given);
+        assert_eq!(built, Ok(element(0x30, &[kind, SALT_AND_COUNT])));
+    }
+}
+
+/// A part, parameters that can be written, and what makes that part of them wrong, and no other.
+type Wrong = (PasswordPart, PasswordParameters<'static>, fn(&mut PasswordParameters<'static>));
+
+/// Each but an initialization vector, which may be any octets, and what is encrypted, which only a key has to have.
+#[test]
+fn a_part_that_is_wrong_is_named() {
+    let pbes2 = PasswordParameters::pbes2(&WITH_VECTOR[4..7], &[5, 6], &[7, 8], 9, None);
+    let pkcs12 = PasswordParameters::pkcs12(&PBE_SHA1_RC2[2..], &[7], 9);
+    let pbes1 = PasswordParameters::pbes1(&PBE_MD5_DES[2..], &[7], 9);
+    let other = PasswordParameters::other(&BARE[4..], None);
+    let wrong: [Wrong; 31] = [
+        (PasswordPart::Algorithm, other, |it| it.algorithm = &[]),
+        (PasswordPart::Algorithm, other, |it| it.algorithm = &[0x2A, 0x83]),
+        // of another scheme
+        (PasswordPart::Algorithm, pkcs12, |it| it.algorithm = &PBE_MD5_DES[2..]),
+        (PasswordPart::Algorithm, pbes1, |it| it.algorithm = &PBE_SHA1_RC2[2..]),
+        (PasswordPart::Algorithm, pbes1, |it| it.algorithm = &PBES2[2..]),
+        // none, one that is cut, and two
+        (PasswordPart::Parameters, other, |it| it.parameters = Some(&[])),
+        (PasswordPart::Parameters, other, |it| it.parameters = Some(&[4, 1])),
+        (PasswordPart::Parameters, other, |it| it.parameters = Some(&[5, 0, 5, 0])),
+        (PasswordPart::Derivation, pbes2, |it| (it.is_pbkdf2, it.derivation) = (false, None)),
+        (PasswordPart::Derivation, pbes2, |it| (it.is_pbkdf2, it.derivation) = (false, NEITHER)),
+        (PasswordPart::Derivation, pbes2, |it| {
+            (it.salt, it.derivation, it.derivation_parameters) = (None, NEITHER, Some(SALT_AND_COUNT));
+        }),
+        (PasswordPart::DerivationParameters, pbes2, |it| (it.salt, it.derivation_parameters) = (None, NEITHER)),
+        (PasswordPart::Salt, pkcs12, |it| it.salt = None),
+        (PasswordPart::Salt, pbes1, |it| it.salt = None),
+        // the salt is met before other parts
+        (PasswordPart::Salt, pbes2, |it| it.salt = None),
+        (PasswordPart::Salt, pbes2, |it| (it.salt, it.derivation) = (None, NEITHER)),
+        (PasswordPart::Salt, pbes2, |it| (it.salt, it.iterations, it.encryption) = (None, None, None)),
+        (PasswordPart::Prf, pbes2, |it| it.prf = NEITHER),
+        (PasswordPart::Encryption, pbes2, |it| it.encryption = None),
+        (PasswordPart::Encryption, pbes2, |it| it.encryption = NEITHER),
+        (PasswordPart::Encryption, pbes2, |it| (it.encryption, it.initialization_vector) = (None, None)),
+        (PasswordPart::EncryptionParameters, pbes2, |it| {
+            (it.encryption_parameters, it.initialization_vector) = (NEITHER, None);
+        }),
+        (PasswordPart::Iterations, pbes2, |it| it.iterations = Some(1 << 32)),
+        (PasswordPart::Iterations, pbes2, |it| it.iterations = None),
+        (PasswordPart::Iterations, pkcs12, |it| it.iterations = Some(usize::MAX)),
+        (PasswordPart::Iterations, pkcs12, |it| it.iterations = None),
+        (PasswordPart::Iterations, pbes1, |it| it.iterations = Some(1 << 32)),
+        (PasswordPart::KeyLength, pbes2, |it| it.key_length = Some(1 << 32)),
+        // PBES2 whose other parts are those of the second scheme too
+        (PasswordPart::Scheme, pbes2, |it| (it.is_pkcs12, it.algorithm) = (true, &PBE_SHA1_RC2[2..])),
+        (PasswordPart::Scheme, pbes2, |it| (it.is_pbes1, it.algorithm) = (true, &PBE_MD5_DES[2..])),
+        (PasswordPart::Scheme, pbes1, |it| it.is_pkcs12 = true),
+    ];
+    for (part, mut given, change) in wrong {
+        given.encrypted = Some(&[1, 2, 3]);
+        for holder in [PasswordHolder::Algorithm, PasswordHolder::Key, PasswordHolder::Contents] {
+            assert!(vuyhanip::build_parameters(holder, &given).is_ok());
+        }
+        change(&mut given);
+        for holder in [PasswordHolder::Algorithm, PasswordHolder::Key, PasswordHolder::Contents] {
+            assert_eq!(vuyhanip::build_parameters(holder, &given), Err(BuildError::Refused(part)));
+        }
+    }
+    let said = BuildError::Refused(PasswordPart::KeyLength).to_string();
+    assert_eq!((said.as_str(), BuildError::NoMemory.to_string().as_str()), ("refused: key length", "no memory"));
+}
+
 /// Of a signer that is named by its key.
 #[test]
 fn parts_of_a_signer_of_version_3() {
@@ -568,6 +794,39 @@ fn names_and_object_identifiers_as_text() {
     let refused = |reason| Err(Error::Refused { reason, place: 0 });
     assert_eq!(vuyhanip::oid_text(&[]), refused(Reason::Invalid));
     assert_eq!(vuyhanip::name_text(&SIGNED[654..667]), refused(Reason::Malformed));
+}
+
+/// X.660 and X.690, 8.19, at the ends of second arcs, of what an octet holds, and of 64 bits.
+#[test]
+fn object_identifiers_are_octets() {
+    let texts: [(&str, &[u8]); 12] = [
+        ("2.16.840.1.101.3.4.2.1", SHA256),
+        ("2.999.3", &[0x88, 0x37, 3]),
+        ("0.0", &[0]),
+        ("0.39", &[39]),
+        ("1.0", &[40]),
+        ("1.39.0", &[79, 0]),
+        ("2.0", &[80]),
+        ("2.47", &[0x7F]),
+        ("2.48", &[0x81, 0]),
+        ("1.2.127.128", &[0x2A, 0x7F, 0x81, 0]),
+        ("2.18446744073709551535", &[0x81, 0xFF, 0xFF, 0xFF, 0xFF, 0xFF, 0xFF, 0xFF, 0xFF, 0x7F]),
+        ("1.2.18446744073709551615", &[0x2A, 0x81, 0xFF, 0xFF, 0xFF, 0xFF, 0xFF, 0xFF, 0xFF, 0xFF, 0x7F]),
+    ];
+    for (text, octets) in texts {
+        assert_eq!(vuyhanip::oid_octets(text).as_deref(), Ok(octets));
+        assert_eq!(vuyhanip::oid_text(octets).as_deref(), Ok(text));
+    }
+    let refused = Err(Error::Refused { reason: Reason::Invalid, place: 0 });
+    // too few arcs, and arcs that are empty
+    let short = ["", "1", "1.", ".1", ".", "1..2", "1.2."];
+    // a first arc above 2, and a second above 39
+    let large = ["3.1", "10.1", "0.40", "1.40", "2.18446744073709551536", "1.2.18446744073709551616"];
+    // zeros at the front, signs, blanks, and what is no digit
+    let other = ["01.2", "1.02", "1.2.00", "1.+2", "1.-2", " 1.2", "1. 2", "1.2 ", "1.2\0", "1,2", "1.x", "1.²"];
+    for text in short.into_iter().chain(large).chain(other) {
+        assert_eq!(vuyhanip::oid_octets(text), refused, "{text}");
+    }
 }
 
 #[test]

@@ -1,4 +1,5 @@
 """What tests have in common that compare many answers."""
+import re
 import unittest
 
 
@@ -35,14 +36,28 @@ class Comparing(unittest.TestCase):
 
 
 OCTETS = bytes, bytearray, memoryview
+# One octet many times, in hexadecimal with blanks between octets.
+MANY = re.compile(r"(..)(?: \1){15,}")
 
 
 def shown(word):
     """What a message says of what was compared: a word as it is, and octets as they are shown elsewhere."""
-    return short(word) if isinstance(word, OCTETS) else str(word)
+    return short(word) if isinstance(word, (*OCTETS, dict)) else cut(str(word), 1000)
 
 
 def short(value, most=600):
-    """A value as a message shows it: octets in hexadecimal, and what is long cut short."""
-    text = value.hex() if isinstance(value, OCTETS) else repr(value)
+    """A value as a message shows it: octets in hexadecimal, 64 equal ones as [64*ee], also in a tuple or a dict, and
+    what is long cut short."""
+    if isinstance(value, OCTETS):
+        text = MANY.sub(lambda many: f"[{len(many[0]) // 3 + 1}*{many[1]}]", value.hex(" ")).replace(" ", "")
+    elif type(value) is tuple:
+        text = f"({', '.join(map(short, value))})"
+    elif type(value) is dict:
+        text = f"{{{', '.join(f'{name}: {short(it, 40)}' for name, it in value.items())}}}"
+    else:
+        text = repr(value)
+    return cut(text, most)
+
+
+def cut(text, most):
     return text if len(text) <= most else f"{text[:most]}.. ({len(text)} characters)"

@@ -221,13 +221,14 @@ def checked(kinds):
 
 
 def cases(kinds, over_attributes):
-    """Inputs of all kinds, those by hand, what der_name_text, der_oid_text, der_certificate and der_password_parameters
-    take, which no kind reads, signed data with signers whose attributes are bad, which `over_attributes` is asked for,
-    and signed data over indirect data and trust lists."""
+    """Inputs of all kinds, those by hand, what der_name_text, der_oid_text, der_oid_octets, der_certificate and
+    der_password_parameters take, which no kind reads, signed data with signers whose attributes are bad, which
+    `over_attributes` is asked for, and signed data over indirect data and trust lists."""
     inputs = of_rows()
     found = by_hand()
     found += [("name", text) for text in inputs["name"]]
-    found += [("oid", oids.octets(name)) for name in ("subjectKeyIdentifier", "key bag")]
+    names = "subjectKeyIdentifier", "key bag"
+    found += [("oid", it) for name in names for it in (oids.octets(name), oids.ARCS[name].encode())]
     found += [("certificate", text) for text in certificates()[:4]]
     schemes = encrypted.pbes2(), encrypted.pbes1(), encrypted.pkcs12()
     found += [("password", encrypted.held(holder, it)) for holder in encrypted.HOLDERS for it in schemes]

@@ -54,6 +54,19 @@ def contents(dotted):
     return b"".join(map(base_128, [40 * first + second, *rest]))
 
 
+def spelt(text):
+    """The contents octets of the object identifier that a text of octets spells, as der_oid_octets takes it: numbers in
+    decimal without leading zeros, joined by dots. None where it spells none, or a number that 64 bits don't hold."""
+    arcs = text.split(b".")
+    # a number with more digits than 2^64 isn't made a number of
+    if len(arcs) < 2 or not all(it.isdigit() and len(it) <= 20 and str(int(it)).encode() == it for it in arcs):
+        return None
+    first, second, *rest = map(int, arcs)
+    if first > 2 or (first < 2 and second > 39) or max(40 * first + second, *rest, 0) >= 2**64:
+        return None
+    return contents(text.decode())
+
+
 def octets(name):
     """The contents octets of an object identifier by its name above."""
     return contents(ARCS[name])

@@ -26,13 +26,19 @@ def calls():
 
 def in_room(name, given, room, numbers=1, item=1):
     """What a call answers where it has room for so many items, each of so many bytes: the status, the numbers that it
-    writes, and what is in the room and around it. It is given octets and numbers."""
+    writes, and what is in the room and around it. It is given octets, numbers, and structs, each as a list of its
+    numbers."""
     out = ctypes.create_string_buffer(marked(b"", room * item), 2 * len(MARKS) + room * item)
-    words = [word if isinstance(word, bytes) else ctypes.c_size_t(word) for word in given]
+    words = [word if isinstance(word, bytes) else numbers_of(word) for word in given]
     written = [ctypes.c_size_t() for _ in range(numbers)]
     there = ctypes.byref(out, len(MARKS))
     status = calls()[name](*words, there, ctypes.c_size_t(room), *map(ctypes.byref, written))
     return status, *(number.value for number in written), out.raw
+
+
+def numbers_of(word):
+    """A number as a call takes it, or a struct of numbers."""
+    return (ctypes.c_size_t * len(word))(*word) if isinstance(word, list) else ctypes.c_size_t(word)
 
 
 def in_struct(name, octets, size, *numbers):

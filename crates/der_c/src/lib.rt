@@ -1,6 +1,6 @@
 //! Checks and rewritings of inputs of all kinds, conversions of BER to DER, what verifiers of signers and of MACs need,
-//! the parts of certificates and of contents, how a password encrypts, and texts, for callers in C. `der.h` has the
-//! declarations, and what a caller has to keep to.
+//! the parts of certificates and of contents, how a password encrypts, which is built too, and texts, for callers in C.
+//! `der.h` has the declarations, and what a caller has to keep to.
 #![tactic(auto)]
 
 ghost use Rattle.std.specs.Prelude.{◌≤◌, length, MatchOption};
@@ -9,8 +9,10 @@ ghost use Rattle.der_c.specs.Calls.{ChecksWord, IsKindAt, NamesKind, RewritesWor
 ghost use Rattle.der_c.specs.Conversions.{ConvertsBer};
 
 pub mod bags;
+pub mod built;
 pub mod certificates;
 pub mod contents;
+mod given;
 pub mod lists;
 mod macs;
 mod outputs;
@@ -27,7 +29,9 @@ use outputs::{place_where, put_octets};
 pub use parts::der_part_octets;
 use status::status_of;
 use std::alloc::Global;
-pub use texts::{der_integer_text, der_name_text, der_oid_name, der_oid_text, der_utf16_text};
+pub use texts::{
+    der_integer_text, der_name_text, der_oid_name, der_oid_octets, der_oid_text, der_utf16_text,
+};
 use x509_containers::{Kind, KindOfInput, MAX_NESTING, check_located, rewrite_limited};
 
 fn kind_at(index: usize) -> Option<Kind>

@@ -20,41 +20,41 @@ use std::ops::Range;
 #[derive(Clone, Copy)]
 pub struct Password {
     /// 1 where the algorithm has parameters, otherwise 0.
-    has_parameters: usize,
+    pub(crate) has_parameters: usize,
     /// 1 where it is one of PBES1, and they read as a salt and a count, otherwise 0.
-    is_pbes1: usize,
+    pub(crate) is_pbes1: usize,
     /// 1 where it is one of `pkcs-12PbeIds`, and they read as a salt and a count, otherwise 0.
-    is_pkcs12: usize,
+    pub(crate) is_pkcs12: usize,
     /// 1 where it is PBES2, and they read as those of PBES2, otherwise 0.
-    is_pbes2: usize,
+    pub(crate) is_pbes2: usize,
     /// 1 where its key derivation function has parameters, otherwise 0.
-    has_derivation_parameters: usize,
+    pub(crate) has_derivation_parameters: usize,
     /// 1 where that is PBKDF2, and they read as those of PBKDF2, otherwise 0.
-    is_pbkdf2: usize,
+    pub(crate) is_pbkdf2: usize,
     /// 1 where there is a salt, otherwise 0.
-    has_salt: usize,
+    pub(crate) has_salt: usize,
     /// 1 where the length of the key is given, otherwise 0.
-    has_key_length: usize,
+    pub(crate) has_key_length: usize,
     /// 1 where the PRF is given, otherwise 0.
-    has_prf: usize,
+    pub(crate) has_prf: usize,
     /// 1 where the encryption scheme has parameters, otherwise 0.
-    has_encryption_parameters: usize,
+    pub(crate) has_encryption_parameters: usize,
     /// 1 where these read as an OCTET STRING, otherwise 0.
-    has_initialization_vector: usize,
+    pub(crate) has_initialization_vector: usize,
     /// 1 where there are octets that are encrypted, otherwise 0.
-    has_encrypted: usize,
-    iterations: usize,
-    key_length: usize,
-    algorithm: Octets,
-    parameters: Octets,
-    derivation: Octets,
-    derivation_parameters: Octets,
-    salt: Octets,
-    prf: Octets,
-    encryption: Octets,
-    encryption_parameters: Octets,
-    initialization_vector: Octets,
-    encrypted: Octets,
+    pub(crate) has_encrypted: usize,
+    pub(crate) iterations: usize,
+    pub(crate) key_length: usize,
+    pub(crate) algorithm: Octets,
+    pub(crate) parameters: Octets,
+    pub(crate) derivation: Octets,
+    pub(crate) derivation_parameters: Octets,
+    pub(crate) salt: Octets,
+    pub(crate) prf: Octets,
+    pub(crate) encryption: Octets,
+    pub(crate) encryption_parameters: Octets,
+    pub(crate) initialization_vector: Octets,
+    pub(crate) encrypted: Octets,
 }
 
 /// What is there of no algorithm.
@@ -198,7 +198,7 @@ pub enum Holder {
 
 /// What has that number in der.h.
 #[tactic(auto, using(crate::proofs::PasswordRows::no_holder_number))]
-fn holder_of(number: usize) -> Option<Holder>
+pub(crate) fn holder_of(number: usize) -> Option<Holder>
     ensures { MatchOption result ((holder : Holder) → number ≢ number_of holder) (λ holder. number ≡ number_of holder) }
 {
     match number {

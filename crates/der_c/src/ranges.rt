@@ -10,8 +10,8 @@ use std::ops::Range;
 #[repr(C)]
 #[derive(Clone, Copy)]
 pub struct Octets {
-    start: usize,
-    len: usize,
+    pub(crate) start: usize,
+    pub(crate) len: usize,
 }
 
 pub(crate) const NOTHING: Octets = Octets { start: 0, len: 0 };

@@ -1,11 +1,14 @@
 //! Texts for people, for callers in C.
 
 ghost use Rattle.std.specs.Prelude.{string_bytes, MatchResult};
+ghost use Rattle.asn1_core.specs.Der.{octets_of};
 ghost use Rattle.asn1_core_oid.specs.OidText.{IsTextOf};
+ghost use Rattle.asn1_core_oid.specs.Refusal.{IsRefusal};
 ghost use Rattle.oid_names.specs.Names.{IsObjectName};
 ghost use Rattle.x509_text.specs.Encodings.{HasNoNameText};
 ghost use Rattle.x509_text.specs.Integers.{IsIntegerText};
 ghost use Rattle.x509_pkcs12.specs.Utf16.{IsUtf16};
+ghost use Rattle.der_c.specs.Given.{HasNone};
 ghost use Rattle.der_c.specs.Integers.{HasNoIntegerText};
 ghost use Rattle.der_c.specs.Names.{HasNoOidText, IsUtf8OfName, IsUtf8OfUtf16, IsUtf16Refusal, WritesText};
 ghost use Rattle.der_c.specs.ObjectNames.{WritesObjectName};
@@ -13,9 +16,10 @@ ghost use Rattle.der_c.specs.ObjectNames.{WritesObjectName};
 use crate::outputs::put_octets;
 use crate::status;
 use crate::status::status_of;
-use asn1_core::prelude::Leaf;
+use asn1_core::prelude::{Leaf, ObjectIdentifier};
 use oid_names::object_name;
 use std::alloc::Global;
+use std::str;
 use x509_containers::Error;
 use x509_pkcs12::Utf16String;
 use x509_text::{encoded_name_text, integer_text, oid_text};
@@ -54,6 +58,34 @@ pub extern "C" fn der_oid_text(
     *written = 0;
     match oid_text(alloc, octets) {
         Ok(text) => put_octets(text.as_bytes(), out, written),
+        Err(error) => status_of(error),
+    }
+}
+
+/// The object identifier that a text spells.
+fn spelled_oid(alloc: Global, text: &[u8]) -> Result<ObjectIdentifier, Error>
+    ensures { MatchResult result (λ oid. IsTextOf text.now (octets_of oid)) (IsRefusal (HasNone (IsTextOf text.now))) }
+{
+    let Ok(text) = str::from_utf8(text) else {
+        return Err(Error::Invalid);
+    };
+    ObjectIdentifier::from_text(alloc, text)
+}
+
+/// Writes the contents octets of the object identifier that a text spells, in decimal numbers and dots. What it answers is as
+/// of `der_oid_text`: at `INVALID` the text spells none, or one of which a number has 2^64 or more.
+#[unsafe(no_mangle)]
+pub extern "C" fn der_oid_octets(
+    alloc: Global,
+    text: &[u8],
+    out: &mut [u8],
+    written: &mut usize,
+) -> u32
+    ensures { WritesText (IsTextOf text.now) (HasNone (IsTextOf text.now)) out.old out.new written.new result }
+{
+    *written = 0;
+    match spelled_oid(alloc, text) {
+        Ok(oid) => put_octets(oid.octets(), out, written),
         Err(error) => status_of(error),
     }
 }

@@ -1,0 +1,146 @@
+//! Parts that a caller in C gives, as ranges of an input and numbers.
+
+ghost use Rattle.std.specs.Prelude.{◌≡◌, ◌<◌, ◌^◌, MatchResult};
+ghost use Rattle.asn1_core.specs.Der.{option_value};
+ghost use Rattle.password_writers.specs.Values.{other_value};
+ghost use Rattle.der_c.specs.Given.{HasNone, IsElementOf, IsNumberOf, IsOidOf, IsOtherOf, IsPartOf, IfGiven};
+
+use crate::ranges::Octets;
+use asn1_borrowed::ElementRef;
+use asn1_core::prelude::*;
+use asn1_core_oid::is_oid;
+use password_writers::Other;
+
+/// The octets of a range of the input, or the part's number where the range isn't in the input.
+pub(crate) fn part_of<'a>(input: &'a [u8], part: Octets, number: usize) -> Result<&'a [u8], usize>
+    ensures { MatchResult result (λ x. IsPartOf input.now part x.now) (λ _. HasNone (IsPartOf input.now part)) }
+{
+    let Some(end) = part.start.checked_add(part.len) else {
+        return Err(number);
+    };
+    match input.get(part.start..end) {
+        Some(octets) => Ok(octets),
+        None => Err(number),
+    }
+}
+
+/// The contents octets of an object identifier.
+pub(crate) fn oid_of<'a>(input: &'a [u8], part: Octets, number: usize) -> Result<&'a [u8], usize>
+    ensures { MatchResult result (λ x. IsOidOf input.now part x.now) (λ _. HasNone (IsOidOf input.now part)) }
+{
+    let octets = part_of(input, part, number)?;
+    if is_oid(octets) {
+        Ok(octets)
+    } else {
+        Err(number)
+    }
+}
+
+/// An element.
+fn element_of<'a>(input: &'a [u8], part: Octets, number: usize) -> Result<&'a [u8], usize>
+    ensures { MatchResult result (λ x. IsElementOf input.now part x.now) (λ _. HasNone (IsElementOf input.now part)) }
+{
+    let octets = part_of(input, part, number)?;
+    if ElementRef(octets).well_formed() {
+        Ok(octets)
+    } else {
+        Err(number)
+    }
+}
+
+/// A number below 2^32.
+pub(crate) fn number_of(given: usize, number: usize) -> Result<u32, usize>
+    ensures { MatchResult result (λ n. IsNumberOf given n) (λ _. HasNone (IsNumberOf given)) }
+{
+    if given > 0xFFFF_FFFF {
+        return Err(number);
+    }
+    Ok(given as u32)
+}
+
+/// The octets of a range, unless the flag is 0.
+#[tactic(auto, using(crate::proofs::GivenParts::none_if))]
+pub(crate) fn part_if<'a>(
+    input: &'a [u8],
+    flag: usize,
+    part: Octets,
+    number: usize,
+) -> Result<Option<&'a [u8]>, usize>
+    ensures { MatchResult result
+        (λ o. IfGiven flag (IsPartOf input.now part) (option_value (λ x. x.now) o))
+        (λ _. HasNone (IfGiven flag (IsPartOf input.now part))) }
+{
+    if flag == 0 {
+        return Ok(None);
+    }
+    Ok(Some(part_of(input, part, number)?))
+}
+
+/// The contents octets of an object identifier, unless the flag is 0.
+#[tactic(auto, using(crate::proofs::GivenParts::none_if))]
+pub(crate) fn oid_if<'a>(
+    input: &'a [u8],
+    flag: usize,
+    part: Octets,
+    number: usize,
+) -> Result<Option<&'a [u8]>, usize>
+    ensures { MatchResult result
+        (λ o. IfGiven flag (IsOidOf input.now part) (option_value (λ x. x.now) o))
+        (λ _. HasNone (IfGiven flag (IsOidOf input.now part))) }
+{
+    if flag == 0 {
+        return Ok(None);
+    }
+    Ok(Some(oid_of(input, part, number)?))
+}
+
+/// An element, unless the flag is 0.
+#[tactic(auto, using(crate::proofs::GivenParts::none_if))]
+fn element_if<'a>(
+    input: &'a [u8],
+    flag: usize,
+    part: Octets,
+    number: usize,
+) -> Result<Option<&'a [u8]>, usize>
+    ensures { MatchResult result
+        (λ o. IfGiven flag (IsElementOf input.now part) (option_value (λ x. x.now) o))
+        (λ _. HasNone (IfGiven flag (IsElementOf input.now part))) }
+{
+    if flag == 0 {
+        return Ok(None);
+    }
+    Ok(Some(element_of(input, part, number)?))
+}
+
+/// A number below 2^32, unless the flag is 0.
+#[tactic(auto, using(crate::proofs::GivenParts::none_if))]
+pub(crate) fn number_if(flag: usize, given: usize, number: usize) -> Result<Option<u32>, usize>
+    ensures { MatchResult result
+        (λ o. IfGiven flag (IsNumberOf given) (option_value (λ n. n) o))
+        (λ _. HasNone (IfGiven flag (IsNumberOf given))) }
+{
+    if flag == 0 {
+        return Ok(None);
+    }
+    Ok(Some(number_of(given, number)?))
+}
+
+/// An algorithm with its parameters as an element, or without any where the flag is 0. Each part comes with its number.
+#[tactic(auto, using(crate::proofs::GivenParts::without_oid, crate::proofs::GivenParts::without_element))]
+pub(crate) fn other_of<'a>(
+    input: &'a [u8],
+    algorithm: (Octets, usize),
+    has_parameters: usize,
+    parameters: (Octets, usize),
+) -> Result<Other<'a>, usize>
+    ensures { MatchResult result
+        (λ x. IsOtherOf input.now algorithm.0 has_parameters parameters.0 (other_value x))
+        (λ _. HasNone (IsOtherOf input.now algorithm.0 has_parameters parameters.0)) }
+{
+    let oid = oid_of(input, algorithm.0, algorithm.1)?;
+    let element = element_if(input, has_parameters, parameters.0, parameters.1)?;
+    Ok(Other {
+        algorithm: oid,
+        parameters: element,
+    })
+}
