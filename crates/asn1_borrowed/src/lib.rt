@@ -1,13 +1,16 @@
 //! Parts for writing that a caller has as octets: nothing is copied until the text is written.
 #![tactic(auto)]
 
-ghost use Rattle.std.specs.Prelude.{ℕ, List};
+ghost use Rattle.std.specs.Prelude.{◌≡◌, ℕ, List, MatchResult};
 ghost use Rattle.asn1_core.specs.Asn1.{IMPLICIT, OCTET_STRING};
 ghost use Rattle.asn1_core.specs.Der.{sequence};
 ghost use Rattle.asn1_core.specs.Raw.{raw};
+ghost use Rattle.asn1_borrowed.specs.Written.{IsNotWritten};
 
 use asn1_core::prelude::*;
+use asn1_core::to_vec;
 use asn1_core_element::front::front;
+use std::alloc::Global;
 
 /// An OCTET STRING of these octets.
 #[derive(Clone, Copy)]
@@ -90,4 +93,16 @@ impl<R: WriteComponents> DerSerialize for Body<R> {
     fn well_formed_at(&self, limit: u8) -> bool {
         self.0.components_well_formed_at(limit)
     }
+}
+
+/// The encoding of a well-formed value. Refuses what isn't by `Invalid`, and otherwise by `TooLong` or `Memory`.
+pub fn write<T: DerSerialize>(alloc: Global, value: &T) -> Result<Vec<u8>, Error>
+    ensures { MatchResult result
+        (λ text. T.format.IsWellFormed 64 (T.value value.now) × (text.items ≡ T.format.text (T.value value.now)))
+        (λ e. IsNotWritten T.format (T.value value.now) e) }
+{
+    if !value.well_formed() {
+        return Err(Error::Invalid);
+    }
+    to_vec(alloc, value)
 }

@@ -1,9 +1,11 @@
 //! Tests of where the bags of PKCS #12 stores, the parameters of passwords and the parts of a caller's own type are, and of
-//! algorithms that encrypt with a password and are written from their parts, by public calls.
+//! bags, and algorithms that encrypt with a password, that are written from their parts, by public calls.
 #![tactic(auto)]
 
 #[cfg(test)]
 mod bags_in_place;
+#[cfg(test)]
+mod bags_written;
 #[cfg(test)]
 mod content_infos;
 #[cfg(test)]

@@ -1,4 +1,4 @@
--- What is written of given parameters is read as them.
+-- What is written for given parameters is read as them.
 use Rattle.std.specs.Prelude.{◌≡◌, None, Some}
 use Rattle.std.proofs.Common.{ap, inl, inr, refl, subst, ◌∙◌}
 use Rattle.asn1_core.specs.Asn1.{OBJECT_IDENTIFIER, OCTET_STRING, SEQUENCE}

@@ -1,16 +1,17 @@
--- What is written of a given algorithm is the encoding of the algorithm identifier, and of what holds it.
+-- What is written for a given algorithm is the encoding of the algorithm identifier, and of what holds it.
 use Rattle.std.specs.Prelude.{◌≡◌, ℕ, List, [], ◌++◌, length, Option, None, Some, Result, Ok, Err, MatchResult}
 use Rattle.std.proofs.Common.{ap, arith, inl, inr, refl, subst, sym, ◌∙◌}
 use Rattle.asn1_core.specs.Asn1.{IMPLICIT, OBJECT_IDENTIFIER, OCTET_STRING, SEQUENCE}
 use Rattle.asn1_core.specs.Der.{Format, IsLawful, IsOid, Octets, element, oid_from_test, optional, nothing, version}
 use Rattle.asn1_core_element.specs.declared.error.Error.{Error}
+use Rattle.asn1_borrowed.specs.Written.{IsNotWritten}
 use Rattle.asn1_core_format.specs.Whole.{IsValueOf}
 use Rattle.asn1_core_oid.specs.Known.{data_oid}
 use Rattle.password_ranges.specs.Heads.{ALGORITHM, encrypted_data_oid, encrypted_info_head, encrypted_key_head, pbes2_head}
 use Rattle.password_ranges.specs.Holders.{encrypted_info, encrypted_key}
 use Rattle.password_writers.proofs.ReadBack.{algorithm_normal, are_parts, given_formed, read_back}
 use Rattle.password_writers.specs.Given.{DerivationValue, EncryptionValue, GivenValue, Pbes2PartsValue, algorithm_of, derivation, derivation_of, encryption, encryption_of, given, given_info, given_key, pbes2_parts, pbes2_of}
-use Rattle.password_writers.specs.Written.{IsNotWritten, IsNotWrittenAs, IsWrittenAs, given_info_of, info_of, key_of}
+use Rattle.password_writers.specs.Written.{IsNotWrittenAs, IsWrittenAs, given_info_of, info_of, key_of}
 
 derivation_text : (d : DerivationValue) → derivation.text d ≡ ALGORITHM.format.text (derivation_of d)
 derivation_text (inl v) = refl

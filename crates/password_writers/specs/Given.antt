@@ -56,7 +56,7 @@ GivenValue = with_salt.Value ⊎ (WithPbes2Value ⊎ AlgorithmValue)
 abbrev pub given : Format GivenValue
 given = either (SEQUENCE with_salt).format (either with_pbes2 ALGORITHM.format)
 
--- what is written of these: an AlgorithmIdentifier whose parameters are the element of the given ones
+-- what is written for these: an AlgorithmIdentifier whose parameters are the element of the given ones
 abbrev pub with_parameters : {P : Type 0} → Format P → OidOctets → P → AlgorithmValue
 with_parameters G oid p = (oid, (Some (G.text p), tt))
 

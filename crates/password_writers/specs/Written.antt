@@ -1,4 +1,4 @@
--- What is written of a given algorithm, and what reading it gives.
+-- What is written for a given algorithm, and what reading it gives.
 use Rattle.std.specs.Prelude.{◌≡◌, ◌⊎◌, ◌≤◌, ◌^◌, ℕ, List, length, Option}
 use Rattle.std.proofs.Common.{inl, inr}
 use Rattle.asn1_core.specs.Asn1.{OCTET_STRING, SEQUENCE}
@@ -43,16 +43,12 @@ key_of g encrypted = (algorithm_of g, (encrypted, tt))
 abbrev pub info_of : GivenValue → Option Octets → encrypted_info_head.Value
 info_of g encrypted = (encrypted_data_oid, ((0, ((data_oid, (algorithm_of g, (encrypted, tt))), tt)), tt))
 
--- why nothing is written of it: an object identifier or an element in it isn't one, the text is too long, or memory was refused
+-- why nothing is written for it: an object identifier or an element in it isn't one, the text is too long, or memory was refused
 abbrev pub IsNotWrittenAs : {V : Type 0} → Format V → V → GivenValue → Error → Type 0
 IsNotWrittenAs F v g e =
     ((e ≡ Invalid) × (given.IsWellFormed 64 g → ⊥))
     ⊎ (((e ≡ TooLong) × IsWrittenAs F v g (F.text v) × (2 ^ 64 ≤ length (F.text v)))
     ⊎ (e ≡ Memory))
-
--- the same of a value that is written as it is
-abbrev pub IsNotWritten : {V : Type 0} → Format V → V → Error → Type 0
-IsNotWritten F v e = ((e ≡ Invalid) × (F.IsWellFormed 64 v → ⊥)) ⊎ ((F.IsWellFormed 64 v × (e ≡ TooLong) × (2 ^ 64 ≤ length (F.text v))) ⊎ (e ≡ Memory))
 
 -- what is given of such a ContentInfo
 abbrev pub given_info_of : GivenValue → Option Octets → GivenInfoValue

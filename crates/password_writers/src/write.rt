@@ -6,25 +6,13 @@ ghost use Rattle.password_ranges.specs.Heads.{ALGORITHM};
 ghost use Rattle.password_ranges.specs.Holders.{encrypted_info, encrypted_key};
 ghost use Rattle.password_writers.specs.Given.{algorithm_of};
 ghost use Rattle.password_writers.specs.Values.{algorithm_value};
-ghost use Rattle.password_writers.specs.Written.{IsNotWritten, IsNotWrittenAs, IsWrittenAs, info_of, key_of};
+ghost use Rattle.password_writers.specs.Written.{IsNotWrittenAs, IsWrittenAs, info_of, key_of};
 
 use crate::algorithms::Algorithm;
 use crate::holders::{EncryptedContents, EncryptedKey};
-use asn1_core::prelude::*;
-use asn1_core::to_vec;
+use asn1_borrowed::write;
+use asn1_core::Error;
 use std::alloc::Global;
-
-/// The encoding of a well-formed value. Refuses what isn't by `Invalid`.
-fn write<T: DerSerialize>(alloc: Global, value: &T) -> Result<Vec<u8>, Error>
-    ensures { MatchResult result
-        (λ v. T.format.IsWellFormed 64 (T.value value.now) × (v.items ≡ T.format.text (T.value value.now)))
-        (λ e. IsNotWritten T.format (T.value value.now) e) }
-{
-    if !value.well_formed() {
-        return Err(Error::Invalid);
-    }
-    to_vec(alloc, value)
-}
 
 /// The encoding of an algorithm. Refuses by `Invalid` where an object identifier or an element in it isn't one, by `TooLong`,
 /// or by `Memory`.

@@ -1,0 +1,18 @@
+//! SET OF in the order of DER: the encodings of its components ascend (X.690, 11.6).
+#![tactic(auto)]
+
+ghost use Rattle.std.specs.Prelude.{◌≡◌, map};
+ghost use Rattle.asn1_sets.specs.Order.{IsInOrder, compared};
+
+use asn1_core::Asn1RawDer;
+
+/// Puts elements in the order that a SET OF has them in. It takes no memory.
+pub fn put_in_order(elements: &mut [Asn1RawDer])
+    ensures { IsInOrder (map (λ x. x.0.items) elements.old) (map (λ x. x.0.items) elements.new) }
+{
+    elements.sort_unstable_by(
+        |x: &Asn1RawDer, y: &Asn1RawDer|
+            ensures { result ≡ compared x.now.0.items y.now.0.items }
+        { x.0.as_slice().cmp(y.0.as_slice()) },
+    );
+}

@@ -1,0 +1,4 @@
+pub mod GivenAttributes
+pub mod Given
+pub mod Values
+pub mod Written
