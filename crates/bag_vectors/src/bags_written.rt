@@ -47,7 +47,7 @@ fn read(alloc: Global, octets: &[u8]) -> Result<Attribute, Fail> {
     }
 }
 
-fn is_written(written: Result<Vec<u8>, Error>, wanted: &[u8]) -> Result<(), Fail> {
+pub(crate) fn is_written(written: Result<Vec<u8>, Error>, wanted: &[u8]) -> Result<(), Fail> {
     match written {
         Ok(text) => expect(text.as_slice() == wanted, "it is written otherwise"),
         Err(_) => Err(Fail::new("it is refused")),

@@ -1,5 +1,5 @@
 //! Tests of where the bags of PKCS #12 stores, the parameters of passwords and the parts of a caller's own type are, and of
-//! bags, and algorithms that encrypt with a password, that are written from their parts, by public calls.
+//! bags, stores, and algorithms that encrypt with a password, that are written from their parts, by public calls.
 #![tactic(auto)]
 
 #[cfg(test)]
@@ -16,3 +16,5 @@ mod passwords_in_place;
 mod passwords_written;
 #[cfg(test)]
 mod stores;
+#[cfg(test)]
+mod stores_written;
