@@ -1,5 +1,5 @@
 -- The order of a SET OF: the encodings of its components ascend as strings of octets (X.690, 11.6). The standard pads the
--- shorter of two with zeros. No element begins another, so they differ before one ends.
+-- shorter of two with zeros, which makes no difference between elements, since none is the beginning of another.
 use Rattle.std.specs.Prelude.{ℕ, List}
 use Rattle.std.specs.Cmp.Lexicographic.{slice_cmp}
 use Rattle.std.specs.List.Sorted.{IsPermutation, IsSorted}

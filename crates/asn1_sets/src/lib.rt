@@ -6,7 +6,7 @@ ghost use Rattle.asn1_sets.specs.Order.{IsInOrder, compared};
 
 use asn1_core::Asn1RawDer;
 
-/// Puts elements in the order that a SET OF has them in. It takes no memory.
+/// Puts elements in the order that DER has them in within a SET OF (X.690, 11.6). Takes no memory.
 pub fn put_in_order(elements: &mut [Asn1RawDer])
     ensures { IsInOrder (map (λ x. x.0.items) elements.old) (map (λ x. x.0.items) elements.new) }
 {

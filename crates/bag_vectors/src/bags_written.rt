@@ -10,33 +10,54 @@ use x509_base::Attribute;
 /// The attribute 1.2.3 with the INTEGER 5.
 const FURTHER: &[u8] = b"\x30\x09\x06\x02\x2A\x03\x31\x03\x02\x01\x05";
 
+/// The attribute 1.2.3 with an OCTET STRING of 128 zeros.
+fn long() -> &'static [u8] {
+    b"\x30\x81\x8A\x06\x02\x2A\x03\x31\x81\x83\x04\x81\x80\
+    \x00\x00\x00\x00\x00\x00\x00\x00\x00\x00\x00\x00\x00\x00\x00\x00\x00\x00\x00\x00\x00\x00\x00\x00\x00\
+    \x00\x00\x00\x00\x00\x00\x00\x00\x00\x00\x00\x00\x00\x00\x00\x00\x00\x00\x00\x00\x00\x00\x00\x00\x00\
+    \x00\x00\x00\x00\x00\x00\x00\x00\x00\x00\x00\x00\x00\x00\x00\x00\x00\x00\x00\x00\x00\x00\x00\x00\x00\
+    \x00\x00\x00\x00\x00\x00\x00\x00\x00\x00\x00\x00\x00\x00\x00\x00\x00\x00\x00\x00\x00\x00\x00\x00\x00\
+    \x00\x00\x00\x00\x00\x00\x00\x00\x00\x00\x00\x00\x00\x00\x00\x00\x00\x00\x00\x00\x00\x00\x00\x00\x00\
+    \x00\x00\x00"
+}
+
 /// An attribute with the local key identifier 03.
 const ANOTHER_ID: &[u8] =
     b"\x30\x10\x06\x09\x2A\x86\x48\x86\xF7\x0D\x01\x09\x15\x31\x03\x04\x01\x03";
 
-/// An attribute with the friendly name "x".
-const ANOTHER_NAME: &[u8] =
-    b"\x30\x11\x06\x09\x2A\x86\x48\x86\xF7\x0D\x01\x09\x14\x31\x04\x1E\x02\x00\x78";
+/// An attribute of the type of a friendly name, with an INTEGER.
+const NO_NAME: &[u8] = b"\x30\x10\x06\x09\x2A\x86\x48\x86\xF7\x0D\x01\x09\x14\x31\x03\x02\x01\x05";
 
 /// "name" in UTF-16.
 const NAME: &[u8] = b"\0n\0a\0m\0e";
 
-fn plain<'a>(alloc: Global, held: Held<'a>) -> Bag<'a> {
+/// A bag without a name, a local key identifier and attributes.
+pub(crate) fn plain<'a>(held: Held<'a>) -> Bag<'a> {
     Bag {
         held,
         friendly_name: None,
         local_key_id: None,
-        attributes: Vec::new(alloc),
+        attributes: &[],
     }
 }
 
 /// A bag with such a name.
-fn named<'a>(alloc: Global, name: &'a [u8]) -> Bag<'a> {
+fn named<'a>(name: &'a [u8]) -> Bag<'a> {
     Bag {
         held: Held::Key(b"\x30\x00"),
         friendly_name: Some(name),
         local_key_id: None,
-        attributes: Vec::new(alloc),
+        attributes: &[],
+    }
+}
+
+/// A certificate with a name and a local key identifier.
+pub(crate) fn certificate<'a>(attributes: &'a [Attribute]) -> Bag<'a> {
+    Bag {
+        held: Held::Certificate(b"\x30\x00"),
+        friendly_name: Some(NAME),
+        local_key_id: Some(b"\x01\x02"),
+        attributes,
     }
 }
 
@@ -61,43 +82,34 @@ fn is_refused(alloc: Global, bag: Bag<'_>) -> Result<(), Fail> {
     }
 }
 
-/// A certificate whose attributes are given in another order, with a name and an identifier that aren't written.
-fn certificate<'a>(alloc: Global) -> Result<Bag<'a>, Fail> {
-    let mut attributes = Vec::new(alloc);
-    attributes.push(read(alloc, ANOTHER_NAME)?)?;
-    attributes.push(read(alloc, FURTHER)?)?;
-    attributes.push(read(alloc, ANOTHER_ID)?)?;
-    Ok(Bag {
-        held: Held::Certificate(b"\x30\x00"),
-        friendly_name: Some(NAME),
-        local_key_id: Some(b"\x01\x02"),
-        attributes,
-    })
-}
-
+/// A certificate whose attributes are given in another order, with a name and an identifier that aren't written; and one
+/// bag of each other kind.
 #[test]
 fn each_kind(rt: HostRuntime) -> Result<(), Fail> {
     let alloc = rt.alloc();
+    let attributes = [
+        read(alloc, NO_NAME)?,
+        read(alloc, FURTHER)?,
+        read(alloc, ANOTHER_ID)?,
+    ];
     let shrouded = Bag {
         held: Held::ShroudedKey(b"\x30\x03\x02\x01\x01"),
         friendly_name: None,
         local_key_id: Some(b"\x01\x02"),
-        attributes: Vec::new(alloc),
+        attributes: &[],
+    };
+    let other = Held::Other {
+        id: b"\x2A\x03\x04",
+        element: b"\x02\x01\x07",
     };
     let bags = [
-        certificate(alloc)?,
-        plain(alloc, Held::Key(b"\x30\x00")),
+        certificate(&attributes),
+        plain(Held::Key(b"\x30\x00")),
         shrouded,
-        plain(alloc, Held::Crl(b"\x30\x00")),
-        plain(alloc, Held::Secret(b"\x05\x00")),
-        plain(alloc, Held::SafeContents(b"\x30\x00")),
-        plain(
-            alloc,
-            Held::Other {
-                id: b"\x2A\x03\x04",
-                element: b"\x02\x01\x07",
-            },
-        ),
+        plain(Held::Crl(b"\x30\x00")),
+        plain(Held::Secret(b"\x05\x00")),
+        plain(Held::SafeContents(b"\x30\x00")),
+        plain(other),
     ];
     is_written(write_safe_contents(alloc, &bags), all_kinds())
 }
@@ -121,12 +133,55 @@ fn no_bags(rt: HostRuntime) -> Result<(), Fail> {
     is_written(write_safe_contents(rt.alloc(), &[]), b"\x30\x00")
 }
 
+/// One attribute twice, and one whose length takes two octets.
+#[test]
+fn attributes_in_order(rt: HostRuntime) -> Result<(), Fail> {
+    let alloc = rt.alloc();
+    let attributes = [
+        read(alloc, long())?,
+        read(alloc, FURTHER)?,
+        read(alloc, FURTHER)?,
+    ];
+    let bag = Bag {
+        held: Held::Key(b"\x30\x00"),
+        friendly_name: None,
+        local_key_id: Some(b"\x01\x02"),
+        attributes: &attributes,
+    };
+    is_written(write_safe_contents(alloc, &[bag]), in_order())
+}
+
+fn in_order() -> &'static [u8] {
+    b"\
+    \x30\x81\xCD\x30\x81\xCA\x06\x0B\x2A\x86\x48\x86\xF7\x0D\x01\x0C\x0A\x01\x01\xA0\x02\x30\x00\x31\x81\
+    \xB6\x30\x09\x06\x02\x2A\x03\x31\x03\x02\x01\x05\x30\x09\x06\x02\x2A\x03\x31\x03\x02\x01\x05\x30\x11\
+    \x06\x09\x2A\x86\x48\x86\xF7\x0D\x01\x09\x15\x31\x04\x04\x02\x01\x02\x30\x81\x8A\x06\x02\x2A\x03\x31\
+    \x81\x83\x04\x81\x80\x00\x00\x00\x00\x00\x00\x00\x00\x00\x00\x00\x00\x00\x00\x00\x00\x00\x00\x00\x00\
+    \x00\x00\x00\x00\x00\x00\x00\x00\x00\x00\x00\x00\x00\x00\x00\x00\x00\x00\x00\x00\x00\x00\x00\x00\x00\
+    \x00\x00\x00\x00\x00\x00\x00\x00\x00\x00\x00\x00\x00\x00\x00\x00\x00\x00\x00\x00\x00\x00\x00\x00\x00\
+    \x00\x00\x00\x00\x00\x00\x00\x00\x00\x00\x00\x00\x00\x00\x00\x00\x00\x00\x00\x00\x00\x00\x00\x00\x00\
+    \x00\x00\x00\x00\x00\x00\x00\x00\x00\x00\x00\x00\x00\x00\x00\x00\x00\x00\x00\x00\x00\x00\x00\x00\x00\
+    \x00\x00\x00\x00\x00\x00\x00\x00"
+}
+
+/// A bag whose attributes aren't written has no set of them.
+#[test]
+fn no_attributes(rt: HostRuntime) -> Result<(), Fail> {
+    let alloc = rt.alloc();
+    let attributes = [read(alloc, NO_NAME)?, read(alloc, ANOTHER_ID)?];
+    let mut bag = plain(Held::Secret(b"\x05\x00"));
+    bag.attributes = &attributes;
+    is_written(
+        write_safe_contents(alloc, &[bag]),
+        b"\x30\x13\x30\x11\x06\x0B\x2A\x86\x48\x86\xF7\x0D\x01\x0C\x0A\x01\x05\xA0\x02\x05\x00",
+    )
+}
+
 /// A name with a character past U+FFFF, which is a pair of surrogates, and an empty one.
 #[test]
 fn names(rt: HostRuntime) -> Result<(), Fail> {
-    let alloc = rt.alloc();
-    let bags = [named(alloc, b"\xD8\x3D\xDE\x00"), named(alloc, b"")];
-    is_written(write_safe_contents(alloc, &bags), with_names())
+    let bags = [named(b"\xD8\x3D\xDE\x00"), named(b"")];
+    is_written(write_safe_contents(rt.alloc(), &bags), with_names())
 }
 
 fn with_names() -> &'static [u8] {
@@ -140,45 +195,57 @@ fn with_names() -> &'static [u8] {
 #[test]
 fn what_is_no_name(rt: HostRuntime) -> Result<(), Fail> {
     let alloc = rt.alloc();
-    is_refused(alloc, named(alloc, b"\0a\0"))?;
-    is_refused(alloc, named(alloc, b"\xD8\x3D"))?;
-    is_refused(alloc, named(alloc, b"\xDE\x00\xD8\x3D"))
+    is_refused(alloc, named(b"\0a\0"))?;
+    is_refused(alloc, named(b"\xD8\x3D"))?;
+    is_refused(alloc, named(b"\xDE\x00\xD8\x3D"))
 }
 
 #[test]
 fn what_is_no_element(rt: HostRuntime) -> Result<(), Fail> {
     let alloc = rt.alloc();
-    is_refused(alloc, plain(alloc, Held::Key(b"")))?;
-    is_refused(alloc, plain(alloc, Held::ShroudedKey(b"\x30\x01")))?;
-    is_refused(alloc, plain(alloc, Held::Secret(b"\x05\x00\x00")))?;
-    is_refused(alloc, plain(alloc, Held::SafeContents(b"\x30\x80\x00\x00")))?;
+    is_refused(alloc, plain(Held::Key(b"")))?;
+    is_refused(alloc, plain(Held::ShroudedKey(b"\x30\x01")))?;
+    is_refused(alloc, plain(Held::Secret(b"\x05\x00\x00")))?;
+    is_refused(alloc, plain(Held::SafeContents(b"\x30\x80\x00\x00")))?;
     let other = Held::Other {
         id: b"\x2A\x03",
         element: b"\x1F\x01\x00",
     };
-    is_refused(alloc, plain(alloc, other))
+    is_refused(alloc, plain(other))
 }
 
 #[test]
 fn what_is_no_identifier(rt: HostRuntime) -> Result<(), Fail> {
     let alloc = rt.alloc();
-    let other = Held::Other {
-        id: b"\x80\x03",
-        element: b"\x05\x00",
-    };
-    is_refused(alloc, plain(alloc, other))
+    let element: &[u8] = b"\x05\x00";
+    is_refused(
+        alloc,
+        plain(Held::Other {
+            id: b"\x80\x03",
+            element,
+        }),
+    )?;
+    is_refused(alloc, plain(Held::Other { id: b"", element }))
 }
 
-/// An attribute whose value is no element.
+/// An attribute whose value is no element, and one that isn't written.
 #[test]
 fn what_is_no_attribute(rt: HostRuntime) -> Result<(), Fail> {
     let alloc = rt.alloc();
-    let mut bag = certificate(alloc)?;
     let mut broken = read(alloc, FURTHER)?;
     broken
         .value
         .0
         .push(Asn1RawDer(Vec::from_array(alloc, [0x02, 0x01])?))?;
-    bag.attributes.push(broken)?;
-    is_refused(alloc, bag)
+    is_refused(alloc, certificate(&[broken]))?;
+    let mut unwritten = read(alloc, NO_NAME)?;
+    unwritten
+        .value
+        .0
+        .push(Asn1RawDer(Vec::from_array(alloc, [0x02, 0x01])?))?;
+    let attributes = [unwritten];
+    let mut bag = named(b"");
+    bag.attributes = &attributes;
+    let written = write_safe_contents(alloc, &[bag]);
+    expect(written.is_ok(), "what isn't written is refused")
 }

@@ -112,3 +112,8 @@ module _ (given : Bag) (x : Attributed) (h : HasAttributes given x) where
   can_formed c =
       let p = subst (λ y. OBJECT_IDENTIFIER.format.IsWellFormed 64 (held_id y) × held.IsWellFormed 64 (held_value y)) (sym h.held) (c.id, c.value) in
       (p.0, (p.1, subst (λ o. (optional (SET_OF ANY).format nothing).IsWellFormed 64 (o, tt)) (sym set_is) (set_of_formed h.have.all h.have.formed)))
+
+  pub can_be : given_bag.IsWellFormed 64 (attributed_value x) → CanBeWritten given
+  can_be g =
+      let p = subst (λ y. OBJECT_IDENTIFIER.format.IsWellFormed 64 (held_id y) × held.IsWellFormed 64 (held_value y)) h.held (g.0, g.1.0) in
+      record { id = p.0; value = p.1; attributes = h.have.good }

@@ -16,7 +16,7 @@ use Rattle.asn1_core.specs.declared.raw.Asn1RawDer.{Asn1RawDer}
 use Rattle.asn1_sets.specs.Order.{IsInOrder, compared}
 use Rattle.bag_writers.proofs.FoundOnce.{same_filter}
 use Rattle.bag_writers.proofs.Shuffled.{order_of}
-use Rattle.bag_writers.specs.GivenAttributes.{IsName, alone, attribute_text, is_formed, is_other, key_ids, names, others}
+use Rattle.bag_writers.specs.GivenAttributes.{IsName, alone, attribute_text, is_formed, is_further, key_ids, names, further}
 use Rattle.bag_writers.specs.Written.{HasGoodAttributes, HasTexts, given_attributes, key_id_of, name_of}
 use Rattle.bag_writers.specs.declared.bags.Bag.{Bag}
 use Rattle.pkcs12_bags.specs.Oids.{oid, oid_valid}
@@ -47,7 +47,7 @@ key_id_formed (Some x) = ((oid_valid LOCAL_KEY_ID, ((text_element octet_string O
 pub given_formed : (given : Bag) → HasGoodAttributes given → AllByRecursion is_formed (given_attributes given)
 given_formed given h =
     all_of_both is_formed (names (name_of given)) _ (name_formed (name_of given) h.0)
-    (all_of_both is_formed (key_ids (key_id_of given)) (others given.attributes.items) (key_id_formed (key_id_of given)) h.1)
+    (all_of_both is_formed (key_ids (key_id_of given)) (further given.attributes.now) (key_id_formed (key_id_of given)) h.1)
 
 -- by a type the attribute of that type is found, and of no other
 itself : (type : OidOctets) → bytes_eq type type ≡ true
@@ -88,11 +88,11 @@ neither false false h = (refl, refl)
 neither false true h = (refl, sym h)
 neither true b h = (sym h, absurd (true≢false (sym h)))
 
-names_in_others : (given : Bag) → with_oid (oid FRIENDLY_NAME) (others given.attributes.items) ≡ []
-names_in_others given = none_left (λ a. bytes_eq a.0 (oid FRIENDLY_NAME)) is_other (λ a t. (neither (bytes_eq a.0 (oid FRIENDLY_NAME)) (bytes_eq a.0 (oid LOCAL_KEY_ID)) t).0) (map attribute_value given.attributes.items)
+names_in_others : (given : Bag) → with_oid (oid FRIENDLY_NAME) (further given.attributes.now) ≡ []
+names_in_others given = none_left (λ a. bytes_eq a.0 (oid FRIENDLY_NAME)) is_further (λ a t. (neither (bytes_eq a.0 (oid FRIENDLY_NAME)) (bytes_eq a.0 (oid LOCAL_KEY_ID)) t).0) (map attribute_value given.attributes.now)
 
-key_ids_in_others : (given : Bag) → with_oid (oid LOCAL_KEY_ID) (others given.attributes.items) ≡ []
-key_ids_in_others given = none_left (λ a. bytes_eq a.0 (oid LOCAL_KEY_ID)) is_other (λ a t. (neither (bytes_eq a.0 (oid FRIENDLY_NAME)) (bytes_eq a.0 (oid LOCAL_KEY_ID)) t).1) (map attribute_value given.attributes.items)
+key_ids_in_others : (given : Bag) → with_oid (oid LOCAL_KEY_ID) (further given.attributes.now) ≡ []
+key_ids_in_others given = none_left (λ a. bytes_eq a.0 (oid LOCAL_KEY_ID)) is_further (λ a t. (neither (bytes_eq a.0 (oid FRIENDLY_NAME)) (bytes_eq a.0 (oid LOCAL_KEY_ID)) t).1) (map attribute_value given.attributes.now)
 
 in_three : (type : OidOctets) (xs ys zs : List attribute.Value) → with_oid type (xs ++ (ys ++ zs)) ≡ with_oid type xs ++ (with_oid type ys ++ with_oid type zs)
 in_three type xs ys zs =
@@ -107,14 +107,14 @@ second a b c d e f g = ap (λ l. l ++ (b ++ c)) e ∙ ap (λ l. l ++ c) f ∙ ap
 
 names_found : (given : Bag) → with_oid (oid FRIENDLY_NAME) (given_attributes given) ≡ names (name_of given)
 names_found given =
-    in_three (oid FRIENDLY_NAME) (names (name_of given)) (key_ids (key_id_of given)) (others given.attributes.items)
+    in_three (oid FRIENDLY_NAME) (names (name_of given)) (key_ids (key_id_of given)) (further given.attributes.now)
     ∙ (let a = found_itself (oid FRIENDLY_NAME) utf16_string.format (name_of given) in
     let b = not_found (oid FRIENDLY_NAME) (oid LOCAL_KEY_ID) octet_string no_name_is_key_id (key_id_of given) in
     joined _ _ _ (names (name_of given)) a b (names_in_others given))
 
 key_ids_found : (given : Bag) → with_oid (oid LOCAL_KEY_ID) (given_attributes given) ≡ key_ids (key_id_of given)
 key_ids_found given =
-    in_three (oid LOCAL_KEY_ID) (names (name_of given)) (key_ids (key_id_of given)) (others given.attributes.items)
+    in_three (oid LOCAL_KEY_ID) (names (name_of given)) (key_ids (key_id_of given)) (further given.attributes.now)
     ∙ (let a = not_found (oid LOCAL_KEY_ID) (oid FRIENDLY_NAME) utf16_string.format no_key_id_is_name (name_of given) in
     let b = found_itself (oid LOCAL_KEY_ID) octet_string (key_id_of given) in
     second _ _ _ (key_ids (key_id_of given)) a b (key_ids_in_others given))
@@ -144,6 +144,7 @@ pub has_texts : (given : Bag) (texts : List ElementOctets) → HasGoodAttributes
 has_texts given texts good o =
     let s = order_of attribute_text (given_attributes given) texts o.permutation in
     record {
+      good = good;
       all = s.order;
       are = record {
         permutation = s.permutation;

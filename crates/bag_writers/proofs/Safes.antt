@@ -9,10 +9,10 @@ use Rattle.asn1_core_element.specs.declared.error.Error.{Error}
 use Rattle.asn1_core_element.specs.declared.error.Error.TheVariants.{Invalid, TooLong, Memory}
 use Rattle.asn1_core_format.specs.Whole.{value_of}
 use Rattle.asn1_borrowed.specs.Written.{IsNotWritten}
-use Rattle.bag_writers.proofs.BagTexts.{bag, bag_formed, bag_normal, bag_text, can_formed, is_bag}
+use Rattle.bag_writers.proofs.BagTexts.{bag, bag_formed, bag_normal, bag_text, can_be, can_formed, is_bag}
 use Rattle.bag_writers.specs.Given.{given_bag}
 use Rattle.bag_writers.specs.Values.{attributed_value}
-use Rattle.bag_writers.specs.Written.{CanBeWritten, HasAttributes, IsBagOf, IsNotSafe, IsSafeOf, SAFE}
+use Rattle.bag_writers.specs.Written.{CanBeWritten, HasAttributes, IsBagOf, IsNotSafe, IsSafeContentsOf, SAFE}
 use Rattle.bag_writers.specs.declared.bags.Attributed.{Attributed}
 use Rattle.bag_writers.specs.declared.bags.Bag.{Bag}
 use Rattle.x509_pkcs12.specs.RawBags.{raw_safe_bag, raw_safe_contents}
@@ -22,6 +22,12 @@ BAG = (SEQUENCE raw_safe_bag).format
 
 memory_is_another : Memory ≡ TooLong → ⊥
 memory_is_another e = cc
+
+memory_is_no_invalid : Memory ≡ Invalid → ⊥
+memory_is_no_invalid e = cc
+
+long_is_no_invalid : (e : Error) → e ≡ TooLong → e ≡ Invalid → ⊥
+long_is_no_invalid e l i = (let x : TooLong ≡ Invalid = sym l ∙ i in cc)
 
 invalid_is_another : Invalid ≡ TooLong → ⊥
 invalid_is_another e = cc
@@ -66,23 +72,30 @@ all_can [] (x ∷ xs) h c = absurd h
 all_can (g ∷ gs) [] h c = absurd h
 all_can (g ∷ gs) (x ∷ xs) h c = (can_formed g x h.0 c.0, all_can gs xs h.1 c.1)
 
+all_can_be : (given : List Bag) (all : List Attributed) → AllZip HasAttributes given all → AllByRecursion (given_bag.IsWellFormed 64) (map attributed_value all) → AllByRecursion CanBeWritten given
+all_can_be [] [] h w = tt
+all_can_be [] (x ∷ xs) h w = absurd h
+all_can_be (g ∷ gs) [] h w = absurd h
+all_can_be (g ∷ gs) (x ∷ xs) h w = (can_be g x h.0 w.0, all_can_be gs xs h.1 w.1)
+
 lacks_memory : (given : List Bag) → IsNotSafe given Memory
-lacks_memory given = record { long = λ e. absurd (memory_is_another e); none = λ a b. absurd (b refl) }
+lacks_memory given = record { kind = inr (inr refl); long = λ e. absurd (memory_is_another e); none = λ e. absurd (memory_is_no_invalid e) }
 
 module _ (given : List Bag) (all : List Attributed) (h : AllZip HasAttributes given all) where
   abbrev text : List ℕ
   text = (sequence (each given_bag)).text (map attributed_value all)
 
   is_invalid : ((sequence (each given_bag)).IsWellFormed 64 (map attributed_value all) → ⊥) → IsNotSafe given Invalid
-  is_invalid n = record { long = λ e. absurd (invalid_is_another e); none = λ a b c. n (all_can given all h c) }
+  is_invalid n = record { kind = inl refl; long = λ e. absurd (invalid_is_another e); none = λ i c. n (all_can given all h c) }
 
-  is_safe : (sequence (each given_bag)).IsWellFormed 64 (map attributed_value all) → (t : List ℕ) → t ≡ text → IsSafeOf given t
+  is_safe : (sequence (each given_bag)).IsWellFormed 64 (map attributed_value all) → (t : List ℕ) → t ≡ text → IsSafeContentsOf given t
   is_safe w t e =
       let found = bags given all h in
       let same : t ≡ SAFE.format.text found = e ∙ ap (element 0x30) (same_texts given all h) in
       let reads = SAFE.law.components.text_reads 64 found (all_formed given all h w) in
       let normal : SAFE.format.Reads 64 (SAFE.format.text found) found = subst (λ v. SAFE.format.Reads 64 (SAFE.format.text found) v) (all_normal given all h) reads in
       record {
+        can = all_can_be given all h w;
         bags = found;
         each = each_bag given all h;
         text_is = same;
@@ -91,10 +104,10 @@ module _ (given : List Bag) (all : List Attributed) (h : AllZip HasAttributes gi
 
   not_safe : (e : Error) → IsNotWritten (sequence (each given_bag)) (map attributed_value all) e → IsNotSafe given e
   not_safe e (inl n) = subst (IsNotSafe given) (sym n.0) (is_invalid n.1)
-  not_safe e (inr (inl n)) = record { long = λ _. inr (text, is_safe n.0 text refl, n.2); none = λ l. absurd (l n.1) }
+  not_safe e (inr (inl n)) = record { kind = inr (inl n.1); long = λ _. inr (text, is_safe n.0 text refl, n.2); none = λ i. absurd (long_is_no_invalid e n.1 i) }
   not_safe e (inr (inr m)) = subst (IsNotSafe given) (sym m) (lacks_memory given)
 
-  pub safe_result : {A : Type 0} (items : A → List ℕ) (r : Result A Error) → MatchResult r (λ t. (sequence (each given_bag)).IsWellFormed 64 (map attributed_value all) × (items t ≡ text)) (λ e. IsNotWritten (sequence (each given_bag)) (map attributed_value all) e) → MatchResult r (λ t. IsSafeOf given (items t)) (λ e. IsNotSafe given e)
+  pub safe_result : {A : Type 0} (items : A → List ℕ) (r : Result A Error) → MatchResult r (λ t. (sequence (each given_bag)).IsWellFormed 64 (map attributed_value all) × (items t ≡ text)) (λ e. IsNotWritten (sequence (each given_bag)) (map attributed_value all) e) → MatchResult r (λ t. IsSafeContentsOf given (items t)) (λ e. IsNotSafe given e)
   safe_result items (Ok t) h = is_safe h.0 (items t) h.1
   safe_result items (Err e) h = not_safe e h
 

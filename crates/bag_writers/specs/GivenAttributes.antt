@@ -1,12 +1,12 @@
 -- The attributes of a bag as they are given, and their encodings.
-use Rattle.std.specs.Prelude.{◌≡◌, ◌≢◌, ◌≤◌, ◌^◌, ◌++◌, ◌&&◌, not, ℕ, Bool, List, [], ◌∷◌, length, Option, None, Some, Result, MatchResult, map}
+use Rattle.std.specs.Prelude.{◌≡◌, ◌⊎◌, ◌≤◌, ◌^◌, ◌++◌, ◌&&◌, not, ℕ, Bool, List, [], ◌∷◌, length, Option, None, Some, Result, MatchResult, map}
 use Rattle.std.specs.List.{Contains, filter}
 use Rattle.std.specs.Str.{bytes_eq}
 use Rattle.asn1_core.specs.Asn1.{Asn1, SEQUENCE}
 use Rattle.asn1_core.specs.Der.{Format, Octets, OidOctets, octet_string}
 use Rattle.asn1_core.specs.declared.raw.Asn1RawDer.{Asn1RawDer}
 use Rattle.asn1_core_element.specs.declared.error.Error.{Error}
-use Rattle.asn1_core_element.specs.declared.error.Error.TheVariants.{TooLong, Memory}
+use Rattle.asn1_core_element.specs.declared.error.Error.TheVariants.{Invalid, TooLong, Memory}
 use Rattle.pkcs12_bags.specs.Oids.{oid}
 use Rattle.pkcs12_bags.specs.declared.parts.oids.TheConstants.{FRIENDLY_NAME, LOCAL_KEY_ID}
 use Rattle.x509_base.specs.Names.{attribute, attribute_value}
@@ -39,16 +39,21 @@ IsName None = Unit {0}
 IsName (Some x) = IsUtf16 x
 
 -- those that are neither a friendly name nor a local key identifier
-abbrev pub is_other : attribute.Value → Bool
-is_other a = not (bytes_eq a.0 (oid FRIENDLY_NAME)) && not (bytes_eq a.0 (oid LOCAL_KEY_ID))
+abbrev pub is_further : attribute.Value → Bool
+is_further a = not (bytes_eq a.0 (oid FRIENDLY_NAME)) && not (bytes_eq a.0 (oid LOCAL_KEY_ID))
 
-abbrev pub others : List Attribute → List attribute.Value
-others all = filter is_other (map attribute_value all)
+abbrev pub further : List Attribute → List attribute.Value
+further all = filter is_further (map attribute_value all)
 
--- why attributes aren't encoded: P doesn't hold, or one is too long, or memory was refused
+-- a refusal of writing
+abbrev pub IsRefusal : Error → Type 0
+IsRefusal e = (e ≡ Invalid) ⊎ ((e ≡ TooLong) ⊎ (e ≡ Memory))
+
+-- why attributes aren't encoded: P doesn't hold, one is too long, or memory was refused
 pub record HasNoText (P : Type 0) (all : List attribute.Value) (e : Error) : Type 0 where
+  pub kind : IsRefusal e
   pub long : e ≡ TooLong → (a : attribute.Value) × Contains all a × (2 ^ 64 ≤ length (attribute_text a))
-  pub none : e ≢ TooLong → e ≢ Memory → P → ⊥
+  pub none : e ≡ Invalid → P → ⊥
 
 -- where P holds their encodings are added
 abbrev pub Adds : Type 0 → List attribute.Value → List Asn1RawDer → List Asn1RawDer → Result (Unit {0}) Error → Type 0

@@ -1,14 +1,17 @@
 //! The attributes of a bag, as encodings.
 
-ghost use Rattle.std.specs.Prelude.{◌≡◌, [], ◌∷◌, MatchResult, map};
+ghost use Rattle.std.specs.Prelude.{◌≡◌, ◌⊎◌, [], ◌∷◌, MatchResult, map};
 ghost use Rattle.std.specs.List.{AllByRecursion};
 ghost use Rattle.asn1_core_writers.specs.Texts.{IsWriteError};
 ghost use Rattle.asn1_core.specs.Der.{option_value, octet_string};
-ghost use Rattle.bag_writers.specs.GivenAttributes.{Adds, HasNoText, IsName, attribute_text, is_formed, is_other, key_ids, names, others};
+ghost use Rattle.bag_writers.specs.GivenAttributes.{Adds, HasNoText, IsName, attribute_text, is_formed, is_further, key_ids, names, further};
 ghost use Rattle.bag_writers.specs.Written.{HasAttributes, HasNoAttributes, HasTexts};
 ghost use Rattle.pkcs12_bags.specs.Oids.{oid};
 ghost use Rattle.pkcs12_bags.specs.declared.parts.oids.TheConstants.{FRIENDLY_NAME, LOCAL_KEY_ID};
 ghost use Rattle.x509_base.specs.Names.{attribute_value};
+ghost use Rattle.x509_pkcs12.specs.Utf16.{IsUtf16};
+ghost use Rattle.x509_pkcs12.specs.Utf16Octets.{octets_of_utf16};
+ghost use Rattle.asn1_core_element.specs.declared.error.Error.TheVariants.{Invalid, Memory};
 
 use crate::bags::{Attributed, Bag};
 use asn1_borrowed::{Body, OctetsRef, write};
@@ -33,13 +36,29 @@ fn with_value<T: DerSerialize + Drop>(alloc: Global, oid: &[u8], value: T) -> Re
     )
 }
 
-/// Adds the encoding of a friendly name, if there is one. Refuses what isn't UTF-16.
-#[tactic(auto, using(crate::proofs::NotEncoded::unwritten))]
+/// A name whose octets are UTF-16. Refuses by `Invalid` what isn't, or by `Memory`.
+fn read_name(alloc: Global, octets: &[u8]) -> Result<Utf16String, Error>
+    ensures { MatchResult result
+        (λ name. IsUtf16 octets.now × (octets_of_utf16 name ≡ octets.now))
+        (λ e. ((e ≡ Invalid) × (IsUtf16 octets.now → ⊥)) ⊎ (e ≡ Memory)) }
+{
+    match Utf16String::from_contents(alloc, octets) {
+        Ok(name) => Ok(name),
+        Err(error) => {
+            if error == Error::Memory {
+                return Err(Error::Memory);
+            }
+            Err(Error::Invalid)
+        }
+    }
+}
+
+/// Adds the encoding of a friendly name, if there is one.
 fn push_name(alloc: Global, octets: Option<&[u8]>, texts: &mut Vec<Asn1RawDer>) -> Result<(), Error>
     ensures { Adds (IsName (option_value (λ o. o.now) octets.entry)) (names (option_value (λ o. o.now) octets.entry)) texts.old.items texts.new.items result }
 {
     if let Some(octets) = octets {
-        let name = Utf16String::from_contents(alloc, octets)?;
+        let name = read_name(alloc, octets)?;
         let text = with_value(alloc, octets_of_known(FRIENDLY_NAME), name)?;
         texts.push(Asn1RawDer(text))?;
     }
@@ -47,7 +66,6 @@ fn push_name(alloc: Global, octets: Option<&[u8]>, texts: &mut Vec<Asn1RawDer>) 
 }
 
 /// Adds the encoding of a local key identifier, if there is one.
-#[tactic(auto, using(crate::proofs::NotEncoded::unwritten))]
 fn push_key_id(
     alloc: Global,
     octets: Option<&[u8]>,
@@ -64,14 +82,13 @@ fn push_key_id(
 
 /// Whether an attribute is neither a friendly name nor a local key identifier.
 fn is_further(attribute: &Attribute) -> bool
-    ensures { result ≡ is_other (attribute_value attribute.now) }
+    ensures { result ≡ is_further (attribute_value attribute.now) }
 {
     !is_oid_of(&attribute.ty.0, octets_of_known(FRIENDLY_NAME))
         && !is_oid_of(&attribute.ty.0, octets_of_known(LOCAL_KEY_ID))
 }
 
 /// The encoding of a well-formed attribute.
-#[tactic(auto, using(crate::proofs::NotEncoded::not_written))]
 fn encoded(alloc: Global, attribute: &Attribute) -> Result<Asn1RawDer, Error>
     ensures { MatchResult result
         (λ x. is_formed (attribute_value attribute.now) × (x.0.items ≡ attribute_text (attribute_value attribute.now)))
@@ -81,12 +98,12 @@ fn encoded(alloc: Global, attribute: &Attribute) -> Result<Asn1RawDer, Error>
 }
 
 /// Adds the encodings of further attributes.
-fn push_others(
+fn push_further(
     alloc: Global,
     attributes: &[Attribute],
     texts: &mut Vec<Asn1RawDer>,
 ) -> Result<(), Error>
-    ensures { Adds (AllByRecursion is_formed (others attributes.now)) (others attributes.now) texts.old.items texts.new.items result }
+    ensures { Adds (AllByRecursion is_formed (further attributes.now)) (further attributes.now) texts.old.items texts.new.items result }
 {
     for attribute in attributes {
         if is_further(attribute) {
@@ -103,7 +120,7 @@ fn texts_of(alloc: Global, bag: &Bag<'_>) -> Result<Vec<Asn1RawDer>, Error>
     let mut texts = Vec::new(alloc);
     push_name(alloc, bag.friendly_name, &mut texts)?;
     push_key_id(alloc, bag.local_key_id, &mut texts)?;
-    push_others(alloc, bag.attributes.as_slice(), &mut texts)?;
+    push_further(alloc, bag.attributes, &mut texts)?;
     put_in_order(texts.as_mut_slice());
     Ok(texts)
 }

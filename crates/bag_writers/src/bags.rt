@@ -9,15 +9,16 @@ use asn1_core::prelude::*;
 use x509_base::Attribute;
 
 /// A bag to be written (RFC 7292, 4.2).
-#[derive(Drop)]
+#[derive(Clone, Copy)]
 pub struct Bag<'a> {
     pub held: Held<'a>,
     /// The name that is shown to a user (RFC 2985, 5.5.1): UTF-16, two octets for each unit, the high one first.
     pub friendly_name: Option<&'a [u8]>,
-    /// What ties a key to its certificate (RFC 2985, 5.5.2).
+    /// What ties a key to its certificate (RFC 2985, 5.5.2): the contents octets of the OCTET STRING.
     pub local_key_id: Option<&'a [u8]>,
-    /// Further attributes, in any order. Of them, friendly names and local key identifiers aren't written.
-    pub attributes: Vec<Attribute>,
+    /// Further attributes, in any order. Of them, friendly names and local key identifiers aren't written, whatever they
+    /// hold.
+    pub attributes: &'a [Attribute],
 }
 
 /// A bag whose attributes are encoded.

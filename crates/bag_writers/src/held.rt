@@ -13,7 +13,7 @@ use pkcs12_bags::parts::oids::{
     X509_CERTIFICATE, X509_CRL, octets_of_known,
 };
 
-/// What a bag holds, by which its kind is told (RFC 7292, 4.2).
+/// What a bag holds. The variant determines `bagId` (RFC 7292, 4.2).
 #[derive(Clone, Copy)]
 pub enum Held<'a> {
     /// `keyBag`: the element of a `PrivateKeyInfo`.
@@ -28,7 +28,7 @@ pub enum Held<'a> {
     Secret(&'a [u8]),
     /// `safeContentsBag`: the element of a `SafeContents`.
     SafeContents(&'a [u8]),
-    /// One of any kind.
+    /// A bag of any kind: one of another standard, say, or a certificate of another type than X.509.
     Other {
         /// The contents octets of the object identifier.
         id: &'a [u8],

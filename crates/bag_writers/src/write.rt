@@ -2,7 +2,7 @@
 
 ghost use Rattle.std.specs.Prelude.{MatchResult};
 ghost use Rattle.std.specs.List.{AllZip};
-ghost use Rattle.bag_writers.specs.Written.{HasAttributes, IsNotSafe, IsSafeOf};
+ghost use Rattle.bag_writers.specs.Written.{HasAttributes, IsNotSafe, IsSafeContentsOf};
 
 use crate::attributes::attributed;
 use crate::bags::{Attributed, Bag};
@@ -21,10 +21,11 @@ fn all_attributed<'a>(alloc: Global, bags: &[Bag<'a>]) -> Result<Vec<Attributed<
     Ok(all)
 }
 
-/// The encoding of the `SafeContents` of these bags (RFC 7292, 4.2). Refuses where an object identifier, an element, a
-/// name or an attribute isn't one, by `TooLong`, or by `Memory`.
+/// The encoding of the `SafeContents` of these bags (RFC 7292, 4.2). Refuses by `Invalid` an object identifier that isn't
+/// one, what isn't exactly one element, a name that isn't UTF-16, and an ill-formed attribute, but not one that isn't
+/// written; by `TooLong`, or by `Memory`.
 pub fn write_safe_contents(alloc: Global, bags: &[Bag<'_>]) -> Result<Vec<u8>, Error>
-    ensures { MatchResult result (λ text. IsSafeOf bags.now text.items) (λ e. IsNotSafe bags.now e) }
+    ensures { MatchResult result (λ text. IsSafeContentsOf bags.now text.items) (λ e. IsNotSafe bags.now e) }
 {
     write(alloc, &Body(all_attributed(alloc, bags)?))
 }

@@ -9,7 +9,7 @@ use Rattle.asn1_core_format.specs.Whole.{value_of}
 use Rattle.asn1_core_oid.specs.Known.{data_oid}
 use Rattle.bag_ranges.specs.RawContentInfos.{raw_content_info}
 use Rattle.pkcs12_algs.specs.Digests.{mac_data}
-use Rattle.store_writers.specs.Written.{CONTENT, CONTENTS, IsSafeOf, IsStoreOf, store_value}
+use Rattle.store_writers.specs.Written.{CONTENT, CONTENTS, IsAuthenticatedSafeOf, IsStoreOf, store_value}
 use Rattle.x509_pkcs12.specs.MacOctets.{Covers, data_covers}
 use Rattle.x509_pkcs12.specs.Pfxs.{lawful_pfx, pfx}
 
@@ -45,12 +45,12 @@ contents_normal : (vs : List raw_content_info.Value) → map CONTENT.format.norm
 contents_normal [] = refl
 contents_normal (v ∷ vs) = ap (λ w. w ∷ map CONTENT.format.normal vs) (content_normal v) ∙ ap (λ ws. v ∷ ws) (contents_normal vs)
 
-is_safe : (vs : List raw_content_info.Value) → CONTENTS.format.IsWellFormed 64 vs → (text : List ℕ) → text ≡ CONTENTS.format.text vs → IsSafeOf vs text
+is_safe : (vs : List raw_content_info.Value) → CONTENTS.format.IsWellFormed 64 vs → (text : List ℕ) → text ≡ CONTENTS.format.text vs → IsAuthenticatedSafeOf vs text
 is_safe vs h text e =
     let reads = subst (λ ws. CONTENTS.format.Reads 64 (CONTENTS.format.text vs) ws) (contents_normal vs) (CONTENTS.law.components.text_reads 64 vs h) in
     record { text_is = e; reads = value_of CONTENTS.format 64 text vs CONTENTS.law (subst (λ b. CONTENTS.format.Reads 64 b vs) (sym e) reads) }
 
-pub safe_result : {A : Type 0} (items : A → List ℕ) (vs : List raw_content_info.Value) (r : Result A Error) → MatchResult r (λ t. CONTENTS.format.IsWellFormed 64 vs × (items t ≡ CONTENTS.format.text vs)) (λ e. IsNotWritten CONTENTS.format vs e) → MatchResult r (λ t. IsSafeOf vs (items t)) (λ e. IsNotWritten CONTENTS.format vs e)
+pub safe_result : {A : Type 0} (items : A → List ℕ) (vs : List raw_content_info.Value) (r : Result A Error) → MatchResult r (λ t. CONTENTS.format.IsWellFormed 64 vs × (items t ≡ CONTENTS.format.text vs)) (λ e. IsNotWritten CONTENTS.format vs e) → MatchResult r (λ t. IsAuthenticatedSafeOf vs (items t)) (λ e. IsNotWritten CONTENTS.format vs e)
 safe_result items vs (Ok t) h = is_safe vs h.0 (items t) h.1
 safe_result items vs (Err e) h = h
 

@@ -7,8 +7,8 @@ use Rattle.asn1_core_format.specs.Whole.{IsValueOf}
 use Rattle.asn1_core_oid.specs.Known.{data_oid}
 use Rattle.bag_ranges.specs.RawContentInfos.{raw_content_info, raw_content_info_value}
 use Rattle.pkcs12_algs.specs.Digests.{mac_data}
-use Rattle.store_writers.specs.declared.contents.Contents.{Contents}
-use Rattle.store_writers.specs.declared.contents.Contents.TheVariants.{Data, Info}
+use Rattle.store_writers.specs.declared.content.Content.{Content}
+use Rattle.store_writers.specs.declared.content.Content.TheVariants.{Data, Info}
 use Rattle.x509_pkcs12.specs.MacOctets.{Covers}
 use Rattle.x509_pkcs12.specs.Pfxs.{PfxValue, pfx}
 
@@ -20,13 +20,13 @@ CONTENT = SEQUENCE raw_content_info
 abbrev pub CONTENTS : Asn1
 CONTENTS = SEQUENCE_OF CONTENT
 
--- of data, an OCTET STRING of the octets
-abbrev pub contents_value : Contents → raw_content_info.Value
-contents_value (Data x) = (data_oid, (Some (octet_string.text x.now), tt))
-contents_value (Info x) = raw_content_info_value x
+-- data is an OCTET STRING of the octets
+abbrev pub content_value : Content → raw_content_info.Value
+content_value (Data x) = (data_oid, (Some (octet_string.text x.now), tt))
+content_value (Info x) = raw_content_info_value x
 
 -- the text is the encoding of these contents, and is read as them and nothing else
-pub record IsSafeOf (contents : List raw_content_info.Value) (text : List ℕ) : Type 0 where
+pub record IsAuthenticatedSafeOf (contents : List raw_content_info.Value) (text : List ℕ) : Type 0 where
   pub text_is : text ≡ CONTENTS.format.text contents
   pub reads : IsValueOf CONTENTS.format 64 text contents
 

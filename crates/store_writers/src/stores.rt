@@ -17,7 +17,7 @@ use pkcs12_algs::MacData;
 pub(crate) struct Store<'a> {
     /// The element of the `AuthenticatedSafe`.
     pub(crate) safe: &'a [u8],
-    pub(crate) mac: &'a Option<MacData>,
+    pub(crate) mac: Option<&'a MacData>,
 }
 
 /// `authSafe`, a `ContentInfo` of `data`.
@@ -25,22 +25,26 @@ type AuthSafe<'a> = Body<
     Part<KnownOid<'a>, Alone<ExplicitContextTag0<OctetStringAsn1Container<ElementRef<'a>>>>>,
 >;
 
-type Parts<'a> = Part<FixedVersion<3>, Part<AuthSafe<'a>, MaybeRef<'a, MacData, End>>>;
+type Parts<'a> = Part<FixedVersion<3>, Part<AuthSafe<'a>, Maybe<Ref<&'a MacData>, End>>>;
 
 impl Store<'_> {
     fn parts(&self) -> Parts<'_>
-        ensures { ⟦<Parts<'static> as WriteComponents>⟧.value result ≡ (3, ((data_oid, self.now.safe.now), (option_value mac_data_value self.now.mac.now, tt))) }
+        ensures { ⟦<Parts<'static> as WriteComponents>⟧.value result ≡ (3, ((data_oid, self.now.safe.now), (option_value (λ m. mac_data_value m.now) self.now.mac, tt))) }
     {
         let data = ExplicitContextTag0(OctetStringAsn1Container(ElementRef(self.safe)));
         let auth_safe = Body(Part(KnownOid(&DATA), Alone(data)));
-        Part(FixedVersion, Part(auth_safe, MaybeRef(self.mac, End)))
+        let mac = match self.mac {
+            Some(mac) => Some(Ref(mac)),
+            None => None,
+        };
+        Part(FixedVersion, Part(auth_safe, Maybe(mac, End)))
     }
 }
 
 impl DerSerialize for Store<'_> {
     ghost Value = { PfxValue (List ℕ) };
 
-    ghost value = { λ x. store_value x.safe.now (option_value mac_data_value x.mac.now) };
+    ghost value = { λ x. store_value x.safe.now (option_value (λ m. mac_data_value m.now) x.mac) };
 
     ghost format = { pfx raw };
 

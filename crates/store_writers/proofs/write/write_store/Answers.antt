@@ -4,4 +4,4 @@ use Rattle.store_writers.proofs.Normal.{store_result}
 use Rattle.store_writers.proofs.write.write_store.Goals as goal
 
 pub returns : goal.returns
-returns c = store_result c.args.safe.now (option_value mac_data_value c.args.mac.now) (λ v. v.items) c.write.result c.write.ensures
+returns c = store_result c.args.safe.now (option_value (λ m. mac_data_value m.now) c.args.mac) (λ v. v.items) c.write.result c.write.ensures

@@ -8,4 +8,4 @@ use Rattle.store_writers.proofs.stores.StoreDerSerialize.well_formed_at.Goals as
 pub returns : goal.returns
 returns c =
     let r = c.components_well_formed_at.result in
-    formed_alike c.args.limit c.args.self.now.safe.now (option_value mac_data_value c.args.self.now.mac.now) r (subst (λ v. IsTrue r ↔ STORE.IsWellFormed c.args.limit v) c.parts.ensures c.components_well_formed_at.ensures)
+    formed_alike c.args.limit c.args.self.now.safe.now (option_value (λ m. mac_data_value m.now) c.args.self.now.mac) r (subst (λ v. IsTrue r ↔ STORE.IsWellFormed c.args.limit v) c.parts.ensures c.components_well_formed_at.ensures)

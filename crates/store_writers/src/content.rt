@@ -1,6 +1,6 @@
-//! What an AuthenticatedSafe holds.
+//! An item of an AuthenticatedSafe.
 
-ghost use Rattle.store_writers.specs.Written.{CONTENT, contents_value};
+ghost use Rattle.store_writers.specs.Written.{CONTENT, content_value};
 ghost use Rattle.bag_ranges.specs.RawContentInfos.{raw_content_info};
 
 use asn1_borrowed::OctetsRef;
@@ -10,23 +10,23 @@ use bag_ranges::RawContentInfo;
 
 /// A `ContentInfo` of an `AuthenticatedSafe` (RFC 7292, 4.1).
 #[derive(Drop)]
-pub enum Contents<'a> {
-    /// `data`: the octets of a `SafeContents`.
+pub enum Content<'a> {
+    /// `data`: the octets of the encoding of a `SafeContents`, which aren't examined.
     Data(&'a [u8]),
-    /// Any, as it was read: encrypted bags, say.
+    /// Any `ContentInfo`: encrypted bags, say.
     Info(RawContentInfo),
 }
 
-impl DerSerialize for Contents<'_> {
+impl DerSerialize for Content<'_> {
     ghost Value = { raw_content_info.Value };
 
-    ghost value = { contents_value };
+    ghost value = { content_value };
 
     ghost format = { CONTENT.format };
 
     fn put<W: Writer>(&self, w: &mut W) -> Result<(), WriteError> {
         match self {
-            Contents::Data(octets) => put_within(
+            Content::Data(octets) => put_within(
                 0x30,
                 &Part(
                     KnownOid(&DATA),
@@ -34,14 +34,14 @@ impl DerSerialize for Contents<'_> {
                 ),
                 w,
             ),
-            Contents::Info(info) => info.put(w),
+            Content::Info(info) => info.put(w),
         }
     }
 
     fn well_formed_at(&self, limit: u8) -> bool {
         match self {
-            Contents::Data(_octets) => true,
-            Contents::Info(info) => info.well_formed_at(limit),
+            Content::Data(_octets) => true,
+            Content::Info(info) => info.well_formed_at(limit),
         }
     }
 }
