@@ -1,23 +1,25 @@
 /* Checks and rewritings of DER, the parts of containers that a verifier needs, as octets, those of certificates and of
- * the contents of signed data, the parameters of encryption with a password, which are built too, and conversions of
- * BER to DER: the static library der_c. Only der_from_ber takes BER. Pass every other call what it wrote, and
- * der_mac_ber and der_mac_part_ber where the MAC of a PKCS #12 file is to be verified.
+ * the contents of signed data, the parameters of encryption with a password, conversions of BER to DER, and PKCS #12
+ * files and such parameters built from their parts: the static library der_c. Only der_from_ber takes BER. Pass every
+ * other call what it wrote, and der_mac_ber and der_mac_part_ber where the MAC of a PKCS #12 file is to be verified.
  *
  * What is proved of its calls der_check_word_limited, der_rewrite_word_limited, der_kind_word, der_part_octets,
  * der_signer_rows, der_part_ranges, der_attribute_ranges, der_mac_range, der_mac, der_from_ber, der_mac_ber,
  * der_mac_part_ber, der_name_text, der_oid_text, der_oid_octets, der_oid_name, der_integer_text, der_utf16_text,
- * der_bag_rows, der_certificate, der_indirect, der_trust_list, der_trust_rows, der_password_parameters and
- * der_build_parameters, for all inputs, and what isn't:
+ * der_text_utf16, der_bag_rows, der_certificate, der_indirect, der_trust_list, der_trust_rows, der_password_parameters,
+ * der_build_parameters, der_build_bags, der_build_safe and der_build_store, for all inputs, and what isn't:
  *  - A call answers no status but those that are listed at it. What it writes into numbers and into out is as said
  *    below.
  *  - DER_NORMAL, DER_LOOSE, DER_UNKNOWN_KIND, DER_NO_ROOM, DER_NO_RANGE and DER_NO_PART are true where they are
- *    answered, and so is DER_TOO_LONG, but of bags. DER_BAD_ATTRIBUTES is true where a row of der_signer_rows has it: of
- *    an empty set of signed attributes it is proved that the signer's value has none, and that the input has the
- *    signer's algorithms with the octets A0 00 between them.
+ *    answered, and so is DER_TOO_LONG, but by der_bag_rows and of parts of bags. DER_BAD_ATTRIBUTES is true where a row
+ *    of der_signer_rows has it: of an empty set of signed attributes it is proved that the signer's value has none, and
+ *    that the input has the signer's algorithms with the octets A0 00 between them.
  *  - At DER_MALFORMED, DER_MISSING, DER_INVALID and DER_TOO_DEEP the input is no encoding of the kind, of der_from_ber
  *    it has no DER, of the calls for parts, signers and ranges it isn't what has the part, of those that write text it
- *    has none, of der_oid_octets the text spells no octets, and of der_build_parameters nothing can be built from what
- *    is given, as said there. Which of the four it is isn't proved: tests tell them apart.
+ *    has none, of der_oid_octets the text spells no octets, of der_text_utf16 it isn't UTF-8, of der_build_parameters
+ *    and der_build_store nothing can be built from what is given, and of der_build_bags and der_build_safe the bag or
+ *    content whose index they write can't be written, as said there. Which of the four it is isn't proved: tests tell
+ *    them apart.
  *  - Of the bags of a store, and of parts of these, the same is said at the four and at DER_TOO_LONG: the input has no
  *    such rows as der_bag_rows writes at DER_NORMAL.
  *  - That memory was refused where a call answers DER_NO_MEMORY isn't proved. Tests show that calls with memory enough
@@ -25,18 +27,18 @@
  *  - The functions in this file, in C, are tested and not proved, nor are der_version and der_processor.
  *
  * What a caller has to keep to:
- *  - word, input, octets, text, given, out and the pointers to numbers aren't null, also where a length is 0; but the
- *    functions in this file take null for an input or out of length 0. word, input, octets and text point to so many
- *    bytes that can be read, given to one der_password_parts that can be read, and out to so many bytes that can be
- *    read and written.
+ *  - word, input, octets, text, given, bags, contents, out and the pointers to numbers aren't null, also where a length
+ *    is 0; but the functions in this file take null for an input or out of length 0. word, input, octets and text point
+ *    to so many bytes that can be read, given to one struct that can be read, bags and contents to so many structs that
+ *    can be read, and out to so many bytes that can be read and written.
  *  - A pointer to a number is aligned as a size_t is, and what it points to can be written. out of der_signer_rows,
  *    der_bag_rows, der_trust_rows and the calls for ranges points to out_len structs and not bytes, that of
- *    der_certificate, der_indirect, der_trust_list and der_password_parameters to one, and is aligned so too. So is
- *    given.
+ *    der_certificate, der_indirect, der_trust_list and der_password_parameters to one, and is aligned so too. So are
+ *    given, bags and contents.
  *  - The string kind ends in a zero byte.
- *  - out and each number overlap nothing else that is passed, given neither, and not one another.
- *  - While a call runs nothing else reads or writes out or the numbers, and nothing writes word, input, octets, text or
- *    given: no other thread, and no signal handler.
+ *  - out and each number overlap nothing else that is passed, also not given, bags or contents, and not one another.
+ *  - While a call runs nothing else reads or writes out or the numbers, and nothing writes word, input, octets, text,
+ *    given, bags or contents: no other thread, and no signal handler.
  *  - Lengths are below 2^63.
  *  - Memory comes from malloc, realloc and free, which are those of one allocator. A block of malloc and of realloc is
  *    aligned to each power of two up to 16 that divides its size.
@@ -516,6 +518,150 @@ DER_CALL
 uint32_t der_build_parameters(size_t holder, const uint8_t *input, size_t input_len, const der_password_parts *given,
                               uint8_t *out, size_t out_len, size_t *written, size_t *part);
 
+/* A bag for der_build_bags. has_attributes, identifier and attributes are what der_bag_parts lacks; each other field is
+ * as der_bag_rows writes it there. */
+typedef struct der_bag_given {
+  size_t kind;              /* a der_bag_kind, at most DER_BAG_SAFE_CONTENTS */
+  size_t has_friendly_name; /* unless 0: it has one */
+  size_t has_local_key_id;  /* unless 0: it has one */
+  size_t has_attributes;    /* unless 0: it has further attributes */
+  der_range identifier;     /* of DER_BAG_OTHER: the contents octets of its object identifier: see der_oid_octets */
+  der_range value;          /* DER of the X.509 certificate or revocation list; of other kinds the element that the bag
+                               holds, without the [0] around it */
+  der_range friendly_name;  /* in UTF-16, two octets for each unit, the high one first: see der_text_utf16 */
+  der_range local_key_id;   /* its octets; a key has those of its certificate */
+  der_range attributes;     /* the element of a SET OF Attribute, of which friendlyName and localKeyId aren't written */
+} der_bag_given;
+
+/* Which part of a bag der_build_bags can't write, and why. */
+typedef enum der_bag_part {
+  DER_BAG_PART_KIND = 1,          /* more than DER_BAG_SAFE_CONTENTS */
+  DER_BAG_PART_IDENTIFIER = 2,    /* of DER_BAG_OTHER: not inside of the input, no object identifier, or one of the six
+                                     that the other kinds have */
+  DER_BAG_PART_VALUE = 3,         /* not inside of the input, no element, or not what its kind holds */
+  DER_BAG_PART_FRIENDLY_NAME = 4, /* not inside of the input, or no UTF-16 */
+  DER_BAG_PART_LOCAL_KEY_ID = 5,  /* not inside of the input */
+  DER_BAG_PART_ATTRIBUTES = 6     /* not inside of the input, or no SET OF Attribute */
+} der_bag_part;
+
+/* Writes a SafeContents (RFC 7292, 4.2) of bags_len bags, in their order, to the front of out: octets for
+ * der_build_safe, or for the caller to encrypt, or the value of a bag of kind DER_BAG_SAFE_CONTENTS. bags says of each
+ * bag where the input has the octets of its parts, in any order; ranges may overlap. Set all of a bag to 0 first: a
+ * flag is set where it isn't 0. kind is what the bag holds, which determines its object identifier:
+ *  - DER_BAG_KEY: value is a PrivateKeyInfo, which isn't looked at. Any element is taken.
+ *  - DER_BAG_SHROUDED_KEY: an EncryptedPrivateKeyInfo (RFC 5958, 3) that der_bag_rows reads. der_build_parameters
+ *    writes such keys for DER_HOLDER_KEY, and others too: of PBES2 with parameters that aren't those of PBES2, say.
+ *  - DER_BAG_CERTIFICATE and DER_BAG_CRL: an X.509 certificate, or revocation list, which isn't looked at. Any element
+ *    is taken, and written into an OCTET STRING. der_bag_rows lists any octets there.
+ *  - DER_BAG_SECRET: a SecretBag (RFC 7292, 4.2.5), a SEQUENCE of any object identifier and one element of any type in
+ *    [0].
+ *  - DER_BAG_SAFE_CONTENTS: a SafeContents, as this call writes it. Its bags are read, and those in bags of it, and so
+ *    on: at most 64 SafeContents, with this one, may be in one another. What its other bags hold isn't looked at, nor are
+ *    attributes: der_bag_rows may refuse them.
+ *  - DER_BAG_OTHER: any element, under the object identifier that identifier is.
+ * A certificate or revocation list of another type than X.509 isn't written. An element has a tag of one octet and a
+ * length as DER has it, and whatever is in it. Of the rows that der_bag_rows wrote give those of level 0: the others are
+ * in the value of one of these.
+ *
+ * The attributes of a bag are friendlyName, where has_friendly_name is set, localKeyId, where has_local_key_id is set,
+ * and those in attributes, where has_attributes is set, but for each friendlyName and localKeyId among them. So the SET
+ * after the [0] in the element of a bag that was read can be given as it is, with another name or with none. Attributes
+ * are written in the order of DER (X.690, 11.6). One that is given twice is written twice, and the values of one stay
+ * in their order. A bag without attributes is written without the SET. An empty friendly name is written. So is one
+ * with characters past U+FFFF, each as a pair of surrogates, as keytool does, though a BMPString has none: the kind
+ * "pfx" refuses such a store, and openssl shows another name; der_bag_rows, the kind "rawpfx" and Java read it. What a
+ * flag says isn't there isn't looked at, nor is identifier of another kind than DER_BAG_OTHER: they may be anything.
+ *  - DER_NORMAL: *written bytes were written, and the rest of out is as it was. Of no bags they are 30 00.
+ *  - DER_NO_ROOM: *written bytes are needed, and out_len, which may be 0, is less.
+ *  - DER_INVALID: the bag with the index *bag, from 0 on, can't be written, and *part is its der_bag_part: of several
+ *    bags the first, and of several parts of it the one with the least number.
+ *  - DER_TOO_LONG: the whole, or an attribute, would have 2^64 bytes or more.
+ *  - DER_NO_MEMORY.
+ * Unless at DER_NORMAL out is as it was, unless at DER_NORMAL and DER_NO_ROOM *written is 0, and unless at DER_INVALID
+ * *bag and *part are 0. Proved is that what is written is the encoding of a SafeContents whose bags are those that are
+ * given, in their order, each with its object identifier, its element and its attributes, and reads as these alone. And
+ * that at DER_INVALID the bag with that index can't be written, and those before it can. Which part *part says is
+ * tested. Elements are written as they are given: if one isn't DER inside, the whole isn't, and the kinds
+ * "safecontents" and "pfx" call it loose, or refuse it. */
+DER_CALL
+uint32_t der_build_bags(const uint8_t *input, size_t input_len, const der_bag_given *bags, size_t bags_len,
+                        uint8_t *out, size_t out_len, size_t *written, size_t *bag, size_t *part);
+
+/* An item of an AuthenticatedSafe for der_build_safe. */
+typedef struct der_content_given {
+  size_t is_data;   /* unless 0: octets are a SafeContents, as der_build_bags writes it, which is written as data */
+  der_range octets; /* that; otherwise a ContentInfo of another type than data, which is written as it is */
+} der_content_given;
+
+/* Writes an AuthenticatedSafe (RFC 7292, 4.1) of contents_len contents, in their order, to the front of out: what
+ * der_build_store takes, and all of it what a MAC covers. contents says of each where the input has it; ranges may
+ * overlap. One is a SafeContents, which isn't encrypted, or a ContentInfo, as der_build_parameters writes it for
+ * DER_HOLDER_CONTENTS, of a SafeContents that the caller encrypted.
+ *  - DER_NORMAL: *written bytes were written, and the rest of out is as it was. Of no contents they are 30 00.
+ *  - DER_NO_ROOM: *written bytes are needed, and out_len, which may be 0, is less.
+ *  - DER_INVALID: the content with the index *content, from 0 on, can't be written, of several the first.
+ *    - It isn't inside of the input.
+ *    - is_data is set, and it is no SafeContents. Its bags are read, and those in bags of it, and so on: at most 65
+ *      SafeContents, with this one, may be in one another. What its other bags hold isn't looked at, nor are
+ *      attributes.
+ *    - is_data is 0, and it is no ContentInfo: a SEQUENCE of an object identifier and one element of any type in [0],
+ *      which may be absent.
+ *    - is_data is 0, and it is a ContentInfo of the type data (1.2.840.113549.1.7.1): give its SafeContents instead.
+ *  - DER_TOO_LONG: it would have 2^64 bytes or more.
+ *  - DER_NO_MEMORY.
+ * Unless at DER_NORMAL out is as it was, unless at DER_NORMAL and DER_NO_ROOM *written is 0, and unless at DER_INVALID
+ * *content is 0. Proved is that what is written is the encoding of an AuthenticatedSafe whose contents are those that
+ * are given, in their order, of data the OCTET STRING of its octets, and reads as these alone. And that at DER_INVALID
+ * the content with that index can't be written, and those before it can. That a ContentInfo has the octets that are
+ * given is tested. */
+DER_CALL
+uint32_t der_build_safe(const uint8_t *input, size_t input_len, const der_content_given *contents, size_t contents_len,
+                        uint8_t *out, size_t out_len, size_t *written, size_t *content);
+
+/* A PKCS #12 file for der_build_store. */
+typedef struct der_store_given {
+  size_t has_mac;               /* unless 0: it has a MAC */
+  size_t has_digest_parameters; /* unless 0: the MAC's digest algorithm has parameters */
+  size_t iterations;            /* how often the key derivation hashes, as of der_mac; 1, the default, is left out */
+  der_range safe;               /* an AuthenticatedSafe, as der_build_safe writes it: what the MAC covers */
+  der_range digest_algorithm;   /* the contents octets of the object identifier: see der_oid_octets */
+  der_range digest_parameters;  /* the element of its parameters, whatever is in it. NULL is written where it has none,
+                                   and in place of any that SHA-1, SHA-224, SHA-256, SHA-384 or SHA-512 has */
+  der_range digest;             /* the octets of the MAC */
+  der_range salt;               /* the octets of macSalt */
+} der_store_given;
+
+/* Which part der_build_store can't write, and why. */
+typedef enum der_store_part {
+  DER_STORE_PART_SAFE = 1,              /* not inside of the input, or no SEQUENCE OF ContentInfo */
+  DER_STORE_PART_DIGEST_ALGORITHM = 2,  /* not inside of the input, or no object identifier */
+  DER_STORE_PART_DIGEST_PARAMETERS = 3, /* not inside of the input, or no element, also where NULL is written instead */
+  DER_STORE_PART_DIGEST = 4,            /* not inside of the input */
+  DER_STORE_PART_SALT = 5,              /* not inside of the input */
+  DER_STORE_PART_ITERATIONS = 6         /* 2^32 or more */
+} der_store_part;
+
+/* Writes a PKCS #12 file, a PFX of version 3 whose authSafe is data (RFC 7292, 4), to the front of out: around safe,
+ * and with a MAC where has_mac is set. given has the number, and says where the input has the octets of each part, in
+ * any order; ranges may overlap. Set all of given to 0 first: a flag is set where it isn't 0. No MAC is made: the
+ * caller makes it over the octets of safe, by HMAC with a key that RFC 7292, B, derives from the password, or by PBMAC1
+ * (RFC 9579), whose parameters are digest_parameters. Nothing is judged: a MAC that is wrong, a count of 0, and digests
+ * and salts of any length are written too, and what the contents of safe hold isn't looked at. Take a new random salt
+ * for each file, and a count that is high enough. Where has_mac is 0 nothing of the MAC is looked at, and it may be
+ * anything.
+ *  - DER_NORMAL: *written bytes were written, and the rest of out is as it was.
+ *  - DER_NO_ROOM: *written bytes are needed, and out_len, which may be 0, is less.
+ *  - DER_INVALID: a part can't be written, and *part is its der_store_part, of several the one with the least number.
+ *  - DER_TOO_LONG: it would have 2^64 bytes or more.
+ *  - DER_NO_MEMORY.
+ * Unless at DER_NORMAL out is as it was, unless at DER_NORMAL and DER_NO_ROOM *written is 0, and unless at DER_INVALID
+ * *part is 0. Proved is that what is written is the encoding of a PFX with these parts, safe as it is given, and reads
+ * as these alone. So der_mac gives the octets of safe and the count, and der_part the object identifier, the digest and
+ * the salt. And that at DER_INVALID nothing can be built from what is given. Which part *part says is tested. */
+DER_CALL
+uint32_t der_build_store(const uint8_t *input, size_t input_len, const der_store_given *given, uint8_t *out,
+                         size_t out_len, size_t *written, size_t *part);
+
 /* Which octets of a PKCS #12 file a MAC covers: the contents octets of the OCTET STRING that is the content of
  * authSafe, without its tag and length.
  *  - DER_NORMAL: they are the *len octets from input + *start on, all of them inside of the input. Proved is that they
@@ -638,6 +784,14 @@ uint32_t der_integer_text(const uint8_t *octets, size_t octets_len, uint8_t *out
  * half. */
 DER_CALL
 uint32_t der_utf16_text(const uint8_t *octets, size_t octets_len, uint8_t *out, size_t out_len, size_t *written);
+
+/* Writes a text in UTF-8 as UTF-16, two octets for each unit, the high one first, as friendly_name of der_bag_given
+ * takes it, to the front of out: of "A" 00 41. text_len counts no zero byte after the text, and none is written; one in
+ * the text is a character like others. With two zero octets after it, that is a password as RFC 7292, B.1, says.
+ * What it answers is as of der_name_text, and the refusal, by tests alone, always DER_INVALID: where the text isn't
+ * UTF-8, as with a surrogate in it. */
+DER_CALL
+uint32_t der_text_utf16(const uint8_t *text, size_t text_len, uint8_t *out, size_t out_len, size_t *written);
 
 /* A limit as the calls take it: one that a byte is too small for counts as DER_MAX_NESTING too. */
 static inline uint8_t der_levels(unsigned limit) {

@@ -118,8 +118,8 @@ documents() {
     install -m 644 docs/*.* "$to/docs"
     install -m 644 docs/theorems/* "$to/docs/theorems"
     install -m 644 c/tests/{check,installed}.c "$to/examples"
-    install -m 644 c/examples/{digest,encrypt,entries,from_ber,mac,parameters,store,verify}.c "$to/examples"
-    install -m 644 python/examples/{digest,encrypt,entries,parameters,scan,store,verify}.py "$to/examples"
+    install -m 644 c/examples/{build_store,digest,encrypt,entries,from_ber,mac,parameters,store,verify}.c "$to/examples"
+    install -m 644 python/examples/{build_store,digest,encrypt,entries,parameters,scan,store,verify}.py "$to/examples"
     install -m 755 python/examples/stores.sh "$to/examples"
 }
 

@@ -19,7 +19,9 @@ CERTIFICATES = "crates/der_c/src/certificates.rt"
 SIGNERS, PARTS, PARTS_IN_SPECS = "crates/der_c/src/signers.rt", *(path for path, *_ in calls.LISTED)
 RANGES_IN_SPECS = "crates/der_c/specs/Ranges.antt"
 PASSWORDS, PASSWORDS_IN_SPECS = "crates/der_c/src/passwords.rt", "crates/der_c/specs/Passwords.antt"
-BUILT, BUILT_IN_RUST = "crates/der_c/src/built.rt", "rust/src/build.rs"
+BUILT, BUILT_BAGS, BUILT_CONTENTS, BUILT_STORES = (
+    f"crates/der_c/src/{name}.rt" for name in ("built", "built_bags", "built_contents", "built_stores"))
+BUILT_IN_RUST, STORES_IN_RUST = "rust/src/build.rs", "rust/src/build_stores.rs"
 # What tools/calls reads.
 READ = (FILE, C, PYTHON, NAMES, "rust/src/*.rs", CHECK, "crates/der_c/src/*.rt", "crates/der_c/specs/*.antt", PARTS,
         PARTS_IN_SPECS, *calls.LEVELS)
@@ -32,6 +34,7 @@ RANGE_IN_RUST = """\
 """
 KIND_IN_C = "  size_t kind;              /* a der_bag_kind */\n"
 LEVEL_IN_C = "  size_t level;             /* in how many bags it is, at most 64 */\n"
+DATA_IN_PYTHON = '("is_data", ctypes.c_size_t),\n        ("octets", Range)'
 IN_CHECK = "        limit: {},\n        input: *const u8,\n        input_len: usize,\n        out"
 # What --write makes right: a file, a text of it, what is in its place, and the name that has to be told.
 MADE = {
@@ -41,7 +44,12 @@ MADE = {
     "C, what is returned": (C, "uint32_t der_mac(", "size_t der_mac(", "der_mac"),
     "C, a part": (C, "DER_PART_ISSUER = 3,", "DER_PART_ISSUER = 4,", "DER_PART_ISSUER"),
     "C, a password part": (C, "DER_PASSWORD_SALT = 5,", "DER_PASSWORD_SALT = 6,", "DER_PASSWORD_SALT"),
+    "C, a bag part": (C, "DER_BAG_PART_VALUE = 3,", "DER_BAG_PART_VALUE = 4,", "DER_BAG_PART_VALUE"),
+    "C, a store part": (C, "DER_STORE_PART_SALT = 5,", "DER_STORE_PART_SALT = 6,", "DER_STORE_PART_SALT"),
     "C, a struct that is read": (C, "const der_password_parts *given,", "der_password_parts *given,", "given"),
+    "C, structs that are read": (C, "const der_bag_given *bags,", "der_bag_given *bags,", "bags"),
+    "C, how many structs": (C, "size_t contents_len,", "uint8_t contents_len,", "contents_len"),
+    "C, the type of a field": (C, "  der_range octets;", "  size_t octets;", "octets"),
     "C, levels": (C, "#define DER_MAX_NESTING 64", "#define DER_MAX_NESTING 65", "DER_MAX_NESTING"),
     "C, blanks": (C, "size_t out_len, size_t *written);", "size_t out_len,  size_t *written);", "size_t out_len"),
     "Python, a status": (PYTHON, "NO_ROOM: Final = 9", "NO_ROOM: Final = 8", "DER_NO_ROOM"),
@@ -50,13 +58,22 @@ MADE = {
         '("level", ctypes.c_size_t),\n        ("kind", ctypes.c_size_t)', "kind"),
     "Python, a type": (PYTHON, '"der_kind_word": (_SIZE,', '"der_kind_word": (_BYTE,', "der_kind_word"),
     "Python, a password part": (PYTHON, "PASSWORD_SALT: Final = 5", "PASSWORD_SALT: Final = 6", "DER_PASSWORD_SALT"),
+    "Python, a bag part": (PYTHON, "BAG_PART_VALUE: Final = 3", "BAG_PART_VALUE: Final = 4", "DER_BAG_PART_VALUE"),
+    "Python, a store part": (PYTHON, "STORE_PART_SALT: Final = 5", "STORE_PART_SALT: Final = 6", "DER_STORE_PART_SALT"),
+    "Python, how many structs": (PYTHON, "POINTER(BagGiven), _SIZE,", "POINTER(BagGiven),", "der_build_bags"),
+    "Python, the type of a field": (
+        PYTHON, DATA_IN_PYTHON, DATA_IN_PYTHON.replace("Range", "ctypes.c_size_t"), "octets"),
     "Python, a call": (PYTHON, RANGE_IN_PYTHON, "", "der_mac_range"),
     "Rust, a status": (RUST, "NO_ROOM: u32 = 9;", "NO_ROOM: u32 = 8;", "DER_NO_ROOM"),
     "Rust, two fields": (
         RUST, "pub kind: usize,\n    pub level: usize,", "pub level: usize,\n    pub kind: usize,", "kind"),
     "Rust, a type": (RUST, "der_kind_word(index: usize,", "der_kind_word(index: u32,", "der_kind_word"),
     "Rust, a password part": (RUST, "PASSWORD_SALT: usize = 5;", "PASSWORD_SALT: usize = 6;", "DER_PASSWORD_SALT"),
+    "Rust, a bag part": (RUST, "BAG_PART_VALUE: usize = 3;", "BAG_PART_VALUE: usize = 4;", "DER_BAG_PART_VALUE"),
+    "Rust, a store part": (RUST, "STORE_PART_SALT: usize = 5;", "STORE_PART_SALT: usize = 6;", "DER_STORE_PART_SALT"),
     "Rust, a struct that is read": (RUST, "given: *const PasswordParts,", "given: *mut PasswordParts,", "given"),
+    "Rust, structs that are read": (RUST, "bags: *const BagGiven,", "bags: *mut BagGiven,", "bags"),
+    "Rust, the type of a field": (RUST, "    pub octets: Range,", "    pub octets: usize,", "octets"),
     "Rust, a call": (RUST, RANGE_IN_RUST, "", "der_mac_range"),
 }
 # What is written by hand. A fifth word is the place that is told, where that isn't the line that is turned.
@@ -72,7 +89,18 @@ BY_HAND = {
     "Python, a password part": (NAMES, " SALT = _calls.PASSWORD_SALT", " SALT = _calls.PASSWORD_PRF", "SALT", NAMES),
     "Python, no password part": (
         NAMES, "    SCHEME = _calls.PASSWORD_SCHEME\n", "", "DER_PASSWORD_SCHEME", f"{NAMES}:1"),
+    "Python, a bag part": (NAMES, " VALUE = _calls.BAG_PART_VALUE", " VALUE = _calls.BAG_PART_KIND", "VALUE", NAMES),
+    "Python, no bag part": (
+        NAMES, "    ATTRIBUTES = _calls.BAG_PART_ATTRIBUTES\n", "", "DER_BAG_PART_ATTRIBUTES", f"{NAMES}:1"),
+    "Python, a store part": (
+        NAMES, " DIGEST = _calls.STORE_PART_DIGEST\n", " DIGEST = _calls.STORE_PART_SALT\n", "DIGEST", NAMES),
+    "Python, a bag part for a store part": (
+        NAMES, " SAFE = _calls.STORE_PART_SAFE", " SAFE = _calls.BAG_PART_VALUE", "SAFE", NAMES),
+    "Python, no store part": (
+        NAMES, "    ITERATIONS = _calls.STORE_PART_ITERATIONS\n", "", "DER_STORE_PART_ITERATIONS", f"{NAMES}:1"),
     "Rust, a password part": (BUILT_IN_RUST, "Salt = calls::PASSWORD_SALT", "Salt = calls::PASSWORD_PRF", "Salt"),
+    "Rust, a bag part": (STORES_IN_RUST, "Value = calls::BAG_PART_VALUE", "Value = calls::BAG_PART_KIND", "Value"),
+    "Rust, a store part": (STORES_IN_RUST, "Salt = calls::STORE_PART_SALT", "Salt = calls::STORE_PART_SAFE", "Salt"),
     "Rust, a holder": (HOLDERS, "Key = calls::HOLDER_KEY", "Key = calls::HOLDER_CONTENTS", "Key"),
     "Rust, a name": ("rust/src/lib.rs", "Issuer = calls::PART_ISSUER", "Issuer = calls::PART_SIGNATURE", "Issuer"),
     "Rust, a kind": ("rust/src/bags.rs", "BAG_CRL => BagKind::Crl", "BAG_CRL => BagKind::OtherCrl", "OtherCrl"),
@@ -98,7 +126,14 @@ BY_HAND = {
     "proved, a part": (LISTS, "16 => Some(", "19 => Some(", "DER_PART_RECIPIENT"),
     "specs, a part": (RANGES_IN_SPECS, "number_of Recipients = 16", "number_of Recipients = 19", "DER_PART_RECIPIENT"),
     "proved, a password part": (BUILT, "const SALT: usize = 5;", "const SALT: usize = 6;", "DER_PASSWORD_SALT"),
+    "proved, a bag part": (BUILT_BAGS, "const VALUE: usize = 3;", "const VALUE: usize = 4;", "DER_BAG_PART_VALUE"),
+    "proved, a store part": (BUILT_STORES, "const SALT: usize = 5;", "const SALT: usize = 6;", "DER_STORE_PART_SALT"),
     "proved, a struct that is read": (BUILT, "    given: &Password,", "    given: &mut Password,", "given"),
+    "proved, structs that are read": (BUILT_BAGS, "    bags: &[BagGiven],", "    bags: &mut [BagGiven],", "bags"),
+    "proved, one struct for several": (
+        BUILT_CONTENTS, "    contents: &[ContentGiven],", "    contents: &ContentGiven,", "contents"),
+    "proved, other structs": (BUILT_BAGS, "    bags: &[BagGiven],", "    bags: &[ContentGiven],", "bags"),
+    "proved, another struct": (BUILT_STORES, "    given: &StoreGiven,", "    given: &BagGiven,", "given"),
     "proved, a number": (LISTS, "CERTIFICATES: usize = 1;", "CERTIFICATES: usize = 2;", "DER_PART_CERTIFICATE", LISTS),
     "specs, a number": (
         RANGES_IN_SPECS, "\ncertificates = 1", "\ncertificates = 2", "DER_PART_CERTIFICATE", RANGES_IN_SPECS),

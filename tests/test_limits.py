@@ -1,14 +1,14 @@
 """c/tests/limits.c makes each call of the library over an input, looks at all that the call writes, between marks, and
-refuses its requests for memory in turn. Its lines are compared with what derbox, dertree and the readers of
-tests/oracle say of the input, and with what Python is told where other tests compare that. Each status is met that a
+refuses its requests for memory in turn. Its lines are compared with what derbox, dertree and the readers and writers
+of tests/oracle say of the input, and with what Python is told where other tests compare that. Each status is met that a
 call can answer, but 7, which takes an encoding past 64 bits."""
 import functools
 import unittest
 
 from support import built, inputs
 from support.cases import Comparing
-from support.containers import bare_bag, store_of
-from support.elements import sequence
+from support.containers import NULL, attribute, bare_bag, store_of
+from support.elements import element, sequence, set_of
 from support.oids import spelt
 from support.parts import certificate_places, covered, mac_parts, over_any_octets
 from support.statuses import (
@@ -16,13 +16,18 @@ from support.statuses import (
     checked, outcome, place, status_and_length,
 )
 from support.tools import needs
-from oracle import answers, building
+from oracle import answers, building, stores
 from vuyhanip import der
 
 LIMITS = built.TOP / "c/tests/limits.c"
 WRAPPED = "-Wl,--wrap=malloc,--wrap=realloc,--wrap=free"
 # How many octets of an input the program takes as those of an INTEGER.
 INTEGER_OCTETS = 24
+# What the program has after an input of which it builds bags and stores: the contents octets of an object identifier, a
+# name, and attributes, of which a friendlyName isn't written. And the count of a MAC.
+IDENTIFIER, NAME = bytes.fromhex("2A0304"), "a\U0001F600".encode("utf-16-be")
+ATTRIBUTES = set_of(sequence(element(0x06, IDENTIFIER), set_of(NULL)), attribute("friendlyName"))
+ITERATIONS = 2048
 # What each call is to be seen to answer.
 WANTED = {
     "check": {0, 1, 2, 3, 4, 5, 6, 8},
@@ -40,6 +45,7 @@ WANTED = {
     "mac_part_ber": {0, 2, 3, 4, 5, 8, 9, 11},
     "part": {0, 2, 3, 4, 5, 6, 8, 9, 11},
     "utf16_text": {0, 5, 8, 9},
+    "text_utf16": {0, 5, 8, 9},
     "kind": {0, 2, 9},
     "signers": {0, 3, 4, 5, 8},
     "signer": {0, 3, 4, 5, 8, 11, 12},
@@ -52,6 +58,9 @@ WANTED = {
     "trust_rows": {0, 3, 4, 5, 8, 9, 11},
     "password": {0, 2, 3, 4, 5, 8},
     "build": {0, 2, 5, 8, 9},
+    "build_bags": {0, 5, 8, 9},
+    "build_safe": {0, 5, 8, 9},
+    "build_store": {0, 5, 8, 9},
     "integer_text": {0, 5, 8, 9},
 }
 
@@ -63,6 +72,11 @@ WANTED = {
 def written(call, size):
     """The lines on octets that a call writes: into ample room, and into an octet less than they need."""
     return [(call, NORMAL, size)] + [(call, NO_ROOM, size)] * (size > 0)
+
+
+def told(call, made, wrong=()):
+    """The lines on what a call builds, or on numbers that say which of what it is given can't be written."""
+    return [(call, INVALID, 0, *wrong)] if made is None else written(call, len(made))
 
 
 def listed(call, count):
@@ -138,14 +152,14 @@ def lines_on_parts(text):
 
 def lines_on_texts(text):
     """The lines on texts for people: what Python is told, which tests/test_names.py compares; and on the octets of an
-    object identifier, where the input is the text of one."""
+    object identifier, where the input is the text of one, and on UTF-16, where it is UTF-8."""
     library = built.library()
     lines = lines_on_a_text("name_text", library.name_text, text) + lines_on_a_text("oid_text", library.oid_text, text)
-    octets = spelt(text)
-    lines += [("oid_octets", INVALID)] if octets is None else written("oid_octets", len(octets))
+    lines += told("oid_octets", spelt(text))
     name = library.oid_name(text)
     lines += [("oid_name", NO_PART)] if name is None else written("oid_name", len(name))
-    return lines + lines_on_a_text("utf16_text", library.utf16_text, text)
+    lines += lines_on_a_text("utf16_text", library.utf16_text, text)
+    return lines + told("text_utf16", stores.utf16(text))
 
 
 def lines_on_a_text(call, read, text):
@@ -232,7 +246,29 @@ def lines_on_building(number, text, row):
     if number == len(der.PasswordHolder):
         return [("build", UNKNOWN_KIND)]
     made, wrong = building.text(number, text, row)
-    return [("build", INVALID, 0, wrong[0])] if wrong else written("build", len(made))
+    return told("build", made, wrong[:1])
+
+
+def lines_on_stores(text):
+    """The lines on what is built of an input, with what follows it: no bags, and two of each kind, and of a number that
+    no kind has; no contents, and two of each form; and a store without a MAC and with one."""
+    octets, end = text + IDENTIFIER + NAME + ATTRIBUTES, len(text)
+    file, identifier, name = (0, end), (end, len(IDENTIFIER)), (end + len(IDENTIFIER), len(NAME))
+    attributes, null = (sum(name), len(ATTRIBUTES)), (octets.index(NULL, end), len(NULL))
+    mac = ITERATIONS, file, identifier, null, (end, len(octets) - end), name
+    lines = written("build_bags", len(sequence()))
+    for kind in range(len(der.BagKind) + 1):
+        bag = stores.Bag(kind, 1, 1, 1, identifier, file, name, name, attributes)
+        made, wrong = stores.bags_text(octets, [bag, bag])
+        lines += told("build_bags", made, *((index, parts[0]) for index, parts in wrong[:1]))
+    lines += written("build_safe", len(sequence()))
+    for is_data in (0, 1):
+        made, wrong = stores.safe_text(octets, 2 * [stores.Content(is_data, file)])
+        lines += told("build_safe", made, wrong[:1])
+    for has_mac in (0, 1):
+        made, wrong = stores.store_text(octets, stores.Store(has_mac, 1, *mac))
+        lines += told("build_store", made, wrong[:1])
+    return lines
 
 
 def lines_on_an_integer(text):
@@ -251,7 +287,7 @@ def lines_on(status, size, text):
     lines += [*lines_on_parts(text), *mac_lines, *lines_on_texts(text), *lines_on_signers(text)]
     lines += [*lines_on_ranges(text), *lines_on_attributes(text), *lines_on_bags(text)]
     lines += [*lines_on_a_certificate(text), *lines_on_indirect_data(text), *lines_on_a_trust_list(text)]
-    return [*lines, *lines_on_passwords(text), *lines_on_an_integer(text)]
+    return [*lines, *lines_on_passwords(text), *lines_on_stores(text), *lines_on_an_integer(text)]
 
 
 class TestLimits(Comparing):

@@ -5,9 +5,11 @@ programs, trust lists and revocation lists beside what openssl and osslsigncode 
 over signatures of a program and of a cabinet, beside what osslsigncode says, and over signed data by hand;
 c/examples/entries.c over trust lists that openssl makes, and by hand; and c/examples/parameters.c over stores of
 openssl, by what it was asked for, and by hand. Keys that c/examples/encrypt.c and python/examples/encrypt.py encrypt
-openssl opens, with their password and with no other."""
+openssl opens, with their password and with no other; so it does stores that python/examples/build_store.py builds, and
+stores of c/examples/build_store.c, which are what is made by hand."""
 import functools
 import hashlib
+import os
 import random
 import re
 import sys
@@ -16,12 +18,13 @@ from pathlib import Path
 
 from support import built, encrypted, inputs, macs, making, oids, tools
 from support.cases import Comparing
-from support.containers import SHA256, bare_bag, store_of
-from support.elements import at, contents, octet_string, part, parts, sequence
+from support.containers import SHA256, attribute, bag, bare_bag, bmp_string, content_info, store_of
+from support.elements import at, contents, element, octet_string, part, parts, sequence
 from support.inputs import CABINET, IMAGE, MAY_BE_ABSENT, TRUST_LIST, trust_entry, trust_list
 from support.making import put, run
 from support.signing import INDIRECT_DATA
 from support.tools import needs
+from vuyhanip.der import PasswordHolder
 
 WRAPPING_KEY, KEY_ID = bytes(range(16)), bytes.fromhex("C0FFEE")
 SHA_256 = "2.16.840.1.101.3.4.2.1"
@@ -31,13 +34,14 @@ PASSWORD, ITERATIONS = "test", 2048
 NAMES = "a", "Größe", "x" * 40
 SIZES = 0, 1, 16, 1000, 70000
 MONTHS = "Jan Feb Mar Apr May Jun Jul Aug Sep Oct Nov Dec".split()
-DIGEST_IN_C, ENTRIES_IN_C, PARAMETERS_IN_C, ENCRYPT_IN_C = (
-    built.TOP / f"c/examples/{name}.c" for name in ("digest", "entries", "parameters", "encrypt")
+DIGEST_IN_C, ENTRIES_IN_C, PARAMETERS_IN_C, ENCRYPT_IN_C, BUILD_IN_C = (
+    built.TOP / f"c/examples/{name}.c" for name in ("digest", "entries", "parameters", "encrypt", "build_store")
 )
-ENCRYPT_IN_PYTHON = built.TOP / "python/examples/encrypt.py"
-# Passwords, and what an example says of a key that it encrypted with one.
+ENCRYPT_IN_PYTHON, BUILD_IN_PYTHON = (built.TOP / f"python/examples/{name}.py" for name in ("encrypt", "build_store"))
+# Passwords, and what an example says of a key that it encrypted with one, and of contents.
 PASSWORDS = PASSWORD, "Größe, with blanks \r", "x" * 300
 ENCRYPTED = "key: PBES2, PBKDF2, 600000 iterations, salt of 16 octets, hmacWithSHA256, aes-256-cbc"
+ENCRYPTED_TOO = ENCRYPTED.replace("key", "contents")
 # How many octets these have room for, which read one less, and what they say where there is nothing to say.
 MOST_IN_C = 1 << 22
 NO_DIGEST, NO_LIST = (f"no {what}: the content has another type" for what in ("digest of a file", "trust list"))
@@ -516,9 +520,7 @@ class Encryption(InC):
 
     def in_python(self, *files, text):
         """The same of the example in Python."""
-        package = {"PYTHONPATH": str(built.TOP / "python"), "VUYHANIP_LIBRARY": str(built.shared())}
-        environment = {**tools.ENVIRONMENT, **package, "PYTHONDONTWRITEBYTECODE": "1"}
-        return tools.ended(sys.executable, ENCRYPT_IN_PYTHON, *files, text=text, env=environment)
+        return in_python(ENCRYPT_IN_PYTHON, *files, text=text)
 
     def encrypts(self, example):
         """Compares what openssl takes out of each key that an example encrypts, and what parameters.c says of it. No
@@ -577,6 +579,13 @@ class Encryption(InC):
                 self.same((ran.returncode, ran.stdout, ran.stderr), (2, b"", usage), example.__name__, files)
 
 
+def in_python(example, *words, text=b""):
+    """How an example in Python ends."""
+    package = {"PYTHONPATH": str(built.TOP / "python"), "VUYHANIP_LIBRARY": str(built.shared())}
+    environment = {**tools.ENVIRONMENT, **package, "PYTHONDONTWRITEBYTECODE": "1"}
+    return tools.ended(sys.executable, example, *words, text=text, env=environment)
+
+
 def decrypted(key, password):
     """The key that openssl takes out of an encrypted one."""
     ran = tools.ended("openssl", "pkey", "-inform", "DER", "-passin", f"pass:{password}", "-outform", "DER", text=key)
@@ -594,6 +603,123 @@ def decrypted_by_hand(key):
     salt, vector = salt_and_vector(key)
     derived = hashlib.pbkdf2_hmac("sha256", PASSWORD.encode(), salt, 600000, 32)
     return run(f"openssl enc -d -aes-256-cbc -K {derived.hex()} -iv {vector.hex()}", contents(part(key, 1)))
+
+
+class Building(InC):
+    """Stores that are built."""
+
+    # Names of stores; openssl shows of the last one other characters.
+    NAMES = *NAMES, "a b", "日本", "", "\U0001F600 and more"
+
+    def setUp(self):
+        super().setUp()
+        for file in keys().iterdir():
+            put(file.name, file.read_bytes())
+
+    def in_c(self, *words, by=None):
+        """How the example in C ends, and what it writes."""
+        return tools.ended(built.in_c(BUILD_IN_C, by=by), *words)
+
+    def certificate_of(self, made, *what):
+        """Compares what openssl takes out of a store without a password, and without a MAC."""
+        put("made", made)
+        found = tools.ended("openssl", "pkcs12", "-in", "made", "-passin", "pass:", "-nokeys")
+        self.same(found.returncode, 0, "openssl, over", *what)
+        return run("openssl x509 -outform DER", found.stdout), found.stdout.decode("latin-1")
+
+    def builds(self, by=None):
+        """Compares what the example in C builds with what is made by hand, and what openssl takes out of it."""
+        for key, name in ((key, name) for key in ("one", "two") for name in self.NAMES):
+            ran = self.in_c(f"{key}.der", name, by=by)
+            held = content_info("X.509 certificate", octet_string(octets(f"{key}.der")))
+            named = attribute("friendlyName", bmp_string(name.encode("utf-16-be")))
+            wanted = 0, store_of(bag("certificate bag", held, named)), b""
+            self.same((ran.returncode, ran.stdout, ran.stderr), wanted, key, name)
+            found, said = self.certificate_of(ran.stdout, key, name)
+            self.same(found, octets(f"{key}.der"), "the certificate of", key, name)
+            shown_name = name.encode("utf-16-be")[1::2].split(b"\0")[0].decode("latin-1")
+            self.same(f"    friendlyName: {shown_name}\n" in said, True, "the name of", key, name)
+
+    def test_the_example_in_c_builds_what_is_made_by_hand(self):
+        self.builds()
+
+    @needs("gcc", "clang")
+    def test_the_example_that_clang_builds_does_so_too(self):
+        self.builds("clang")
+
+    def test_what_the_example_in_c_refuses(self):
+        """Another number of words, a file that isn't there, is too long or no element, and a name that is no UTF-8."""
+        put("empty", b"")
+        put("two elements", octet_string(b"1") + octet_string(b"2"))
+        put("cut", octets("one.der")[:-1])
+        most = (1 << 20) - 1
+        put("longest", element(0x30, bytes(most - 5)))
+        put("longer", element(0x30, bytes(most - 4)))
+        self.same(len(octets("longest")), most, "octets")
+        for words, status, said in (
+            ([], 2, ""), (["one.der"], 2, ""), (["one.der", "a", "b"], 2, ""), (["nothing", "a"], 2, ""),
+            (["longer", "a"], 1, "not read, or too long"),
+            *(([file, "a"], 1, "the certificate is no DER") for file in ("empty", "two elements", "cut")),
+            *((["one.der", name], 1, "the name is no UTF-8") for name in (b"\xFF", b"a\xC3", b"\xED\xA0\x80")),
+        ):
+            ran = self.in_c(*map(os.fsdecode, words))
+            wanted = status, b"", f"{said}\n".encode() if said else b""
+            self.same((ran.returncode, ran.stdout, ran.stderr), wanted, words)
+        ran = self.in_c("longest", "a")
+        self.same((ran.returncode, ran.stderr, len(ran.stdout) > most), (0, b"", True), "the longest file")
+
+    def test_openssl_opens_what_the_example_in_python_builds(self):
+        """With the password and no other; no two stores are encrypted alike."""
+        asked, seen = 2 * [("two", self.NAMES[0], PASSWORD)], set()
+        asked += [("one", name, it) for name, it in zip(self.NAMES[-3:], PASSWORDS)]
+        for key, name, password in asked:
+            words = name, f"{key}.pkcs8", f"{key}.der"
+            ran = in_python(BUILD_IN_PYTHON, *words, text=f"{password}\n".encode())
+            self.same((ran.returncode, ran.stderr), (0, b""), key, name, password)
+            put("made", ran.stdout)
+            wanted = sorted(block for file in (f"{key}.key", f"{key}.pem") for block in pem_blocks(octets(file)))
+            self.same(sorted(opened("made", password)), wanted, "what openssl opens of", key, name, password)
+            self.says(PARAMETERS_IN_C, [(ran.stdout, (0, [ENCRYPTED_TOO, ENCRYPTED]))])
+            contents_made, shrouded = built.library().bags(ran.stdout)
+            found = shrouded.friendly_name, bytes(shrouded.local_key_id)
+            self.same(found, (name, octets(f"{key}.id")), "the name and the identifier of", key, name)
+            its = built.library().mac(ran.stdout)
+            self.same((its.iterations, len(its.salt)), (600000, 16), "the MAC of", key, name)
+            seen |= {its.salt, *salts_of(contents_made.element, "CONTENTS"), *salts_of(shrouded.value, "KEY")}
+        self.same(opened("made", "other"), "refused", "another password")
+        self.same(len(seen), 5 * len(asked), "salts and vectors")
+
+    @needs("keytool")
+    def test_keytool_lists_what_the_example_in_python_builds(self):
+        """Its name is past U+FFFF. keytool takes no shorter password."""
+        line, name = f"{2 * PASSWORD}\n".encode(), "\U0001F600 and more"
+        put("made", in_python(BUILD_IN_PYTHON, name, "one.pkcs8", "one.der", text=line).stdout)
+        words = "-J-Duser.language=en", "-J-Dfile.encoding=UTF-8", "-J-Dsun.jnu.encoding=UTF-8"
+        words += "-storetype", "PKCS12", "-keystore", "made", "-storepass", 2 * PASSWORD
+        said = tools.run("keytool", "-list", *words).decode()
+        found = re.findall(r"^([^,\n]*), .*, (\w+), *$", said, re.M)
+        self.same(found, [(name, "PrivateKeyEntry")], "entries")
+
+    def test_what_the_example_in_python_refuses(self):
+        line, words = f"{PASSWORD}\n".encode(), ("name", "one.pkcs8", "one.der")
+        usage = b"usage: build_store.py NAME KEY CERTIFICATE < PASSWORD\n"
+        for asked in ((), words[:2], (*words, "more")):
+            ran = in_python(BUILD_IN_PYTHON, *asked, text=line)
+            self.same((ran.returncode, ran.stdout, ran.stderr), (2, b"", usage), asked)
+        for text in (b"", line[:-1], b"\n", b"\n" + line):
+            ran = in_python(BUILD_IN_PYTHON, *words, text=text)
+            self.same((ran.returncode, ran.stdout, ran.stderr), (1, b"", b"no line with a password\n"), text)
+        put("no element", b"no element")
+        for asked, text in ((("name", "nothing", "one.der"), line), (("name", "one.pkcs8", "nothing"), line),
+                            (("name", "one.pkcs8", "no element"), line), (words, b"\xFF\n")):
+            ran = in_python(BUILD_IN_PYTHON, *asked, text=text)
+            self.same((ran.returncode, ran.stdout, ran.stderr.count(b"\n")), (1, b"", 1), asked, text)
+
+
+def salts_of(text, holder):
+    """The salt and the vector by which something is encrypted."""
+    its = built.library().password_parameters(bytes(text), PasswordHolder[holder])
+    return bytes(its.salt), bytes(its.initialization_vector)
 
 
 if __name__ == "__main__":

@@ -13,19 +13,26 @@ enum { MARK = 0xEE, MARGIN = 64, SPARE = 16, LONGEST = 1 << 20 };
 /* How many octets at the front of an input are taken as those of an INTEGER: each digit of it takes memory. */
 enum { LONGEST_INTEGER = 24 };
 
+/* What follows an input of which bags and stores are built: the contents octets of an object identifier; a name in
+ * UTF-16; and a SET OF Attribute, of one of that type with the value NULL, and of a friendlyName without a value, which
+ * isn't written. */
+static const uint8_t rest[] = {0x2A, 3, 4, 0, 'a', 0xD8, 0x3D, 0xDE, 0, 0x31, 26, 0x30, 9, 6, 3, 0x2A, 3, 4, 0x31, 2, 5,
+                               0, 0x30, 13, 6, 9, 0x2A, 0x86, 0x48, 0x86, 0xF7, 0x0D, 1, 9, 20, 0x31, 0};
+
 /* The calls, by the word that begins their lines. */
 typedef enum {
   CHECK, LOCATE, LOOSE_END, REWRITE, MAC, MAC_NUMBERS, FROM_BER, MAC_BER, MAC_PART_BER, NAME, OID, OID_OCTETS, OID_NAME,
   PART, KIND, SIGNERS, SIGNER, RANGES, ATTRIBUTES, BAGS, CERTIFICATE, INDIRECT, TRUST_LIST, TRUST_ROWS, PASSWORD, BUILD,
-  INTEGER, UTF16
+  BUILD_BAGS, BUILD_SAFE, BUILD_STORE, INTEGER, UTF16, TEXT_UTF16
 } call;
 static const char *const calls[] = {
     "check",     "locate",   "loose_end", "rewrite", "mac",  "mac_numbers", "from_ber", "mac_ber", "mac_part_ber",
     "name_text", "oid_text", "oid_octets", "oid_name", "part", "kind", "signers", "signer", "ranges", "attributes",
-    "bags", "certificate", "indirect", "trust_list", "trust_rows", "password", "build", "integer_text", "utf16_text"};
+    "bags", "certificate", "indirect", "trust_list", "trust_rows", "password", "build", "build_bags", "build_safe",
+    "build_store", "integer_text", "utf16_text", "text_utf16"};
 
 /* What a call is given: the index of a kind or of a signer, or the number of a part or of a holder, where it takes one,
- * a limit if there is one, and what it builds from. */
+ * a limit if there is one, and what it builds from: of bags, and of contents, so many. */
 typedef struct {
   const char *kind;
   const uint8_t *input;
@@ -33,6 +40,10 @@ typedef struct {
   int is_limited;
   unsigned limit;
   der_password_parts parts;
+  size_t count;
+  der_bag_given bags[2];
+  der_content_given contents[2];
+  der_store_given store;
 } given;
 
 /* What a call answers: its status, and its numbers, 0 where it has but one. */
@@ -86,14 +97,16 @@ static int lists(call it) {
 
 /* How many numbers a call writes. */
 static int numbers_of(call it) {
-  const int two = it == MAC || it == FROM_BER || it == PART || it == BUILD || lists(it);
-  return it == MAC_NUMBERS || it == MAC_BER ? 3 : two ? 2 : 1;
+  const int is_built = it == BUILD || it == BUILD_SAFE || it == BUILD_STORE;
+  const int two = it == MAC || it == FROM_BER || it == PART || is_built || lists(it);
+  return it == MAC_NUMBERS || it == MAC_BER || it == BUILD_BAGS ? 3 : two ? 2 : 1;
 }
 
 /* Whether a call writes so many bytes as its first number says. */
 static int says_written(call it) {
   return it == REWRITE || it == FROM_BER || it == MAC_PART_BER || it == NAME || it == OID || it == OID_OCTETS ||
-         it == OID_NAME || it == INTEGER || it == UTF16 || it == PART || it == KIND || it == BUILD;
+         it == OID_NAME || it == INTEGER || it == UTF16 || it == TEXT_UTF16 || it == PART || it == KIND ||
+         it == BUILD || it == BUILD_BAGS || it == BUILD_SAFE || it == BUILD_STORE;
 }
 
 /* How many bytes a call writes of signers, of which there are so many from that index on. */
@@ -206,6 +219,9 @@ static answer made(call it, const given *its, uint8_t *room, size_t out_len) {
   case UTF16:
     said.status = (der_status)der_utf16_text(its->input, its->len, out, out_len, &first.it);
     break;
+  case TEXT_UTF16:
+    said.status = (der_status)der_text_utf16(its->input, its->len, out, out_len, &first.it);
+    break;
   case PART:
     said.status =
         der_part((der_part_number)its->index, 0, its->input, its->len, out, out_len, &first.it, &second.it);
@@ -267,6 +283,17 @@ static answer made(call it, const given *its, uint8_t *room, size_t out_len) {
     said.status = (der_status)der_build_parameters(its->index, its->input, its->len, &its->parts, out, out_len,
                                                    &first.it, &second.it);
     break;
+  case BUILD_BAGS:
+    said.status = (der_status)der_build_bags(its->input, its->len, its->bags, its->count, out, out_len, &first.it,
+                                             &second.it, &third.it);
+    break;
+  case BUILD_SAFE:
+    said.status = (der_status)der_build_safe(its->input, its->len, its->contents, its->count, out, out_len, &first.it,
+                                             &second.it);
+    break;
+  case BUILD_STORE:
+    said.status = (der_status)der_build_store(its->input, its->len, &its->store, out, out_len, &first.it, &second.it);
+    break;
   }
   said.first = first.it;
   said.second = second.it;
@@ -319,7 +346,7 @@ static answer tried(call it, const given *its, uint8_t *room, size_t out_len) {
 
 static int kinds(void) {
   static uint8_t room[MARGIN + 64 + MARGIN];
-  given its = {NULL, NULL, 0, 0, 0, 0, {0}};
+  given its = {0};
   answer said;
   while ((said = tried(KIND, &its, room, 64)).status == DER_NORMAL) {
     tried(KIND, &its, room, said.first);
@@ -447,24 +474,144 @@ static void passwords(given *its, uint8_t *room) {
   }
 }
 
+/* Builds two bags with what can't be written in the place of each part of the second in turn: that bag and that part
+ * are told, or the part isn't looked at. Then the second has no attributes, and none of them is looked at. */
+static void wrong_bags(given its, uint8_t *room, size_t size) {
+  static const size_t most = (size_t)-1, wrong[][2] = {
+      {DER_BAG_PART_KIND, offsetof(der_bag_given, kind)},
+      {DER_BAG_PART_IDENTIFIER, offsetof(der_bag_given, identifier)},
+      {DER_BAG_PART_VALUE, offsetof(der_bag_given, value)},
+      {DER_BAG_PART_FRIENDLY_NAME, offsetof(der_bag_given, friendly_name)},
+      {DER_BAG_PART_LOCAL_KEY_ID, offsetof(der_bag_given, local_key_id)},
+      {DER_BAG_PART_ATTRIBUTES, offsetof(der_bag_given, attributes)}};
+  const der_bag_given right = its.bags[1];
+  answer said;
+  for (size_t nth = 0; nth < sizeof wrong / sizeof *wrong; nth++) {
+    const int is_told = wrong[nth][0] != DER_BAG_PART_IDENTIFIER || right.kind == DER_BAG_OTHER;
+    its.bags[1] = right;
+    memcpy((uint8_t *)&its.bags[1] + wrong[nth][1], &most, sizeof most);
+    said = made(BUILD_BAGS, &its, room, size);
+    if (is_told ? said.status != DER_INVALID || said.second != 1 || said.third != wrong[nth][0]
+                : said.status != DER_NORMAL || said.first != size)
+      fault(BUILD_BAGS, "it tells another bag, or another part");
+  }
+  its.bags[1] = right;
+  its.bags[1].has_friendly_name = its.bags[1].has_local_key_id = its.bags[1].has_attributes = 0;
+  its.bags[1].friendly_name.len = its.bags[1].local_key_id.len = its.bags[1].attributes.len = most;
+  said = made(BUILD_BAGS, &its, room, size);
+  if (said.status != DER_NORMAL || said.first >= size)
+    fault(BUILD_BAGS, "it looks at attributes that aren't there");
+}
+
+/* Builds no bags, and of each kind, and of a number that no kind has, two bags of the input with all attributes. */
+static void bags(given its, uint8_t *room) {
+  const size_t at = its.len - sizeof rest;
+  const der_range identifier = {at, 3}, value = {0, at}, name = {at + 3, 6}, attributes = {at + 9, 28};
+  its.count = 0;
+  text(BUILD_BAGS, &its, room);
+  its.count = 2;
+  for (size_t kind = 0; kind <= DER_BAG_OTHER_CRL + 1; kind++) {
+    its.bags[0] = its.bags[1] = (der_bag_given){
+        .kind = kind, .has_friendly_name = 1, .has_local_key_id = 1, .has_attributes = 1, .identifier = identifier,
+        .value = value, .friendly_name = name, .local_key_id = name, .attributes = attributes};
+    const answer said = text(BUILD_BAGS, &its, room);
+    if (said.status == DER_NORMAL)
+      wrong_bags(its, room, said.first);
+  }
+}
+
+/* Builds an AuthenticatedSafe of no contents, and of the input twice, as a ContentInfo and as a SafeContents; then with
+ * what can't be written in the place of the second. */
+static void contents(given its, uint8_t *room) {
+  its.count = 0;
+  text(BUILD_SAFE, &its, room);
+  its.count = 2;
+  for (size_t is_data = 0; is_data < 2; is_data++) {
+    its.contents[0] = its.contents[1] =
+        (der_content_given){.is_data = is_data, .octets = {0, its.len - sizeof rest}};
+    answer said = text(BUILD_SAFE, &its, room);
+    if (said.status != DER_NORMAL)
+      continue;
+    its.contents[1].octets.start = (size_t)-1;
+    said = made(BUILD_SAFE, &its, room, said.first);
+    if (said.status != DER_INVALID || said.second != 1)
+      fault(BUILD_SAFE, "it tells another content");
+  }
+}
+
+/* Builds a store with what can't be written in the place of each part in turn: that part is told, or without a MAC, but
+ * for the AuthenticatedSafe, it isn't looked at. Then with a MAC whose algorithm has no parameters. */
+static void wrong_stores(given its, uint8_t *room, size_t size) {
+  static const size_t most = (size_t)-1, wrong[][2] = {
+      {DER_STORE_PART_SAFE, offsetof(der_store_given, safe)},
+      {DER_STORE_PART_DIGEST_ALGORITHM, offsetof(der_store_given, digest_algorithm)},
+      {DER_STORE_PART_DIGEST_PARAMETERS, offsetof(der_store_given, digest_parameters)},
+      {DER_STORE_PART_DIGEST, offsetof(der_store_given, digest)},
+      {DER_STORE_PART_SALT, offsetof(der_store_given, salt)},
+      {DER_STORE_PART_ITERATIONS, offsetof(der_store_given, iterations)}};
+  const der_store_given right = its.store;
+  answer said;
+  for (size_t nth = 0; nth < sizeof wrong / sizeof *wrong; nth++) {
+    const int is_told = right.has_mac || wrong[nth][0] == DER_STORE_PART_SAFE;
+    its.store = right;
+    memcpy((uint8_t *)&its.store + wrong[nth][1], &most, sizeof most);
+    said = made(BUILD_STORE, &its, room, size);
+    if (is_told ? said.status != DER_INVALID || said.second != wrong[nth][0]
+                : said.status != DER_NORMAL || said.first != size)
+      fault(BUILD_STORE, "it tells another part");
+  }
+  its.store = right;
+  its.store.has_digest_parameters = 0;
+  its.store.digest_parameters.start = most;
+  said = made(BUILD_STORE, &its, room, size);
+  if (said.status != DER_NORMAL || said.first != size)
+    fault(BUILD_STORE, "it writes another element than NULL for parameters that aren't there");
+}
+
+/* Builds a store around the input, without a MAC and with one. */
+static void stores(given its, uint8_t *room) {
+  const size_t at = its.len - sizeof rest;
+  for (size_t has_mac = 0; has_mac < 2; has_mac++) {
+    its.store = (der_store_given){
+        .has_mac = has_mac, .has_digest_parameters = 1, .iterations = 2048, .safe = {0, at},
+        .digest_algorithm = {at, 3}, .digest_parameters = {at + 20, 2}, .digest = {at, sizeof rest},
+        .salt = {at + 3, 6}};
+    const answer said = text(BUILD_STORE, &its, room);
+    if (said.status == DER_NORMAL)
+      wrong_stores(its, room, said.first);
+  }
+}
+
+/* Builds bags and stores of the input. */
+static void built(given its, uint8_t *room) {
+  its.len += sizeof rest;
+  bags(its, room);
+  contents(its, room);
+  stores(its, room);
+}
+
 int main(int count, char **words) {
-  static uint8_t input[LONGEST];
+  static uint8_t input[LONGEST + sizeof rest];
   static _Alignas(der_signer_parts) uint8_t room[MARGIN + 2 * LONGEST + MARGIN];
-  given its = {count > 1 ? words[1] : NULL, input, 0, 0, count == 3, 0, {0}};
+  given its = {0};
   answer said;
   if (count == 1)
     return kinds();
+  its.kind = words[1];
+  its.input = input;
+  its.is_limited = count == 3;
   if (its.is_limited)
     its.limit = (unsigned)strtoul(words[2], NULL, 10);
-  its.len = fread(input, 1, sizeof input, stdin);
-  if (count > 3 || its.len == sizeof input)
+  its.len = fread(input, 1, LONGEST, stdin);
+  if (count > 3 || its.len == LONGEST)
     return 2;
+  memcpy(input + its.len, rest, sizeof rest);
   if (!its.is_limited) {
     tried(LOCATE, &its, room, 0);
     tried(LOOSE_END, &its, room, 0);
   }
   said = tried(CHECK, &its, room, 0);
-  if (said.first > 2 * sizeof input - SPARE)
+  if (said.first > 2 * LONGEST - SPARE)
     return 2;
   tried(REWRITE, &its, room, (said.first ? said.first : its.len) + SPARE);
   if (said.status <= DER_LOOSE)
@@ -479,13 +626,14 @@ int main(int count, char **words) {
   tried(MAC_BER, &its, room, 0);
   parts(PART, &its, room);
   parts(MAC_PART_BER, &its, room);
-  if (8 * its.len + SPARE > 2 * sizeof input)
+  if (8 * (its.len + sizeof rest) + SPARE > 2 * LONGEST)
     return 2;
   text(NAME, &its, room);
   text(OID, &its, room);
   text(OID_OCTETS, &its, room);
   text(OID_NAME, &its, room);
   text(UTF16, &its, room);
+  text(TEXT_UTF16, &its, room);
   signers(&its, room);
   ranges(&its, room);
   listed(BAGS, &its, room, sizeof(der_bag_parts));
@@ -494,6 +642,7 @@ int main(int count, char **words) {
   tried(TRUST_LIST, &its, room, sizeof(der_trust_list_parts));
   listed(TRUST_ROWS, &its, room, sizeof(der_trust_entry_parts));
   passwords(&its, room);
+  built(its, room);
   its.len = its.len < LONGEST_INTEGER ? its.len : LONGEST_INTEGER;
   text(INTEGER, &its, room);
   return 0;

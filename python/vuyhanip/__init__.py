@@ -14,6 +14,7 @@ command `vuyhanip` over files, which is `python -m vuyhanip` too.
     library.password_parameters(data, PasswordHolder.KEY)   PasswordParameters: how a key is encrypted with a password
     library.build_parameters(PasswordHolder.KEY, its)       the DER of a key that is encrypted so
     vuyhanip.build.pbes2(..)        PasswordParameters from scratch, with which build.encrypted_key makes a key
+    vuyhanip.build.store([..])      what a store holds, and what its MAC covers; finish(mac) makes the store
     vuyhanip.mac_verdict(data, password).is_right   whether the MAC of a store is right, as the program openssl says
 
 help(vuyhanip.der) says what each call does. An installed package has the library for C in its folder, and its version.
@@ -29,11 +30,18 @@ from . import der as der
 from .der import (
     MAX_NESTING,
     BadAttributes,
+    BadBag,
+    BadContent,
     BadParameters,
+    BadStore,
     Bag,
     BagKind,
+    BagPart,
     Certificate,
     EnvelopePart,
+    GivenBag,
+    GivenContent,
+    GivenMac,
     ImageData,
     IndirectData,
     Library,
@@ -47,6 +55,7 @@ from .der import (
     Signer,
     SignerInfo,
     Store,
+    StorePart,
     TrustEntry,
     TrustList,
     UnknownKind,
@@ -59,10 +68,11 @@ from .der import (
 if TYPE_CHECKING:
     from .findings import Finding
 
-__all__ = ["MAX_NESTING", "BadAttributes", "BadParameters", "Bag", "BagKind", "Certificate", "EnvelopePart"]
-__all__ += ["ImageData", "IndirectData", "Library", "Mac", "Part", "PasswordHolder", "PasswordParameters"]
-__all__ += ["PasswordPart", "Refused", "SignedData", "Signer", "SignerInfo", "Store", "TrustEntry", "TrustList"]
-__all__ += ["UnknownKind", "Verdict", "attribute_oid", "attribute_values", "dotted", "library", "mac_verdict"]
+__all__ = ["MAX_NESTING", "BadAttributes", "BadBag", "BadContent", "BadParameters", "BadStore", "Bag", "BagKind"]
+__all__ += ["BagPart", "Certificate", "EnvelopePart", "GivenBag", "GivenContent", "GivenMac", "ImageData"]
+__all__ += ["IndirectData", "Library", "Mac", "Part", "PasswordHolder", "PasswordParameters", "PasswordPart", "Refused"]
+__all__ += ["SignedData", "Signer", "SignerInfo", "Store", "StorePart", "TrustEntry", "TrustList", "UnknownKind"]
+__all__ += ["Verdict", "attribute_oid", "attribute_values", "dotted", "library", "mac_verdict"]
 
 _HERE = os.path.dirname(os.path.realpath(__file__))
 

@@ -73,6 +73,22 @@ PASSWORD_ITERATIONS: Final = 11
 PASSWORD_KEY_LENGTH: Final = 12
 PASSWORD_SCHEME: Final = 13
 
+# der_bag_part
+BAG_PART_KIND: Final = 1
+BAG_PART_IDENTIFIER: Final = 2
+BAG_PART_VALUE: Final = 3
+BAG_PART_FRIENDLY_NAME: Final = 4
+BAG_PART_LOCAL_KEY_ID: Final = 5
+BAG_PART_ATTRIBUTES: Final = 6
+
+# der_store_part
+STORE_PART_SAFE: Final = 1
+STORE_PART_DIGEST_ALGORITHM: Final = 2
+STORE_PART_DIGEST_PARAMETERS: Final = 3
+STORE_PART_DIGEST: Final = 4
+STORE_PART_SALT: Final = 5
+STORE_PART_ITERATIONS: Final = 6
+
 
 class Range(ctypes.Structure):
     """A der_range."""
@@ -300,6 +316,65 @@ class PasswordParts(ctypes.Structure):
     encrypted: Range
 
 
+class BagGiven(ctypes.Structure):
+    """A der_bag_given."""
+
+    _fields_ = [
+        ("kind", ctypes.c_size_t),
+        ("has_friendly_name", ctypes.c_size_t),
+        ("has_local_key_id", ctypes.c_size_t),
+        ("has_attributes", ctypes.c_size_t),
+        ("identifier", Range),
+        ("value", Range),
+        ("friendly_name", Range),
+        ("local_key_id", Range),
+        ("attributes", Range),
+    ]
+    kind: int
+    has_friendly_name: int
+    has_local_key_id: int
+    has_attributes: int
+    identifier: Range
+    value: Range
+    friendly_name: Range
+    local_key_id: Range
+    attributes: Range
+
+
+class ContentGiven(ctypes.Structure):
+    """A der_content_given."""
+
+    _fields_ = [
+        ("is_data", ctypes.c_size_t),
+        ("octets", Range),
+    ]
+    is_data: int
+    octets: Range
+
+
+class StoreGiven(ctypes.Structure):
+    """A der_store_given."""
+
+    _fields_ = [
+        ("has_mac", ctypes.c_size_t),
+        ("has_digest_parameters", ctypes.c_size_t),
+        ("iterations", ctypes.c_size_t),
+        ("safe", Range),
+        ("digest_algorithm", Range),
+        ("digest_parameters", Range),
+        ("digest", Range),
+        ("salt", Range),
+    ]
+    has_mac: int
+    has_digest_parameters: int
+    iterations: int
+    safe: Range
+    digest_algorithm: Range
+    digest_parameters: Range
+    digest: Range
+    salt: Range
+
+
 # What calls answer, and what they take.
 STATUS = ctypes.c_uint32
 _BYTE, _SIZE = ctypes.c_uint8, ctypes.c_size_t
@@ -319,6 +394,9 @@ ARGUMENTS: Dict[str, Tuple[object, ...]] = {
     "der_trust_rows": (_OCTETS, _SIZE, ctypes.POINTER(TrustEntryParts), _SIZE, _NUMBER, _NUMBER),
     "der_password_parameters": (_SIZE, _OCTETS, _SIZE, ctypes.POINTER(PasswordParts), _NUMBER),
     "der_build_parameters": (_SIZE, _OCTETS, _SIZE, ctypes.POINTER(PasswordParts), _OCTETS, _SIZE, _NUMBER, _NUMBER),
+    "der_build_bags": (_OCTETS, _SIZE, ctypes.POINTER(BagGiven), _SIZE, _OCTETS, _SIZE, _NUMBER, _NUMBER, _NUMBER),
+    "der_build_safe": (_OCTETS, _SIZE, ctypes.POINTER(ContentGiven), _SIZE, _OCTETS, _SIZE, _NUMBER, _NUMBER),
+    "der_build_store": (_OCTETS, _SIZE, ctypes.POINTER(StoreGiven), _OCTETS, _SIZE, _NUMBER, _NUMBER),
     "der_mac_range": (_OCTETS, _SIZE, _NUMBER, _NUMBER),
     "der_mac": (_OCTETS, _SIZE, _NUMBER, _NUMBER, _NUMBER),
     "der_from_ber": (_OCTETS, _SIZE, _OCTETS, _SIZE, _NUMBER, _NUMBER),
@@ -330,4 +408,5 @@ ARGUMENTS: Dict[str, Tuple[object, ...]] = {
     "der_oid_name": (_OCTETS, _SIZE, _OCTETS, _SIZE, _NUMBER),
     "der_integer_text": (_OCTETS, _SIZE, _OCTETS, _SIZE, _NUMBER),
     "der_utf16_text": (_OCTETS, _SIZE, _OCTETS, _SIZE, _NUMBER),
+    "der_text_utf16": (_OCTETS, _SIZE, _OCTETS, _SIZE, _NUMBER),
 }

@@ -19,7 +19,11 @@ DER, from Python.
     library.trust_entries(signed)    all TrustEntry(identifier=.., attributes=..) of a trust list; or None
     library.password_parameters(key, PasswordHolder.KEY)   PasswordParameters: how a key is encrypted with a password
     library.build_parameters(PasswordHolder.KEY, its)      the DER of a key that is encrypted so, as bytes
+    library.build_bags([GivenBag(BagKind.CERTIFICATE, its)])   the DER of bags of a store, a SafeContents, as bytes
+    library.build_safe([GivenContent(bags, True)])         that of what a store holds, which its MAC covers
+    library.build_store(safe, GivenMac(..))                that of the store itself, with a MAC or none
     library.oid_octets("1.3.14.3.2.26")   the contents octets of an object identifier, as bytes
+    library.text_utf16("me")         a text in UTF-16, as bytes
     library.from_ber(data)           the DER of an input in BER, as bytes
     library.mac_ber(der)             as mac, of a file that from_ber returned
     library.kinds()                  ["macdata", ..]
@@ -45,7 +49,7 @@ import hashlib
 import mmap
 import os
 import re
-from typing import Callable, Dict, Iterable, Iterator, List, NamedTuple, Optional, Tuple, Union
+from typing import Callable, Dict, Iterable, Iterator, List, NamedTuple, Optional, Sequence, Tuple, Union
 
 from . import _calls
 
@@ -72,7 +76,7 @@ FEW_ENTRIES = 64
 # where it looks at that, it refuses it.
 NOT_GIVEN = (1 << 64) - 1
 # Tags of elements; of a signer's signed attributes and of its unsigned ones, and of crls in signed data.
-SEQUENCE, UTC_TIME, GENERALIZED_TIME = 0x30, 0x17, 0x18
+SEQUENCE, SET, UTC_TIME, GENERALIZED_TIME = 0x30, 0x31, 0x17, 0x18
 SIGNED, UNSIGNED, CRLS = 0xA0, 0xA1, 0xA1
 # The attribute signingTime (RFC 5652, 11.3).
 SIGNING_TIME = "1.2.840.113549.1.9.5"
@@ -781,6 +785,123 @@ class PasswordParameters(NamedTuple):
         return None if self.encryption is None else dotted(bytes(self.encryption))
 
 
+class BagPart(enum.Enum):
+    """What of a GivenBag can't be written, by its number in der.h: a field, in capitals."""
+
+    # build_bags writes none of this kind: one past SAFE_CONTENTS
+    KIND = _calls.BAG_PART_KIND
+    # of BagKind.OTHER: it isn't given, or is no object identifier, or the one of another kind
+    IDENTIFIER = _calls.BAG_PART_IDENTIFIER
+    # it isn't given, or is no element, or not what a bag of its kind holds
+    VALUE = _calls.BAG_PART_VALUE
+    # it has a surrogate, which is no character
+    FRIENDLY_NAME = _calls.BAG_PART_FRIENDLY_NAME
+    # never from Python: any octets can be written
+    LOCAL_KEY_ID = _calls.BAG_PART_LOCAL_KEY_ID
+    # one of them isn't exactly one Attribute
+    ATTRIBUTES = _calls.BAG_PART_ATTRIBUTES
+
+
+class StorePart(enum.Enum):
+    """What build_store can't write, by its number in der.h: what it is given, or a field of a GivenMac, in capitals."""
+
+    # it is no AuthenticatedSafe
+    SAFE = _calls.STORE_PART_SAFE
+    # it isn't given, or is no object identifier
+    DIGEST_ALGORITHM = _calls.STORE_PART_DIGEST_ALGORITHM
+    # it is no element
+    DIGEST_PARAMETERS = _calls.STORE_PART_DIGEST_PARAMETERS
+    # it isn't given; any octets can be written
+    DIGEST = _calls.STORE_PART_DIGEST
+    # alike
+    SALT = _calls.STORE_PART_SALT
+    # it is negative, or 2**32 or more
+    ITERATIONS = _calls.STORE_PART_ITERATIONS
+
+
+class BadBag(ValueError):
+    """Bags that build_bags doesn't write. bag is the index of the first that can't be written, from 0 on, and part a
+    BagPart: the first of it that can't. content is None, but where build.store raises it: there it is the index of the
+    content, from 0 on, and bag that within its list.
+    """
+
+    def __init__(self, bag: int, part: BagPart, content: Optional[int] = None) -> None:
+        super().__init__(bag, part, content)
+        self.bag = bag
+        self.part = part
+        self.content = content
+
+    def __str__(self) -> str:
+        its_content = "" if self.content is None else f" of content {self.content}"
+        return f"{self.part.name.lower()} of bag {self.bag}{its_content} can't be written"
+
+
+class BadContent(ValueError):
+    """Contents that build_safe doesn't write. content is the index of the first that can't be written, from 0 on."""
+
+    def __init__(self, content: int) -> None:
+        super().__init__(content)
+        self.content = content
+
+    def __str__(self) -> str:
+        return f"content {self.content} can't be written"
+
+
+class BadStore(ValueError):
+    """What build_store doesn't write. part is a StorePart: the first that can't be written."""
+
+    def __init__(self, part: StorePart) -> None:
+        super().__init__(part)
+        self.part = part
+
+    def __str__(self) -> str:
+        return f"{self.part.name.lower()} can't be written"
+
+
+class GivenBag(NamedTuple):
+    """A bag that build_bags writes: in each field what a Bag has in the field of that name, or what it leaves out."""
+
+    # up to BagKind.SAFE_CONTENTS
+    kind: BagKind
+    # the DER of the X.509 certificate or revocation list; else the element that the bag holds: a PrivateKeyInfo, an
+    # EncryptedPrivateKeyInfo that bags reads, a SecretBag (RFC 7292, 4.2.5), or bags, as build_bags writes them
+    value: Bytes
+    # of any characters; None where it has none
+    friendly_name: Optional[str] = None
+    # its octets, which a key and its certificate have in common; None where it has none
+    local_key_id: Optional[Bytes] = None
+    # further ones, each exactly one Attribute, in any order; of these, friendlyName and localKeyId aren't written
+    attributes: Sequence[Bytes] = ()
+    # of BagKind.OTHER its object identifier, as "1.2.3"
+    identifier: Optional[str] = None
+
+
+class GivenContent(NamedTuple):
+    """A content that build_safe writes."""
+
+    octets: Bytes
+    # whether these are bags, as build_bags writes them, which stay in clear; otherwise they are a ContentInfo of
+    # another type than data, as encrypted bags
+    is_data: bool
+
+
+class GivenMac(NamedTuple):
+    """The MAC that build_store writes: in each field what a Mac has in the field of that name, or what it leaves out.
+    Nothing is hashed or judged: whoever has the password makes the MAC, over what build_safe wrote.
+    """
+
+    # an object identifier, as "2.16.840.1.101.3.4.2.1"
+    digest_algorithm: str
+    # the MAC itself
+    digest: Bytes
+    salt: Bytes
+    # how often the key derivation hashes
+    iterations: int
+    # the element of the algorithm's parameters. None is NULL, which SHA-1, SHA-224, SHA-256, SHA-384 and SHA-512 have
+    # whatever is given
+    digest_parameters: Optional[Bytes] = None
+
+
 def _number(contents: Optional[memoryview]) -> Optional[int]:
     """The number that the contents octets of an INTEGER hold, None where it isn't there."""
     return None if contents is None else int.from_bytes(contents, "big", signed=True)
@@ -902,8 +1023,56 @@ def _password_parameters(parts: _calls.PasswordParts, data: memoryview) -> Passw
 
 
 def _size(number: Optional[int]) -> int:
-    """A number as the call takes it that writes parameters."""
+    """A number as the calls take it that build."""
     return number if number is not None and 0 <= number <= NOT_GIVEN else NOT_GIVEN
+
+
+class _Parts:
+    """The octets of parts, one after another, which are the input of a call that builds."""
+
+    def __init__(self) -> None:
+        self._octets: List[_Whole] = []
+        self._length = 0
+
+    def put(self, part: Optional[Bytes]) -> _calls.Range:
+        """Where a part is among the octets, to which it is added. One that isn't given is nowhere, so it is refused."""
+        if part is None:
+            return _calls.Range(NOT_GIVEN, 0)
+        octets, start = _octets(part), self._length
+        self._octets.append(octets)
+        self._length += len(octets)
+        return _calls.Range(start, len(octets))
+
+    def joined(self) -> bytes:
+        """All of them."""
+        return b"".join(self._octets)
+
+
+def _is_one(octets: _Whole) -> bool:
+    """Whether octets are as long as the element that they begin with says. The library looks at the rest of it."""
+    if len(octets) < 2:
+        return False
+    count = max(octets[1] - 0x80, 0)
+    size = int.from_bytes(octets[2 : 2 + count], "big") if count else octets[1]
+    return len(octets) == 2 + count + size
+
+
+def _set_of(items: Sequence[_Whole]) -> Optional[bytes]:
+    """The element of a SET OF these items, in their order. None where one of them isn't exactly one element."""
+    if not all(map(_is_one, items)):
+        return None
+    contents = b"".join(items)
+    size, count = len(contents), (len(contents).bit_length() + 7) // 8
+    length = bytes([size]) if size <= 0x7F else bytes([0x80 + count]) + size.to_bytes(count, "big")
+    return bytes([SET]) + length + contents
+
+
+def _utf16(text: Optional[str]) -> Optional[bytes]:
+    """A text in UTF-16. None where it isn't given, or has a surrogate."""
+    try:
+        return None if text is None else text.encode("utf-16-be")
+    except UnicodeEncodeError:
+        return None
 
 
 def _password_parts(holder: PasswordHolder, given: PasswordParameters) -> Tuple[_calls.PasswordParts, bytes]:
@@ -911,16 +1080,8 @@ def _password_parts(holder: PasswordHolder, given: PasswordParameters) -> Tuple[
     algorithm has nothing that is encrypted.
     """
     encrypted = None if holder is PasswordHolder.ALGORITHM else given.encrypted
-    octets: List[_Whole] = []
-
-    def put(part: Optional[Bytes]) -> _calls.Range:
-        """Where a part is among these octets, to which it is added."""
-        if part is None:
-            return _calls.Range(NOT_GIVEN, 0)
-        start = sum(map(len, octets))
-        octets.append(_octets(part))
-        return _calls.Range(start, len(octets[-1]))
-
+    octets = _Parts()
+    put = octets.put
     parts = _calls.PasswordParts(
         has_parameters=given.parameters is not None,
         is_pbes1=bool(given.is_pbes1),
@@ -947,7 +1108,7 @@ def _password_parts(holder: PasswordHolder, given: PasswordParameters) -> Tuple[
         initialization_vector=put(given.initialization_vector),
         encrypted=put(encrypted),
     )
-    return parts, b"".join(octets)
+    return parts, octets.joined()
 
 
 class Store:
@@ -1415,6 +1576,104 @@ class Library:
         _raise_for(status, "", 0)
         return text
 
+    def build_bags(self, bags: Iterable[Union[GivenBag, Bag]]) -> bytes:
+        """The DER of a SafeContents (RFC 7292, 4.2) with these bags, in their order: what build_safe takes, or what is
+        to be encrypted, or the value of a bag of BagKind.SAFE_CONTENTS.
+
+        A bag that was read may be given as it is, or with other fields by _replace, as with another name or none. One
+        whose level isn't 0 is in the value of the bag that it is in, so it isn't given beside that:
+
+            library.build_bags(it._replace(friendly_name="new") for it in bags if it.level == 0)
+
+        Attributes are written in the order of DER (X.690, 11.6), also where they were read in another one. A name with
+        characters past U+FFFF is written with surrogates, as keytool does: bags, the kind "rawpfx" and Java read it,
+        the kind "pfx" refuses it, and openssl shows another name.
+
+        An encrypted key has to be one that bags reads. build_parameters makes others only where an algorithm that bags
+        knows, as PBES2, is given parameters that aren't its own. A secret has to be a SecretBag, and bags in a bag a
+        SafeContents. No bag may be in more than 64 others; what else bags hold that are in a bag, and the values of
+        their attributes, isn't looked at, so bags may refuse them. Of what other kinds hold is only asked that it is
+        one element. Raises BadBag where a bag can't be written.
+        """
+        octets, bag, part = _Parts(), ctypes.c_size_t(), ctypes.c_size_t()
+        rows = [self._bag_given(it, octets) for it in bags]
+        whole = octets.joined()
+        arguments = *_given(whole), (_calls.BagGiven * len(rows))(*rows), len(rows)
+        # what is around the parts of a bag takes less than 128 octets, unless it is very long
+        room, places = len(whole) + 128 * len(rows) + 16, (ctypes.byref(bag), ctypes.byref(part))
+        status, text = _written(self._library.der_build_bags, arguments, room, *places)
+        if status == _calls.INVALID:
+            raise BadBag(bag.value, BagPart(part.value))
+        _raise_for(status, "", 0)
+        return text
+
+    def _bag_given(self, bag: Union[GivenBag, Bag], octets: _Parts) -> _calls.BagGiven:
+        """A bag as the call takes it that writes bags. The octets of its parts are added to these."""
+        kind, attributes = BagKind(bag.kind), [_octets(it) for it in bag.attributes]
+        return _calls.BagGiven(
+            kind=kind.value,
+            has_friendly_name=bag.friendly_name is not None,
+            has_local_key_id=bag.local_key_id is not None,
+            has_attributes=bool(attributes),
+            identifier=octets.put(self._identifier_given(bag) if kind is BagKind.OTHER else None),
+            value=octets.put(bag.value),
+            friendly_name=octets.put(_utf16(bag.friendly_name)),
+            local_key_id=octets.put(bag.local_key_id),
+            attributes=octets.put(_set_of(attributes) if attributes else None),
+        )
+
+    def _identifier_given(self, bag: Union[GivenBag, Bag]) -> Optional[Bytes]:
+        """The contents octets of the object identifier of a bag. None where it isn't given, or the text spells none."""
+        return next(_inside(bag.element)).contents if isinstance(bag, Bag) else self._oid_given(bag.identifier)
+
+    def _oid_given(self, text: Optional[str]) -> Optional[bytes]:
+        """The contents octets that a text spells, alike."""
+        try:
+            return None if text is None else self.oid_octets(text)
+        except Refused:
+            return None
+
+    def build_safe(self, contents: Iterable[GivenContent]) -> bytes:
+        """The DER of an AuthenticatedSafe (RFC 7292, 4.1) with these contents, in their order: what build_store takes,
+        all of which a MAC covers.
+
+        Raises BadContent where a content can't be written: one that is to be bags isn't, or has a bag that is in more
+        than 64 others; or another is no ContentInfo, or is of the type data, of which the bags are to be given.
+        """
+        octets, content = _Parts(), ctypes.c_size_t()
+        rows = [_calls.ContentGiven(is_data=bool(it.is_data), octets=octets.put(it.octets)) for it in contents]
+        whole = octets.joined()
+        arguments = *_given(whole), (_calls.ContentGiven * len(rows))(*rows), len(rows)
+        # what is around the octets of a content takes less than 64
+        room = len(whole) + 64 * len(rows) + 16
+        status, text = _written(self._library.der_build_safe, arguments, room, ctypes.byref(content))
+        if status == _calls.INVALID:
+            raise BadContent(content.value)
+        _raise_for(status, "", 0)
+        return text
+
+    def build_store(self, safe: Bytes, mac: Optional[GivenMac] = None) -> bytes:
+        """The DER of a PKCS #12 store (RFC 7292, 4), around what build_safe wrote, with a MAC or none. Whether the MAC
+        is right isn't looked at. A count of 1 is left out, as the default. Raises BadStore where a part can't be
+        written.
+        """
+        octets, part = _Parts(), ctypes.c_size_t()
+        given = _calls.StoreGiven(has_mac=mac is not None, safe=octets.put(safe))
+        if mac is not None:
+            given.has_digest_parameters = mac.digest_parameters is not None
+            given.iterations = _size(mac.iterations)
+            given.digest_algorithm = octets.put(self._oid_given(mac.digest_algorithm))
+            given.digest_parameters = octets.put(mac.digest_parameters)
+            given.digest, given.salt = octets.put(mac.digest), octets.put(mac.salt)
+        whole = octets.joined()
+        arguments = *_given(whole), ctypes.byref(given)
+        # headers, numbers and object identifiers take less than 256 octets
+        status, text = _written(self._library.der_build_store, arguments, len(whole) + 256, ctypes.byref(part))
+        if status == _calls.INVALID:
+            raise BadStore(StorePart(part.value))
+        _raise_for(status, "", 0)
+        return text
+
     def signed(self, data: Bytes) -> SignedData:
         """Signed data, with all that is in them. Raises Refused as signers does."""
         octets = _octets(data)
@@ -1512,6 +1771,17 @@ class Library:
         Raises Refused where the octets are none: an odd number of them, or a surrogate without its other half.
         """
         return self._text(self._library.der_utf16_text, octets)
+
+    def text_utf16(self, text: str) -> bytes:
+        """A text in UTF-16, two octets for each unit, the high one first, as a bag has its friendly name, and as the
+        password that the keys of PKCS #12 are derived of, with two zero octets after it (RFC 7292, B.1).
+
+        Raises Refused where it has a surrogate, which is no character.
+        """
+        data = text.encode("utf-8", "surrogatepass")
+        status, octets = _written(self._library.der_text_utf16, _given(data), 2 * len(data) + 16)
+        _raise_for(status, "", 0)
+        return octets
 
     def _text(self, call: Call, data: Bytes) -> str:
         """What a call writes as text of some octets."""

@@ -2,30 +2,31 @@
 use crate::calls::{self, BagParts, Range};
 use crate::{error, Error, NORMAL, NO_ROOM};
 
-/// What a bag holds, by its object identifier (RFC 7292, 4.2).
+/// What a bag holds, by its object identifier (RFC 7292, 4.2). [`build_bags`](crate::build_bags) writes each kind but
+/// `OtherCertificate`, `OtherCrl` and `Unread`.
 #[derive(Debug, Clone, Copy, PartialEq, Eq)]
 #[non_exhaustive]
 pub enum BagKind {
     /// A key that isn't encrypted.
-    Key,
+    Key = calls::BAG_KEY as isize,
     /// An encrypted key.
-    ShroudedKey,
+    ShroudedKey = calls::BAG_SHROUDED_KEY as isize,
     /// An X.509 certificate.
-    Certificate,
+    Certificate = calls::BAG_CERTIFICATE as isize,
     /// An X.509 revocation list.
-    Crl,
+    Crl = calls::BAG_CRL as isize,
     /// A certificate of another type, as SDSI.
-    OtherCertificate,
+    OtherCertificate = calls::BAG_OTHER_CERTIFICATE as isize,
     /// A revocation list of another type.
-    OtherCrl,
+    OtherCrl = calls::BAG_OTHER_CRL as isize,
     /// A secret of any type.
-    Secret,
+    Secret = calls::BAG_SECRET as isize,
     /// Bags, which follow it one level down.
-    SafeContents,
+    SafeContents = calls::BAG_SAFE_CONTENTS as isize,
     /// Something that RFC 7292 doesn't know.
-    Other,
+    Other = calls::BAG_OTHER as isize,
     /// No bag, but a whole ContentInfo that isn't data: encrypted bags, say.
-    Unread,
+    Unread = calls::BAG_UNREAD as isize,
 }
 
 /// A bag that isn't encrypted.
@@ -46,12 +47,34 @@ pub struct Bag<'a> {
     pub local_key_id: Option<&'a [u8]>,
 }
 
-impl Bag<'_> {
+impl<'a> Bag<'a> {
     /// The friendly name as text, which is that of [`utf16_text`](crate::utf16_text).
     pub fn name(&self) -> Option<String> {
         let units = self.friendly_name?.chunks_exact(2).map(|it| u16::from_be_bytes([it[0], it[1]]));
         Some(char::decode_utf16(units).map(|it| it.unwrap_or(char::REPLACEMENT_CHARACTER)).collect())
     }
+
+    /// The contents octets of its object identifier, and the element of its attributes, if it has a set of them.
+    pub(crate) fn identifier_and_attributes(&self) -> Option<(&'a [u8], Option<&'a [u8]>)> {
+        let (parts, _) = opened(self.element)?;
+        let (identifier, after) = opened(parts)?;
+        let (_, attributes) = opened(after)?;
+        Some((identifier, Some(attributes).filter(|it| !it.is_empty())))
+    }
+}
+
+/// The contents of the element that octets begin with, and what follows it. Its tag has one octet, and its length is
+/// definite, since the library has read it.
+fn opened(octets: &[u8]) -> Option<(&[u8], &[u8])> {
+    let (first, after) = (*octets.get(1)?, octets.get(2..)?);
+    let (len, after) = if first < 0x80 {
+        (usize::from(first), after)
+    } else {
+        let count = usize::from(first - 0x80);
+        let digits = after.get(..count)?;
+        (digits.iter().fold(0, |len, digit| len << 8 | usize::from(*digit)), &after[count..])
+    };
+    Some((after.get(..len)?, &after[len..]))
 }
 
 /// The bags of a PKCS #12 store that aren't encrypted, in their order, those in a bag after it. Up to 64 are found in one

@@ -10,6 +10,51 @@ const PBKDF2: &[u8] = &[0x2A, 0x86, 0x48, 0x86, 0xF7, 0x0D, 1, 5, 12];
 /// A range of no input, in place of a part that is `None`: where the library looks at it, it refuses the part.
 const NOWHERE: Range = Range { start: usize::MAX, len: 0 };
 
+/// Adds the octets of a part to the input of a call, and says where they are.
+pub(crate) fn place(input: &mut Vec<u8>, part: Option<&[u8]>) -> Range {
+    part.map_or(NOWHERE, |octets| {
+        let start = input.len();
+        input.extend_from_slice(octets);
+        Range { start, len: octets.len() }
+    })
+}
+
+/// The flag that says whether there is a part.
+pub(crate) fn is_there(part: Option<&[u8]>) -> usize {
+    part.is_some().into()
+}
+
+/// What the errors of all calls that build have in common: what a status says that is no refusal, and words. Those of a
+/// refusal are given.
+macro_rules! build_error {
+    ($name:ident, $refused:pat => $words:literal) => {
+        impl $name {
+            /// Of a status that is no refusal, or one for a part that this version hasn't.
+            pub(crate) fn other(status: u32) -> Self {
+                match status {
+                    $crate::calls::TOO_LONG => Self::TooLong,
+                    $crate::calls::NO_MEMORY => Self::NoMemory,
+                    _ => Self::Unknown(status),
+                }
+            }
+        }
+
+        impl std::fmt::Display for $name {
+            fn fmt(&self, f: &mut std::fmt::Formatter<'_>) -> std::fmt::Result {
+                match self {
+                    $refused => write!(f, $words),
+                    Self::TooLong => f.write_str("too long"),
+                    Self::NoMemory => f.write_str("no memory"),
+                    Self::Unknown(status) => write!(f, "unknown status {status}"),
+                }
+            }
+        }
+
+        impl std::error::Error for $name {}
+    };
+}
+pub(crate) use build_error;
+
 /// Parameters for [`build_parameters`]. What a constructor doesn't take is `None`, and may be set.
 impl<'a> PasswordParameters<'a> {
     /// PBES2 with PBKDF2, and with an encryption scheme whose parameters are its initialization vector, as AES, DES and
@@ -120,6 +165,26 @@ const PARTS: [PasswordPart; 13] = [
     PasswordPart::Scheme,
 ];
 
+impl fmt::Display for PasswordPart {
+    fn fmt(&self, f: &mut fmt::Formatter<'_>) -> fmt::Result {
+        f.write_str(match self {
+            PasswordPart::Algorithm => "algorithm",
+            PasswordPart::Parameters => "parameters",
+            PasswordPart::Derivation => "derivation",
+            PasswordPart::DerivationParameters => "derivation parameters",
+            PasswordPart::Salt => "salt",
+            PasswordPart::Prf => "prf",
+            PasswordPart::Encryption => "encryption",
+            PasswordPart::EncryptionParameters => "encryption parameters",
+            PasswordPart::InitializationVector => "initialization vector",
+            PasswordPart::Encrypted => "encrypted",
+            PasswordPart::Iterations => "iterations",
+            PasswordPart::KeyLength => "key length",
+            PasswordPart::Scheme => "scheme",
+        })
+    }
+}
+
 /// Why [`build_parameters`] builds nothing.
 #[derive(Debug, Clone, Copy, PartialEq, Eq)]
 #[non_exhaustive]
@@ -134,35 +199,7 @@ pub enum BuildError {
     Unknown(u32),
 }
 
-impl fmt::Display for BuildError {
-    fn fmt(&self, f: &mut fmt::Formatter<'_>) -> fmt::Result {
-        match self {
-            BuildError::Refused(part) => {
-                let word = match part {
-                    PasswordPart::Algorithm => "algorithm",
-                    PasswordPart::Parameters => "parameters",
-                    PasswordPart::Derivation => "derivation",
-                    PasswordPart::DerivationParameters => "derivation parameters",
-                    PasswordPart::Salt => "salt",
-                    PasswordPart::Prf => "prf",
-                    PasswordPart::Encryption => "encryption",
-                    PasswordPart::EncryptionParameters => "encryption parameters",
-                    PasswordPart::InitializationVector => "initialization vector",
-                    PasswordPart::Encrypted => "encrypted",
-                    PasswordPart::Iterations => "iterations",
-                    PasswordPart::KeyLength => "key length",
-                    PasswordPart::Scheme => "scheme",
-                };
-                write!(f, "refused: {word}")
-            }
-            BuildError::TooLong => f.write_str("too long"),
-            BuildError::NoMemory => f.write_str("no memory"),
-            BuildError::Unknown(status) => write!(f, "unknown status {status}"),
-        }
-    }
-}
-
-impl std::error::Error for BuildError {}
+build_error!(BuildError, Self::Refused(part) => "refused: {part}");
 
 /// Builds what [`password_parameters`](crate::password_parameters) reads: as `holder` says, an algorithm, or a key or
 /// contents that it encrypts. What that returned may be given as it is, or with fields set anew, and
@@ -225,15 +262,8 @@ pub fn build_parameters(holder: PasswordHolder, given: &PasswordParameters<'_>) 
 /// The octets of all parts, one after another, and where each of them is. An algorithm has nothing that is encrypted.
 fn laid_out(holder: PasswordHolder, given: &PasswordParameters<'_>) -> (Vec<u8>, PasswordParts) {
     let encrypted = given.encrypted.filter(|_| holder != PasswordHolder::Algorithm);
-    let is_there = |part: Option<&[u8]>| usize::from(part.is_some());
     let mut input = Vec::new();
-    let mut place = |part: Option<&[u8]>| {
-        part.map_or(NOWHERE, |octets| {
-            let start = input.len();
-            input.extend_from_slice(octets);
-            Range { start, len: octets.len() }
-        })
-    };
+    let mut place = |part| place(&mut input, part);
     let parts = PasswordParts {
         has_parameters: is_there(given.parameters),
         is_pbes1: given.is_pbes1.into(),
@@ -265,15 +295,8 @@ fn laid_out(holder: PasswordHolder, given: &PasswordParameters<'_>) -> (Vec<u8>,
 }
 
 fn refusal(status: u32, part: usize) -> BuildError {
-    match status {
-        calls::INVALID => part_of(part).map_or(BuildError::Unknown(status), BuildError::Refused),
-        calls::TOO_LONG => BuildError::TooLong,
-        calls::NO_MEMORY => BuildError::NoMemory,
-        _ => BuildError::Unknown(status),
+    match PARTS.into_iter().find(|it| *it as usize == part) {
+        Some(part) if status == calls::INVALID => BuildError::Refused(part),
+        _ => BuildError::other(status),
     }
-}
-
-/// The part that has that number.
-fn part_of(number: usize) -> Option<PasswordPart> {
-    PARTS.into_iter().find(|part| *part as usize == number)
 }

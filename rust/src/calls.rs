@@ -73,6 +73,22 @@ pub const PASSWORD_ITERATIONS: usize = 11;
 pub const PASSWORD_KEY_LENGTH: usize = 12;
 pub const PASSWORD_SCHEME: usize = 13;
 
+// der_bag_part
+pub const BAG_PART_KIND: usize = 1;
+pub const BAG_PART_IDENTIFIER: usize = 2;
+pub const BAG_PART_VALUE: usize = 3;
+pub const BAG_PART_FRIENDLY_NAME: usize = 4;
+pub const BAG_PART_LOCAL_KEY_ID: usize = 5;
+pub const BAG_PART_ATTRIBUTES: usize = 6;
+
+// der_store_part
+pub const STORE_PART_SAFE: usize = 1;
+pub const STORE_PART_DIGEST_ALGORITHM: usize = 2;
+pub const STORE_PART_DIGEST_PARAMETERS: usize = 3;
+pub const STORE_PART_DIGEST: usize = 4;
+pub const STORE_PART_SALT: usize = 5;
+pub const STORE_PART_ITERATIONS: usize = 6;
+
 /// `der_range`
 #[repr(C)]
 #[derive(Clone, Copy, Default)]
@@ -206,6 +222,43 @@ pub struct PasswordParts {
     pub encrypted: Range,
 }
 
+/// `der_bag_given`
+#[repr(C)]
+#[derive(Clone, Copy, Default)]
+pub struct BagGiven {
+    pub kind: usize,
+    pub has_friendly_name: usize,
+    pub has_local_key_id: usize,
+    pub has_attributes: usize,
+    pub identifier: Range,
+    pub value: Range,
+    pub friendly_name: Range,
+    pub local_key_id: Range,
+    pub attributes: Range,
+}
+
+/// `der_content_given`
+#[repr(C)]
+#[derive(Clone, Copy, Default)]
+pub struct ContentGiven {
+    pub is_data: usize,
+    pub octets: Range,
+}
+
+/// `der_store_given`
+#[repr(C)]
+#[derive(Clone, Copy, Default)]
+pub struct StoreGiven {
+    pub has_mac: usize,
+    pub has_digest_parameters: usize,
+    pub iterations: usize,
+    pub safe: Range,
+    pub digest_algorithm: Range,
+    pub digest_parameters: Range,
+    pub digest: Range,
+    pub salt: Range,
+}
+
 extern "C" {
     pub fn der_check_word_limited(
         word: *const u8,
@@ -301,6 +354,36 @@ extern "C" {
         written: *mut usize,
         part: *mut usize,
     ) -> u32;
+    pub fn der_build_bags(
+        input: *const u8,
+        input_len: usize,
+        bags: *const BagGiven,
+        bags_len: usize,
+        out: *mut u8,
+        out_len: usize,
+        written: *mut usize,
+        bag: *mut usize,
+        part: *mut usize,
+    ) -> u32;
+    pub fn der_build_safe(
+        input: *const u8,
+        input_len: usize,
+        contents: *const ContentGiven,
+        contents_len: usize,
+        out: *mut u8,
+        out_len: usize,
+        written: *mut usize,
+        content: *mut usize,
+    ) -> u32;
+    pub fn der_build_store(
+        input: *const u8,
+        input_len: usize,
+        given: *const StoreGiven,
+        out: *mut u8,
+        out_len: usize,
+        written: *mut usize,
+        part: *mut usize,
+    ) -> u32;
     pub fn der_mac_range(input: *const u8, input_len: usize, start: *mut usize, len: *mut usize) -> u32;
     pub fn der_mac(
         input: *const u8,
@@ -350,6 +433,7 @@ extern "C" {
         out_len: usize,
         written: *mut usize,
     ) -> u32;
+    pub fn der_text_utf16(text: *const u8, text_len: usize, out: *mut u8, out_len: usize, written: *mut usize) -> u32;
     pub fn der_version() -> *const c_char;
     pub fn der_processor() -> *const c_char;
 }

@@ -1,7 +1,7 @@
 //! Safe calls of the library for C: checks and rewritings of DER, the parts of containers that a verifier needs, as
 //! octets, the certificates and signers of signed data, the bags of stores, the parts of certificates, of what
-//! Authenticode signs and of trust lists, the parameters of encryption with a password, which are built too, and
-//! conversions of BER to DER.
+//! Authenticode signs and of trust lists, the parameters of encryption with a password, and conversions of BER to DER.
+//! Bags, stores and such parameters are built too.
 //!
 //! ```
 //! // the shortest PKCS #12 file
@@ -19,6 +19,7 @@
 
 mod bags;
 mod build;
+mod build_stores;
 mod calls;
 mod certificates;
 mod contents;
@@ -29,6 +30,10 @@ mod trust_lists;
 
 pub use bags::{bags, Bag, BagKind};
 pub use build::{build_parameters, BuildError, PasswordPart};
+pub use build_stores::{
+    build_bags, build_safe, build_store, BagGiven, BagPart, BuildBagsError, BuildSafeError, BuildStoreError,
+    ContentGiven, MacGiven, Store, StorePart,
+};
 pub use certificates::{certificate, Certificate, Key};
 pub use contents::{indirect, Image, Indirect};
 pub use passwords::{password_parameters, PasswordHolder, PasswordParameters};
@@ -375,6 +380,23 @@ pub fn integer_text(contents: &[u8]) -> Result<String, Error> {
 /// none, an odd number of them or half a surrogate, they are refused, and the place is 0.
 pub fn utf16_text(octets: &[u8]) -> Result<String, Error> {
     text_written(octets, calls::der_utf16_text)
+}
+
+/// A text in UTF-16, two octets for each unit, the high one first, as [`BagGiven::friendly_name`] has it: what
+/// [`utf16_text`] takes. Zero characters are characters like others, and none is added. Nothing of a text is refused.
+///
+/// ```
+/// let octets = vuyhanip::text_utf16("a 😀")?;
+/// assert_eq!(octets, [0, 0x61, 0, 0x20, 0xD8, 0x3D, 0xDE, 0]);
+/// assert_eq!(vuyhanip::utf16_text(&octets)?, "a 😀");
+/// # Ok::<(), vuyhanip::Error>(())
+/// ```
+pub fn text_utf16(text: &str) -> Result<Vec<u8>, Error> {
+    let (status, out) = written(2 * text.len(), |out, out_len, written| {
+        // SAFETY: as above
+        unsafe { calls::der_text_utf16(text.as_ptr(), text.len(), out, out_len, written) }
+    });
+    if status == NORMAL { Ok(out) } else { Err(error(status, 0)) }
 }
 
 /// What a call writes as text in UTF-8.

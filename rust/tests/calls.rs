@@ -1,7 +1,9 @@
 //! Each call, over files that openssl made, whose offsets and octets are those that `openssl asn1parse` shows, and over
 //! examples of X.690.
 use vuyhanip::{
-    BadAttributes, BagKind, BuildError, Error, Part, PasswordHolder, PasswordParameters, PasswordPart, Reason, Verdict,
+    BadAttributes, BagGiven, BagKind, BagPart, BuildBagsError, BuildError, BuildSafeError, BuildStoreError,
+    ContentGiven, Error, MacGiven, Part, PasswordHolder, PasswordParameters, PasswordPart, Reason, Store, StorePart,
+    Verdict,
 };
 
 /// A key store.
@@ -64,15 +66,25 @@ const NEITHER: Option<&[u8]> = Some(&[0x80]);
 const LOOSE: &[u8] = &[0x30, 0x1F, 0x30, 7, 6, 5, 0x2B, 0x0E, 3, 2, 0x1A, 4, 0x14];
 const NORMAL: &[u8] = &[0x30, 0x21, 0x30, 9, 6, 5, 0x2B, 0x0E, 3, 2, 0x1A, 5, 0, 4, 0x14];
 
-/// Object identifiers: data, bags that hold an encrypted key, a certificate or bags, and a friendly name.
+/// Object identifiers: data, kinds of bags, types of certificates and lists, a friendly name, a local key identifier.
 const DATA: &[u8] = &[6, 9, 0x2A, 0x86, 0x48, 0x86, 0xF7, 0x0D, 1, 7, 1];
+const KEY_BAG: &[u8] = &[6, 11, 0x2A, 0x86, 0x48, 0x86, 0xF7, 0x0D, 1, 12, 10, 1, 1];
 const SHROUDED_KEY_BAG: &[u8] = &[6, 11, 0x2A, 0x86, 0x48, 0x86, 0xF7, 0x0D, 1, 12, 10, 1, 2];
 const CERTIFICATE_BAG: &[u8] = &[6, 11, 0x2A, 0x86, 0x48, 0x86, 0xF7, 0x0D, 1, 12, 10, 1, 3];
 const CRL_BAG: &[u8] = &[6, 11, 0x2A, 0x86, 0x48, 0x86, 0xF7, 0x0D, 1, 12, 10, 1, 4];
+const SECRET_BAG: &[u8] = &[6, 11, 0x2A, 0x86, 0x48, 0x86, 0xF7, 0x0D, 1, 12, 10, 1, 5];
 const SAFE_CONTENTS_BAG: &[u8] = &[6, 11, 0x2A, 0x86, 0x48, 0x86, 0xF7, 0x0D, 1, 12, 10, 1, 6];
 const X509_CERTIFICATE: &[u8] = &[6, 10, 0x2A, 0x86, 0x48, 0x86, 0xF7, 0x0D, 1, 9, 22, 1];
 const SDSI_CERTIFICATE: &[u8] = &[6, 10, 0x2A, 0x86, 0x48, 0x86, 0xF7, 0x0D, 1, 9, 22, 2];
+const X509_CRL: &[u8] = &[6, 10, 0x2A, 0x86, 0x48, 0x86, 0xF7, 0x0D, 1, 9, 23, 1];
 const FRIENDLY_NAME: &[u8] = &[6, 9, 0x2A, 0x86, 0x48, 0x86, 0xF7, 0x0D, 1, 9, 20];
+const LOCAL_KEY_ID: &[u8] = &[6, 9, 0x2A, 0x86, 0x48, 0x86, 0xF7, 0x0D, 1, 9, 21];
+/// What bags hold, in the least form that they are written in: any element, an encrypted key, and a secret.
+const ELEMENT: &[u8] = &[2, 1, 7];
+const ENCRYPTED_KEY: &[u8] = &[0x30, 10, 0x30, 5, 6, 3, 0x2A, 3, 4, 4, 1, 9];
+const SECRET: &[u8] = &[0x30, 9, 6, 3, 0x2A, 3, 4, 0xA0, 2, 5, 0];
+/// "A😀", in UTF-16.
+const NAME: &[u8] = &[0, 0x41, 0xD8, 0x3D, 0xDE, 0];
 
 fn with_digest(front: &[u8]) -> Vec<u8> {
     [front, &[7; 20]].concat()
@@ -92,6 +104,15 @@ fn element(tag: u8, parts: &[&[u8]]) -> Vec<u8> {
 /// A bag that holds an element, with attributes.
 fn bag(oid: &[u8], held: &[u8], attributes: &[u8]) -> Vec<u8> {
     element(0x30, &[oid, &element(0xA0, &[held]), attributes])
+}
+
+/// An attribute with values.
+fn attribute(oid: &[u8], values: &[&[u8]]) -> Vec<u8> {
+    element(0x30, &[oid, &element(0x31, values)])
+}
+
+fn name_attribute(units: &[u8]) -> Vec<u8> {
+    attribute(FRIENDLY_NAME, &[&element(0x1E, &[units])])
 }
 
 /// A PKCS #12 file with these bags.
@@ -692,6 +713,373 @@ fn a_part_that_is_wrong_is_named() {
     assert_eq!((said.as_str(), BuildError::NoMemory.to_string().as_str()), ("refused: key length", "no memory"));
 }
 
+/// What each kind of bag is given, and the object identifier and the element that it is written with.
+fn each_kind() -> [(BagGiven<'static>, &'static [u8], Vec<u8>); 7] {
+    let x509 = |oid: &[u8]| element(0x30, &[oid, &element(0xA0, &[&element(4, &[ELEMENT])])]);
+    let mut other = BagGiven::new(BagKind::Other, ELEMENT);
+    other.identifier = Some(&BARE[4..]);
+    [
+        (BagGiven::new(BagKind::Key, ELEMENT), KEY_BAG, ELEMENT.to_vec()),
+        (BagGiven::new(BagKind::ShroudedKey, ENCRYPTED_KEY), SHROUDED_KEY_BAG, ENCRYPTED_KEY.to_vec()),
+        (BagGiven::new(BagKind::Certificate, ELEMENT), CERTIFICATE_BAG, x509(X509_CERTIFICATE)),
+        (BagGiven::new(BagKind::Crl, ELEMENT), CRL_BAG, x509(X509_CRL)),
+        (BagGiven::new(BagKind::Secret, SECRET), SECRET_BAG, SECRET.to_vec()),
+        (BagGiven::new(BagKind::SafeContents, &[0x30, 0]), SAFE_CONTENTS_BAG, vec![0x30, 0]),
+        (other, &BARE[2..], ELEMENT.to_vec()),
+    ]
+}
+
+/// A file whose only contents are these bags, in clear, without a MAC.
+fn store_of(bags: &[u8]) -> Vec<u8> {
+    Store::new(&[ContentGiven::Data(bags)]).unwrap().finish(None).unwrap()
+}
+
+/// Without attributes and with all of them, and as it is listed.
+#[test]
+fn each_kind_of_bag_is_built() {
+    let further = attribute(&BARE[2..], &[&[5, 0]]);
+    let key_id = attribute(LOCAL_KEY_ID, &[&[4, 2, 7, 8]]);
+    let (set, all) = (element(0x31, &[&further]), element(0x31, &[&further, &key_id, &name_attribute(NAME)]));
+    for (mut given, oid, held) in each_kind() {
+        let written = bag(oid, &held, &[]);
+        assert_eq!(vuyhanip::build_bags(&[given]), Ok(element(0x30, &[&written])));
+        given.friendly_name = Some(NAME);
+        given.local_key_id = Some(&[7, 8]);
+        given.attributes = Some(&set);
+        let written = bag(oid, &held, &all);
+        let built = vuyhanip::build_bags(&[given]).unwrap();
+        assert_eq!(built, element(0x30, &[&written]));
+        let file = store_of(&built);
+        assert_eq!(file, store(&[&written]));
+        let found = vuyhanip::bags(&file).unwrap();
+        assert_eq!((found.len(), found[0].kind, found[0].value), (1, given.kind, given.value));
+        assert_eq!((found[0].friendly_name, found[0].local_key_id), (given.friendly_name, given.local_key_id));
+        let again = BagGiven::from(&found[0]);
+        assert_eq!((again.identifier, again.attributes), (given.identifier, Some(&all[..])));
+        assert_eq!(vuyhanip::build_bags(&[again]), Ok(built));
+    }
+    assert_eq!(vuyhanip::build_bags(&[]), Ok(vec![0x30, 0]));
+    assert_eq!(store_of(&[0x30, 0]), store(&[]));
+}
+
+/// In the order of X.690, 11.6, each as often as it is given, with its values in their order.
+#[test]
+fn attributes_are_written_in_order() {
+    let (name, key_id) = (name_attribute(NAME), attribute(LOCAL_KEY_ID, &[&[4, 1, 9]]));
+    let (short, two) = (attribute(&BARE[2..], &[&[5, 0]]), attribute(&BARE[2..], &[&[5, 0], &[2, 1, 1]]));
+    let long = attribute(&[6, 3, 0x2A, 3, 1], &[&element(4, &[&[7; 200]])]);
+    let given_set = element(0x31, &[&long, &name, &short, &two, &key_id, &short, &name]);
+    let mut given = BagGiven::new(BagKind::Key, ELEMENT);
+    given.attributes = Some(&given_set);
+    let set = |all: &[&[u8]]| element(0x30, &[&bag(KEY_BAG, ELEMENT, &element(0x31, all))]);
+    assert_eq!(vuyhanip::build_bags(&[given]), Ok(set(&[&short, &short, &two, &long])));
+    given.local_key_id = Some(&[]);
+    let empty = attribute(LOCAL_KEY_ID, &[&[4, 0]]);
+    assert_eq!(vuyhanip::build_bags(&[given]), Ok(set(&[&short, &short, &two, &empty, &long])));
+    given.friendly_name = Some(&[]);
+    let unnamed = name_attribute(&[]);
+    assert_eq!(vuyhanip::build_bags(&[given]), Ok(set(&[&short, &short, &two, &unnamed, &empty, &long])));
+    // no empty set is written
+    for octets in [vec![0x31, 0], element(0x31, &[&name, &key_id])] {
+        let mut given = BagGiven::new(BagKind::Key, ELEMENT);
+        given.attributes = Some(&octets);
+        assert_eq!(vuyhanip::build_bags(&[given]), Ok(element(0x30, &[&bag(KEY_BAG, ELEMENT, &[])])));
+    }
+}
+
+/// Of the file, as it is, and with another name.
+#[test]
+fn a_listed_store_is_built_again() {
+    let found = vuyhanip::bags(STORE).unwrap();
+    let mut key = BagGiven::from(&found[1]);
+    let bags = vuyhanip::build_bags(&[key]).unwrap();
+    assert_eq!(bags, &STORE[671..943]);
+    let store = Store::new(&[ContentGiven::Info(found[0].element), ContentGiven::Data(&bags)]).unwrap();
+    assert_eq!(store.covered(), &STORE[30..943]);
+    let mac = MacGiven::new(SHA256, &STORE[964..996], &STORE[998..1006], 2048);
+    assert_eq!(store.finish(Some(&mac)).as_deref(), Ok(STORE));
+    let name = vuyhanip::text_utf16("schlüssel 🔑").unwrap();
+    key.friendly_name = Some(&name);
+    let renamed = store_of(&vuyhanip::build_bags(&[key]).unwrap());
+    let renamed = vuyhanip::bags(&renamed).unwrap()[0];
+    assert_eq!((renamed.name().as_deref(), renamed.local_key_id), (Some("schlüssel 🔑"), found[1].local_key_id));
+    assert_eq!((renamed.kind, renamed.value), (found[1].kind, found[1].value));
+    // it has no set without them
+    key.friendly_name = None;
+    key.local_key_id = None;
+    let bare = vuyhanip::build_bags(&[key]);
+    assert_eq!(bare, Ok(element(0x30, &[&bag(SHROUDED_KEY_BAG, found[1].value, &[])])));
+}
+
+/// RFC 2985, 5.5.1, has a BMPString: "pfx" refuses surrogates in it.
+#[test]
+fn names_past_u_ffff_are_written() {
+    for (text, is_pfx) in [("", true), ("日本", true), ("\u{FFFF}", true), ("😀", false), ("a\u{10FFFF}", false)] {
+        let name = vuyhanip::text_utf16(text).unwrap();
+        let mut given = BagGiven::new(BagKind::Certificate, ELEMENT);
+        given.friendly_name = Some(&name);
+        let file = store_of(&vuyhanip::build_bags(&[given]).unwrap());
+        assert_eq!(vuyhanip::bags(&file).unwrap()[0].name().as_deref(), Some(text));
+        assert_eq!(vuyhanip::check("pfx", &file).is_ok(), is_pfx);
+        assert!(vuyhanip::check("rawpfx", &file).unwrap().is_normal);
+    }
+}
+
+/// A bag that can be written, the part of it that is made wrong, and how.
+type WrongBag = (BagPart, BagGiven<'static>, fn(&mut BagGiven<'static>));
+
+/// Each but a local key identifier, which may be any octets.
+#[test]
+fn a_part_of_a_bag_that_is_wrong_is_named() {
+    let [(key, ..), (shrouded, ..), (certificate, ..), (crl, ..), (secret, ..), (safe, ..), (other, ..)] = each_kind();
+    let wrong: [WrongBag; 31] = [
+        (BagPart::Kind, key, |it| it.kind = BagKind::Unread),
+        (BagPart::Kind, certificate, |it| it.kind = BagKind::OtherCertificate),
+        (BagPart::Kind, crl, |it| it.kind = BagKind::OtherCrl),
+        (BagPart::Identifier, other, |it| it.identifier = None),
+        (BagPart::Identifier, other, |it| it.identifier = Some(&[])),
+        (BagPart::Identifier, other, |it| it.identifier = NEITHER),
+        (BagPart::Identifier, key, |it| it.kind = BagKind::Other),
+        // those of other kinds
+        (BagPart::Identifier, other, |it| it.identifier = Some(&KEY_BAG[2..])),
+        (BagPart::Identifier, other, |it| it.identifier = Some(&SHROUDED_KEY_BAG[2..])),
+        (BagPart::Identifier, other, |it| it.identifier = Some(&CERTIFICATE_BAG[2..])),
+        (BagPart::Identifier, other, |it| it.identifier = Some(&CRL_BAG[2..])),
+        (BagPart::Identifier, other, |it| it.identifier = Some(&SECRET_BAG[2..])),
+        (BagPart::Identifier, other, |it| it.identifier = Some(&SAFE_CONTENTS_BAG[2..])),
+        // none, one that is cut, and two
+        (BagPart::Value, key, |it| it.value = &[]),
+        (BagPart::Value, certificate, |it| it.value = &[4, 1]),
+        (BagPart::Value, crl, |it| it.value = &[5, 0, 5, 0]),
+        (BagPart::Value, other, |it| it.value = &[0x80]),
+        // an element that isn't what the kind holds
+        (BagPart::Value, shrouded, |it| it.value = ELEMENT),
+        (BagPart::Value, shrouded, |it| it.value = SECRET),
+        (BagPart::Value, secret, |it| it.value = ENCRYPTED_KEY),
+        (BagPart::Value, secret, |it| it.value = &[0x30, 5, 6, 3, 0x2A, 3, 4]),
+        (BagPart::Value, safe, |it| it.value = &[0x31, 0]),
+        (BagPart::Value, safe, |it| it.value = &[0x30, 2, 0x30, 0]),
+        // an odd number of octets, and half a surrogate
+        (BagPart::FriendlyName, key, |it| it.friendly_name = Some(&[0])),
+        (BagPart::FriendlyName, shrouded, |it| it.friendly_name = Some(&[0xD8, 0, 0, 0x41])),
+        (BagPart::Attributes, key, |it| it.attributes = Some(&[])),
+        (BagPart::Attributes, safe, |it| it.attributes = Some(&[0x30, 0])),
+        (BagPart::Attributes, secret, |it| it.attributes = Some(&[0x31, 2, 5, 0])),
+        (BagPart::Attributes, crl, |it| it.attributes = Some(&[0x31, 0, 0x31, 0])),
+        // several parts
+        (BagPart::Kind, other, |it| {
+            (it.kind, it.identifier, it.value) = (BagKind::Unread, NEITHER, &[]);
+        }),
+        (BagPart::FriendlyName, key, |it| (it.friendly_name, it.attributes) = (NEITHER, NEITHER)),
+    ];
+    for (part, given, change) in wrong {
+        let (mut bags, mut bad) = (vec![key, given, certificate, given], given);
+        assert!(vuyhanip::build_bags(&bags).is_ok());
+        change(&mut bad);
+        // the last one alone, and then the first of two
+        for index in [3, 1] {
+            bags[index] = bad;
+            assert_eq!(vuyhanip::build_bags(&bags), Err(BuildBagsError::Refused { bag: index, part }));
+        }
+    }
+    let said = BuildBagsError::Refused { bag: 3, part: BagPart::FriendlyName }.to_string();
+    assert_eq!(said, "refused: friendly name of bag 3");
+    assert_eq!(BuildBagsError::TooLong.to_string(), "too long");
+}
+
+/// What a kind doesn't have may be anything.
+#[test]
+fn identifiers_of_known_kinds_are_not_looked_at() {
+    for (mut given, oid, held) in each_kind().into_iter().take(6) {
+        for identifier in [NEITHER, Some(&KEY_BAG[2..])] {
+            given.identifier = identifier;
+            assert_eq!(vuyhanip::build_bags(&[given]), Ok(element(0x30, &[&bag(oid, &held, &[])])));
+        }
+    }
+}
+
+/// Up to 64 bags around one.
+#[test]
+fn bags_in_bags_have_levels() {
+    let held_by = |bags: &[u8]| vuyhanip::build_bags(&[BagGiven::new(BagKind::SafeContents, bags)]);
+    let mut bags = vuyhanip::build_bags(&[BagGiven::new(BagKind::Key, ELEMENT)]).unwrap();
+    for _ in 0..64 {
+        bags = held_by(&bags).unwrap();
+    }
+    let file = store_of(&bags);
+    let found = vuyhanip::bags(&file).unwrap();
+    assert!(found.iter().map(|it| it.level).eq(0..65));
+    assert_eq!((found[64].kind, found[64].value), (BagKind::Key, ELEMENT));
+    assert_eq!(vuyhanip::build_bags(&[BagGiven::from(&found[0])]), Ok(bags.clone()));
+    let refused = BuildBagsError::Refused { bag: 0, part: BagPart::Value };
+    assert_eq!(held_by(&bags), Err(refused));
+    let deeper = element(0x30, &[&bag(SAFE_CONTENTS_BAG, &bags, &[])]);
+    assert_eq!(vuyhanip::build_safe(&[ContentGiven::Data(&deeper)]), Err(BuildSafeError::Refused { content: 0 }));
+    // what other bags in it hold isn't looked at
+    let unread = element(0x30, &[&bag(SHROUDED_KEY_BAG, ELEMENT, &[])]);
+    assert_eq!(held_by(&unread), Ok(element(0x30, &[&bag(SAFE_CONTENTS_BAG, &unread, &[])])));
+}
+
+/// Also where there are more than a reading has room for at first.
+#[test]
+fn many_bags_are_built() {
+    let kinds = [BagKind::Key, BagKind::Certificate, BagKind::Crl];
+    let name = |number: usize| vuyhanip::text_utf16(&format!("bag {number}")).unwrap();
+    let parts: Vec<_> = (0..1000usize).map(|number| (element(2, &[&number.to_be_bytes()]), name(number))).collect();
+    for count in [1, 64, 65, 1000] {
+        let mut bags = Vec::new();
+        for (number, (value, name)) in parts[..count].iter().enumerate() {
+            let mut given = BagGiven::new(kinds[number % 3], value);
+            given.friendly_name = Some(name);
+            bags.push(given);
+        }
+        let file = store_of(&vuyhanip::build_bags(&bags).unwrap());
+        let found = vuyhanip::bags(&file).unwrap();
+        let of_found = found.iter().map(|it| (it.kind, it.value, it.friendly_name));
+        assert!(of_found.eq(bags.iter().map(|it| (it.kind, it.value, it.friendly_name))));
+    }
+}
+
+/// A ContentInfo of data.
+fn data(octets: &[u8]) -> Vec<u8> {
+    element(0x30, &[DATA, &element(0xA0, &[&element(4, &[octets])])])
+}
+
+/// In clear and not, and one without content.
+#[test]
+fn contents_are_built_in_their_order() {
+    let given = PasswordParameters::pbes2(&WITH_VECTOR[4..7], &[5, 6], &[7, 8], 9, None);
+    let encrypted = vuyhanip::build_parameters(PasswordHolder::Contents, &given).unwrap();
+    let bags = vuyhanip::build_bags(&each_kind().map(|(given, ..)| given)).unwrap();
+    let contents = [
+        ContentGiven::Info(&encrypted),
+        ContentGiven::Data(&bags),
+        ContentGiven::Info(BARE),
+        ContentGiven::Data(&[0x30, 0]),
+        ContentGiven::Info(ENVELOPE),
+    ];
+    let wanted = element(0x30, &[&encrypted, &data(&bags), BARE, &data(&[0x30, 0]), ENVELOPE]);
+    assert_eq!(vuyhanip::build_safe(&contents).as_ref(), Ok(&wanted));
+    let store = Store::new(&contents).unwrap();
+    assert_eq!(store.covered(), wanted);
+    let file = store.finish(None).unwrap();
+    assert_eq!(vuyhanip::mac_range(&file).unwrap().map(|it| &file[it]), Some(&wanted[..]));
+    let kinds: Vec<_> = vuyhanip::bags(&file).unwrap().iter().map(|it| it.kind).collect();
+    assert_eq!(kinds.iter().filter(|kind| **kind == BagKind::Unread).count(), 3);
+    assert_eq!((kinds[0], kinds[1], kinds.len()), (BagKind::Unread, BagKind::Key, 10));
+    assert_eq!(vuyhanip::build_safe(&[]), Ok(vec![0x30, 0]));
+}
+
+/// No SafeContents, no ContentInfo, and one of data.
+#[test]
+fn a_content_that_is_wrong_is_named() {
+    let (good, of_data) = ([ContentGiven::Data(&[0x30, 0]), ContentGiven::Info(BARE)], data(&[0x30, 0]));
+    for wrong in [
+        ContentGiven::Data(&[]),
+        ContentGiven::Data(&[5, 0]),
+        ContentGiven::Data(&[0x30, 1]),
+        ContentGiven::Data(&[0x30, 0, 0x30, 0]),
+        ContentGiven::Data(&of_data),
+        ContentGiven::Info(&[]),
+        ContentGiven::Info(&[0x30, 0]),
+        ContentGiven::Info(&[5, 0]),
+        ContentGiven::Info(&of_data),
+        ContentGiven::Info(&of_data[..of_data.len() - 1]),
+    ] {
+        let mut contents = [good[0], good[1], good[0], good[1]];
+        assert!(vuyhanip::build_safe(&contents).is_ok());
+        for index in [3, 1] {
+            contents[index] = wrong;
+            let refused = BuildSafeError::Refused { content: index };
+            assert_eq!((vuyhanip::build_safe(&contents), Store::new(&contents).err()), (Err(refused), Some(refused)));
+        }
+    }
+    assert_eq!(BuildSafeError::Refused { content: 2 }.to_string(), "refused: content 2");
+    assert_eq!(BuildSafeError::Unknown(99).to_string(), "unknown status 99");
+}
+
+/// By hand, over no contents: a digest algorithm, and a salt with what follows it.
+fn with_mac(algorithm: &[&[u8]], salt_and_count: &[&[u8]]) -> Vec<u8> {
+    let digest = element(0x30, &[&element(0x30, algorithm), &[4, 2, 7, 8]]);
+    let mac = element(0x30, &[&digest, &salt_and_count.concat()]);
+    element(0x30, &[&[2, 1, 3], &data(&[0x30, 0]), &mac])
+}
+
+/// With counts at their ends, of which 1 is the default, and with a salt and a digest of any length.
+#[test]
+fn a_store_with_a_mac_reads_back() {
+    let counts: [(usize, &[u8]); 5] =
+        [(0, &[2, 1, 0]), (1, &[]), (2, &[2, 1, 2]), (2048, &[2, 2, 8, 0]), (0xFFFF_FFFF, GREATEST)];
+    let sha256 = element(6, &[SHA256]);
+    for (iterations, count) in counts {
+        let file = vuyhanip::build_store(&[0x30, 0], Some(&MacGiven::new(SHA256, &[7, 8], &[9], iterations))).unwrap();
+        assert_eq!(file, with_mac(&[&sha256, &[5, 0]], &[&[4, 1, 9], count]));
+        assert!(vuyhanip::check("pfx", &file).unwrap().is_normal);
+        let mac = vuyhanip::mac(&file).unwrap().unwrap();
+        assert_eq!((&file[mac.covered], mac.iterations), (&[0x30, 0][..], iterations));
+        assert_eq!((mac.digest_algorithm.as_slice(), mac.digest.as_slice()), (SHA256, &[7, 8][..]));
+        assert_eq!(mac.salt, [9]);
+    }
+    for octets in [&[][..], &[6; 300]] {
+        let file = vuyhanip::build_store(&[0x30, 0], Some(&MacGiven::new(SHA256, octets, octets, 9))).unwrap();
+        let mac = vuyhanip::mac(&file).unwrap().unwrap();
+        assert_eq!((mac.digest.as_slice(), mac.salt.as_slice()), (octets, octets));
+    }
+    let bare = vuyhanip::build_store(&[0x30, 0], None).unwrap();
+    assert_eq!((vuyhanip::mac(&bare), vuyhanip::mac_range(&bare)), (Ok(None), Ok(Some(bare.len() - 2..bare.len()))));
+}
+
+/// An algorithm that isn't known has its own, and NULL where it has none.
+#[test]
+fn parameters_of_a_digest_algorithm() {
+    for (oid, parameters, written) in [
+        (&BARE[4..], None, &[5, 0][..]),
+        (&BARE[4..], Some(ENCRYPTED_KEY), ENCRYPTED_KEY),
+        (SHA256, None, &[5, 0]),
+        (SHA256, Some(ENCRYPTED_KEY), &[5, 0]),
+    ] {
+        let mut mac = MacGiven::new(oid, &[7, 8], &[9], 1);
+        mac.digest_parameters = parameters;
+        let file = vuyhanip::build_store(&[0x30, 0], Some(&mac));
+        assert_eq!(file, Ok(with_mac(&[&element(6, &[oid]), written], &[&[4, 1, 9]])));
+    }
+}
+
+/// A part, and what makes it wrong in a MAC that can be written.
+type WrongMac = (StorePart, fn(&mut MacGiven<'static>));
+
+/// Each but the MAC and its salt, which may be any octets.
+#[test]
+fn a_part_of_a_store_that_is_wrong_is_named() {
+    let mac = MacGiven::new(SHA256, &[7, 8], &[9], 2048);
+    for safe in [&[][..], &[5, 0], &[0x30, 1], &[0x30, 0, 5, 0], &[0x30, 2, 5, 0]] {
+        for mac in [None, Some(&mac), Some(&MacGiven::new(&[], &[], &[], usize::MAX))] {
+            assert_eq!(vuyhanip::build_store(safe, mac), Err(BuildStoreError::Refused(StorePart::Safe)));
+        }
+    }
+    let wrong: [WrongMac; 8] = [
+        (StorePart::DigestAlgorithm, |it| it.digest_algorithm = &[]),
+        (StorePart::DigestAlgorithm, |it| it.digest_algorithm = &[0x2A, 0x83]),
+        (StorePart::DigestParameters, |it| it.digest_parameters = Some(&[])),
+        (StorePart::DigestParameters, |it| it.digest_parameters = Some(&[4, 1])),
+        (StorePart::DigestParameters, |it| it.digest_parameters = Some(&[5, 0, 5, 0])),
+        (StorePart::Iterations, |it| it.iterations = 1 << 32),
+        (StorePart::Iterations, |it| it.iterations = usize::MAX),
+        (StorePart::DigestAlgorithm, |it| {
+            (it.digest_algorithm, it.digest_parameters, it.iterations) = (&[], NEITHER, usize::MAX);
+        }),
+    ];
+    let store = Store::new(&[]).unwrap();
+    for (part, change) in wrong {
+        let mut bad = mac;
+        change(&mut bad);
+        assert_eq!(store.finish(Some(&bad)), Err(BuildStoreError::Refused(part)));
+    }
+    assert!(store.finish(Some(&mac)).is_ok());
+    assert_eq!(BuildStoreError::Refused(StorePart::DigestAlgorithm).to_string(), "refused: digest algorithm");
+    assert_eq!(BuildStoreError::NoMemory.to_string(), "no memory");
+}
+
 /// Of a signer that is named by its key.
 #[test]
 fn parts_of_a_signer_of_version_3() {
@@ -855,8 +1243,7 @@ fn parts_of_a_store_are_those_that_its_bags_borrow() {
     let x509 = element(0x30, &[X509_CERTIFICATE, &octets]);
     let sdsi = element(0x30, &[SDSI_CERTIFICATE, &element(0xA0, &[&element(0x16, &[b"AAAA"])])]);
     let units: Vec<u8> = "smile 😀".encode_utf16().flat_map(u16::to_be_bytes).collect();
-    let name = element(0x30, &[FRIENDLY_NAME, &element(0x31, &[&element(0x1E, &[&units])])]);
-    let named = bag(CERTIFICATE_BAG, &x509, &element(0x31, &[&name]));
+    let named = bag(CERTIFICATE_BAG, &x509, &element(0x31, &[&name_attribute(&units)]));
     let inner = element(0x30, &[&named, &bag(CERTIFICATE_BAG, &sdsi, &[])]);
     let file = store(&[&bag(SAFE_CONTENTS_BAG, &inner, &[]), &bag(CRL_BAG, &sdsi, &[])]);
     let bags = vuyhanip::bags(&file).unwrap();
@@ -897,6 +1284,7 @@ fn utf_16_is_text() {
     for text in ends.into_iter().chain(["", "a\0b", "\u{FEFF}ß", "日本 😀"]) {
         let octets: Vec<u8> = text.encode_utf16().flat_map(u16::to_be_bytes).collect();
         assert_eq!(vuyhanip::utf16_text(&octets).as_deref(), Ok(text));
+        assert_eq!(vuyhanip::text_utf16(text), Ok(octets));
     }
     let refused = Err(Error::Refused { reason: Reason::Invalid, place: 0 });
     let halves = [&[0xD8, 0][..], &[0xDC, 0], &[0xDC, 0, 0xD8, 0], &[0xD8, 0, 0, 97], &[0xDB, 0xFF, 0xDB, 0xFF]];

@@ -1,8 +1,8 @@
 """Finds where a PKCS #12 store has each bag (RFC 7292, 4), element by element: the second opinion on `der_bag_rows`, as
-der.h describes it. It shares nothing with tests/support."""
+der.h describes it. Of the library it asks only whether a store is a "rawpfx". It shares nothing with tests/support."""
 import contextlib
 
-from . import signed
+from . import passwords, signed
 from .signed import Refused
 
 DATA = bytes.fromhex("2A864886F70D010701")
@@ -12,15 +12,12 @@ FRIENDLY_NAME, LOCAL_KEY_ID = bytes.fromhex("2A864886F70D010914"), bytes.fromhex
 # those of other types.
 X509 = {3: bytes.fromhex("2A864886F70D01091601"), 4: bytes.fromhex("2A864886F70D01091701")}
 OTHERS = {3: 8, 4: 9}
+# pbeWithSHAAnd3-KeyTripleDES-CBC and pbewithSHAAnd40BitRC2-CBC (RFC 7292, C), and AES in CBC mode (RFC 8018, B.2.5):
+# with PBES2 and PBKDF2 the algorithms of an encrypted key whose parameters are looked at.
+PKCS12 = "1.2.840.113549.1.12.1.3", "1.2.840.113549.1.12.1.6"
+AES = tuple(f"2.16.840.1.101.3.4.1.{last}" for last in (2, 22, 42))
 # In how many others a bag may be.
 LEVELS = 64
-
-
-def known(check, kind, data, element):
-    """Asks that an element is of a kind. `check` returns why and where it isn't, or None."""
-    refusal = check(kind, data[element.at : element.end])
-    if refusal:
-        raise Refused(refusal[0], element.at + refusal[1])
 
 
 def held_in(fields):
@@ -63,6 +60,40 @@ def safe_contents(fields):
         return its.each(safe_bag)
 
 
+def algorithm(fields, known):
+    """An AlgorithmIdentifier (RFC 5280, 4.1.1.2). Parameters of one that is known have to be what its reader takes, and
+    those of others are any element, or absent."""
+    with fields.within() as (_, its):
+        oid = passwords.dotted(signed.identifier(its))
+        if oid in known:
+            known[oid](its)
+        elif its.at < its.end:
+            its.any()
+
+
+def in_sequence(read):
+    """A reader of a SEQUENCE, of one that reads what is in it."""
+    def sequence(fields):
+        with fields.within() as (_, its):
+            read(its)
+
+    return sequence
+
+
+def pbes2(fields):
+    """PBES2-params (RFC 8018, A.4)."""
+    algorithm(fields, {passwords.PBKDF2: in_sequence(passwords.of_pbkdf2)})
+    algorithm(fields, dict.fromkeys(AES, lambda its: its.one(0x04)))
+
+
+def encrypted_key(fields):
+    """An EncryptedPrivateKeyInfo (RFC 5958, 3)."""
+    known = {passwords.PBES2: in_sequence(pbes2), **dict.fromkeys(PKCS12, in_sequence(passwords.of_pkcs12))}
+    with fields.within() as (_, its):
+        algorithm(its, known)
+        its.one(0x04)
+
+
 def only_value(data, attributes, kind, tag):
     """Where the octets of an attribute's value are: whether there is one, the place and the length."""
     found = [it for it in attributes if it[1] == kind]
@@ -93,20 +124,20 @@ def x509_place(data, number, held):
     return (number, inner.contents()) if is_x509 else (OTHERS[number], inner.whole())
 
 
-def rows_of(check, data, bags, level):
+def rows_of(data, bags, level):
     """The numbers of each bag of a SafeContents, found element by element."""
     for element, oid, held, attributes in bags:
         number = oid[-1] if oid[:-1] == BAG and 1 <= oid[-1] <= 6 else 0
         kind, place = x509_place(data, number, held) if number in X509 else (number, held.whole())
         if number == 2:
-            known(check, "encryptedkeybag", data, held)
+            encrypted_key(signed.Elements(data, held.at, held.end))
         name, key_id = name_of(data, attributes), only_value(data, attributes, LOCAL_KEY_ID, 0x04)
         yield kind, level, name[0], key_id[0], *element.whole(), *place, *name[1:], *key_id[1:]
         if number == 6:
             inner = safe_contents(signed.Elements(data, held.at, held.end))
             if level == LEVELS:
                 raise Refused("too deep", held.at)
-            yield from rows_of(check, data, inner, level + 1)
+            yield from rows_of(data, inner, level + 1)
 
 
 def unread(element):
@@ -114,7 +145,7 @@ def unread(element):
     return 7, 0, 0, 0, *element.whole(), *element.whole(), 0, 0, 0, 0
 
 
-def rows_of_content(check, data, element, oid, held):
+def rows_of_content(data, element, oid, held):
     """The numbers of the rows of a ContentInfo."""
     if oid != DATA:
         return [unread(element)]
@@ -122,13 +153,15 @@ def rows_of_content(check, data, element, oid, held):
         raise Refused("missing", element.end)
     with one_in(data, signed.Elements(data, held.at, held.end).one(0x04)) as its:
         bags = safe_contents(its)
-    return list(rows_of(check, data, bags, 0))
+    return list(rows_of(data, bags, 0))
 
 
 def rows(check, data):
     """The numbers of each row of a store, found element by element. Raises Refused. `check` takes a kind and octets
     and returns why and where the kind refuses them, or None."""
-    known(check, "rawpfx", data, signed.Element(0, 0, 0, len(data)))
+    refusal = check("rawpfx", data)
+    if refusal:
+        raise Refused(*refusal)
     with signed.Elements(data, 0, len(data)).within() as (_, its):
         its.any()
         element, oid, held = content_info(its)
@@ -137,4 +170,4 @@ def rows(check, data):
         return [unread(element)]
     with one_in(data, held) as its, its.within() as (_, safe):
         contents = safe.each(content_info)
-    return [row for content in contents for row in rows_of_content(check, data, *content)]
+    return [row for content in contents for row in rows_of_content(data, *content)]

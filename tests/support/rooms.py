@@ -26,8 +26,8 @@ def calls():
 
 def in_room(name, given, room, numbers=1, item=1):
     """What a call answers where it has room for so many items, each of so many bytes: the status, the numbers that it
-    writes, and what is in the room and around it. It is given octets, numbers, and structs, each as a list of its
-    numbers."""
+    writes, and what is in the room and around it. It is given octets, numbers, and structs, or arrays of them, each as
+    a list of its numbers."""
     out = ctypes.create_string_buffer(marked(b"", room * item), 2 * len(MARKS) + room * item)
     words = [word if isinstance(word, bytes) else numbers_of(word) for word in given]
     written = [ctypes.c_size_t() for _ in range(numbers)]
@@ -37,7 +37,7 @@ def in_room(name, given, room, numbers=1, item=1):
 
 
 def numbers_of(word):
-    """A number as a call takes it, or a struct of numbers."""
+    """A number as a call takes it, or a struct of numbers, or an array of such."""
     return (ctypes.c_size_t * len(word))(*word) if isinstance(word, list) else ctypes.c_size_t(word)
 
 

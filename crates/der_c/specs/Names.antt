@@ -1,6 +1,6 @@
 -- What the calls from C that write a text say, by their status.
 use Rattle.std.specs.Prelude.{◌≢◌, ◌⊎◌, ℕ, List}
-use Rattle.std.specs.Str.{chars}
+use Rattle.std.specs.Str.{IsUtf8, chars}
 use Rattle.std.specs.String.{IsUtf16Of}
 use Rattle.asn1_core_element.specs.declared.error.Error.{Error}
 use Rattle.asn1_core_element.specs.declared.error.Error.TheVariants.{TooLong, Memory}
@@ -22,12 +22,16 @@ IsUtf8OfName b t = IsEncodedNameText b (chars t)
 abbrev pub HasNoOidText : List ℕ → Type 0
 HasNoOidText octets = (¬ (IsOid octets)) ⊎ HasLongGroup octets
 
--- the octets are UTF-16, and t is the UTF-8 of the same characters
+-- the octets are UTF-16, and t is UTF-8, of the same characters
 pub record IsUtf8OfUtf16 (octets t : List ℕ) : Type 0 where
   pub is_utf16 : IsUtf16 octets
+  pub is_utf8 : IsUtf8 t
   pub same : IsUtf16Of (units_of octets) t
 
 -- memory was refused, or the octets are no UTF-16
 pub record IsUtf16Refusal (octets : List ℕ) (e : Error) : Type 0 where
   pub kind : e ≢ TooLong
   pub none : e ≢ Memory → ¬ (IsUtf16 octets)
+
+abbrev pub IsUtf16OfUtf8 : List ℕ → List ℕ → Type 0
+IsUtf16OfUtf8 t octets = IsUtf8OfUtf16 octets t

@@ -204,7 +204,7 @@ fn algorithm_of<'a>(input: &'a [u8], row: &Password) -> Result<Algorithm<'a>, us
 }
 
 /// Why nothing is built.
-enum NotBuilt {
+pub(crate) enum NotBuilt {
     /// The part with that number can't be written.
     Part(usize),
     /// Writing refused it.

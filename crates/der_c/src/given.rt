@@ -37,7 +37,11 @@ pub(crate) fn oid_of<'a>(input: &'a [u8], part: Octets, number: usize) -> Result
 }
 
 /// An element.
-fn element_of<'a>(input: &'a [u8], part: Octets, number: usize) -> Result<&'a [u8], usize>
+pub(crate) fn element_of<'a>(
+    input: &'a [u8],
+    part: Octets,
+    number: usize,
+) -> Result<&'a [u8], usize>
     ensures { MatchResult result (λ x. IsElementOf input.now part x.now) (λ _. HasNone (IsElementOf input.now part)) }
 {
     let octets = part_of(input, part, number)?;

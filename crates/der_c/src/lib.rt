@@ -1,5 +1,6 @@
 //! Checks and rewritings of inputs of all kinds, conversions of BER to DER, what verifiers of signers and of MACs need,
-//! the parts of certificates and of contents, how a password encrypts, which is built too, and texts, for callers in C.
+//! the parts of certificates and of contents, how a password encrypts, and texts, for callers in C. Encrypted keys and
+//! contents, and key stores, are built too.
 //! `der.h` has the declarations, and what a caller has to keep to.
 #![tactic(auto)]
 
@@ -10,15 +11,21 @@ ghost use Rattle.der_c.specs.Conversions.{ConvertsBer};
 
 pub mod bags;
 pub mod built;
+pub mod built_bags;
+pub mod built_contents;
+mod built_lists;
+pub mod built_stores;
 pub mod certificates;
 pub mod contents;
 mod given;
 pub mod lists;
 mod macs;
+mod nested;
 mod outputs;
 mod parts;
 pub mod passwords;
 pub mod ranges;
+mod readings;
 pub mod signers;
 pub mod status;
 mod texts;
@@ -30,7 +37,8 @@ pub use parts::der_part_octets;
 use status::status_of;
 use std::alloc::Global;
 pub use texts::{
-    der_integer_text, der_name_text, der_oid_name, der_oid_octets, der_oid_text, der_utf16_text,
+    der_integer_text, der_name_text, der_oid_name, der_oid_octets, der_oid_text, der_text_utf16,
+    der_utf16_text,
 };
 use x509_containers::{Kind, KindOfInput, MAX_NESTING, check_located, rewrite_limited};
 

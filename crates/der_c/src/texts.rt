@@ -1,6 +1,8 @@
 //! Texts for people, for callers in C.
 
-ghost use Rattle.std.specs.Prelude.{string_bytes, MatchResult};
+ghost use Rattle.std.specs.Prelude.{◌≡◌, string_bytes, MatchResult};
+ghost use Rattle.std.specs.Str.{IsUtf8};
+ghost use Rattle.asn1_core_element.specs.declared.error.Error.TheVariants.{Memory};
 ghost use Rattle.asn1_core.specs.Der.{octets_of};
 ghost use Rattle.asn1_core_oid.specs.OidText.{IsTextOf};
 ghost use Rattle.asn1_core_oid.specs.Refusal.{IsRefusal};
@@ -10,7 +12,7 @@ ghost use Rattle.x509_text.specs.Integers.{IsIntegerText};
 ghost use Rattle.x509_pkcs12.specs.Utf16.{IsUtf16};
 ghost use Rattle.der_c.specs.Given.{HasNone};
 ghost use Rattle.der_c.specs.Integers.{HasNoIntegerText};
-ghost use Rattle.der_c.specs.Names.{HasNoOidText, IsUtf8OfName, IsUtf8OfUtf16, IsUtf16Refusal, WritesText};
+ghost use Rattle.der_c.specs.Names.{HasNoOidText, IsUtf16OfUtf8, IsUtf16Refusal, IsUtf8OfName, IsUtf8OfUtf16, WritesText};
 ghost use Rattle.der_c.specs.ObjectNames.{WritesObjectName};
 
 use crate::outputs::put_octets;
@@ -143,6 +145,45 @@ pub extern "C" fn der_utf16_text(
     *written = 0;
     match utf16_text(alloc, octets) {
         Ok(text) => put_octets(text.as_bytes(), out, written),
+        Err(error) => status_of(error),
+    }
+}
+
+/// The UTF-16 of a text, two octets for each unit, the high one first. Refuses by `Memory` alone.
+fn utf16_of(alloc: Global, text: &str) -> Result<Vec<u8>, Error>
+    ensures { MatchResult result (λ octets. IsUtf8OfUtf16 octets.items text.now) (λ e. e ≡ Memory) }
+{
+    let mut octets = Vec::new(alloc);
+    for unit in text.encode_utf16() {
+        octets.extend_from_slice(&unit.to_be_bytes())?;
+    }
+    Ok(octets)
+}
+
+/// The UTF-16 of a text in UTF-8. Refuses by `Invalid` what is no UTF-8.
+fn text_utf16(alloc: Global, text: &[u8]) -> Result<Vec<u8>, Error>
+    ensures { MatchResult result (λ octets. IsUtf8OfUtf16 octets.items text.now) (IsRefusal (¬ (IsUtf8 text.now))) }
+{
+    let Ok(text) = str::from_utf8(text) else {
+        return Err(Error::Invalid);
+    };
+    utf16_of(alloc, text)
+}
+
+/// Writes a text in UTF-8 as UTF-16, two octets for each unit, the high one first. What it answers is as of `der_name_text`:
+/// at `INVALID` the text is no UTF-8.
+#[unsafe(no_mangle)]
+pub extern "C" fn der_text_utf16(
+    alloc: Global,
+    text: &[u8],
+    out: &mut [u8],
+    written: &mut usize,
+) -> u32
+    ensures { WritesText (IsUtf16OfUtf8 text.now) (¬ (IsUtf8 text.now)) out.old out.new written.new result }
+{
+    *written = 0;
+    match text_utf16(alloc, text) {
+        Ok(octets) => put_octets(&octets, out, written),
         Err(error) => status_of(error),
     }
 }
