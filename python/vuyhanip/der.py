@@ -1591,7 +1591,7 @@ class Library:
 
         An encrypted key has to be one that bags reads. build_parameters makes others only where an algorithm that bags
         knows, as PBES2, is given parameters that aren't its own. A secret has to be a SecretBag, and bags in a bag a
-        SafeContents. No bag may be in more than 64 others; what else bags hold that are in a bag, and the values of
+        SafeContents. At most 64 of these may be in one another; what else bags hold that are in a bag, and the values of
         their attributes, isn't looked at, so bags may refuse them. Of what other kinds hold is only asked that it is
         one element. Raises BadBag where a bag can't be written.
         """

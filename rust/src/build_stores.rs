@@ -132,9 +132,9 @@ build_error!(BuildBagsError, Self::Refused { bag, part } => "refused: {part} of 
 ///    but also others, where an algorithm that `bags` knows, as PBES2, is given parameters that aren't its own.
 ///  - `Certificate`, `Crl`: the DER of one of X.509; any element is taken.
 ///  - `Secret`: a SecretBag (RFC 7292, 4.2.5).
-///  - `SafeContents`: what this call builds. Its bags are read, and those in bags of it, and so on; none of them may be
-///    in more than 64 bags. What its other bags hold, and the values of attributes in it, isn't looked at, so `bags`
-///    may refuse a store around it.
+///  - `SafeContents`: what this call builds. Its bags are read, and those in bags of it, and so on; at most 64
+///    SafeContents, with this one, may be in one another. What its other bags hold, and the values of attributes in it,
+///    isn't looked at, so `bags` may refuse a store around it.
 ///  - `Other`: any element, under [`BagGiven::identifier`].
 ///
 /// Attributes are written in the order of DER (X.690, 11.6). A name with characters past U+FFFF is written with
