@@ -1,1 +1,5 @@
+pub mod FoundOnce
+pub mod InOrder
 pub mod Mapped
+pub mod NotEncoded
+pub mod Shuffled

@@ -1,18 +1,10 @@
-//! SET OF in the order of DER: the encodings of its components ascend (X.690, 11.6).
+//! SET OF in the order of DER, of values that are encoded first or of elements (X.690, 11.6), and of exactly one item.
 #![tactic(auto)]
 
-ghost use Rattle.std.specs.Prelude.{◌≡◌, map};
-ghost use Rattle.asn1_sets.specs.Order.{IsInOrder, compared};
+mod encodings;
+mod ones;
+mod order;
 
-use asn1_core::Asn1RawDer;
-
-/// Puts elements in the order that DER has them in within a SET OF (X.690, 11.6). Takes no memory.
-pub fn put_in_order(elements: &mut [Asn1RawDer])
-    ensures { IsInOrder (map (λ x. x.0.items) elements.old) (map (λ x. x.0.items) elements.new) }
-{
-    elements.sort_unstable_by(
-        |x: &Asn1RawDer, y: &Asn1RawDer|
-            ensures { result ≡ compared x.now.0.items y.now.0.items }
-        { x.0.as_slice().cmp(y.0.as_slice()) },
-    );
-}
+pub use encodings::{encoded, encoded_in_order};
+pub use ones::SetOfOne;
+pub use order::{put_in_order, put_refs_in_order};

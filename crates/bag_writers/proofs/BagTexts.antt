@@ -7,8 +7,8 @@ use Rattle.std.proofs.lemmas.List.Folds.{flat_map-map}
 use Rattle.std.proofs.lemmas.Option.{none-some}
 use Rattle.asn1_core.specs.Asn1.{ANY, OBJECT_IDENTIFIER, SEQUENCE, SET_OF}
 use Rattle.asn1_core.specs.Der.{ElementOctets, Format, IsElement, IsTagByte, element, nothing, optional}
-use Rattle.bag_writers.proofs.Ordered.{text_element}
-use Rattle.bag_writers.specs.GivenAttributes.{ATTRIBUTE, attribute_text, is_formed}
+use Rattle.attribute_writers.proofs.Found.{text_element}
+use Rattle.attribute_writers.specs.Attributes.{ATTRIBUTE, attribute_text, is_formed}
 use Rattle.bag_writers.specs.Given.{HeldValue, given_bag, held, x509_held}
 use Rattle.bag_writers.specs.Values.{attributed_value, attributes_in, held_id, held_value}
 use Rattle.bag_writers.specs.Written.{AreAttributesOf, CanBeWritten, HasAttributes, IsBagOf, set_of}

@@ -1,6 +1,5 @@
 pub mod BagTexts
-pub mod FoundOnce
 pub mod NotEncoded
 pub mod Ordered
 pub mod Safes
-pub mod Shuffled
+pub mod Surrogates

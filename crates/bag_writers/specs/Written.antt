@@ -5,10 +5,12 @@ use Rattle.std.specs.List.Sorted.{IsPermutation, IsSorted}
 use Rattle.asn1_core.specs.Asn1.{Asn1, OBJECT_IDENTIFIER, SEQUENCE}
 use Rattle.asn1_core.specs.Der.{ElementOctets, Octets, octet_string, option_value}
 use Rattle.asn1_core_element.specs.declared.error.Error.{Error}
-use Rattle.asn1_core_element.specs.declared.error.Error.TheVariants.{Invalid, TooLong}
 use Rattle.asn1_core_format.specs.Whole.{IsValueOf}
+use Rattle.asn1_sets.specs.Encodings.{HasNoTexts}
 use Rattle.asn1_sets.specs.Order.{compared}
-use Rattle.bag_writers.specs.GivenAttributes.{HasNoText, IsRefusal, IsName, attribute_text, is_formed, key_ids, names, further}
+use Rattle.attribute_writers.specs.Refusals.{Refuses}
+use Rattle.attribute_writers.specs.Attributes.{ATTRIBUTE, attribute_text, is_formed}
+use Rattle.bag_writers.specs.GivenAttributes.{IsName, key_ids, names, further}
 use Rattle.bag_writers.specs.Given.{held}
 use Rattle.bag_writers.specs.Values.{attributes_in, held_id, held_value}
 use Rattle.bag_writers.specs.declared.bags.Attributed.{Attributed}
@@ -71,15 +73,13 @@ IsTooLong given =
     ((bag : Bag) × Contains given bag × (a : attribute.Value) × Contains (given_attributes bag) a × (2 ^ 64 ≤ length (attribute_text a)))
     ⊎ ((text : List ℕ) × IsSafeContentsOf given text × (2 ^ 64 ≤ length text))
 
--- why nothing is written: a bag that can't be, a text that is too long, or memory that was refused
-pub record IsNotSafe (given : List Bag) (e : Error) : Type 0 where
-  pub kind : IsRefusal e
-  pub long : e ≡ TooLong → IsTooLong given
-  pub none : e ≡ Invalid → AllByRecursion CanBeWritten given → ⊥
+-- why nothing is written
+abbrev pub IsNotSafe : List Bag → Error → Type 0
+IsNotSafe given e = Refuses (AllByRecursion CanBeWritten given) (IsTooLong given) e
 
 -- the same of a bag's attributes alone
 abbrev pub HasNoAttributes : Bag → Error → Type 0
-HasNoAttributes given e = HasNoText (HasGoodAttributes given) (given_attributes given) e
+HasNoAttributes given e = HasNoTexts ATTRIBUTE.format (HasGoodAttributes given) (given_attributes given) e
 
 -- the encodings of a bag's attributes
 pub record HasTexts (given : Bag) (texts : List ElementOctets) : Type 0 where

@@ -4,8 +4,10 @@
 mod attributes;
 pub mod bags;
 pub mod held;
+mod utf16;
 mod write;
 
 pub use bags::Bag;
 pub use held::Held;
+pub use utf16::is_utf16;
 pub use write::write_safe_contents;

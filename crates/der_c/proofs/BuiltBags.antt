@@ -9,7 +9,8 @@ use Rattle.asn1_core.specs.Der.{Octets as OctetList}
 use Rattle.asn1_core_element.specs.declared.error.Error.{Error}
 use Rattle.asn1_core_element.specs.declared.error.Error.TheVariants.{Invalid, TooLong, Memory}
 use Rattle.bag_writers.specs.Given.{held as HELD}
-use Rattle.bag_writers.specs.GivenAttributes.{ATTRIBUTE, IsName, is_formed, is_further, further}
+use Rattle.attribute_writers.specs.Attributes.{ATTRIBUTE, is_formed}
+use Rattle.bag_writers.specs.GivenAttributes.{IsName, is_further, further}
 use Rattle.bag_writers.specs.Values.{held_id, held_value}
 use Rattle.bag_writers.specs.Written.{CanBeWritten, IsNotSafe, name_of}
 use Rattle.bag_writers.specs.declared.bags.Bag.{Bag}

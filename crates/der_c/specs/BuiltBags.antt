@@ -4,7 +4,7 @@ use Rattle.std.specs.List.{AllZip}
 use Rattle.asn1_core.specs.Asn1.{SEQUENCE, SET_OF}
 use Rattle.asn1_core.specs.Der.{Octets as OctetList}
 use Rattle.bag_ranges.specs.declared.ranges.BagKind.TheVariants as Kinds
-use Rattle.bag_writers.specs.GivenAttributes.{ATTRIBUTE}
+use Rattle.attribute_writers.specs.Attributes.{ATTRIBUTE}
 use Rattle.bag_writers.specs.Written.{IsSafeContentsOf, IsTooLong, key_id_of, name_of}
 use Rattle.bag_writers.specs.declared.bags.Bag.{Bag}
 use Rattle.bag_writers.specs.declared.held.Held.{Held}

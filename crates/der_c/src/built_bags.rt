@@ -19,9 +19,8 @@ use crate::ranges::Octets;
 use crate::readings::{check_as, read_as};
 use crate::status;
 use crate::status::status_of;
-use asn1_core::Error;
 use asn1_core::prelude::*;
-use bag_writers::{Bag, Held, write_safe_contents};
+use bag_writers::{Bag, Held, is_utf16, write_safe_contents};
 use pkcs12_bags::parts::oids::{
     CERTIFICATE_BAG, CRL_BAG, KEY_BAG, SAFE_CONTENTS_BAG, SECRET_BAG, SHROUDED_KEY_BAG,
     octets_of_known,
@@ -29,7 +28,6 @@ use pkcs12_bags::parts::oids::{
 use pkcs12_bags::parts::{EncryptedKeyBag, SecretBag};
 use std::alloc::Global;
 use x509_base::Attribute;
-use x509_pkcs12::Utf16String;
 
 // Those of `der_bag_part` in der.h, which says more of each.
 const KIND: usize = 1;
@@ -146,18 +144,17 @@ fn check_value(alloc: Global, input: &[u8], row: &BagGiven) -> Result<(), NotBui
 }
 
 /// Whether octets are UTF-16.
-fn check_name(alloc: Global, octets: &[u8]) -> Result<(), NotBuilt>
+fn check_name(octets: &[u8]) -> Result<(), NotBuilt>
     ensures { MatchResult result (λ _. IsUtf16 octets.now) (λ wrong. IsUnread (IsUtf16 octets.now) wrong) }
 {
-    match Utf16String::from_contents(alloc, octets) {
-        Ok(_name) => Ok(()),
-        Err(Error::Memory) => Err(NotBuilt::Refused(Error::Memory)),
-        Err(_) => Err(NotBuilt::Part(FRIENDLY_NAME)),
+    if is_utf16(octets) {
+        return Ok(());
     }
+    Err(NotBuilt::Part(FRIENDLY_NAME))
 }
 
 /// Whether a bag's friendly name, unless it has none, can be written.
-fn check_name_if(alloc: Global, input: &[u8], row: &BagGiven) -> Result<(), NotBuilt>
+fn check_name_if(input: &[u8], row: &BagGiven) -> Result<(), NotBuilt>
     ensures { MatchResult result
         (λ _. HasOne (IfGiven row.now.has_friendly_name (IsNameOf input.now row.now.friendly_name)))
         (λ wrong. IsUnread (HasOne (IfGiven row.now.has_friendly_name (IsNameOf input.now row.now.friendly_name))) wrong) }
@@ -166,7 +163,7 @@ fn check_name_if(alloc: Global, input: &[u8], row: &BagGiven) -> Result<(), NotB
         return Ok(());
     }
     match part_of(input, row.friendly_name, FRIENDLY_NAME) {
-        Ok(octets) => check_name(alloc, octets),
+        Ok(octets) => check_name(octets),
         Err(part) => Err(NotBuilt::Part(part)),
     }
 }
@@ -217,7 +214,7 @@ fn checked(alloc: Global, input: &[u8], row: &BagGiven) -> Result<Vec<Attribute>
         (λ wrong. IsUnread (GivesBag input.now row.now) wrong) }
 {
     check_value(alloc, input, row)?;
-    check_name_if(alloc, input, row)?;
+    check_name_if(input, row)?;
     check_key_id_if(input, row)?;
     further_if(alloc, input, row)
 }

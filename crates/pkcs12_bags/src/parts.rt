@@ -10,4 +10,4 @@ pub mod sets;
 pub use attributes::{BagAttributes, BagAttributesRef, Pkcs12Attribute};
 pub use bags::{CertificateBag, CrlBag, EncryptedKeyBag, KeyBag, SecretBag, X509Bag};
 pub use encrypted_contents::EncryptedSafeContents;
-pub use sets::{SetOfOne, SetRef};
+pub use sets::SetRef;

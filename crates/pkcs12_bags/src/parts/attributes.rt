@@ -7,10 +7,11 @@ ghost use Rattle.pkcs12_bags.specs.Attributes.{pkcs12_attribute, pkcs12_attribut
 ghost use Rattle.pkcs12_bags.specs.AttributesEqual.{pkcs12_attribute_equal};
 
 use crate::parts::oids::{FRIENDLY_NAME, Known, LOCAL_KEY_ID};
-use crate::parts::sets::{SetOfOne, SetRef};
+use crate::parts::sets::SetRef;
 use asn1_choices::{Alternative, AnyOid, AnyOidRef, Chosen, WriteChoice};
 use asn1_core::prelude::*;
 use asn1_leaves::{BmpString, BmpStringAsn1};
+use asn1_sets::SetOfOne;
 use std::alloc::Global;
 
 /// `PKCS12Attribute ::= SEQUENCE { attrId ATTRIBUTE.&id, attrValues SET OF ATTRIBUTE.&Type }` (RFC 7292, 4.2), of which

@@ -5,7 +5,7 @@ use Rattle.std.proofs.lemmas.List.MinMax.{ranks_by}
 use Rattle.std.proofs.lemmas.List.Sorted.{answers_always, IsPermutation-map}
 use Rattle.asn1_sets.proofs.Mapped.{sorted_map}
 use Rattle.asn1_sets.specs.Order.{compared}
-use Rattle.asn1_sets.proofs.put_in_order.Goals as goal
+use Rattle.asn1_sets.proofs.order.put_in_order.Goals as goal
 
 pub returns : goal.returns
 returns c =

@@ -1,7 +1,7 @@
 use Rattle.std.proofs.Common.{arith, rules}
 use Rattle.asn1_core.specs.Der.{element_some}
 use Rattle.asn1_core_format.proofs.ComponentReads.{alone_refused, alone_left}
-use Rattle.pkcs12_bags.proofs.parts.sets.OnlyReadComponents.read_components.Goals as goal
+use Rattle.asn1_sets.proofs.ones.OnlyReadComponents.read_components.Goals as goal
 
 pub returns-then-left-eq0 : goal.returns-then-left-eq0
 returns-then-left-eq0 g c = record {

@@ -1,8 +1,0 @@
-use Rattle.std.proofs.Common.{rules, ◌∙◌, sym}
-use Rattle.bag_writers.proofs.NotEncoded.{not_further}
-use Rattle.bag_writers.proofs.attributes.push_further.Goals as goal
-
-pub returns-in_err-encoded : goal.returns-in_err-encoded
-returns-in_err-encoded c =
-    let r = not_further c.args.attributes.now c.loop-attribute.attribute-index c.attribute-item.result _ c.loop-attribute-test.true c.attribute-item.is (sym c.is_further.ensures ∙ c.if-is_further.true) c.in_err-encoded.ensures in
-    search rules
