@@ -8,4 +8,4 @@ pub mod signers;
 
 pub use input_ranges::Refusal;
 pub use ranges::{SignedRanges, SignerRanges, Signers};
-pub use signers::signer_ranges;
+pub use signers::{signed_digest, signer_ranges};

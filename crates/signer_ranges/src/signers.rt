@@ -28,14 +28,12 @@ use asn1_core_oid::is_oid_of;
 use asn1_core_oid::known::DATA;
 use input_ranges::{Refusal, refusal_of};
 use pkcs7_attributes::Attributes;
+use pkcs7_attributes::named_attributes::MESSAGE_DIGEST;
 use pkcs7_signed_crl::SignerIdentifier;
 use std::alloc::Global;
 use std::ops::Range;
 use x509_base::Attribute;
 use x509_pkcs7::{RawPkcs7Certificate, RawSignerInfo, SignerCertificate, signer_certificates_at};
-
-/// `id-messageDigest`
-const MESSAGE_DIGEST: [u8; 9] = [0x2A, 0x86, 0x48, 0x86, 0xF7, 0x0D, 0x01, 0x09, 0x04];
 
 /// Whether two object identifiers are equal.
 fn is_same(a: &ObjectIdentifierAsn1, b: &ObjectIdentifierAsn1) -> bool
@@ -102,9 +100,10 @@ fn names_type(
     }
 }
 
-/// The digest that the content has to have, if the attributes are as they have to be. Refuses by `Memory` alone.
+/// The digest that the content has to have, if the signed attributes are as they have to be: one contentType, which is the
+/// content's, and one messageDigest, each with one value (RFC 5652, 11.1 and 11.2). Refuses by `Memory` alone.
 #[tactic(auto, using(crate::proofs::Attributes::signs, crate::proofs::Attributes::signs_no_type, crate::proofs::Attributes::signs_no_digest))]
-fn signed_digest(
+pub fn signed_digest(
     alloc: Global,
     attributes: &Attributes,
     content_type: &ObjectIdentifierAsn1,

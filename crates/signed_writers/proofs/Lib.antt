@@ -1,0 +1,12 @@
+pub mod Allowed
+pub mod Contents
+pub mod Deduped
+pub mod Normals
+pub mod OrderedAttributes
+pub mod ReadParts
+pub mod Refused
+pub mod SetTexts
+pub mod Signed
+pub mod SignedTexts
+pub mod SigningTimes
+pub mod Unwritten

@@ -1,0 +1,9 @@
+pub mod Given
+pub mod GivenAttributes
+pub mod PartValues
+pub mod Parts
+pub mod Signed
+pub mod Signers
+pub mod Values
+pub mod Versions
+pub mod WrittenAttributes
