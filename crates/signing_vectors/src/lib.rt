@@ -1,0 +1,19 @@
+//! Tests of signed data and signed attributes that are written from their parts, by public calls.
+#![tactic(auto)]
+
+#[cfg(test)]
+mod attributes;
+#[cfg(test)]
+mod files;
+#[cfg(test)]
+mod files_written;
+#[cfg(test)]
+mod given;
+#[cfg(test)]
+mod parts;
+#[cfg(test)]
+mod refused_parts;
+#[cfg(test)]
+mod refused_signers;
+#[cfg(test)]
+mod versions;
