@@ -148,7 +148,7 @@ fn of_an_element(rt: HostRuntime) -> Result<(), Fail> {
 fn of_each_choice(rt: HostRuntime) -> Result<(), Fail> {
     let text = written(
         rt.alloc(),
-        &holding(OTHER, Content::Octets(b"")),
+        &detached(DATA),
         &[
             b"\xA3\x00",
             b"\x30\x03\x02\x01\x01",

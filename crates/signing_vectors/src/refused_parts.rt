@@ -53,8 +53,28 @@ fn content_types(rt: HostRuntime) -> Result<(), Fail> {
 fn contents(rt: HostRuntime) -> Result<(), Fail> {
     for octets in NO_ELEMENTS {
         let info = ContentInfo {
-            content_type: OTHER,
+            content_type: DATA,
             content: Some(Content::Element(octets)),
+        };
+        let refused = outcome(rt.alloc(), &info, &[], &[], &[short_by_a()])?;
+        is_refused(&refused, SignedPart::Content, 0)?;
+    }
+    Ok(())
+}
+
+/// Without signers the type is id-data, and there is no content (RFC 5652, 5.2).
+#[test]
+fn contents_without_signers(rt: HostRuntime) -> Result<(), Fail> {
+    let rows: [(&[u8], Option<Content<'static>>); 4] = [
+        (OTHER, None),
+        (OTHER, Some(Content::Octets(b"o"))),
+        (DATA, Some(Content::Octets(b""))),
+        (DATA, Some(Content::Element(b"\x30\x00"))),
+    ];
+    for (content_type, content) in rows {
+        let info = ContentInfo {
+            content_type,
+            content,
         };
         let refused = outcome(rt.alloc(), &info, &[], &[], &[])?;
         is_refused(&refused, SignedPart::Content, 0)?;
@@ -120,7 +140,7 @@ fn is_named(alloc: Global, content_type: &[u8], signers: &[Signer<'_>]) -> Resul
     is_refused(&refused, SignedPart::Signer, 1)
 }
 
-/// Attributes that RFC 5652, 5.3, 11.1 and 11.2 forbid with content of the type 1.2.3.4.
+/// Attributes that RFC 5652, 11.1 to 11.3 forbid with content of the type 1.2.3.4.
 #[test]
 fn attributes(rt: HostRuntime) -> Result<(), Fail> {
     let rows = [
@@ -133,11 +153,14 @@ fn attributes(rt: HostRuntime) -> Result<(), Fail> {
         two_digests(),
         type_of_octets(),
         digest_of_bits(),
+        time_twice(),
+        two_times(),
+        time_of_octets(),
     ];
+    let right = with_attributes(with_time());
     for signed_attributes in rows {
         let wrong = with_attributes(signed_attributes);
-        let signers = [with_attributes(right()), wrong, wrong];
-        is_named(rt.alloc(), OTHER, &signers)?;
+        is_named(rt.alloc(), OTHER, &[right, wrong, wrong])?;
     }
     Ok(())
 }
@@ -154,38 +177,56 @@ fn attributes_of_types(rt: HostRuntime) -> Result<(), Fail> {
     is_named(alloc, OTHER, &[other, data, other])
 }
 
-/// Certificates, revocation lists, and what is named of them and of a signer that is refused.
+/// A content type, certificates, revocation lists, and which part of them, or the signer, is named.
 type First = (
+    &'static [u8],
     &'static [&'static [u8]],
     &'static [&'static [u8]],
     SignedPart,
     usize,
 );
 
-const FIRST: [First; 3] = [
+const FIRST: [First; 4] = [
     (
+        b"",
+        &[b"\x31\x00"],
+        &[b"\x31\x00"],
+        SignedPart::ContentType,
+        0,
+    ),
+    (
+        OTHER,
         &[b"\x30\x00", b"\x31\x00"],
         &[b"\x31\x00"],
         SignedPart::Certificate,
         1,
     ),
     (
+        OTHER,
         &[b"\x30\x00"],
         &[b"\x31\x00"],
         SignedPart::RevocationList,
         0,
     ),
-    (&[], &[b"\x30\x00"], SignedPart::Signer, 0),
+    (OTHER, &[], &[b"\x30\x00"], SignedPart::Signer, 0),
 ];
 
 #[test]
 fn the_first(rt: HostRuntime) -> Result<(), Fail> {
-    let signers = [with_attributes(right())];
-    for (certificates, crls, part, index) in FIRST {
-        let refused = outcome(rt.alloc(), &detached(DATA), certificates, crls, &signers)?;
+    let signers = [short_by_a()];
+    for (content_type, certificates, crls, part, index) in FIRST {
+        let info = detached(content_type);
+        let refused = outcome(rt.alloc(), &info, certificates, crls, &signers)?;
         is_refused(&refused, part, index)?;
     }
     Ok(())
+}
+
+/// Content is named before a certificate.
+#[test]
+fn content_first(rt: HostRuntime) -> Result<(), Fail> {
+    let refused = outcome(rt.alloc(), &detached(OTHER), &[b""], &[], &[])?;
+    is_refused(&refused, SignedPart::Content, 0)
 }
 
 fn push_encoded(
@@ -243,7 +284,7 @@ fn versions(rt: HostRuntime) -> Result<(), Fail> {
 }
 
 /// The type 1.2.3.4 and a digest.
-fn right() -> &'static [u8] {
+pub(crate) fn right() -> &'static [u8] {
     b"\
     \x31\x26\x30\x10\x06\x09\x2A\x86\x48\x86\xF7\x0D\x01\x09\x04\x31\x03\x04\x01\x64\x30\x12\x06\x09\x2A\
     \x86\x48\x86\xF7\x0D\x01\x09\x03\x31\x05\x06\x03\x2A\x03\x04"
@@ -304,6 +345,40 @@ fn type_of_octets() -> &'static [u8] {
     \x86\x48\x86\xF7\x0D\x01\x09\x03\x31\x05\x04\x03\x2A\x03\x04"
 }
 
+/// A type, a digest and one signing time twice.
+fn time_twice() -> &'static [u8] {
+    b"\
+    \x31\x62\x30\x10\x06\x09\x2A\x86\x48\x86\xF7\x0D\x01\x09\x04\x31\x03\x04\x01\x64\x30\x12\x06\x09\x2A\
+    \x86\x48\x86\xF7\x0D\x01\x09\x03\x31\x05\x06\x03\x2A\x03\x04\x30\x1C\x06\x09\x2A\x86\x48\x86\xF7\x0D\
+    \x01\x09\x05\x31\x0F\x17\x0D\x32\x36\x30\x31\x30\x32\x30\x33\x30\x34\x30\x35\x5A\x30\x1C\x06\x09\x2A\
+    \x86\x48\x86\xF7\x0D\x01\x09\x05\x31\x0F\x17\x0D\x32\x36\x30\x31\x30\x32\x30\x33\x30\x34\x30\x35\x5A"
+}
+
+/// A type, a digest and two signing times in one attribute.
+fn two_times() -> &'static [u8] {
+    b"\
+    \x31\x53\x30\x10\x06\x09\x2A\x86\x48\x86\xF7\x0D\x01\x09\x04\x31\x03\x04\x01\x64\x30\x12\x06\x09\x2A\
+    \x86\x48\x86\xF7\x0D\x01\x09\x03\x31\x05\x06\x03\x2A\x03\x04\x30\x2B\x06\x09\x2A\x86\x48\x86\xF7\x0D\
+    \x01\x09\x05\x31\x1E\x17\x0D\x32\x36\x30\x31\x30\x32\x30\x33\x30\x34\x30\x35\x5A\x17\x0D\x32\x36\x30\
+    \x31\x30\x32\x30\x33\x30\x34\x30\x35\x5A"
+}
+
+/// A type, a digest and a signing time that is an OCTET STRING.
+fn time_of_octets() -> &'static [u8] {
+    b"\
+    \x31\x38\x30\x10\x06\x09\x2A\x86\x48\x86\xF7\x0D\x01\x09\x04\x31\x03\x04\x01\x64\x30\x10\x06\x09\x2A\
+    \x86\x48\x86\xF7\x0D\x01\x09\x05\x31\x03\x04\x01\x74\x30\x12\x06\x09\x2A\x86\x48\x86\xF7\x0D\x01\x09\
+    \x03\x31\x05\x06\x03\x2A\x03\x04"
+}
+
+/// A type, a digest and one signing time.
+fn with_time() -> &'static [u8] {
+    b"\
+    \x31\x44\x30\x10\x06\x09\x2A\x86\x48\x86\xF7\x0D\x01\x09\x04\x31\x03\x04\x01\x64\x30\x12\x06\x09\x2A\
+    \x86\x48\x86\xF7\x0D\x01\x09\x03\x31\x05\x06\x03\x2A\x03\x04\x30\x1C\x06\x09\x2A\x86\x48\x86\xF7\x0D\
+    \x01\x09\x05\x31\x0F\x17\x0D\x32\x36\x30\x31\x30\x32\x30\x33\x30\x34\x30\x35\x5A"
+}
+
 /// A digest that is a BIT STRING.
 fn digest_of_bits() -> &'static [u8] {
     b"\
@@ -316,13 +391,14 @@ fn with_unsigned(mut signer: RawSignerInfo, attributes: Vec<Attribute>) -> RawSi
     signer
 }
 
-/// An ill-formed signer, with a value that is no element, is refused as the whole.
+/// A signer, the second, with a value that is no element.
 #[test]
 fn an_ill_formed_signer(rt: HostRuntime) -> Result<(), Fail> {
     let alloc = rt.alloc();
     let attributes = broken(alloc, element_unsigned())?;
     let signer = signer(alloc, &short_by_a())?;
-    let signers = vec![in alloc; with_unsigned(signer, attributes)]?;
-    let outcome = write_signed_data(alloc, &detached(DATA), &[], &[], signers.as_slice());
-    is_refused(&outcome, SignedPart::Content, 0)
+    let mut all = signers(alloc, &[short_by_a()])?;
+    all.push(with_unsigned(signer, attributes))?;
+    let outcome = write_signed_data(alloc, &detached(DATA), &[], &[], all.as_slice());
+    is_refused(&outcome, SignedPart::Signer, 1)
 }

@@ -2,14 +2,15 @@
 
 use crate::given::{short, short_by_a, signer};
 use crate::parts::certificate_a;
+use asn1_core::Error;
 use pkcs7_content::CmsVersion;
-use signed_writers::{Identifier, Signer, SignerPart, read_signer};
+use signed_writers::{Identifier, NotRead, Signer, SignerPart, read_signer};
 use std::alloc::Global;
 use std::test::Fail;
 use vector_checks::checks::expect;
 
-/// Octets that are neither a certificate, nor an algorithm, nor a set of attributes that isn't empty: none; fewer than the
-/// length says; a SEQUENCE, a SET and a `[0]` without contents; an INTEGER; a SEQUENCE of an INTEGER.
+/// Octets that are neither a certificate, nor an algorithm, nor a set of attributes that isn't empty: none; fewer than
+/// their length says; a SEQUENCE, a SET and a `[0]` without contents; an INTEGER; a SEQUENCE of an INTEGER.
 const WRONG: [&[u8]; 7] = [
     b"",
     b"\x30\x01",
@@ -50,6 +51,27 @@ fn each_part(rt: HostRuntime) -> Result<(), Fail> {
         is_named(rt.alloc(), octets)?;
     }
     Ok(())
+}
+
+/// A set of attributes that isn't there is `None`, not an empty one.
+#[test]
+fn empty_sets(rt: HostRuntime) -> Result<(), Fail> {
+    let mut given = short_by_a();
+    given.unsigned_attributes = Some(b"\x31\x00");
+    is_missing(rt.alloc(), &given, SignerPart::UnsignedAttributes)?;
+    given.signed_attributes = Some(b"\x31\x00");
+    is_missing(rt.alloc(), &given, SignerPart::SignedAttributes)
+}
+
+fn is_missing(alloc: Global, given: &Signer<'_>, part: SignerPart) -> Result<(), Fail> {
+    let wanted = NotRead {
+        part,
+        error: Error::Missing,
+    };
+    match read_signer(alloc, given) {
+        Ok(_) => Err(Fail::new("it isn't refused")),
+        Err(refusal) => expect(refusal == wanted, "it is refused otherwise"),
+    }
 }
 
 /// The version is 1 with a certificate, and 3 with a key identifier (RFC 5652, 5.3).

@@ -1,7 +1,7 @@
 //! The version of signed data (RFC 5652, 5.1).
 
-use crate::given::{DATA, OTHER, by_ecdsa, detached, short, short_by_a, written};
-use crate::parts::{certificate_b, element_attributes, element_signature};
+use crate::given::{DATA, OTHER, detached, short, short_by_a, written};
+use crate::refused_parts::right;
 use signed_writers::{Content, ContentInfo, Identifier, Signer};
 use std::alloc::Global;
 use std::test::Fail;
@@ -39,7 +39,16 @@ const AT_LEAST_3: [Sets; 6] = [
     (&[], &[b"\xA1\x00"], 5),
 ];
 
-/// What is written has that version, at 17 where it has fewer than 128 octets.
+/// The contents octets of an element, of fewer than 256.
+fn contents(element: &[u8]) -> &[u8] {
+    match element {
+        [_, 0x81, _, contents @ ..] => contents,
+        [_, _, contents @ ..] => contents,
+        _ => b"",
+    }
+}
+
+/// What is written has that version, which comes first in what the tag `[0]` is around, after an object identifier.
 fn has_version(
     alloc: Global,
     info: ContentInfo<'_>,
@@ -48,8 +57,11 @@ fn has_version(
 ) -> Result<(), Fail> {
     let (certificates, crls, version) = sets;
     let text = written(alloc, &info, certificates, crls, signers)?;
+    let Some(explicit) = contents(&text).get(11..) else {
+        return Err(Fail::new("it is short"));
+    };
     expect(
-        text.as_slice().get(17..20) == Some([0x02, 0x01, version].as_slice()),
+        contents(contents(explicit)).starts_with(&[0x02, 0x01, version]),
         "another version",
     )
 }
@@ -80,21 +92,34 @@ fn of_a_key_identifier(rt: HostRuntime) -> Result<(), Fail> {
     Ok(())
 }
 
-/// Content of another type than id-data, there and elsewhere.
+/// A signer of version 1, with attributes for content of the type 1.2.3.4.
+fn of_other() -> Signer<'static> {
+    let mut signer = short_by_a();
+    signer.signed_attributes = Some(right());
+    signer
+}
+
+/// Content of another type than id-data: elsewhere, and as an OCTET STRING.
 #[test]
 fn of_another_type(rt: HostRuntime) -> Result<(), Fail> {
-    let there = ContentInfo {
-        content_type: OTHER,
-        content: Some(Content::Octets(b"o")),
-    };
-    for sets in AT_LEAST_3 {
-        has_version(rt.alloc(), detached(OTHER), sets, &[])?;
-        has_version(rt.alloc(), there, sets, &[])?;
+    let rows: [Option<Content<'static>>; 3] = [
+        None,
+        Some(Content::Octets(b"o")),
+        Some(Content::Element(b"\x04\x01o")),
+    ];
+    for content in rows {
+        let info = ContentInfo {
+            content_type: OTHER,
+            content,
+        };
+        for sets in AT_LEAST_3 {
+            has_version(rt.alloc(), info, sets, &[of_other()])?;
+        }
     }
     Ok(())
 }
 
-/// An element is content of RFC 2315, 9.1, where the version is 1.
+/// Another element is content of RFC 2315, 9.1, where the version is 1.
 #[test]
 fn of_an_element(rt: HostRuntime) -> Result<(), Fail> {
     let info = ContentInfo {
@@ -102,22 +127,7 @@ fn of_an_element(rt: HostRuntime) -> Result<(), Fail> {
         content: Some(Content::Element(b"\x30\x00")),
     };
     for sets in OF_DATA {
-        has_version(rt.alloc(), info, sets, &[])?;
+        has_version(rt.alloc(), info, sets, &[of_other()])?;
     }
     Ok(())
-}
-
-/// Content of another type, with a signer of version 1. There are 128 octets or more, so each length takes two.
-#[test]
-fn of_another_type_that_is_signed(rt: HostRuntime) -> Result<(), Fail> {
-    let signer = by_ecdsa(
-        Identifier::Certificate(certificate_b()),
-        Some(element_attributes()),
-        element_signature(),
-    );
-    let text = written(rt.alloc(), &detached(OTHER), &[], &[], &[signer])?;
-    expect(
-        text.as_slice().get(20..23) == Some(b"\x02\x01\x03"),
-        "another version",
-    )
 }
