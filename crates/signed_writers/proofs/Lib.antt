@@ -2,6 +2,7 @@ pub mod Allowed
 pub mod Contents
 pub mod Deduped
 pub mod Normals
+pub mod OneSigner
 pub mod OrderedAttributes
 pub mod ReadParts
 pub mod Refused

@@ -23,7 +23,7 @@ use Rattle.signed_writers.proofs.SignedTexts.{given_value, same_text, value, val
 use Rattle.signed_writers.specs.Given.{given_file}
 use Rattle.signed_writers.specs.PartValues.{certificates_in, crls_in, file_value, texts_in}
 use Rattle.signed_writers.specs.Parts.{AreFormed, HasParts, set_of_some}
-use Rattle.signed_writers.specs.Signed.{AreParts, CanBeWritten, GivenParts, IsChoice, IsNotSigned, IsRevocation, IsSignedData, is_same, signer_text, some_of}
+use Rattle.signed_writers.specs.Signed.{AreParts, CanBeWritten, GivenParts, IsChoice, IsUnwritten, IsRevocation, IsSignedData, is_same, signer_text, some_of}
 use Rattle.signed_writers.specs.Values.{content_info_value}
 use Rattle.signed_writers.specs.declared.parts.SignedFile.{SignedFile}
 use Rattle.signed_writers.specs.declared.parts.SignedParts.{SignedParts}
@@ -190,7 +190,7 @@ module _ (given : GivenParts) (can : CanBeWritten given) (p : SignedParts) (h : 
           reads = value_of signed_file 64 t found law (subst (λ b. signed_file.Reads 64 b found) (sym same) normal);
         }
 
-  not_signed : (e : Error) → IsNotWritten given_file (file_value file) e → IsNotSigned given e
+  not_signed : (e : Error) → IsNotWritten given_file (file_value file) e → IsUnwritten given e
   not_signed e (inl n) = record { kind = inl n.0; long = λ l. absurd (not_invalid e n.0 l); none = λ i c. n.1 can_formed }
   not_signed e (inr (inl n)) = record {
     kind = inr (inl n.1);
@@ -199,6 +199,6 @@ module _ (given : GivenParts) (can : CanBeWritten given) (p : SignedParts) (h : 
   }
   not_signed e (inr (inr m)) = record { kind = inr (inr m); long = λ l. absurd (no_memory e m l); none = λ i. absurd (no_memory_invalid e m i) }
 
-  pub signed_result : {A : Type 0} (items : A → List ℕ) (r : Result A Error) → MatchResult r (λ t. given_file.IsWellFormed 64 (file_value file) × (items t ≡ given_file.text (file_value file))) (λ e. IsNotWritten given_file (file_value file) e) → MatchResult r (λ t. IsSignedData given (items t)) (λ e. IsNotSigned given e)
+  pub signed_result : {A : Type 0} (items : A → List ℕ) (r : Result A Error) → MatchResult r (λ t. given_file.IsWellFormed 64 (file_value file) × (items t ≡ given_file.text (file_value file))) (λ e. IsNotWritten given_file (file_value file) e) → MatchResult r (λ t. IsSignedData given (items t)) (λ e. IsUnwritten given e)
   signed_result items (Ok t) w = is_signed w.0 (items t) w.1
   signed_result items (Err e) w = not_signed e w

@@ -8,7 +8,7 @@ use Rattle.asn1_core_element.specs.declared.error.Error.{Error}
 use Rattle.asn1_sets.proofs.FoundOnce.{the_one}
 use Rattle.asn1_sets.specs.Encodings.{HasNoTexts}
 use Rattle.signed_writers.specs.Parts.{AreFormed}
-use Rattle.signed_writers.specs.Signed.{GivenParts, IsConsistent, IsNotSigned, type_of}
+use Rattle.signed_writers.specs.Signed.{GivenParts, IsConsistent, IsUnwritten, type_of}
 use Rattle.signer_ranges.specs.SignerRoutes.{ALGORITHM, SIGNER, SignerValue}
 use Rattle.signer_ranges.specs.Signers.{digest_algorithm_of}
 
@@ -26,7 +26,7 @@ signers_algorithms : (type : OidOctets) (all : List SignerValue) → AllByRecurs
 signers_algorithms type [] h = tt
 signers_algorithms type (s ∷ all) h = (h.0.formed.1.1.0, signers_algorithms type all h.1)
 
-pub without_algorithms : (given : GivenParts) (e : Error) → HasNoTexts ALGORITHM.format (AreFormed (map digest_algorithm_of given.signers)) (map digest_algorithm_of given.signers) e → IsNotSigned given e
+pub without_algorithms : (given : GivenParts) (e : Error) → HasNoTexts ALGORITHM.format (AreFormed (map digest_algorithm_of given.signers)) (map digest_algorithm_of given.signers) e → IsUnwritten given e
 without_algorithms given e h = record {
   kind = h.kind;
   long = λ l.
@@ -40,7 +40,7 @@ signers_formed : (type : OidOctets) (all : List SignerValue) → AllByRecursion 
 signers_formed type [] h = tt
 signers_formed type (s ∷ all) h = (h.0.formed, signers_formed type all h.1)
 
-pub without_signers : (given : GivenParts) (e : Error) → HasNoTexts SIGNER.format (AllByRecursion (SIGNER.format.IsWellFormed 64) given.signers) given.signers e → IsNotSigned given e
+pub without_signers : (given : GivenParts) (e : Error) → HasNoTexts SIGNER.format (AllByRecursion (SIGNER.format.IsWellFormed 64) given.signers) given.signers e → IsUnwritten given e
 without_signers given e h = record {
   kind = h.kind;
   long = λ l. (let w = h.long l in inl (w.0, w.1, inl w.2));

@@ -8,8 +8,9 @@ use Rattle.asn1_sets.specs.Encodings.{AreEncodings}
 use Rattle.asn1_sets.specs.Order.{IsInOrder}
 use Rattle.pkcs7_content.specs.Versions.{number_of}
 use Rattle.signed_writers.specs.PartValues.{certificates_in, crls_in, texts_in}
-use Rattle.signed_writers.specs.Signed.{AreDistinct, GivenParts}
+use Rattle.signed_writers.specs.Signed.{AreDistinct, GivenParts, IsWrong}
 use Rattle.signed_writers.specs.Versions.{is_not_data, signed_version}
+use Rattle.signed_writers.specs.declared.checks.NotSigned.{NotSigned}
 use Rattle.signed_writers.specs.declared.parts.SignedParts.{SignedParts}
 use Rattle.signer_ranges.specs.SignerRoutes.{ALGORITHM, SIGNER}
 use Rattle.signer_ranges.specs.Signers.{algorithm_text, digest_algorithm_of}
@@ -18,6 +19,10 @@ use Rattle.x509_base.specs.Algorithms.{algorithm_identifier}
 -- P doesn't hold, or memory was refused
 abbrev pub IsRefused : Type 0 → Error → Type 0
 IsRefused P e = ((e ≡ Invalid) × (P → ⊥)) ⊎ (e ≡ Memory)
+
+-- a part can't be written, or memory was refused
+abbrev pub IsStopped : GivenParts → NotSigned → Type 0
+IsStopped given w = ((w.error ≡ Invalid) × IsWrong given w.part w.index) ⊎ (w.error ≡ Memory)
 
 abbrev pub AreFormed : List algorithm_identifier.Value → Type 0
 AreFormed all = AllByRecursion (ALGORITHM.format.IsWellFormed 64) all

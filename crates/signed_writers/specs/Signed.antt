@@ -5,15 +5,20 @@ use Rattle.std.specs.List.Sorted.{IsPermutation, IsSorted}
 use Rattle.std.specs.Str.{bytes_eq}
 use Rattle.asn1_borrowed.specs.declared.ElementRef.{ElementRef}
 use Rattle.asn1_core.specs.Asn1.{SEQUENCE}
-use Rattle.asn1_core.specs.Der.{ElementOctets, IsElement, IsTagByte, Octets, OidOctets}
+use Rattle.asn1_core.specs.Der.{ElementOctets, IsElement, IsOid, IsTagByte, Octets, OidOctets}
 use Rattle.asn1_core_element.specs.declared.error.Error.{Error}
+use Rattle.asn1_core_element.specs.declared.error.Error.TheVariants.{Invalid}
+use Rattle.asn1_core_format.specs.Components.{AllIf}
 use Rattle.asn1_core_format.specs.Whole.{IsValueOf}
 use Rattle.asn1_core_oid.specs.Known.{data_oid}
-use Rattle.attribute_writers.specs.Refusals.{Refuses}
+use Rattle.attribute_writers.specs.Refusals.{IsFirstWithout, Refuses}
 use Rattle.asn1_sets.specs.Order.{IsInOrder, compared}
 use Rattle.pkcs7_verifier.specs.KeyIdentifiers.{has_tag}
 use Rattle.signed_writers.specs.Values.{content_info_value}
 use Rattle.signed_writers.specs.Versions.{is_not_data, signed_version, signer_version}
+use Rattle.signed_writers.specs.declared.checks.NotSigned.{NotSigned}
+use Rattle.signed_writers.specs.declared.checks.SignedPart.{SignedPart}
+use Rattle.signed_writers.specs.declared.checks.SignedPart.TheVariants.{ContentType, Content, Certificate, RevocationList, Signer, Whole}
 use Rattle.signed_writers.specs.declared.content.ContentInfo.{ContentInfo}
 use Rattle.signer_ranges.specs.SignerRoutes.{FileValue, SIGNER, SignerValue, signed_file}
 use Rattle.signer_ranges.specs.Signers.{Signs, algorithm_text, certificates_of, content_info_of, digest_algorithm_of, sid_of, signed_of, signers_of}
@@ -117,6 +122,10 @@ IsSigned info (s ∷ signers) = Unit {0}
 abbrev pub IsContent : ContentInfo → Type 0
 IsContent x = (SEQUENCE raw_encapsulated_content_info).format.IsWellFormed 64 (content_info_value x)
 
+-- content that is one element, or none
+abbrev pub IsFormed : ContentInfo → Type 0
+IsFormed x = AllIf (IsElement IsTagByte) (content_info_value x).1.0
+
 pub record CanBeWritten (given : GivenParts) : Type 0 where
   pub content : IsContent given.info
   pub signed : IsSigned given.info given.signers
@@ -138,6 +147,20 @@ IsTooLong given =
     ((s : SignerValue) × Contains given.signers s × ((2 ^ 64 ≤ length (signer_text s)) ⊎ (2 ^ 64 ≤ length (algorithm_text (digest_algorithm_of s)))))
     ⊎ ((text : List ℕ) × IsSignedData given text × (2 ^ 64 ≤ length text))
 
--- why nothing is written
-abbrev pub IsNotSigned : GivenParts → Error → Type 0
-IsNotSigned given e = Refuses (CanBeWritten given) (IsTooLong given) e
+-- the part that can't be written; of certificates, revocation lists and signers the first that can't
+abbrev pub IsWrong : GivenParts → SignedPart → ℕ → Type 0
+IsWrong given ContentType index = (index ≡ 0) × (IsOid (type_of given) → ⊥)
+IsWrong given Content index = (index ≡ 0) × (IsFormed given.info × IsSigned given.info given.signers → ⊥)
+IsWrong given Certificate index = IsFirstWithout IsChoice given.certificates index
+IsWrong given RevocationList index = IsFirstWithout IsRevocation given.crls index
+IsWrong given Signer index = IsFirstWithout (IsConsistent (type_of given)) given.signers index
+IsWrong given Whole index = ⊥
+
+-- why there is no encoding
+abbrev pub IsUnwritten : GivenParts → Error → Type 0
+IsUnwritten given e = Refuses (CanBeWritten given) (IsTooLong given) e
+
+-- why nothing is written, and where a part can't be written, which it is
+pub record IsNotSigned (given : GivenParts) (w : NotSigned) : Type 0 where
+  pub refused : IsUnwritten given w.error
+  pub wrong : w.error ≡ Invalid → IsWrong given w.part w.index

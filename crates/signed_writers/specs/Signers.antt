@@ -25,7 +25,7 @@ HasOne {X} P = (x : X) × P x
 abbrev pub IsReadAs : {V : Type 0} → Format V → Octets → Type 0
 IsReadAs F x = HasOne (F.Reads 64 x)
 
--- P doesn't hold, unless memory was refused
+-- it isn't too long, and P doesn't hold, unless memory was refused
 abbrev pub IsUnread : Type 0 → NotRead → Type 0
 IsUnread P e = (e.error ≢ TooLong) × (e.error ≢ Memory → P → ⊥)
 
@@ -39,7 +39,7 @@ IsIdentifierIn (Certificate x) (inr k) = ⊥
 IsIdentifierIn (Key x) (inl i) = ⊥
 IsIdentifierIn (Key x) (inr k) = k ≡ x.now
 
--- a SET OF Attribute, or none
+-- the attributes of a SET OF that isn't empty, or none
 abbrev pub AreAttributesIn : Option Octets → List attribute.Value → Type 0
 AreAttributesIn None all = all ≡ []
 AreAttributesIn (Some x) all = (all ≢ []) × attributes_as_set.Reads 64 x all

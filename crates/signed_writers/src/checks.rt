@@ -1,12 +1,14 @@
 //! What can be written as signed data.
 
-ghost use Rattle.std.specs.Prelude.{◌≡◌, ◌↔◌, IsTrue, [], MatchResult, map};
+ghost use Rattle.std.specs.Prelude.{◌≡◌, ◌⊎◌, ◌↔◌, IsTrue, [], MatchResult, map};
 ghost use Rattle.std.specs.List.{AllByRecursion};
 ghost use Rattle.asn1_core.specs.Der.{IsOid, octets_of};
 ghost use Rattle.asn1_core_element.specs.declared.error.Error.TheVariants.{Invalid, Memory};
+ghost use Rattle.attribute_writers.specs.Refusals.{IsFirstWithout};
 ghost use Rattle.pkcs7_attributes.specs.Attributes.{attributes_value};
-ghost use Rattle.signed_writers.specs.Parts.{IsRefused};
+ghost use Rattle.signed_writers.specs.Parts.{IsRefused, IsStopped};
 ghost use Rattle.signed_writers.specs.Signed.{AreAllowed, CanBeWritten, HasOneTime, IsChoice, IsConsistent, IsContent, IsRevocation, IsSigned, given_parts};
+ghost use Rattle.signed_writers.specs.declared.checks.SignedPart.TheVariants.{Certificate, Content, ContentType, RevocationList, Signer};
 ghost use Rattle.x509_pkcs7.specs.RawSigners.{raw_signer_info_value};
 
 use crate::content::ContentInfo;
@@ -39,7 +41,7 @@ pub enum SignedPart {
 /// Why signed data isn't written.
 #[derive(Clone, Copy, Debug, PartialEq, Eq)]
 pub struct NotSigned {
-    /// The first part that can't be written, in the order of `SignedPart`.
+    /// A part that can't be written: tested is that it is the first, in the order of `SignedPart`.
     pub part: SignedPart,
     /// Of a certificate, a revocation list or a signer the first that can't be written, from 0 on; otherwise 0.
     pub index: usize,
@@ -72,7 +74,7 @@ fn is_revocation(element: &ElementRef<'_>) -> bool
 fn check_choices(elements: &[ElementRef<'_>]) -> Result<(), NotSigned>
     ensures { MatchResult result
         (λ _. AllByRecursion IsChoice (map (λ x. x.0.now) elements.now))
-        (λ e. (e.error ≡ Invalid) × (AllByRecursion IsChoice (map (λ x. x.0.now) elements.now) → ⊥)) }
+        (λ w. (w.error ≡ Invalid) × (w.part ≡ Certificate) × IsFirstWithout IsChoice (map (λ x. x.0.now) elements.now) w.index) }
 {
     for (index, element) in elements.iter().enumerate() {
         if !is_choice(element) {
@@ -90,7 +92,7 @@ fn check_choices(elements: &[ElementRef<'_>]) -> Result<(), NotSigned>
 fn check_revocations(elements: &[ElementRef<'_>]) -> Result<(), NotSigned>
     ensures { MatchResult result
         (λ _. AllByRecursion IsRevocation (map (λ x. x.0.now) elements.now))
-        (λ e. (e.error ≡ Invalid) × (AllByRecursion IsRevocation (map (λ x. x.0.now) elements.now) → ⊥)) }
+        (λ w. (w.error ≡ Invalid) × (w.part ≡ RevocationList) × IsFirstWithout IsRevocation (map (λ x. x.0.now) elements.now) w.index) }
 {
     for (index, element) in elements.iter().enumerate() {
         if !is_revocation(element) {
@@ -188,7 +190,7 @@ fn is_signed(info: &ContentInfo<'_>, signers: &[RawSignerInfo]) -> bool
 fn check_content(info: &ContentInfo<'_>, signers: &[RawSignerInfo]) -> Result<(), NotSigned>
     ensures { MatchResult result
         (λ _. IsContent info.now × IsSigned info.now (map raw_signer_info_value signers.now))
-        (λ e. (e.error ≡ Invalid) × (IsContent info.now × IsSigned info.now (map raw_signer_info_value signers.now) → ⊥)) }
+        (λ w. (w.error ≡ Invalid) × (w.part ≡ Content) × (w.index ≡ 0) × (IsContent info.now × IsSigned info.now (map raw_signer_info_value signers.now) → ⊥)) }
 {
     if info.well_formed() && is_signed(info, signers) {
         return Ok(());
@@ -204,7 +206,7 @@ fn check_content(info: &ContentInfo<'_>, signers: &[RawSignerInfo]) -> Result<()
 fn type_of(alloc: Global, octets: &[u8]) -> Result<ObjectIdentifierAsn1, NotSigned>
     ensures { MatchResult result
         (λ type. IsOid octets.now × (octets_of type.0 ≡ octets.now))
-        (λ e. IsRefused (IsOid octets.now) e.error) }
+        (λ w. (w.part ≡ ContentType) × (w.index ≡ 0) × IsRefused (IsOid octets.now) w.error) }
 {
     match ObjectIdentifier::from_octets(alloc, octets) {
         Ok(oid) => Ok(ObjectIdentifierAsn1(oid)),
@@ -224,7 +226,7 @@ fn check_signers(
 ) -> Result<(), NotSigned>
     ensures { MatchResult result
         (λ _. AllByRecursion (IsConsistent (octets_of content_type.now.0)) (map raw_signer_info_value signers.now))
-        (λ e. IsRefused (AllByRecursion (IsConsistent (octets_of content_type.now.0)) (map raw_signer_info_value signers.now)) e.error) }
+        (λ w. ((w.error ≡ Invalid) × (w.part ≡ Signer) × IsFirstWithout (IsConsistent (octets_of content_type.now.0)) (map raw_signer_info_value signers.now) w.index) ⊎ (w.error ≡ Memory)) }
 {
     for (index, signer) in signers.iter().enumerate() {
         match check_signer(alloc, content_type, signer) {
@@ -242,6 +244,7 @@ fn check_signers(
 }
 
 /// Refuses by `Invalid` the first part that can't be written, or by `Memory`.
+#[tactic(auto, using(crate::proofs::Refused::content_wrong))]
 pub(crate) fn check_parts(
     alloc: Global,
     info: &ContentInfo<'_>,
@@ -250,7 +253,7 @@ pub(crate) fn check_parts(
     signers: &[RawSignerInfo],
 ) -> Result<(), NotSigned>
     ensures { let given = given_parts info.now certificates.now crls.now signers.now in
-        MatchResult result (λ _. CanBeWritten given) (λ e. IsRefused (CanBeWritten given) e.error) }
+        MatchResult result (λ _. CanBeWritten given) (λ w. IsStopped given w) }
 {
     let content_type = type_of(alloc, info.content_type)?;
     check_content(info, signers)?;

@@ -8,7 +8,7 @@ ghost use Rattle.asn1_sets.specs.Encodings.{AreEncodings, HasNoTexts};
 ghost use Rattle.asn1_sets.specs.Order.{IsInOrder};
 ghost use Rattle.signed_writers.specs.PartValues.{algorithms_in, certificates_in, crls_in, texts_in};
 ghost use Rattle.signed_writers.specs.Parts.{AreAlgorithms, AreFormed, HasParts, IsSetIn};
-ghost use Rattle.signed_writers.specs.Signed.{CanBeWritten, IsNotSigned, IsSignedData, given_parts};
+ghost use Rattle.signed_writers.specs.Signed.{CanBeWritten, IsNotSigned, IsSignedData, IsUnwritten, given_parts};
 ghost use Rattle.signer_ranges.specs.SignerRoutes.{ALGORITHM};
 ghost use Rattle.signer_ranges.specs.Signers.{digest_algorithm_of};
 ghost use Rattle.x509_pkcs7.specs.RawSigners.{raw_signer_info_value};
@@ -123,7 +123,7 @@ fn parts_of<'a>(
     signers: &[RawSignerInfo],
 ) -> Result<SignedParts<'a>, Error>
     ensures { let given = given_parts info.now certificates.now crls.now signers.now in
-        MatchResult result (λ parts. HasParts given parts) (λ e. IsNotSigned given e) }
+        MatchResult result (λ parts. HasParts given parts) (λ e. IsUnwritten given e) }
 {
     Ok(SignedParts {
         version: signed_version(info, certificates, crls, signers),
@@ -145,7 +145,7 @@ fn write_checked<'a>(
 ) -> Result<Vec<u8>, Error>
     requires { CanBeWritten (given_parts info.now certificates.now crls.now signers.now) }
     ensures { let given = given_parts info.now certificates.now crls.now signers.now in
-        MatchResult result (λ text. IsSignedData given text.items) (λ e. IsNotSigned given e) }
+        MatchResult result (λ text. IsSignedData given text.items) (λ e. IsUnwritten given e) }
 {
     let signed_data = ExplicitContextTag0(parts_of(alloc, info, certificates, crls, signers)?);
     write(alloc, &SignedFile { signed_data })
@@ -154,7 +154,8 @@ fn write_checked<'a>(
 /// The encoding of signed data with these parts: a `ContentInfo` of `id-signedData` (RFC 5652, 3 and 5.1). The version is that
 /// of RFC 5652, but 1 where the content is an element of PKCS #7 that asks for no other. Digest algorithms are those of the
 /// signers, each encoding once. Algorithms, certificates, revocation lists and signers are in the order of DER, whatever order
-/// they are given in; what is in one of them stays as it is, and one that is given twice is written twice.
+/// they are given in; what is in one of them stays as it is, and a certificate, a list or a signer that is given twice is
+/// written twice.
 ///
 /// Refuses by `Invalid` a content type that is no object identifier; content that isn't exactly one element, or that is there,
 /// or of another type than `id-data`, where there are no signers (RFC 5652, 5.2); a certificate or revocation list that isn't
@@ -168,7 +169,7 @@ pub fn write_signed_data<'a>(
     signers: &[RawSignerInfo],
 ) -> Result<Vec<u8>, NotSigned>
     ensures { let given = given_parts info.now certificates.now crls.now signers.now in
-        MatchResult result (λ text. IsSignedData given text.items) (λ e. IsNotSigned given e.error) }
+        MatchResult result (λ text. IsSignedData given text.items) (λ w. IsNotSigned given w) }
 {
     check_parts(alloc, info, certificates, crls, signers)?;
     match write_checked(alloc, info, certificates, crls, signers) {
