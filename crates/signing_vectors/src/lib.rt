@@ -1,4 +1,4 @@
-//! Tests of signed data and signed attributes that are written from their parts, by public calls.
+//! Tests of signed data, signed attributes and indirect data that are written from their parts, by public calls.
 #![tactic(auto)]
 
 #[cfg(test)]
@@ -9,6 +9,8 @@ mod files;
 mod files_written;
 #[cfg(test)]
 mod given;
+#[cfg(test)]
+mod indirect;
 #[cfg(test)]
 mod parts;
 #[cfg(test)]

@@ -1,0 +1,2 @@
+pub mod BitContents
+pub mod Encodings
