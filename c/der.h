@@ -1,13 +1,15 @@
 /* Checks and rewritings of DER, the parts of containers that a verifier needs, as octets, those of certificates and of
  * the contents of signed data, the parameters of encryption with a password, conversions of BER to DER, and PKCS #12
- * files and such parameters built from their parts: the static library der_c. Only der_from_ber takes BER. Pass every
- * other call what it wrote, and der_mac_ber and der_mac_part_ber where the MAC of a PKCS #12 file is to be verified.
+ * files, signed data, indirect data and such parameters built from their parts: the static library der_c. Only
+ * der_from_ber takes BER. Pass every other call what it wrote, and der_mac_ber and der_mac_part_ber where the MAC of a
+ * PKCS #12 file is to be verified.
  *
  * What is proved of its calls der_check_word_limited, der_rewrite_word_limited, der_kind_word, der_part_octets,
  * der_signer_rows, der_part_ranges, der_attribute_ranges, der_mac_range, der_mac, der_from_ber, der_mac_ber,
  * der_mac_part_ber, der_name_text, der_oid_text, der_oid_octets, der_oid_name, der_integer_text, der_utf16_text,
  * der_text_utf16, der_bag_rows, der_certificate, der_indirect, der_trust_list, der_trust_rows, der_password_parameters,
- * der_build_parameters, der_build_bags, der_build_safe and der_build_store, for all inputs, and what isn't:
+ * der_build_parameters, der_build_bags, der_build_safe, der_build_store, der_build_attributes, der_build_signed and
+ * der_build_indirect, for all inputs, and what isn't:
  *  - A call answers no status but those that are listed at it. What it writes into numbers and into out is as said
  *    below.
  *  - DER_NORMAL, DER_LOOSE, DER_UNKNOWN_KIND, DER_NO_ROOM, DER_NO_RANGE and DER_NO_PART are true where they are
@@ -16,9 +18,10 @@
  *    that the input has the signer's algorithms with the octets A0 00 between them.
  *  - At DER_MALFORMED, DER_MISSING, DER_INVALID and DER_TOO_DEEP the input is no encoding of the kind, of der_from_ber
  *    it has no DER, of the calls for parts, signers and ranges it isn't what has the part, of those that write text it
- *    has none, of der_oid_octets the text spells no octets, of der_text_utf16 it isn't UTF-8, of der_build_parameters
- *    and der_build_store nothing can be built from what is given, and of der_build_bags and der_build_safe the bag or
- *    content whose index they write can't be written, as said there. Which of the four it is isn't proved: tests tell
+ *    has none, of der_oid_octets the text spells no octets, of der_text_utf16 it isn't UTF-8, of der_build_parameters,
+ *    der_build_store, der_build_attributes and der_build_indirect nothing can be built from what is given, of
+ *    der_build_bags and der_build_safe the bag or content whose index they write can't be written, as said there, and
+ *    of der_build_signed the parts that are given can't be written. Which of the four it is isn't proved: tests tell
  *    them apart.
  *  - Of the bags of a store, and of parts of these, the same is said at the four and at DER_TOO_LONG: the input has no
  *    such rows as der_bag_rows writes at DER_NORMAL.
@@ -27,18 +30,20 @@
  *  - The functions in this file, in C, are tested and not proved, nor are der_version and der_processor.
  *
  * What a caller has to keep to:
- *  - word, input, octets, text, given, bags, contents, out and the pointers to numbers aren't null, also where a length
- *    is 0; but the functions in this file take null for an input or out of length 0. word, input, octets and text point
- *    to so many bytes that can be read, given to one struct that can be read, bags and contents to so many structs that
- *    can be read, and out to so many bytes that can be read and written.
+ *  - word, input, octets, text, given, bags, contents, certificates, crls, signers, out and the pointers to numbers
+ *    aren't null, also where a length is 0; but the functions in this file take null for an input or out of length 0.
+ *    word, input, octets and text point to so many bytes that can be read, given to one struct that can be read, bags,
+ *    contents, certificates, crls and signers to so many structs that can be read, and out to so many bytes that can be
+ *    read and written.
  *  - A pointer to a number is aligned as a size_t is, and what it points to can be written. out of der_signer_rows,
  *    der_bag_rows, der_trust_rows and the calls for ranges points to out_len structs and not bytes, that of
  *    der_certificate, der_indirect, der_trust_list and der_password_parameters to one, and is aligned so too. So are
- *    given, bags and contents.
+ *    given, bags, contents, certificates, crls and signers.
  *  - The string kind ends in a zero byte.
- *  - out and each number overlap nothing else that is passed, also not given, bags or contents, and not one another.
+ *  - out and each number overlap nothing else that is passed, also not given, bags, contents, certificates, crls or
+ *    signers, and not one another.
  *  - While a call runs nothing else reads or writes out or the numbers, and nothing writes word, input, octets, text,
- *    given, bags or contents: no other thread, and no signal handler.
+ *    given, bags, contents, certificates, crls or signers: no other thread, and no signal handler.
  *  - Lengths are below 2^63.
  *  - Memory comes from malloc, realloc and free, which are those of one allocator. A block of malloc and of realloc is
  *    aligned to each power of two up to 16 that divides its size.
@@ -180,8 +185,10 @@ uint32_t der_attribute_ranges(size_t is_signed, size_t index, const uint8_t *inp
  *  2. where over_attributes is 1, hashes the content's octets by digest_algorithm, and compares with digest;
  *  3. verifies signature over what der_covered copies, by signature_algorithm and the certificate's key.
  * Where has_content is 0 the signature is detached, and the content's octets are the caller's. So are the octets that
- * the signature covers, where over_attributes is 0 too: covered then has none. That the certificate is to be trusted,
- * and may sign, isn't looked at. */
+ * the signature covers, where over_attributes is 0 too: covered then has none. Nothing in a signature says whether it
+ * covers signed attributes or the content (RFC 5652, 5.4): where a key always signs with attributes, refuse signers
+ * whose over_attributes is 0, and where it never does, those whose over_attributes is 1. That the certificate is to be
+ * trusted, and may sign, isn't looked at. */
 typedef struct der_signer_parts {
   size_t status;                 /* DER_NORMAL, or DER_BAD_ATTRIBUTES, or what der_signer answers: all else is 0 then */
   size_t over_attributes;        /* 1: the signature covers signed attributes, 0: the content */
@@ -569,8 +576,8 @@ typedef enum der_bag_part {
  * are written in the order of DER (X.690, 11.6). One that is given twice is written twice, and the values of one stay
  * in their order. A bag without attributes is written without the SET. An empty friendly name is written. So is one
  * with characters past U+FFFF, each as a pair of surrogates, as keytool does, though a BMPString has none: the kind
- * "pfx" refuses such a store, and openssl shows another name; der_bag_rows, the kind "rawpfx" and Java read it. What a
- * flag says isn't there isn't looked at, nor is identifier of another kind than DER_BAG_OTHER: they may be anything.
+ * "pfx" refuses such a store, and openssl shows another name; der_bag_rows, the kind "rawpfx" and Java read it. A part
+ * whose flag is 0 isn't looked at, nor is identifier of another kind than DER_BAG_OTHER: they may be anything.
  *  - DER_NORMAL: *written bytes were written, and the rest of out is as it was. Of no bags they are 30 00.
  *  - DER_NO_ROOM: *written bytes are needed, and out_len, which may be 0, is less.
  *  - DER_INVALID: the bag with the index *bag, from 0 on, can't be written, and *part is its der_bag_part: of several
@@ -661,6 +668,171 @@ typedef enum der_store_part {
 DER_CALL
 uint32_t der_build_store(const uint8_t *input, size_t input_len, const der_store_given *given, uint8_t *out,
                          size_t out_len, size_t *written, size_t *part);
+
+/* Attributes of a signer for der_build_attributes. */
+typedef struct der_attributes_given {
+  size_t has_content_type;   /* unless 0: there is a contentType */
+  size_t has_message_digest; /* unless 0: there is a messageDigest */
+  size_t has_signing_time;   /* unless 0: there is a signingTime */
+  size_t has_attributes;     /* unless 0: there are further attributes */
+  der_range content_type;    /* the contents octets of an object identifier, the content's type: see der_oid_octets */
+  der_range message_digest;  /* the octets of the content's digest */
+  der_range signing_time;    /* YYYYMMDDHHMMSSZ: 15 octets of ASCII, in UTC */
+  der_range attributes;      /* the element of a SET OF Attribute, of which contentType, messageDigest and signingTime
+                                aren't written */
+} der_attributes_given;
+
+/* Which part der_build_attributes can't write, and why. */
+typedef enum der_attributes_part {
+  DER_ATTRIBUTES_PART_CONTENT_TYPE = 1,   /* not inside of the input, or no object identifier */
+  DER_ATTRIBUTES_PART_MESSAGE_DIGEST = 2, /* not inside of the input */
+  DER_ATTRIBUTES_PART_SIGNING_TIME = 3,   /* not inside of the input, or no such time */
+  DER_ATTRIBUTES_PART_ATTRIBUTES = 4      /* not inside of the input, or no SET OF Attribute */
+} der_attributes_part;
+
+/* Writes the attributes of a signer (RFC 5652, 5.3 and 11), a SET OF Attribute, to the front of out: what the signature
+ * covers (5.4), and signed_attributes of der_signer_given. With further attributes alone it puts them in order, as for
+ * unsigned_attributes. given says of each part where the input has its octets, in any order; ranges may overlap. Set
+ * all of given to 0 first: a flag is set where it isn't 0. A part whose flag is 0 isn't looked at. The signing time is
+ * written as UTCTime in the years 1950 to 2049, and otherwise as GeneralizedTime (11.3). Attributes are written in the
+ * order of DER (X.690, 11.6). contentType, messageDigest and signingTime among the further attributes are left out,
+ * also where their flag is 0. A further attribute that is given twice is written twice, and the values of one stay in
+ * their order. No digest is made.
+ *  - DER_NORMAL: *written bytes were written, and the rest of out is as it was. Of no attributes they are 31 00, which
+ *    no signer may have.
+ *  - DER_NO_ROOM: *written bytes are needed, and out_len, which may be 0, is less.
+ *  - DER_INVALID: a part can't be written, and *part is its der_attributes_part; where several can't, one of them.
+ *  - DER_TOO_LONG: it, or an attribute, would have 2^64 bytes or more.
+ *  - DER_NO_MEMORY.
+ * Unless at DER_NORMAL out is as it was, unless at DER_NORMAL and DER_NO_ROOM *written is 0, and unless at DER_INVALID
+ * *part is 0. Proved is that what is written is the encoding of a SET OF the attributes that are given, in the order of
+ * DER, and reads as these alone; that of each of the three types there is the one that is given, with one value, or
+ * none; and that at DER_INVALID no attributes can be built from what is given, and that *part can't be written. */
+DER_CALL
+uint32_t der_build_attributes(const uint8_t *input, size_t input_len, const der_attributes_given *given, uint8_t *out,
+                              size_t out_len, size_t *written, size_t *part);
+
+/* The content of signed data for der_build_signed. */
+typedef struct der_signed_given {
+  size_t has_content;     /* unless 0: the content is in the file; otherwise it is elsewhere, or there is none */
+  size_t is_element;      /* unless 0: content is an element, which is written as it is (PKCS #7: RFC 2315, 7) */
+  der_range content_type; /* the contents octets of an object identifier: see der_oid_octets */
+  der_range content;      /* the octets of the content, which are written into an OCTET STRING; or that element */
+} der_signed_given;
+
+/* A signer for der_build_signed. Of a row of der_signer_rows digest_algorithm, signature_algorithm, signature and
+ * certificate can be given as they are and, where over_attributes is 1, what der_covered copies, as signed_attributes.
+ * Unsigned attributes, and a key identifier that names it, are to be given too: der_attribute_ranges and
+ * DER_PART_KEY_IDENTIFIER find them. */
+typedef struct der_signer_given {
+  size_t has_key_identifier;      /* unless 0: key_identifier names the signer, otherwise its certificate does */
+  size_t has_signed_attributes;   /* unless 0: the signature covers signed attributes, otherwise the content */
+  size_t has_unsigned_attributes; /* unless 0: it has unsigned attributes */
+  der_range certificate;          /* the signer's certificate, whose issuer and serial number name it */
+  der_range key_identifier;       /* the octets of the certificate's subjectKeyIdentifier */
+  der_range digest_algorithm;     /* an AlgorithmIdentifier, with its parameters */
+  der_range signed_attributes;    /* the element of a SET OF Attribute, as der_build_attributes writes it */
+  der_range signature_algorithm;  /* an AlgorithmIdentifier, with its parameters */
+  der_range signature;            /* the octets of the signature */
+  der_range unsigned_attributes;  /* the element of a SET OF Attribute, which isn't empty */
+} der_signer_given;
+
+/* Which part der_build_signed can't write, and why. */
+typedef enum der_signed_part {
+  DER_SIGNED_PART_CONTENT_TYPE = 1,         /* not inside of the input, or no object identifier */
+  DER_SIGNED_PART_CONTENT = 2,              /* not inside of the input; where is_element is set, not exactly one
+                                               element, with a tag of one octet; or there are no signers, and
+                                               has_content is set or the type isn't id-data (RFC 5652, 5.2) */
+  DER_SIGNED_PART_CERTIFICATE = 3,          /* not inside of the input, or no element with the tag of a certificate or
+                                               of another choice: 30, A0, A1, A2 or A3 (10.2.2) */
+  DER_SIGNED_PART_CRL = 4,                  /* not inside of the input, or no element with the tag of a revocation list
+                                               or of the other choice: 30 or A1 (10.2.1) */
+  /* of a signer */
+  DER_SIGNED_PART_IDENTIFIER = 5,           /* not inside of the input, or no certificate */
+  DER_SIGNED_PART_DIGEST_ALGORITHM = 6,     /* not inside of the input, or no AlgorithmIdentifier */
+  DER_SIGNED_PART_SIGNED_ATTRIBUTES = 7,    /* not inside of the input, or no SET OF Attribute, or an empty one; or
+                                               they, or their absence, break RFC 5652: see der_build_signed */
+  DER_SIGNED_PART_SIGNATURE_ALGORITHM = 8,  /* not inside of the input, or no AlgorithmIdentifier */
+  DER_SIGNED_PART_SIGNATURE = 9,            /* not inside of the input */
+  DER_SIGNED_PART_UNSIGNED_ATTRIBUTES = 10  /* not inside of the input, or no SET OF Attribute, or an empty one */
+} der_signed_part;
+
+/* Writes signed data under its content type, a ContentInfo (RFC 5652, 3 and 5), to the front of out: content, or none,
+ * with certificates_len certificates, crls_len revocation lists and signers_len signers. given, certificates, crls and
+ * signers say of each part where the input has its octets, in any order; ranges may overlap. Set all of given and of a
+ * signer to 0 first: a flag is set where it isn't 0. No digest and no signature is made or verified: the caller makes
+ * the signature over the octets that der_build_attributes wrote, or over the content where has_signed_attributes is 0.
+ *  - A signer is named by the issuer and the serial number of its certificate, out of which they are read, and has
+ *    version 1; or by its key identifier, and has version 3. Its certificate is in the file only where certificates has
+ *    it too.
+ *  - The version of the whole is that of RFC 5652, 5.1; but content in the file that is an element other than an OCTET
+ *    STRING is content of PKCS #7, whose type doesn't raise it (RFC 2315, 9.1). Content that is elsewhere counts as
+ *    content of CMS.
+ *  - digestAlgorithms are those of the signers, each encoding once: absent parameters and NULL are two. The SETs of
+ *    algorithms, certificates, revocation lists and signers are in the order of DER (X.690, 11.6). So signers may be in
+ *    another order than here. A certificate, a list or a signer that is given twice is written twice. The two sets of
+ *    attributes of a signer stay in the order in which they are given: the signature covers the signed ones so.
+ *  - The signed attributes of a signer have to have one contentType that is content_type, one messageDigest, and at
+ *    most one signingTime, each with one value (RFC 5652, 11.1 to 11.3). There have to be some unless content_type is
+ *    id-data (1.2.840.113549.1.7.1; 5.3). That the digest is the content's isn't looked at, nor that a signingTime is
+ *    UTCTime in the years 1950 to 2049, as der_build_attributes writes it, that none is a countersignature (11.4), nor
+ *    the order of the attributes, which 5.3 asks to be that of DER: a verifier that sorts them finds another digest.
+ *  - Without signers the file has certificates and revocation lists alone (5.2).
+ * What is in a certificate, but for the signer's, in a revocation list, in an element or in unsigned attributes isn't
+ * looked at. A part whose flag is 0 isn't looked at either.
+ *  - DER_NORMAL: *written bytes were written, and the rest of out is as it was.
+ *  - DER_NO_ROOM: *written bytes are needed, and out_len, which may be 0, is less.
+ *  - DER_INVALID: a part can't be written, and *part is its der_signed_part. Of a certificate, a revocation list or a
+ *    signer *index is its index, from 0 on, and otherwise 0. Where several can't, they are those of one of them.
+ *  - DER_TOO_LONG: it, or a signer in it, would have 2^64 bytes or more.
+ *  - DER_NO_MEMORY.
+ * Unless at DER_NORMAL out is as it was, unless at DER_NORMAL and DER_NO_ROOM *written is 0, and unless at DER_INVALID
+ * *index and *part are 0. Proved is that what is written is the encoding of signed data with these parts, its sets but
+ * those of attributes in the order of DER and its versions as said, and reads as these alone, so that der_signer_rows
+ * finds the signers with the octets that are given. And that at DER_INVALID the parts that are given can't be written,
+ * as said above, and that *part and *index say one that can't; which part of a signer it is, is tested. */
+DER_CALL
+uint32_t der_build_signed(const uint8_t *input, size_t input_len, const der_signed_given *given,
+                          const der_range *certificates, size_t certificates_len, const der_range *crls,
+                          size_t crls_len, const der_signer_given *signers, size_t signers_len, uint8_t *out,
+                          size_t out_len, size_t *written, size_t *index, size_t *part);
+
+/* Which part der_build_indirect can't write, and why. */
+typedef enum der_indirect_part {
+  DER_INDIRECT_PART_ATTRIBUTE_TYPE = 1,   /* not inside of the input, or no object identifier */
+  DER_INDIRECT_PART_ATTRIBUTE_VALUE = 2,  /* not inside of the input, or no element */
+  DER_INDIRECT_PART_DIGEST_ALGORITHM = 3, /* not inside of the input, or no AlgorithmIdentifier */
+  DER_INDIRECT_PART_DIGEST = 4,           /* not inside of the input */
+  DER_INDIRECT_PART_IMAGE_FLAGS = 5,      /* not inside of the input, or not the contents octets of a BIT STRING */
+  DER_INDIRECT_PART_IMAGE_LINK = 6        /* not inside of the input, or no element */
+} der_indirect_part;
+
+/* Writes what a signature of Authenticode signs, SpcIndirectDataContent, to the front of out, as der_indirect reads it
+ * in signed data: the element that der_build_signed takes as content, under the type SPC_INDIRECT_DATA_OBJID
+ * (1.3.6.1.4.1.311.2.1.4). Its digest for messageDigest is over its contents octets, without tag and length (RFC 2315,
+ * 9.3). given has the flags, and says where the input has the octets of each part, in any order; ranges may overlap.
+ * Set all of given to 0 first: a flag is set where it isn't 0.
+ *  - is_image is set: the attribute is SPC_PE_IMAGE_DATA_OBJID, and its value image data, a SEQUENCE of the flags,
+ *    where has_image_flags is set, and of the link in [0], where has_image_link is set. attribute_type and
+ *    attribute_value aren't looked at. Signers of programs write flags, 00 for no bits or 07 80 for the first, and a
+ *    link. Flags that are left out mean the bits 1 0 0; given ones are written, also 05 80, which DER leaves out as the
+ *    default (X.690, 11.5).
+ *  - is_image is 0: the attribute has attribute_type, and attribute_value where has_attribute_value is set.
+ * What der_indirect wrote can be given with its input, and changed before. An element has a tag of one octet and a
+ * length as DER has it, and whatever is in it. A part whose flag is 0 isn't looked at. No digest is made, and none is
+ * judged.
+ *  - DER_NORMAL: *written bytes were written, and the rest of out is as it was.
+ *  - DER_NO_ROOM: *written bytes are needed, and out_len, which may be 0, is less.
+ *  - DER_INVALID: a part can't be written, and *part is its der_indirect_part; where several can't, one of them.
+ *  - DER_TOO_LONG: it would have 2^64 bytes or more.
+ *  - DER_NO_MEMORY.
+ * Unless at DER_NORMAL out is as it was, unless at DER_NORMAL and DER_NO_ROOM *written is 0, and unless at DER_INVALID
+ * *part is 0. Proved is that what is written is the encoding of indirect data with these parts, and reads as its normal
+ * value alone, and image data in it as theirs; and that at DER_INVALID no indirect data can be built from what is
+ * given, and that *part can't be written. */
+DER_CALL
+uint32_t der_build_indirect(const uint8_t *input, size_t input_len, const der_indirect_parts *given, uint8_t *out,
+                            size_t out_len, size_t *written, size_t *part);
 
 /* Which octets of a PKCS #12 file a MAC covers: the contents octets of the OCTET STRING that is the content of
  * authSafe, without its tag and length.

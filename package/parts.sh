@@ -118,8 +118,10 @@ documents() {
     install -m 644 docs/*.* "$to/docs"
     install -m 644 docs/theorems/* "$to/docs/theorems"
     install -m 644 c/tests/{check,installed}.c "$to/examples"
-    install -m 644 c/examples/{build_store,digest,encrypt,entries,from_ber,mac,parameters,store,verify}.c "$to/examples"
-    install -m 644 python/examples/{build_store,digest,encrypt,entries,parameters,scan,store,verify}.py "$to/examples"
+    install -m 644 c/examples/{build_signed,build_store,digest,encrypt,entries}.c "$to/examples"
+    install -m 644 c/examples/{from_ber,mac,parameters,store,verify}.c "$to/examples"
+    install -m 644 python/examples/{build_signed,build_store,digest,encrypt,entries}.py "$to/examples"
+    install -m 644 python/examples/{parameters,scan,sign_program,store,verify}.py "$to/examples"
     install -m 755 python/examples/stores.sh "$to/examples"
 }
 

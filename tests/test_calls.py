@@ -19,9 +19,13 @@ CERTIFICATES = "crates/der_c/src/certificates.rt"
 SIGNERS, PARTS, PARTS_IN_SPECS = "crates/der_c/src/signers.rt", *(path for path, *_ in calls.LISTED)
 RANGES_IN_SPECS = "crates/der_c/specs/Ranges.antt"
 PASSWORDS, PASSWORDS_IN_SPECS = "crates/der_c/src/passwords.rt", "crates/der_c/specs/Passwords.antt"
-BUILT, BUILT_BAGS, BUILT_CONTENTS, BUILT_STORES = (
-    f"crates/der_c/src/{name}.rt" for name in ("built", "built_bags", "built_contents", "built_stores"))
-BUILT_IN_RUST, STORES_IN_RUST = "rust/src/build.rs", "rust/src/build_stores.rs"
+BUILT, BUILT_BAGS, BUILT_CONTENTS, BUILT_STORES, BUILT_ATTRIBUTES, BUILT_SIGNED, BUILT_INDIRECT = (
+    f"crates/der_c/src/{name}.rt" for name in (
+        "built", "built_bags", "built_contents", "built_stores", "built_attributes", "built_signed", "built_indirect"))
+ATTRIBUTES_IN_SPECS, SIGNED_IN_SPECS, INDIRECT_IN_SPECS = (f"crates/der_c/specs/{name}.antt" for name in (
+    "BuiltAttributes", "BuiltSigned", "BuiltIndirect"))
+BUILT_IN_RUST, STORES_IN_RUST, SIGNED_IN_RUST, INDIRECT_IN_RUST = (f"rust/src/{name}.rs" for name in (
+    "build", "build_stores", "build_signed", "build_indirect"))
 # What tools/calls reads.
 READ = (FILE, C, PYTHON, NAMES, "rust/src/*.rs", CHECK, "crates/der_c/src/*.rt", "crates/der_c/specs/*.antt", PARTS,
         PARTS_IN_SPECS, *calls.LEVELS)
@@ -34,6 +38,7 @@ RANGE_IN_RUST = """\
 """
 KIND_IN_C = "  size_t kind;              /* a der_bag_kind */\n"
 LEVEL_IN_C = "  size_t level;             /* in how many bags it is, at most 64 */\n"
+LISTS_IN_C = "const der_range *certificates, size_t certificates_len, const der_range *crls,"
 DATA_IN_PYTHON = '("is_data", ctypes.c_size_t),\n        ("octets", Range)'
 IN_CHECK = "        limit: {},\n        input: *const u8,\n        input_len: usize,\n        out"
 # What --write makes right: a file, a text of it, what is in its place, and the name that has to be told.
@@ -46,8 +51,20 @@ MADE = {
     "C, a password part": (C, "DER_PASSWORD_SALT = 5,", "DER_PASSWORD_SALT = 6,", "DER_PASSWORD_SALT"),
     "C, a bag part": (C, "DER_BAG_PART_VALUE = 3,", "DER_BAG_PART_VALUE = 4,", "DER_BAG_PART_VALUE"),
     "C, a store part": (C, "DER_STORE_PART_SALT = 5,", "DER_STORE_PART_SALT = 6,", "DER_STORE_PART_SALT"),
+    "C, a part of attributes": (
+        C, "DER_ATTRIBUTES_PART_SIGNING_TIME = 3,", "DER_ATTRIBUTES_PART_SIGNING_TIME = 4,",
+        "DER_ATTRIBUTES_PART_SIGNING_TIME"),
+    "C, a part of signed data": (
+        C, "DER_SIGNED_PART_SIGNATURE = 9,", "DER_SIGNED_PART_SIGNATURE = 8,", "DER_SIGNED_PART_SIGNATURE"),
+    "C, a part of indirect data": (
+        C, "DER_INDIRECT_PART_IMAGE_FLAGS = 5,", "DER_INDIRECT_PART_IMAGE_FLAGS = 4,", "DER_INDIRECT_PART_IMAGE_FLAGS"),
     "C, a struct that is read": (C, "const der_password_parts *given,", "der_password_parts *given,", "given"),
     "C, structs that are read": (C, "const der_bag_given *bags,", "der_bag_given *bags,", "bags"),
+    "C, attributes that are read": (C, "const der_attributes_given *given,", "der_attributes_given *given,", "given"),
+    "C, indirect data that are read": (C, "const der_indirect_parts *given,", "der_indirect_parts *given,", "given"),
+    "C, content that is read": (C, "const der_signed_given *given,", "const der_signer_given *given,", "given"),
+    "C, ranges that are read": (C, LISTS_IN_C, LISTS_IN_C.replace("const der_range *crls", "der_range *crls"), "crls"),
+    "C, how many signers": (C, "*signers, size_t signers_len,", "*signers, uint8_t signers_len,", "signers_len"),
     "C, how many structs": (C, "size_t contents_len,", "uint8_t contents_len,", "contents_len"),
     "C, the type of a field": (C, "  der_range octets;", "  size_t octets;", "octets"),
     "C, levels": (C, "#define DER_MAX_NESTING 64", "#define DER_MAX_NESTING 65", "DER_MAX_NESTING"),
@@ -60,6 +77,15 @@ MADE = {
     "Python, a password part": (PYTHON, "PASSWORD_SALT: Final = 5", "PASSWORD_SALT: Final = 6", "DER_PASSWORD_SALT"),
     "Python, a bag part": (PYTHON, "BAG_PART_VALUE: Final = 3", "BAG_PART_VALUE: Final = 4", "DER_BAG_PART_VALUE"),
     "Python, a store part": (PYTHON, "STORE_PART_SALT: Final = 5", "STORE_PART_SALT: Final = 6", "DER_STORE_PART_SALT"),
+    "Python, a part of attributes": (
+        PYTHON, "ATTRIBUTES_PART_SIGNING_TIME: Final = 3", "ATTRIBUTES_PART_SIGNING_TIME: Final = 4",
+        "DER_ATTRIBUTES_PART_SIGNING_TIME"),
+    "Python, a part of signed data": (
+        PYTHON, "SIGNED_PART_SIGNATURE: Final = 9", "SIGNED_PART_SIGNATURE: Final = 8", "DER_SIGNED_PART_SIGNATURE"),
+    "Python, a part of indirect data": (
+        PYTHON, "INDIRECT_PART_IMAGE_FLAGS: Final = 5", "INDIRECT_PART_IMAGE_FLAGS: Final = 4",
+        "DER_INDIRECT_PART_IMAGE_FLAGS"),
+    "Python, structs of another kind": (PYTHON, "POINTER(SignerGiven),", "POINTER(SignerParts),", "der_build_signed"),
     "Python, how many structs": (PYTHON, "POINTER(BagGiven), _SIZE,", "POINTER(BagGiven),", "der_build_bags"),
     "Python, the type of a field": (
         PYTHON, DATA_IN_PYTHON, DATA_IN_PYTHON.replace("Range", "ctypes.c_size_t"), "octets"),
@@ -71,6 +97,17 @@ MADE = {
     "Rust, a password part": (RUST, "PASSWORD_SALT: usize = 5;", "PASSWORD_SALT: usize = 6;", "DER_PASSWORD_SALT"),
     "Rust, a bag part": (RUST, "BAG_PART_VALUE: usize = 3;", "BAG_PART_VALUE: usize = 4;", "DER_BAG_PART_VALUE"),
     "Rust, a store part": (RUST, "STORE_PART_SALT: usize = 5;", "STORE_PART_SALT: usize = 6;", "DER_STORE_PART_SALT"),
+    "Rust, a part of attributes": (
+        RUST, "ATTRIBUTES_PART_SIGNING_TIME: usize = 3;", "ATTRIBUTES_PART_SIGNING_TIME: usize = 4;",
+        "DER_ATTRIBUTES_PART_SIGNING_TIME"),
+    "Rust, a part of signed data": (
+        RUST, "SIGNED_PART_SIGNATURE: usize = 9;", "SIGNED_PART_SIGNATURE: usize = 8;", "DER_SIGNED_PART_SIGNATURE"),
+    "Rust, a part of indirect data": (
+        RUST, "INDIRECT_PART_IMAGE_FLAGS: usize = 5;", "INDIRECT_PART_IMAGE_FLAGS: usize = 4;",
+        "DER_INDIRECT_PART_IMAGE_FLAGS"),
+    "Rust, indirect data that are read": (RUST, "given: *const IndirectParts,", "given: *mut IndirectParts,", "given"),
+    "Rust, signers that are read": (RUST, "signers: *const SignerGiven,", "signers: *mut SignerGiven,", "signers"),
+    "Rust, ranges that are read": (RUST, "crls: *const Range,", "crls: *mut Range,", "crls"),
     "Rust, a struct that is read": (RUST, "given: *const PasswordParts,", "given: *mut PasswordParts,", "given"),
     "Rust, structs that are read": (RUST, "bags: *const BagGiven,", "bags: *mut BagGiven,", "bags"),
     "Rust, the type of a field": (RUST, "    pub octets: Range,", "    pub octets: usize,", "octets"),
@@ -98,9 +135,38 @@ BY_HAND = {
         NAMES, " SAFE = _calls.STORE_PART_SAFE", " SAFE = _calls.BAG_PART_VALUE", "SAFE", NAMES),
     "Python, no store part": (
         NAMES, "    ITERATIONS = _calls.STORE_PART_ITERATIONS\n", "", "DER_STORE_PART_ITERATIONS", f"{NAMES}:1"),
+    "Python, a part of attributes": (
+        NAMES, " SIGNING_TIME = _calls.ATTRIBUTES_PART_SIGNING_TIME",
+        " SIGNING_TIME = _calls.ATTRIBUTES_PART_CONTENT_TYPE", "SIGNING_TIME", NAMES),
+    "Python, no part of attributes": (
+        NAMES, "    ATTRIBUTES = _calls.ATTRIBUTES_PART_ATTRIBUTES\n", "", "DER_ATTRIBUTES_PART_ATTRIBUTES",
+        f"{NAMES}:1"),
+    "Python, a part of signed data": (
+        NAMES, " CRL = _calls.SIGNED_PART_CRL", " CRL = _calls.SIGNED_PART_CERTIFICATE", "CRL", NAMES),
+    "Python, a part of attributes for one of signed data": (
+        NAMES, " CONTENT_TYPE = _calls.SIGNED_PART_CONTENT_TYPE",
+        " CONTENT_TYPE = _calls.ATTRIBUTES_PART_CONTENT_TYPE", "CONTENT_TYPE", NAMES),
+    "Python, no part of signed data": (
+        NAMES, "    IDENTIFIER = _calls.SIGNED_PART_IDENTIFIER\n", "", "DER_SIGNED_PART_IDENTIFIER", f"{NAMES}:1"),
+    "Python, a part of indirect data": (
+        NAMES, " IMAGE_LINK = _calls.INDIRECT_PART_IMAGE_LINK", " IMAGE_LINK = _calls.INDIRECT_PART_IMAGE_FLAGS",
+        "IMAGE_LINK", NAMES),
+    "Python, a part of signed data for one of indirect data": (
+        NAMES, " DIGEST_ALGORITHM = _calls.INDIRECT_PART_DIGEST_ALGORITHM",
+        " DIGEST_ALGORITHM = _calls.SIGNED_PART_DIGEST_ALGORITHM", "DIGEST_ALGORITHM", NAMES),
+    "Python, no part of indirect data": (
+        NAMES, "    DIGEST = _calls.INDIRECT_PART_DIGEST\n", "", "DER_INDIRECT_PART_DIGEST", f"{NAMES}:1"),
     "Rust, a password part": (BUILT_IN_RUST, "Salt = calls::PASSWORD_SALT", "Salt = calls::PASSWORD_PRF", "Salt"),
     "Rust, a bag part": (STORES_IN_RUST, "Value = calls::BAG_PART_VALUE", "Value = calls::BAG_PART_KIND", "Value"),
     "Rust, a store part": (STORES_IN_RUST, "Salt = calls::STORE_PART_SALT", "Salt = calls::STORE_PART_SAFE", "Salt"),
+    "Rust, a part of attributes": (
+        SIGNED_IN_RUST, "SigningTime = calls::ATTRIBUTES_PART_SIGNING_TIME",
+        "SigningTime = calls::ATTRIBUTES_PART_CONTENT_TYPE", "SigningTime"),
+    "Rust, a part of signed data": (
+        SIGNED_IN_RUST, "Crl = calls::SIGNED_PART_CRL", "Crl = calls::SIGNED_PART_CERTIFICATE", "Crl"),
+    "Rust, a part of indirect data": (
+        INDIRECT_IN_RUST, "ImageLink = calls::INDIRECT_PART_IMAGE_LINK", "ImageLink = calls::INDIRECT_PART_IMAGE_FLAGS",
+        "ImageLink"),
     "Rust, a holder": (HOLDERS, "Key = calls::HOLDER_KEY", "Key = calls::HOLDER_CONTENTS", "Key"),
     "Rust, a name": ("rust/src/lib.rs", "Issuer = calls::PART_ISSUER", "Issuer = calls::PART_SIGNATURE", "Issuer"),
     "Rust, a kind": ("rust/src/bags.rs", "BAG_CRL => BagKind::Crl", "BAG_CRL => BagKind::OtherCrl", "OtherCrl"),
@@ -128,6 +194,35 @@ BY_HAND = {
     "proved, a password part": (BUILT, "const SALT: usize = 5;", "const SALT: usize = 6;", "DER_PASSWORD_SALT"),
     "proved, a bag part": (BUILT_BAGS, "const VALUE: usize = 3;", "const VALUE: usize = 4;", "DER_BAG_PART_VALUE"),
     "proved, a store part": (BUILT_STORES, "const SALT: usize = 5;", "const SALT: usize = 6;", "DER_STORE_PART_SALT"),
+    "proved, a part of attributes": (
+        BUILT_ATTRIBUTES, "const SIGNING_TIME: usize = 3;", "const SIGNING_TIME: usize = 4;",
+        "DER_ATTRIBUTES_PART_SIGNING_TIME"),
+    "proved, a part of signed data": (
+        BUILT_SIGNED, "const SIGNATURE: usize = 9;", "const SIGNATURE: usize = 8;", "DER_SIGNED_PART_SIGNATURE"),
+    "proved, a part of indirect data": (
+        BUILT_INDIRECT, "const IMAGE_LINK: usize = 6;", "const IMAGE_LINK: usize = 7;", "DER_INDIRECT_PART_IMAGE_LINK"),
+    "specs, a part of attributes": (
+        ATTRIBUTES_IN_SPECS, "number_of SigningTime = 3", "number_of SigningTime = 4",
+        "DER_ATTRIBUTES_PART_SIGNING_TIME"),
+    "specs, a part of signed data": (
+        SIGNED_IN_SPECS, "number_of (Crl i) = 4", "number_of (Crl i) = 3", "DER_SIGNED_PART_CRL"),
+    "specs, a part of a signer": (
+        SIGNED_IN_SPECS, "number_of_signer_part Signature = 9", "number_of_signer_part Signature = 8",
+        "DER_SIGNED_PART_SIGNATURE"),
+    "specs, a part of indirect data": (
+        INDIRECT_IN_SPECS, "number_of ImageLink = 6", "number_of ImageLink = 7", "DER_INDIRECT_PART_IMAGE_LINK"),
+    "proved, indirect data that are read": (
+        BUILT_INDIRECT, "    given: &Indirect,", "    given: &mut Indirect,", "given"),
+    "proved, attributes that are read": (
+        BUILT_ATTRIBUTES, "    given: &AttributesGiven,", "    given: &mut AttributesGiven,", "given"),
+    "proved, signers that are read": (
+        BUILT_SIGNED, "    signers: &[SignerGiven],\n    out", "    signers: &SignerGiven,\n    out", "signers"),
+    "proved, ranges that are read": (
+        BUILT_SIGNED, "    crls: &[Octets],\n    signers: &[SignerGiven],\n    out",
+        "    crls: &[usize],\n    signers: &[SignerGiven],\n    out", "crls"),
+    "proved, two lists": (
+        BUILT_SIGNED, "    certificates: &[Octets],\n    crls: &[Octets],\n    signers: &[SignerGiven],\n    out",
+        "    crls: &[Octets],\n    certificates: &[Octets],\n    signers: &[SignerGiven],\n    out", "certificates"),
     "proved, a struct that is read": (BUILT, "    given: &Password,", "    given: &mut Password,", "given"),
     "proved, structs that are read": (BUILT_BAGS, "    bags: &[BagGiven],", "    bags: &mut [BagGiven],", "bags"),
     "proved, one struct for several": (

@@ -1,33 +1,53 @@
 """c/tests/limits.c makes each call of the library over an input, looks at all that the call writes, between marks, and
 refuses its requests for memory in turn. Its lines are compared with what derbox, dertree and the readers and writers
 of tests/oracle say of the input, and with what Python is told where other tests compare that. Each status is met that a
-call can answer, but 7, which takes an encoding past 64 bits."""
+call can answer, but 7, which takes an encoding past 64 bits. Signed data of 10,000 certificates, revocation lists and
+signers are what the writer of tests/oracle makes of them."""
 import functools
 import unittest
 
-from support import built, inputs
+from support import built, inputs, oids
 from support.cases import Comparing
 from support.containers import NULL, attribute, bare_bag, store_of
-from support.elements import element, sequence, set_of
-from support.oids import spelt
+from support.elements import element, octet_string, sequence, set_of
 from support.parts import certificate_places, covered, mac_parts, over_any_octets
+from support.rooms import InRooms, in_room, marked
 from support.statuses import (
     INVALID, LOOSE, NO_MEMORY, NO_PART, NO_RANGE, NO_ROOM, NORMAL, UNKNOWN_KIND, answered,
     checked, outcome, place, status_and_length,
 )
 from support.tools import needs
-from oracle import answers, building, stores
+from oracle import answers, building, contents, signed_files, stores
 from vuyhanip import der
 
 LIMITS = built.TOP / "c/tests/limits.c"
 WRAPPED = "-Wl,--wrap=malloc,--wrap=realloc,--wrap=free"
 # How many octets of an input the program takes as those of an INTEGER.
 INTEGER_OCTETS = 24
-# What the program has after an input of which it builds bags and stores: the contents octets of an object identifier, a
-# name, and attributes, of which a friendlyName isn't written. And the count of a MAC.
+# What the program has after an input of which it builds bags, stores, signed data and indirect data: the contents
+# octets of an object identifier, a name, which is taken as flags too, and attributes, of which a friendlyName isn't
+# written into a bag; the contents octets of another object identifier, a time, an algorithm, and signed attributes. And
+# the count of a MAC.
 IDENTIFIER, NAME = bytes.fromhex("2A0304"), "a\U0001F600".encode("utf-16-be")
 ATTRIBUTES = set_of(sequence(element(0x06, IDENTIFIER), set_of(NULL)), attribute("friendlyName"))
+TIME, ALGORITHM = b"20500101000000Z", sequence(element(0x06, IDENTIFIER), NULL)
+CONTENT_TYPE, DIGESTED, SIGNED_NOW = (
+    attribute("contentType", oids.oid("data")), attribute("messageDigest", octet_string(IDENTIFIER)),
+    attribute("signingTime", element(0x17, b"261130120000Z")),
+)
+SIGNED_ATTRIBUTES = set_of(CONTENT_TYPE, DIGESTED)
+REST = IDENTIFIER, NAME, ATTRIBUTES, oids.octets("data"), TIME, ALGORITHM, SIGNED_ATTRIBUTES
 ITERATIONS = 2048
+# How many certificates, revocation lists and signers it has in signed data of many.
+MANY = 10_000
+# Inputs that are parts of signers, beside those that other tests have: times, and sets of attributes, some of which may
+# be signed with data (RFC 5652, 5.3 and 11).
+OF_SIGNERS = (
+    TIME, b"19500101000000Z", b"20261130235960Z", ALGORITHM, ATTRIBUTES, SIGNED_ATTRIBUTES, set_of(), set_of(DIGESTED),
+    set_of(CONTENT_TYPE, DIGESTED, SIGNED_NOW), set_of(SIGNED_NOW, DIGESTED, CONTENT_TYPE),
+    set_of(CONTENT_TYPE, DIGESTED, SIGNED_NOW, SIGNED_NOW), set_of(CONTENT_TYPE, DIGESTED, DIGESTED),
+    set_of(attribute("contentType", oids.oid("TSTInfo")), DIGESTED),
+)
 # What each call is to be seen to answer.
 WANTED = {
     "check": {0, 1, 2, 3, 4, 5, 6, 8},
@@ -61,6 +81,9 @@ WANTED = {
     "build_bags": {0, 5, 8, 9},
     "build_safe": {0, 5, 8, 9},
     "build_store": {0, 5, 8, 9},
+    "build_attributes": {0, 5, 8, 9},
+    "build_signed": {0, 5, 8, 9},
+    "build_indirect": {0, 5, 8, 9},
     "integer_text": {0, 5, 8, 9},
 }
 
@@ -155,7 +178,7 @@ def lines_on_texts(text):
     object identifier, where the input is the text of one, and on UTF-16, where it is UTF-8."""
     library = built.library()
     lines = lines_on_a_text("name_text", library.name_text, text) + lines_on_a_text("oid_text", library.oid_text, text)
-    lines += told("oid_octets", spelt(text))
+    lines += told("oid_octets", oids.spelt(text))
     name = library.oid_name(text)
     lines += [("oid_name", NO_PART)] if name is None else written("oid_name", len(name))
     lines += lines_on_a_text("utf16_text", library.utf16_text, text)
@@ -218,8 +241,10 @@ def lines_on_a_certificate(text):
 
 
 def lines_on_indirect_data(text):
-    status, _, where = answers.indirect(text)
-    return [("indirect", status, where)]
+    """The line on the parts of indirect data, and those on what is built of them."""
+    status, row, where = answers.indirect(text)
+    lines = [("indirect", status, where)]
+    return lines + (told("build_indirect", *contents.indirect_text(text, row)) if status == NORMAL else [])
 
 
 def lines_on_a_trust_list(text):
@@ -249,13 +274,21 @@ def lines_on_building(number, text, row):
     return told("build", made, wrong[:1])
 
 
+def with_rest(text):
+    """An input with what follows it, and where each part of that is."""
+    places, at = [], len(text)
+    for part in REST:
+        places.append((at, len(part)))
+        at += len(part)
+    return text + b"".join(REST), places
+
+
 def lines_on_stores(text):
     """The lines on what is built of an input, with what follows it: no bags, and two of each kind, and of a number that
     no kind has; no contents, and two of each form; and a store without a MAC and with one."""
-    octets, end = text + IDENTIFIER + NAME + ATTRIBUTES, len(text)
-    file, identifier, name = (0, end), (end, len(IDENTIFIER)), (end + len(IDENTIFIER), len(NAME))
-    attributes, null = (sum(name), len(ATTRIBUTES)), (octets.index(NULL, end), len(NULL))
-    mac = ITERATIONS, file, identifier, null, (end, len(octets) - end), name
+    octets, (identifier, name, attributes, *_) = with_rest(text)
+    file, null = (0, len(text)), (octets.index(NULL, len(text)), len(NULL))
+    mac = ITERATIONS, file, identifier, null, (len(text), len(octets) - len(text)), name
     lines = written("build_bags", len(sequence()))
     for kind in range(len(der.BagKind) + 1):
         bag = stores.Bag(kind, 1, 1, 1, identifier, file, name, name, attributes)
@@ -271,12 +304,77 @@ def lines_on_stores(text):
     return lines
 
 
+def lines_on_built_attributes(text):
+    """The lines on attributes of a signer: none, and all with an input in the place of each in turn, and of none. At
+    most one part can't be written."""
+    octets, (identifier, name, attributes, _, time, *_) = with_rest(text)
+    whole = signed_files.Attributes(1, 1, 1, 1, identifier, name, time, attributes)
+    others = [whole._replace(**{part: (0, len(text))}) for part in signed_files.OF_ATTRIBUTES]
+    made = [signed_files.attributes_text(octets, row) for row in (signed_files.Attributes(), *others, whole)]
+    return [line for made, wrong in made for line in told("build_attributes", made, wrong)]
+
+
+def signed_of(file, places):
+    """What signed data is built of: nothing; two certificates and two revocation lists; and two signers too, with an
+    input, which is a range, in the place of the second certificate, of the second list, of each part of the second
+    signer, and of the content, as octets and as an element. At most one part can't be written."""
+    _, name, attributes, data, _, algorithm, signed_attributes = places
+    signer = signed_files.Signer(
+        1, 1, 1, key_identifier=name, digest_algorithm=algorithm, signed_attributes=signed_attributes,
+        signature_algorithm=algorithm, signature=name, unsigned_attributes=attributes,
+    )
+    content, two = signed_files.Content(content_type=data, content=file), 2 * (algorithm,)
+    bare = signed_files.File(content, two, two)
+    whole = bare._replace(signers=(signer, signer))
+    yield from (signed_files.File(content), bare)
+    yield from (whole._replace(**{part: (algorithm, file)}) for part in ("certificates", "crls"))
+    for part in signer._fields[3:]:
+        other = signer._replace(has_key_identifier=int(part != "certificate"), **{part: file})
+        yield whole._replace(signers=(signer, other))
+    yield from (whole._replace(content=content._replace(has_content=1, is_element=it)) for it in (0, 1))
+
+
+def lines_on_signed_data(text):
+    """The lines on signed data that is built of an input, with what follows it."""
+    octets, places = with_rest(text)
+    made = [signed_files.signed_text(octets, file) for file in signed_of((0, len(text)), places)]
+    return [line for made, wrong in made for line in told("build_signed", made, *wrong)]
+
+
+def lines_on_built_indirect_data(text):
+    """The lines on indirect data that are built of an input, with what follows it: of another file and of a program,
+    with the input in the place of each part in turn, and of none. At most one part can't be written."""
+    octets, (identifier, name, attributes, _, _, algorithm, _) = with_rest(text)
+    whole = contents.Indirect(1, 0, 1, 1, identifier, attributes, algorithm, name, name, attributes)
+    rows = [*(whole._replace(**{part: (0, len(text))}) for part in contents.INDIRECT_PARTS), whole]
+    made = [contents.indirect_text(octets, row._replace(is_image=it)) for it in (0, 1) for row in rows]
+    return [line for made, wrong in made for line in told("build_indirect", made, wrong)]
+
+
+def pairs(count):
+    """So many pairs of octets that ascend."""
+    return [number.to_bytes(2, "big") for number in range(1, count + 1)]
+
+
+def of_many():
+    """The octets and the parts of signed data of many certificates, revocation lists and signers, in the order that is
+    the other way round than theirs in the file."""
+    elements = b"".join(sequence(pair) for pair in pairs(MANY)[::-1])
+    octets, size = elements + oids.octets("data") + ALGORITHM, len(elements) // MANY
+    data, algorithm = ((octets.index(it, len(elements)), len(it)) for it in (oids.octets("data"), ALGORITHM))
+    signer = signed_files.Signer(1, digest_algorithm=algorithm, signature_algorithm=algorithm)
+    numbers = [(nth * size + 2, 2) for nth in range(MANY)]
+    signers = tuple(signer._replace(key_identifier=number, signature=number) for number in numbers)
+    ranges = tuple((nth * size, size) for nth in range(MANY))
+    return octets, signed_files.File(signed_files.Content(content_type=data), ranges, ranges, signers)
+
+
 def lines_on_an_integer(text):
     """The lines on the number that the first octets of an input hold."""
-    contents = text[:INTEGER_OCTETS]
-    if not contents:
+    octets = text[:INTEGER_OCTETS]
+    if not octets:
         return [("integer_text", INVALID)]
-    return written("integer_text", len(str(int.from_bytes(contents, "big", signed=True))))
+    return written("integer_text", len(str(int.from_bytes(octets, "big", signed=True))))
 
 
 @functools.lru_cache(maxsize=None)
@@ -287,7 +385,8 @@ def lines_on(status, size, text):
     lines += [*lines_on_parts(text), *mac_lines, *lines_on_texts(text), *lines_on_signers(text)]
     lines += [*lines_on_ranges(text), *lines_on_attributes(text), *lines_on_bags(text)]
     lines += [*lines_on_a_certificate(text), *lines_on_indirect_data(text), *lines_on_a_trust_list(text)]
-    return [*lines, *lines_on_passwords(text), *lines_on_stores(text), *lines_on_an_integer(text)]
+    lines += [*lines_on_passwords(text), *lines_on_stores(text), *lines_on_built_attributes(text)]
+    return [*lines, *lines_on_signed_data(text), *lines_on_built_indirect_data(text), *lines_on_an_integer(text)]
 
 
 class TestLimits(Comparing):
@@ -309,14 +408,17 @@ class TestLimits(Comparing):
 
     def program_agrees(self, program):
         kinds = built.library().kinds()
-        for kind, text in inputs.cases(kinds, answers.is_over_attributes):
+        found = [*inputs.cases(kinds, answers.is_over_attributes), *(("of a signer", text) for text in OF_SIGNERS)]
+        for kind, text in found:
             status, size = checked(kind, text) if kind in kinds else (UNKNOWN_KIND, 0)
             wanted = lines_on_places(kind, status, text) + lines_on(status, size, text)
             self.lines_agree(program, [kind], text, wanted)
         for kind, limit, text, line in inputs.limited(kinds):
             self.lines_agree(program, [kind, limit], text, lines_on(*status_and_length(line), text))
         words = [("kind", status, len(kind)) for kind in kinds for status in (NORMAL, NORMAL, NO_ROOM)]
-        self.lines_agree(program, [], b"", [*words, *2 * [("kind", UNKNOWN_KIND)]])
+        many, _ = signed_files.signed_text(*of_many())
+        wanted = [*words, *2 * [("kind", UNKNOWN_KIND)], *written("build_signed", len(many))]
+        self.lines_agree(program, [], b"", wanted)
         for call, wanted in WANTED.items():
             self.same(self.met[call], wanted, program.name, "statuses of", call)
 
@@ -333,6 +435,30 @@ class TestLimits(Comparing):
         words = "-fsanitize=nonnull-attribute", "-fsanitize-undefined-trap-on-error"
         program = built.in_c(built.TOP / "c/tests/nothing.c", *words)
         self.same(outcome(program, text=store_of(bare_bag("safe contents bag", sequence()))), (0, b""), "null pointers")
+
+
+class TestMany(InRooms):
+    """Signed data of many certificates, revocation lists and signers."""
+
+    def test_many_are_written_in_the_order_of_der(self):
+        octets, file = of_many()
+        wanted, _ = signed_files.signed_text(octets, file)
+        self.same_octets("der_build_signed", (octets, len(octets), *file.words()), wanted, MANY, "of each", places=2)
+        signatures = [bytes(row.signature) for row in built.library().signers(wanted)]
+        self.same(signatures, pairs(MANY), "signatures in order")
+        certificates = [bytes(it) for it in built.library().certificates(wanted)]
+        self.same(certificates, [sequence(pair) for pair in pairs(MANY)], "certificates in order")
+
+    def test_the_last_of_many_is_told(self):
+        octets, file = of_many()
+        outside, number = (len(octets), 1), MANY - 1
+        signer = file.signers[-1]._replace(signature=outside)
+        for part, its in (("certificates", outside), ("crls", outside), ("signers", signer)):
+            wrong = file._replace(**{part: (*getattr(file, part)[:-1], its)})
+            _, [(index, told_part)] = signed_files.signed_text(octets, wrong)
+            said = in_room("der_build_signed", (octets, len(octets), *wrong.words()), 64, 3)
+            self.same(said, (INVALID, 0, number, told_part, marked(b"", 64)), "the last of", part)
+            self.same(index, number, "as by the other writer", part)
 
 
 if __name__ == "__main__":

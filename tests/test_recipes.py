@@ -6,7 +6,9 @@ over signatures of a program and of a cabinet, beside what osslsigncode says, an
 c/examples/entries.c over trust lists that openssl makes, and by hand; and c/examples/parameters.c over stores of
 openssl, by what it was asked for, and by hand. Keys that c/examples/encrypt.c and python/examples/encrypt.py encrypt
 openssl opens, with their password and with no other; so it does stores that python/examples/build_store.py builds, and
-stores of c/examples/build_store.c, which are what is made by hand."""
+stores of c/examples/build_store.c, which are what is made by hand. What c/examples/build_signed.c and
+python/examples/build_signed.py sign is what openssl makes in the same second, but for the signature by an elliptic
+curve, and openssl verifies it."""
 import functools
 import hashlib
 import os
@@ -24,7 +26,7 @@ from support.inputs import CABINET, IMAGE, MAY_BE_ABSENT, TRUST_LIST, trust_entr
 from support.making import put, run
 from support.signing import INDIRECT_DATA
 from support.tools import needs
-from vuyhanip.der import PasswordHolder
+from vuyhanip.der import GivenSigner, PasswordHolder
 
 WRAPPING_KEY, KEY_ID = bytes(range(16)), bytes.fromhex("C0FFEE")
 SHA_256 = "2.16.840.1.101.3.4.2.1"
@@ -34,10 +36,13 @@ PASSWORD, ITERATIONS = "test", 2048
 NAMES = "a", "Größe", "x" * 40
 SIZES = 0, 1, 16, 1000, 70000
 MONTHS = "Jan Feb Mar Apr May Jun Jul Aug Sep Oct Nov Dec".split()
-DIGEST_IN_C, ENTRIES_IN_C, PARAMETERS_IN_C, ENCRYPT_IN_C, BUILD_IN_C = (
-    built.TOP / f"c/examples/{name}.c" for name in ("digest", "entries", "parameters", "encrypt", "build_store")
+DIGEST_IN_C, ENTRIES_IN_C, PARAMETERS_IN_C, ENCRYPT_IN_C, BUILD_IN_C, SIGN_IN_C, VERIFY_IN_C = (
+    built.TOP / f"c/examples/{name}.c"
+    for name in ("digest", "entries", "parameters", "encrypt", "build_store", "build_signed", "verify")
 )
-ENCRYPT_IN_PYTHON, BUILD_IN_PYTHON = (built.TOP / f"python/examples/{name}.py" for name in ("encrypt", "build_store"))
+ENCRYPT_IN_PYTHON, BUILD_IN_PYTHON, SIGN_IN_PYTHON = (
+    built.TOP / f"python/examples/{name}.py" for name in ("encrypt", "build_store", "build_signed")
+)
 # Passwords, and what an example says of a key that it encrypted with one, and of contents.
 PASSWORDS = PASSWORD, "Größe, with blanks \r", "x" * 300
 ENCRYPTED = "key: PBES2, PBKDF2, 600000 iterations, salt of 16 octets, hmacWithSHA256, aes-256-cbc"
@@ -720,6 +725,166 @@ def salts_of(text, holder):
     """The salt and the vector by which something is encrypted."""
     its = built.library().password_parameters(bytes(text), PasswordHolder[holder])
     return bytes(its.salt), bytes(its.initialization_vector)
+
+
+# How often a file is built, at most, until openssl builds one in the same second; how long a certificate is, at most,
+# that the example in C takes; and what that says of one that isn't the key's.
+TIMES, LONGEST_CERTIFICATE = 20, 1 << 16
+ANOTHERS = "the key isn't that of the certificate"
+
+
+class Signing(InC):
+    """Signed data that is built."""
+
+    def setUp(self):
+        super().setUp()
+        for file in keys().iterdir():
+            put(file.name, file.read_bytes())
+
+    def in_c(self, *words, by=None):
+        """How the example in C ends over the names of files, and what it writes."""
+        return tools.ended(built.in_c(SIGN_IN_C, "-lcrypto", by=by), *words)
+
+    def both(self, example, key, options):
+        """Keeps what an example builds of the file `content`, and what openssl builds of it in the same second."""
+        for _ in range(TIMES):
+            ran = example(key)
+            self.same((ran.returncode, ran.stderr), (0, b""), key, "an example")
+            put("made", ran.stdout)
+            making.sign("theirs", f"-nosmimecap -md sha256 {options}", key, octets("content"))
+            if shown("made", "UTCTIME")[-1] == shown("theirs", "UTCTIME")[-1]:
+                return
+        self.fail(f"the example and openssl built nothing in the same second, {TIMES} times")
+
+    def builds_as_openssl(self, example, is_detached=True):
+        """Compares what an example builds with a key with what openssl builds in the same second, but for the signature
+        by an elliptic curve, which is another one each time; and what verifiers say of it."""
+        for key, size in ((key, size) for key in ("one", "two") for size in SIZES):
+            put("content", random.randbytes(size))
+            self.both(example, key, "" if is_detached else "-nodetach")
+            self.same(without_signature("made"), without_signature("theirs"), "beside openssl's", key, size)
+            self.same(octets("made") == octets("theirs"), key == "two", "octet for octet", key, size)
+            given = ("-content", "content") if is_detached else ()
+            self.same(verified(key, *given), octets("content"), "what openssl verifies", key, size)
+            put("other", octets("content") + b"more")
+            for content, said in (("content", "verified"), ("other", "another content")):
+                ran = tools.ended(built.in_c(VERIFY_IN_C, "-lcrypto"), "made", content)
+                self.same(ran.stdout.decode(), f"signer 0: {said}\n", "verify.c, over the", content, key, size)
+            if is_detached:
+                self.same(verified(key, "-content", "other"), "refused", "another content", key, size)
+
+    def test_what_the_example_in_c_builds_is_that_of_openssl(self):
+        self.builds_as_openssl(lambda key: self.in_c(f"{key}.pkcs8", f"{key}.der", "content"))
+
+    @needs("gcc", "clang")
+    def test_what_the_example_that_clang_builds_writes_is_so_too(self):
+        self.builds_as_openssl(lambda key: self.in_c(f"{key}.pkcs8", f"{key}.der", "content", by="clang"))
+
+    def test_what_the_example_in_python_builds_is_that_of_openssl(self):
+        def in_one(*words):
+            return lambda key: in_python(SIGN_IN_PYTHON, *words, f"{key}.key", f"{key}.der", "content")
+
+        self.builds_as_openssl(in_one(), is_detached=False)
+        self.builds_as_openssl(in_one("--detached"))
+
+    def test_signers_that_were_read_are_the_same_in_a_file_that_is_built(self):
+        """Of a file of openssl with two signers, over attributes and over the content itself: in the same file, in one
+        without its content, and in one without certificates."""
+        making.joined("both.pem", "one.pem", "two.pem")
+        verify = "openssl cms -verify -binary -inform DER -in made -CAfile both.pem"
+        for options in ("", "-noattr"):
+            put("content", random.randbytes(1000))
+            making.sign("theirs", f"-nodetach -signer two.pem -inkey two.key {options}", text=octets("content"))
+            its = built.library().signed(octets("theirs"))
+            build = functools.partial(built.library().build_signed, signers=[given_again(it) for it in its.signers])
+            self.same(len(its.signers), 2, "signers", options)
+            made = build(oids.octets("data"), its.content, certificates=its.certificates)
+            self.same(made, octets("theirs"), "the same file", options)
+            for content, certificates, words in (
+                (None, its.certificates, "-content content"), (its.content, (), "-certfile both.pem"),
+            ):
+                put("made", build(oids.octets("data"), content, certificates=certificates))
+                self.same(run(f"{verify} {words}"), octets("content"), "what openssl verifies", words, options)
+
+    def test_a_certificate_of_any_length_up_to_the_room_of_the_example_in_c_is_taken(self):
+        def certified(size):
+            words = f"openssl req -x509 -new -key two.key -subj /CN=long -set_serial 5 -addext nsComment={size * 'x'}"
+            put("long", run("openssl x509 -outform DER", run(words, into="long.pem")))
+            return len(octets("long"))
+
+        put("content", b"content")
+        size = 64000 + LONGEST_CERTIFICATE - certified(64000)
+        self.same(certified(size), LONGEST_CERTIFICATE, "octets")
+        ran = self.in_c("two.pkcs8", "long", "content")
+        put("made", ran.stdout)
+        said = ran.returncode, ran.stderr, verified("long", "-content", "content")
+        self.same(said, (0, b"", b"content"), "the longest certificate")
+        self.same(certified(size + 1), LONGEST_CERTIFICATE + 1, "octets")
+        ran = self.in_c("two.pkcs8", "long", "content")
+        said = ran.returncode, ran.stdout, ran.stderr
+        self.same(said, (1, b"", b"the certificate is too long\n"), "a longer certificate")
+
+    def test_what_the_example_in_c_refuses(self):
+        """Another number of words, a file that isn't there, what is no key that signs, what is no certificate, or not
+        that of the key, and octets after one."""
+        put("content", b"content")
+        put("empty", b"")
+        put("more", octets("one.der") + b"\0")
+        making.certificate("other", key="ed25519")
+        run("openssl pkcs8 -topk8 -nocrypt -in other.key -outform DER -out other.pkcs8")
+        files = "one.pkcs8", "one.der", "content"
+        cases = [(words, 2, "usage: build_signed KEY CERTIFICATE FILE") for words in ((), files[:2], (*files, "more"))]
+        for index in range(3):
+            missing = [*files[:index], "nothing", *files[index + 1 :]]
+            cases.append((missing, 2, "nothing isn't read, or has 1 GiB"))
+        no_keys = "empty", "one.der", "one.key", "other.pkcs8"
+        cases += [((key, *files[1:]), 1, "no key of RSA or of an elliptic curve") for key in no_keys]
+        cases += [((files[0], it, files[2]), 1, ANOTHERS) for it in ("empty", "two.der", "one.pem", "one.pkcs8")]
+        cases.append(((files[0], "more", files[2]), 1, "the certificate is no DER"))
+        for words, status, said in cases:
+            ran = self.in_c(*words)
+            self.same((ran.returncode, ran.stdout, ran.stderr), (status, b"", f"{said}\n".encode()), words)
+
+    def test_what_the_example_in_python_refuses(self):
+        put("content", b"content")
+        put("empty", b"")
+        making.certificate("other", key="ed25519")
+        in_der("other")
+        files = "one.key", "one.der", "content"
+        usage = b"usage: build_signed.py [--detached] KEY CERTIFICATE FILE\n"
+        wrong = (), files[:2], (*files, "more"), ("--detached", *files[:2]), (*files, "--detached")
+        for words in wrong:
+            ran = in_python(SIGN_IN_PYTHON, *words)
+            self.same((ran.returncode, ran.stdout, ran.stderr), (2, b"", usage), words)
+        wrong = [[*files[:index], "nothing", *files[index + 1 :]] for index in range(3)]
+        wrong += [("empty", *files[1:]), *((files[0], it, files[2]) for it in ("empty", "one.pem", "other"))]
+        for words in ([*before, *those] for those in wrong for before in ([], ["--detached"])):
+            ran = in_python(SIGN_IN_PYTHON, *words)
+            said = ran.returncode, ran.stdout, b"Traceback" in ran.stderr, ran.stderr == b""
+            self.same(said, (1, b"", False, False), words)
+
+
+def verified(key, *given):
+    """The content of the file `made`, which openssl verifies by the certificate of a key."""
+    words = "cms", "-verify", "-binary", "-inform", "DER", "-in", "made", "-CAfile", f"{key}.pem", *given
+    ran = tools.ended("openssl", *words)
+    return ran.stdout if ran.returncode == 0 else "refused"
+
+
+def given_again(signer):
+    """A signer that was read, as it is to be given."""
+    return GivenSigner(
+        signer.digest_algorithm, signer.signature_algorithm, signer.signature, certificate=signer.certificate,
+        signed_attributes=signer.covered if signer.is_over_attributes else None,
+        unsigned_attributes=signer.unsigned_attributes,
+    )
+
+
+def without_signature(file):
+    """The parts of signed data with one signer, but for the signature."""
+    *others, signers = making.fields_of(octets(file))
+    [signer] = parts(signers)
+    return others, parts(signer)[:-1]
 
 
 if __name__ == "__main__":

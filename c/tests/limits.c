@@ -1,7 +1,8 @@
-/* limits KIND < FILE makes each call over a file, with marks around all that the call may write, and says its status and
- * its numbers. Then it makes the call again, while one request for memory after another is refused: each comes to
- * DER_NO_MEMORY, or changes nothing. limits KIND LIMIT allows so many levels of nesting. limits alone asks for the words of
- * all kinds, with room enough and a byte less.
+/* limits KIND < FILE makes each call over a file, with marks around all that the call may write, and says its status
+ * and its numbers. Then it makes the call again, while one request for memory after another is refused: each comes to
+ * DER_NO_MEMORY, or changes nothing. limits KIND LIMIT allows so many levels of nesting. limits alone asks for the
+ * words of all kinds, and builds signed data of many certificates, revocation lists and signers, with room enough and a
+ * byte less.
  * Ends with 4, and says why, where a call writes what der.h doesn't say, or keeps memory.
  * To be linked with -Wl,--wrap=malloc,--wrap=realloc,--wrap=free. */
 #include "der.h"
@@ -13,23 +14,31 @@ enum { MARK = 0xEE, MARGIN = 64, SPARE = 16, LONGEST = 1 << 20 };
 /* How many octets at the front of an input are taken as those of an INTEGER: each digit of it takes memory. */
 enum { LONGEST_INTEGER = 24 };
 
-/* What follows an input of which bags and stores are built: the contents octets of an object identifier; a name in
- * UTF-16; and a SET OF Attribute, of one of that type with the value NULL, and of a friendlyName without a value, which
- * isn't written. */
-static const uint8_t rest[] = {0x2A, 3, 4, 0, 'a', 0xD8, 0x3D, 0xDE, 0, 0x31, 26, 0x30, 9, 6, 3, 0x2A, 3, 4, 0x31, 2, 5,
-                               0, 0x30, 13, 6, 9, 0x2A, 0x86, 0x48, 0x86, 0xF7, 0x0D, 1, 9, 20, 0x31, 0};
+/* What follows an input of which bags, stores, signed data and indirect data are built: the contents octets of an
+ * object identifier; a name in UTF-16, which is taken as flags too; and a SET OF Attribute, of one of that type with
+ * the value NULL, and of a friendlyName without a value, which isn't written into a bag. Then the contents octets of
+ * id-data; a time; an AlgorithmIdentifier; and a SET OF Attribute, of a contentType that is id-data and of a
+ * messageDigest. */
+static const uint8_t rest[] = {
+    0x2A, 3, 4, 0, 'a', 0xD8, 0x3D, 0xDE, 0, 0x31, 26, 0x30, 9, 6, 3, 0x2A, 3, 4, 0x31, 2, 5, 0, 0x30, 13, 6, 9, 0x2A,
+    0x86, 0x48, 0x86, 0xF7, 0x0D, 1, 9, 20, 0x31, 0,
+    0x2A, 0x86, 0x48, 0x86, 0xF7, 0x0D, 1, 7, 1,
+    '2', '0', '5', '0', '0', '1', '0', '1', '0', '0', '0', '0', '0', '0', 'Z',
+    0x30, 7, 6, 3, 0x2A, 3, 4, 5, 0,
+    0x31, 46, 0x30, 24, 6, 9, 0x2A, 0x86, 0x48, 0x86, 0xF7, 0x0D, 1, 9, 3, 0x31, 11, 6, 9, 0x2A, 0x86, 0x48, 0x86, 0xF7,
+    0x0D, 1, 7, 1, 0x30, 18, 6, 9, 0x2A, 0x86, 0x48, 0x86, 0xF7, 0x0D, 1, 9, 4, 0x31, 5, 4, 3, 0x2A, 3, 4};
 
 /* The calls, by the word that begins their lines. */
 typedef enum {
   CHECK, LOCATE, LOOSE_END, REWRITE, MAC, MAC_NUMBERS, FROM_BER, MAC_BER, MAC_PART_BER, NAME, OID, OID_OCTETS, OID_NAME,
   PART, KIND, SIGNERS, SIGNER, RANGES, ATTRIBUTES, BAGS, CERTIFICATE, INDIRECT, TRUST_LIST, TRUST_ROWS, PASSWORD, BUILD,
-  BUILD_BAGS, BUILD_SAFE, BUILD_STORE, INTEGER, UTF16, TEXT_UTF16
+  BUILD_BAGS, BUILD_SAFE, BUILD_STORE, BUILD_ATTRIBUTES, BUILD_SIGNED, BUILD_INDIRECT, INTEGER, UTF16, TEXT_UTF16
 } call;
 static const char *const calls[] = {
     "check",     "locate",   "loose_end", "rewrite", "mac",  "mac_numbers", "from_ber", "mac_ber", "mac_part_ber",
     "name_text", "oid_text", "oid_octets", "oid_name", "part", "kind", "signers", "signer", "ranges", "attributes",
     "bags", "certificate", "indirect", "trust_list", "trust_rows", "password", "build", "build_bags", "build_safe",
-    "build_store", "integer_text", "utf16_text", "text_utf16"};
+    "build_store", "build_attributes", "build_signed", "build_indirect", "integer_text", "utf16_text", "text_utf16"};
 
 /* What a call is given: the index of a kind or of a signer, or the number of a part or of a holder, where it takes one,
  * a limit if there is one, and what it builds from: of bags, and of contents, so many. */
@@ -44,6 +53,12 @@ typedef struct {
   der_bag_given bags[2];
   der_content_given contents[2];
   der_store_given store;
+  der_attributes_given attributes;
+  der_indirect_parts indirect;
+  der_signed_given file;
+  const der_range *certificates, *crls;
+  const der_signer_given *signers;
+  size_t certificates_len, crls_len, signers_len;
 } given;
 
 /* What a call answers: its status, and its numbers, 0 where it has but one. */
@@ -97,16 +112,18 @@ static int lists(call it) {
 
 /* How many numbers a call writes. */
 static int numbers_of(call it) {
-  const int is_built = it == BUILD || it == BUILD_SAFE || it == BUILD_STORE;
+  const int is_built = it == BUILD || it == BUILD_SAFE || it == BUILD_STORE || it == BUILD_ATTRIBUTES ||
+                       it == BUILD_INDIRECT;
   const int two = it == MAC || it == FROM_BER || it == PART || is_built || lists(it);
-  return it == MAC_NUMBERS || it == MAC_BER || it == BUILD_BAGS ? 3 : two ? 2 : 1;
+  return it == MAC_NUMBERS || it == MAC_BER || it == BUILD_BAGS || it == BUILD_SIGNED ? 3 : two ? 2 : 1;
 }
 
 /* Whether a call writes so many bytes as its first number says. */
 static int says_written(call it) {
   return it == REWRITE || it == FROM_BER || it == MAC_PART_BER || it == NAME || it == OID || it == OID_OCTETS ||
          it == OID_NAME || it == INTEGER || it == UTF16 || it == TEXT_UTF16 || it == PART || it == KIND ||
-         it == BUILD || it == BUILD_BAGS || it == BUILD_SAFE || it == BUILD_STORE;
+         it == BUILD || it == BUILD_BAGS || it == BUILD_SAFE || it == BUILD_STORE || it == BUILD_ATTRIBUTES ||
+         it == BUILD_SIGNED || it == BUILD_INDIRECT;
 }
 
 /* How many bytes a call writes of signers, of which there are so many from that index on. */
@@ -294,6 +311,19 @@ static answer made(call it, const given *its, uint8_t *room, size_t out_len) {
   case BUILD_STORE:
     said.status = (der_status)der_build_store(its->input, its->len, &its->store, out, out_len, &first.it, &second.it);
     break;
+  case BUILD_ATTRIBUTES:
+    said.status = (der_status)der_build_attributes(its->input, its->len, &its->attributes, out, out_len, &first.it,
+                                                   &second.it);
+    break;
+  case BUILD_SIGNED:
+    said.status = (der_status)der_build_signed(
+        its->input, its->len, &its->file, its->certificates, its->certificates_len, its->crls, its->crls_len,
+        its->signers, its->signers_len, out, out_len, &first.it, &second.it, &third.it);
+    break;
+  case BUILD_INDIRECT:
+    said.status = (der_status)der_build_indirect(its->input, its->len, &its->indirect, out, out_len, &first.it,
+                                                 &second.it);
+    break;
   }
   said.first = first.it;
   said.second = second.it;
@@ -321,12 +351,13 @@ static int is_without_use(call it, const answer *said) {
   return (!said->first || fills(it)) && (!said->second || has_place) && !said->third;
 }
 
-/* Makes a call, says what it answers, and then refuses its requests for memory in turn. */
-static answer tried(call it, const given *its, uint8_t *room, size_t out_len) {
+/* Makes a call, says what it answers, and then refuses its requests for memory in turn, or where there are many of them
+ * the first, the second, the fourth and so on. */
+static answer tried_some(call it, const given *its, uint8_t *room, size_t out_len, int are_many) {
   answer ample = made(it, its, room, out_len), said;
   size_t nth, short_of = 0;
   printf("%s %d %zu %zu %zu\n", calls[it], (int)ample.status, ample.first, ample.second, ample.third);
-  for (nth = 1;; nth++) {
+  for (nth = 1;; nth = are_many ? 2 * nth : nth + 1) {
     requests = 0;
     refused = nth;
     said = made(it, its, room, out_len);
@@ -344,8 +375,11 @@ static answer tried(call it, const given *its, uint8_t *room, size_t out_len) {
   return ample;
 }
 
-static int kinds(void) {
-  static uint8_t room[MARGIN + 64 + MARGIN];
+static answer tried(call it, const given *its, uint8_t *room, size_t out_len) {
+  return tried_some(it, its, room, out_len, 0);
+}
+
+static void kinds(uint8_t *room) {
   given its = {0};
   answer said;
   while ((said = tried(KIND, &its, room, 64)).status == DER_NORMAL) {
@@ -355,7 +389,6 @@ static int kinds(void) {
   }
   its.index = (size_t)-1;
   tried(KIND, &its, room, 64);
-  return 0;
 }
 
 /* Makes a call for each part, with room enough and a byte less, and for a number that no part has. */
@@ -582,12 +615,260 @@ static void stores(given its, uint8_t *room) {
   }
 }
 
-/* Builds bags and stores of the input. */
+/* A part that is given, and what is told where it can't be written: its number, and that of a signer or an element. */
+typedef struct {
+  size_t part, index;
+  der_range *range;
+  int is_looked_at, may_be_empty;
+} told;
+
+/* Builds with ranges that aren't inside of the input in the place of a part, also where the end of one is past 2^64,
+ * and without any octets: the part is told, unless it may be so, or isn't looked at. */
+static void wrong_ranges(call it, const given *its, told part, uint8_t *room, size_t size) {
+  static const size_t most = (size_t)-1;
+  const der_range right = *part.range, wrong[] = {{most, right.len},    {most, 1},     {right.start, most}, {1, most},
+                                                  {its->len - 1, most}, {its->len, 1}, {its->len + 1, 0},   {0, 0}};
+  const int has_index = numbers_of(it) > 2;
+  for (size_t nth = 0; nth < sizeof wrong / sizeof *wrong; nth++) {
+    const int may_be = !part.is_looked_at || (part.may_be_empty && !wrong[nth].start && !wrong[nth].len);
+    *part.range = wrong[nth];
+    const answer said = made(it, its, room, size);
+    if (may_be ? said.status != DER_NORMAL || (!part.is_looked_at && said.first != size)
+               : said.status != DER_INVALID || (has_index ? said.third : said.second) != part.part ||
+                     (has_index && said.second != part.index))
+      fault(it, "it takes what isn't inside of the input, or tells another part");
+  }
+  *part.range = right;
+}
+
+/* Builds attributes with what can't be written in the place of each part in turn: that part is told, or isn't looked
+ * at. Then with other flags, which mean the same. */
+static void wrong_attributes(given its, uint8_t *room, size_t size) {
+  static const size_t most = (size_t)-1;
+  der_attributes_given *now = &its.attributes;
+  const told parts[] = {
+      {DER_ATTRIBUTES_PART_CONTENT_TYPE, 0, &now->content_type, !!now->has_content_type, 0},
+      {DER_ATTRIBUTES_PART_MESSAGE_DIGEST, 0, &now->message_digest, !!now->has_message_digest, 1},
+      {DER_ATTRIBUTES_PART_SIGNING_TIME, 0, &now->signing_time, !!now->has_signing_time, 0},
+      {DER_ATTRIBUTES_PART_ATTRIBUTES, 0, &now->attributes, !!now->has_attributes, 0}};
+  size_t *const flags[] = {&now->has_content_type, &now->has_message_digest, &now->has_signing_time,
+                           &now->has_attributes};
+  for (size_t nth = 0; nth < sizeof parts / sizeof *parts; nth++) {
+    wrong_ranges(BUILD_ATTRIBUTES, &its, parts[nth], room, size);
+    *flags[nth] = *flags[nth] ? most : 0;
+  }
+  const answer said = made(BUILD_ATTRIBUTES, &its, room, size);
+  if (said.status != DER_NORMAL || said.first != size)
+    fault(BUILD_ATTRIBUTES, "a flag means something else where it isn't 1");
+}
+
+/* Builds no attributes, and all of them with the input in the place of each in turn, and in the place of none. */
+static void attributes(given its, uint8_t *room) {
+  const size_t at = its.len - sizeof rest;
+  const der_attributes_given all = {
+      .has_content_type = 1, .has_message_digest = 1, .has_signing_time = 1, .has_attributes = 1,
+      .content_type = {at, 3}, .message_digest = {at + 3, 6}, .signing_time = {at + 46, 15},
+      .attributes = {at + 9, 28}};
+  der_range *const places[] = {&its.attributes.content_type, &its.attributes.message_digest,
+                               &its.attributes.signing_time, &its.attributes.attributes};
+  its.attributes = (der_attributes_given){0};
+  answer said = text(BUILD_ATTRIBUTES, &its, room);
+  wrong_attributes(its, room, said.first);
+  for (size_t nth = 0; nth <= sizeof places / sizeof *places; nth++) {
+    its.attributes = all;
+    if (nth < sizeof places / sizeof *places)
+      *places[nth] = (der_range){0, at};
+    said = text(BUILD_ATTRIBUTES, &its, room);
+    if (said.status == DER_NORMAL)
+      wrong_attributes(its, room, said.first);
+  }
+}
+
+/* All of which signed data is built here. */
+typedef struct {
+  der_range certificates[2], crls[2];
+  der_signer_given signers[2];
+} arrays;
+
+/* Builds signed data with what can't be written in the place of each part in turn, of the second of two: it is told,
+ * or isn't looked at. */
+static void wrong_parts_of_signed(given its, arrays *of, uint8_t *room, size_t size) {
+  der_signer_given *signer = &of->signers[1];
+  const int has_signers = its.signers_len > 1, by_key = !!signer->has_key_identifier;
+  const told parts[] = {
+      {DER_SIGNED_PART_CONTENT_TYPE, 0, &its.file.content_type, 1, 0},
+      {DER_SIGNED_PART_CONTENT, 0, &its.file.content, !!its.file.has_content, !its.file.is_element},
+      {DER_SIGNED_PART_CERTIFICATE, 1, &of->certificates[1], its.certificates_len > 1, 0},
+      {DER_SIGNED_PART_CRL, 1, &of->crls[1], its.crls_len > 1, 0},
+      {DER_SIGNED_PART_IDENTIFIER, 1, &signer->certificate, has_signers && !by_key, 0},
+      {DER_SIGNED_PART_IDENTIFIER, 1, &signer->key_identifier, has_signers && by_key, 1},
+      {DER_SIGNED_PART_DIGEST_ALGORITHM, 1, &signer->digest_algorithm, has_signers, 0},
+      {DER_SIGNED_PART_SIGNED_ATTRIBUTES, 1, &signer->signed_attributes, has_signers, 0},
+      {DER_SIGNED_PART_SIGNATURE_ALGORITHM, 1, &signer->signature_algorithm, has_signers, 0},
+      {DER_SIGNED_PART_SIGNATURE, 1, &signer->signature, has_signers, 1},
+      {DER_SIGNED_PART_UNSIGNED_ATTRIBUTES, 1, &signer->unsigned_attributes, has_signers, 0}};
+  for (size_t nth = 0; nth < sizeof parts / sizeof *parts; nth++)
+    wrong_ranges(BUILD_SIGNED, &its, parts[nth], room, size);
+}
+
+/* The same; and with other flags, which mean the same, and with those that say that parts aren't there, which then
+ * aren't looked at. */
+static void wrong_signed(given its, arrays of, uint8_t *room, size_t size) {
+  static const size_t most = (size_t)-1;
+  its.certificates = of.certificates;
+  its.crls = of.crls;
+  its.signers = of.signers;
+  wrong_parts_of_signed(its, &of, room, size);
+  der_signer_given *signer = &of.signers[1];
+  size_t *const flags[] = {&its.file.has_content, &its.file.is_element, &signer->has_key_identifier,
+                           &signer->has_signed_attributes, &signer->has_unsigned_attributes};
+  for (size_t nth = 0; nth < sizeof flags / sizeof *flags; nth++)
+    *flags[nth] = *flags[nth] ? most : 0;
+  answer said = made(BUILD_SIGNED, &its, room, size);
+  if (said.status != DER_NORMAL || said.first != size)
+    fault(BUILD_SIGNED, "a flag means something else where it isn't 1");
+  its.file.has_content = signer->has_signed_attributes = signer->has_unsigned_attributes = 0;
+  its.file.content.len = signer->signed_attributes.len = signer->unsigned_attributes.len = most;
+  said = made(BUILD_SIGNED, &its, room, size);
+  if (said.status != DER_NORMAL || (its.signers_len && said.first >= size))
+    fault(BUILD_SIGNED, "it looks at parts that aren't there");
+}
+
+/* Builds signed data of these parts. */
+static void signed_of(given its, const arrays *of, uint8_t *room) {
+  its.certificates = of->certificates;
+  its.crls = of->crls;
+  its.signers = of->signers;
+  const answer said = text(BUILD_SIGNED, &its, room);
+  if (said.status == DER_NORMAL)
+    wrong_signed(its, *of, room, said.first);
+}
+
+/* Builds signed data of nothing; of two certificates and two revocation lists, without signers; and of two signers too,
+ * with the input in the place of the content, as octets and as an element, of the second certificate, of the second
+ * list, and of each part of the second signer. */
+static void signed_data(given its, uint8_t *room) {
+  const size_t at = its.len - sizeof rest;
+  const der_range input = {0, at}, algorithm = {at + 61, 9};
+  const der_signer_given signer = {
+      .has_key_identifier = 1, .has_signed_attributes = 1, .has_unsigned_attributes = 1, .key_identifier = {at + 3, 6},
+      .digest_algorithm = algorithm, .signed_attributes = {at + 70, 48}, .signature_algorithm = algorithm,
+      .signature = {at + 3, 6}, .unsigned_attributes = {at + 9, 28}};
+  const arrays right = {{algorithm, algorithm}, {algorithm, algorithm}, {signer, signer}};
+  arrays of = right;
+  der_range *const places[] = {
+      &of.certificates[1], &of.crls[1], &of.signers[1].certificate, &of.signers[1].key_identifier,
+      &of.signers[1].digest_algorithm, &of.signers[1].signed_attributes, &of.signers[1].signature_algorithm,
+      &of.signers[1].signature, &of.signers[1].unsigned_attributes};
+  its.file = (der_signed_given){.content_type = {at + 37, 9}, .content = input};
+  its.certificates_len = its.crls_len = its.signers_len = 0;
+  signed_of(its, &of, room);
+  its.certificates_len = its.crls_len = 2;
+  signed_of(its, &of, room);
+  its.signers_len = 2;
+  for (size_t nth = 0; nth < sizeof places / sizeof *places; nth++) {
+    of = right;
+    *places[nth] = input;
+    of.signers[1].has_key_identifier = places[nth] != &of.signers[1].certificate;
+    signed_of(its, &of, room);
+  }
+  its.file.has_content = 1;
+  for (its.file.is_element = 0; its.file.is_element < 2; its.file.is_element++)
+    signed_of(its, &right, room);
+}
+
+/* Builds signed data of many certificates, revocation lists and signers, each of two octets of its own. */
+static void many_signed(uint8_t *room) {
+  enum { MANY = 10000 };
+  static uint8_t input[4 * MANY + 18];
+  static der_range elements[MANY];
+  static der_signer_given signers[MANY];
+  static const uint8_t others[] = {0x2A, 0x86, 0x48, 0x86, 0xF7, 0x0D, 1, 7, 1, 0x30, 7, 6, 3, 0x2A, 3, 4, 5, 0};
+  const size_t at = 4 * MANY;
+  const given its = {.input = input, .len = sizeof input, .file = {.content_type = {at, 9}}, .certificates = elements,
+                     .crls = elements, .signers = signers, .certificates_len = MANY, .crls_len = MANY,
+                     .signers_len = MANY};
+  memcpy(input + at, others, sizeof others);
+  for (size_t nth = 0; nth < MANY; nth++) {
+    const size_t number = MANY - nth;
+    const uint8_t element[] = {0x30, 2, (uint8_t)(number / 256), (uint8_t)number};
+    const der_range own = {4 * nth + 2, 2}, algorithm = {at + 9, 9};
+    memcpy(input + 4 * nth, element, sizeof element);
+    elements[nth] = (der_range){4 * nth, 4};
+    signers[nth] = (der_signer_given){.has_key_identifier = 1, .key_identifier = own, .digest_algorithm = algorithm,
+                                      .signature_algorithm = algorithm, .signature = own};
+  }
+  const answer said = tried_some(BUILD_SIGNED, &its, room, LONGEST, 1);
+  tried_some(BUILD_SIGNED, &its, room, said.first - 1, 1);
+}
+
+/* Builds indirect data with what can't be written in the place of each part in turn: that part is told, or isn't looked
+ * at. Then with other flags, which mean the same, and with those that say that parts aren't there, which then aren't
+ * looked at. */
+static void wrong_indirect(given its, uint8_t *room, size_t size) {
+  static const size_t most = (size_t)-1;
+  der_indirect_parts *now = &its.indirect;
+  const int is_image = !!now->is_image;
+  const told parts[] = {{DER_INDIRECT_PART_ATTRIBUTE_TYPE, 0, &now->attribute_type, !is_image, 0},
+                        {DER_INDIRECT_PART_ATTRIBUTE_VALUE, 0, &now->attribute_value, !is_image, 0},
+                        {DER_INDIRECT_PART_DIGEST_ALGORITHM, 0, &now->digest_algorithm, 1, 0},
+                        {DER_INDIRECT_PART_DIGEST, 0, &now->digest, 1, 1},
+                        {DER_INDIRECT_PART_IMAGE_FLAGS, 0, &now->image_flags, is_image, 0},
+                        {DER_INDIRECT_PART_IMAGE_LINK, 0, &now->image_link, is_image, 0}};
+  for (size_t nth = 0; nth < sizeof parts / sizeof *parts; nth++)
+    wrong_ranges(BUILD_INDIRECT, &its, parts[nth], room, size);
+  now->is_image = is_image ? most : 0;
+  now->has_attribute_value = now->has_image_flags = now->has_image_link = most;
+  answer said = made(BUILD_INDIRECT, &its, room, size);
+  if (said.status != DER_NORMAL || said.first != size)
+    fault(BUILD_INDIRECT, "a flag means something else where it isn't 1");
+  now->has_attribute_value = now->has_image_flags = now->has_image_link = 0;
+  now->attribute_value.len = now->image_flags.len = now->image_link.len = most;
+  said = made(BUILD_INDIRECT, &its, room, size);
+  if (said.status != DER_NORMAL || said.first >= size)
+    fault(BUILD_INDIRECT, "it looks at parts that aren't there");
+}
+
+/* Builds indirect data of another file and of a program, with the input in the place of each part in turn, and in the
+ * place of none. */
+static void indirect(given its, uint8_t *room) {
+  const size_t at = its.len - sizeof rest;
+  const der_indirect_parts all = {
+      .has_attribute_value = 1, .has_image_flags = 1, .has_image_link = 1, .attribute_type = {at, 3},
+      .attribute_value = {at + 9, 28}, .digest_algorithm = {at + 61, 9}, .digest = {at + 3, 6},
+      .image_flags = {at + 3, 6}, .image_link = {at + 9, 28}};
+  der_range *const places[] = {&its.indirect.attribute_type, &its.indirect.attribute_value,
+                               &its.indirect.digest_algorithm, &its.indirect.digest, &its.indirect.image_flags,
+                               &its.indirect.image_link};
+  enum { PLACES = sizeof places / sizeof *places };
+  for (size_t nth = 0; nth < 2 * (PLACES + 1); nth++) {
+    its.indirect = all;
+    its.indirect.is_image = nth / (PLACES + 1);
+    if (nth % (PLACES + 1) < PLACES)
+      *places[nth % (PLACES + 1)] = (der_range){0, at};
+    const answer said = text(BUILD_INDIRECT, &its, room);
+    if (said.status == DER_NORMAL)
+      wrong_indirect(its, room, said.first);
+  }
+}
+
+/* Builds indirect data of what is found in the input. */
+static void found_indirect(given its, uint8_t *room) {
+  const answer said = tried(INDIRECT, &its, room, sizeof its.indirect);
+  memcpy(&its.indirect, room + MARGIN, sizeof its.indirect);
+  if (said.status == DER_NORMAL)
+    text(BUILD_INDIRECT, &its, room);
+}
+
+/* Builds bags, stores, signed data and indirect data of the input. */
 static void built(given its, uint8_t *room) {
   its.len += sizeof rest;
   bags(its, room);
   contents(its, room);
   stores(its, room);
+  attributes(its, room);
+  signed_data(its, room);
+  indirect(its, room);
 }
 
 int main(int count, char **words) {
@@ -595,8 +876,11 @@ int main(int count, char **words) {
   static _Alignas(der_signer_parts) uint8_t room[MARGIN + 2 * LONGEST + MARGIN];
   given its = {0};
   answer said;
-  if (count == 1)
-    return kinds();
+  if (count == 1) {
+    kinds(room);
+    many_signed(room);
+    return 0;
+  }
   its.kind = words[1];
   its.input = input;
   its.is_limited = count == 3;
@@ -638,7 +922,7 @@ int main(int count, char **words) {
   ranges(&its, room);
   listed(BAGS, &its, room, sizeof(der_bag_parts));
   tried(CERTIFICATE, &its, room, sizeof(der_certificate_parts));
-  tried(INDIRECT, &its, room, sizeof(der_indirect_parts));
+  found_indirect(its, room);
   tried(TRUST_LIST, &its, room, sizeof(der_trust_list_parts));
   listed(TRUST_ROWS, &its, room, sizeof(der_trust_entry_parts));
   passwords(&its, room);

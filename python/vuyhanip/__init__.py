@@ -15,6 +15,8 @@ command `vuyhanip` over files, which is `python -m vuyhanip` too.
     library.build_parameters(PasswordHolder.KEY, its)       the DER of a key that is encrypted so
     vuyhanip.build.pbes2(..)        PasswordParameters from scratch, with which build.encrypted_key makes a key
     vuyhanip.build.store([..])      what a store holds, and what its MAC covers; finish(mac) makes the store
+    vuyhanip.build.signed(octets, [..])   what signatures cover; finish(signatures) makes the file of signed data
+    vuyhanip.build.program(algorithm, digest)   what a signature of a program for Windows signs, as Authenticode has it
     vuyhanip.mac_verdict(data, password).is_right   whether the MAC of a store is right, as the program openssl says
 
 help(vuyhanip.der) says what each call does. An installed package has the library for C in its folder, and its version.
@@ -29,10 +31,13 @@ from typing import TYPE_CHECKING
 from . import der as der
 from .der import (
     MAX_NESTING,
+    AttributesPart,
     BadAttributes,
     BadBag,
     BadContent,
+    BadIndirect,
     BadParameters,
+    BadSigned,
     BadStore,
     Bag,
     BagKind,
@@ -41,9 +46,13 @@ from .der import (
     EnvelopePart,
     GivenBag,
     GivenContent,
+    GivenImage,
+    GivenIndirect,
     GivenMac,
+    GivenSigner,
     ImageData,
     IndirectData,
+    IndirectPart,
     Library,
     Mac,
     Part,
@@ -52,6 +61,7 @@ from .der import (
     PasswordPart,
     Refused,
     SignedData,
+    SignedPart,
     Signer,
     SignerInfo,
     Store,
@@ -63,16 +73,19 @@ from .der import (
     attribute_oid,
     attribute_values,
     dotted,
+    hashed_octets,
 )
 
 if TYPE_CHECKING:
     from .findings import Finding
 
-__all__ = ["MAX_NESTING", "BadAttributes", "BadBag", "BadContent", "BadParameters", "BadStore", "Bag", "BagKind"]
-__all__ += ["BagPart", "Certificate", "EnvelopePart", "GivenBag", "GivenContent", "GivenMac", "ImageData"]
-__all__ += ["IndirectData", "Library", "Mac", "Part", "PasswordHolder", "PasswordParameters", "PasswordPart", "Refused"]
-__all__ += ["SignedData", "Signer", "SignerInfo", "Store", "StorePart", "TrustEntry", "TrustList", "UnknownKind"]
-__all__ += ["Verdict", "attribute_oid", "attribute_values", "dotted", "library", "mac_verdict"]
+__all__ = ["MAX_NESTING", "AttributesPart", "BadAttributes", "BadBag", "BadContent", "BadIndirect", "BadParameters"]
+__all__ += ["BadSigned", "BadStore", "Bag", "BagKind", "BagPart", "Certificate", "EnvelopePart", "GivenBag"]
+__all__ += ["GivenContent", "GivenImage", "GivenIndirect", "GivenMac", "GivenSigner", "ImageData", "IndirectData"]
+__all__ += ["IndirectPart", "Library", "Mac", "Part", "PasswordHolder", "PasswordParameters", "PasswordPart", "Refused"]
+__all__ += ["SignedData", "SignedPart", "Signer", "SignerInfo", "Store", "StorePart", "TrustEntry", "TrustList"]
+__all__ += ["UnknownKind", "Verdict", "attribute_oid", "attribute_values", "dotted", "hashed_octets", "library"]
+__all__ += ["mac_verdict"]
 
 _HERE = os.path.dirname(os.path.realpath(__file__))
 

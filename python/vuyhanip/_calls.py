@@ -89,6 +89,32 @@ STORE_PART_DIGEST: Final = 4
 STORE_PART_SALT: Final = 5
 STORE_PART_ITERATIONS: Final = 6
 
+# der_attributes_part
+ATTRIBUTES_PART_CONTENT_TYPE: Final = 1
+ATTRIBUTES_PART_MESSAGE_DIGEST: Final = 2
+ATTRIBUTES_PART_SIGNING_TIME: Final = 3
+ATTRIBUTES_PART_ATTRIBUTES: Final = 4
+
+# der_indirect_part
+INDIRECT_PART_ATTRIBUTE_TYPE: Final = 1
+INDIRECT_PART_ATTRIBUTE_VALUE: Final = 2
+INDIRECT_PART_DIGEST_ALGORITHM: Final = 3
+INDIRECT_PART_DIGEST: Final = 4
+INDIRECT_PART_IMAGE_FLAGS: Final = 5
+INDIRECT_PART_IMAGE_LINK: Final = 6
+
+# der_signed_part
+SIGNED_PART_CONTENT_TYPE: Final = 1
+SIGNED_PART_CONTENT: Final = 2
+SIGNED_PART_CERTIFICATE: Final = 3
+SIGNED_PART_CRL: Final = 4
+SIGNED_PART_IDENTIFIER: Final = 5
+SIGNED_PART_DIGEST_ALGORITHM: Final = 6
+SIGNED_PART_SIGNED_ATTRIBUTES: Final = 7
+SIGNED_PART_SIGNATURE_ALGORITHM: Final = 8
+SIGNED_PART_SIGNATURE: Final = 9
+SIGNED_PART_UNSIGNED_ATTRIBUTES: Final = 10
+
 
 class Range(ctypes.Structure):
     """A der_range."""
@@ -375,6 +401,71 @@ class StoreGiven(ctypes.Structure):
     salt: Range
 
 
+class AttributesGiven(ctypes.Structure):
+    """A der_attributes_given."""
+
+    _fields_ = [
+        ("has_content_type", ctypes.c_size_t),
+        ("has_message_digest", ctypes.c_size_t),
+        ("has_signing_time", ctypes.c_size_t),
+        ("has_attributes", ctypes.c_size_t),
+        ("content_type", Range),
+        ("message_digest", Range),
+        ("signing_time", Range),
+        ("attributes", Range),
+    ]
+    has_content_type: int
+    has_message_digest: int
+    has_signing_time: int
+    has_attributes: int
+    content_type: Range
+    message_digest: Range
+    signing_time: Range
+    attributes: Range
+
+
+class SignedGiven(ctypes.Structure):
+    """A der_signed_given."""
+
+    _fields_ = [
+        ("has_content", ctypes.c_size_t),
+        ("is_element", ctypes.c_size_t),
+        ("content_type", Range),
+        ("content", Range),
+    ]
+    has_content: int
+    is_element: int
+    content_type: Range
+    content: Range
+
+
+class SignerGiven(ctypes.Structure):
+    """A der_signer_given."""
+
+    _fields_ = [
+        ("has_key_identifier", ctypes.c_size_t),
+        ("has_signed_attributes", ctypes.c_size_t),
+        ("has_unsigned_attributes", ctypes.c_size_t),
+        ("certificate", Range),
+        ("key_identifier", Range),
+        ("digest_algorithm", Range),
+        ("signed_attributes", Range),
+        ("signature_algorithm", Range),
+        ("signature", Range),
+        ("unsigned_attributes", Range),
+    ]
+    has_key_identifier: int
+    has_signed_attributes: int
+    has_unsigned_attributes: int
+    certificate: Range
+    key_identifier: Range
+    digest_algorithm: Range
+    signed_attributes: Range
+    signature_algorithm: Range
+    signature: Range
+    unsigned_attributes: Range
+
+
 # What calls answer, and what they take.
 STATUS = ctypes.c_uint32
 _BYTE, _SIZE = ctypes.c_uint8, ctypes.c_size_t
@@ -397,6 +488,10 @@ ARGUMENTS: Dict[str, Tuple[object, ...]] = {
     "der_build_bags": (_OCTETS, _SIZE, ctypes.POINTER(BagGiven), _SIZE, _OCTETS, _SIZE, _NUMBER, _NUMBER, _NUMBER),
     "der_build_safe": (_OCTETS, _SIZE, ctypes.POINTER(ContentGiven), _SIZE, _OCTETS, _SIZE, _NUMBER, _NUMBER),
     "der_build_store": (_OCTETS, _SIZE, ctypes.POINTER(StoreGiven), _OCTETS, _SIZE, _NUMBER, _NUMBER),
+    "der_build_attributes": (_OCTETS, _SIZE, ctypes.POINTER(AttributesGiven), _OCTETS, _SIZE, _NUMBER, _NUMBER),
+    "der_build_signed": (_OCTETS, _SIZE, ctypes.POINTER(SignedGiven), ctypes.POINTER(Range), _SIZE,
+        ctypes.POINTER(Range), _SIZE, ctypes.POINTER(SignerGiven), _SIZE, _OCTETS, _SIZE, _NUMBER, _NUMBER, _NUMBER),
+    "der_build_indirect": (_OCTETS, _SIZE, ctypes.POINTER(IndirectParts), _OCTETS, _SIZE, _NUMBER, _NUMBER),
     "der_mac_range": (_OCTETS, _SIZE, _NUMBER, _NUMBER),
     "der_mac": (_OCTETS, _SIZE, _NUMBER, _NUMBER, _NUMBER),
     "der_from_ber": (_OCTETS, _SIZE, _OCTETS, _SIZE, _NUMBER, _NUMBER),

@@ -1,5 +1,5 @@
-"""Parameters of encryption with a password, made from scratch, and what is built with them; and stores of PKCS #12 (RFC
-7292). All is DER:
+"""Parameters of encryption with a password, made from scratch, and what is built with them; stores of PKCS #12 (RFC
+7292); signed data of CMS (RFC 5652) and PKCS #7; and what Authenticode signs. All is DER:
 
     its = build.pbes2(
         build.AES_256_CBC, initialization_vector=vector, salt=salt, iterations=600_000, prf=build.HMAC_WITH_SHA256,
@@ -14,16 +14,31 @@
     made.covered                     what a MAC covers
     made.finish(build.Mac(build.SHA256, digest, salt, iterations))   the store with that MAC
 
-Nothing is derived, encrypted, hashed or judged here. Take a new random salt (RFC 8018, 4.1) and a new random vector
-each time, derive the key by the same salt, count and function, and encrypt by that key and the vector: encrypted is
-written as it is given, and so is the digest of a MAC. Object identifiers are text, as "1.3.14.3.2.26". Where a part
-can't be written, BadParameters is raised, BadBag, BadContent or BadStore; and Refused where pbes2, pbes1 or pkcs12 is
-given what is no object identifier.
+    signer = build.Signer(
+        build.algorithm(build.SHA256), build.algorithm(build.RSA, build.NULL), certificate, digest=digest,
+        signing_time=now,
+    )
+    made = build.signed(content, [signer])
+    made.covered                     what the signature of each signer covers
+    made.finish([signature])         the file with these signatures, which openssl cms -verify takes
+
+    content = build.program(build.algorithm(build.SHA256, build.NULL), digest)   what a signature of a program signs
+    build.hashed_octets(content)     what the digest of that is over, which the signer has
+    build.signed(content, [signer], content_type=build.INDIRECT_DATA, is_element=True)
+
+Nothing is derived, encrypted, hashed, signed or judged here. Take a new random salt (RFC 8018, 4.1) and a new random
+vector each time, derive the key by the same salt, count and function, and encrypt by that key and the vector: encrypted
+is written as it is given, and so are the digest of a MAC, the digest of a content or of a program and a signature.
+Object identifiers are text, as "1.3.14.3.2.26". Where a part can't be written, BadParameters is raised, BadBag,
+BadContent, BadStore, BadAttributes, BadSigned or BadIndirect; and Refused where pbes2, pbes1, pkcs12, algorithm, signed
+or indirect is given what is no object identifier.
 """
-from typing import Iterable, NamedTuple, Optional, Union
+import datetime
+from typing import Iterable, List, NamedTuple, Optional, Sequence, Tuple, Union
 
 from . import der, library
-from .der import Bytes, GivenContent, PasswordHolder, PasswordParameters
+from .der import Bytes, GivenContent, GivenImage, GivenIndirect, GivenSigner, PasswordHolder, PasswordParameters
+from .der import hashed_octets as hashed_octets
 
 # A bag and a MAC that are made from scratch.
 Bag = der.GivenBag
@@ -36,8 +51,20 @@ AES_128_CBC, AES_192_CBC = "2.16.840.1.101.3.4.1.2", "2.16.840.1.101.3.4.1.22"
 AES_256_CBC = "2.16.840.1.101.3.4.1.42"
 # A pseudorandom function (RFC 8018, B.1.2); der.PRFS has all.
 HMAC_WITH_SHA256 = "1.2.840.113549.2.9"
-# A digest, as that of a MAC; der.DIGESTS has others.
+# A digest, as that of a MAC or of a signer; der.DIGESTS has others.
 SHA256 = "2.16.840.1.101.3.4.2.1"
+# The type of content that is any octets, id-data (RFC 5652, 4).
+DATA = "1.2.840.113549.1.7.1"
+# Signature algorithms. rsaEncryption (RFC 3370, 3.2) and sha256WithRSAEncryption (RFC 5754, 3.2) have NULL as
+# parameters, ecdsa-with-SHA256 (RFC 5754, 3.3) and Ed25519 (RFC 8419), whose digest is SHA-512, have none.
+RSA, SHA256_WITH_RSA = "1.2.840.113549.1.1.1", "1.2.840.113549.1.1.11"
+ECDSA_WITH_SHA256, ED25519 = "1.2.840.10045.4.3.2", "1.3.101.112"
+NULL = b"\x05\x00"
+# The type of content that Authenticode signs, SPC_INDIRECT_DATA_OBJID; and what osslsigncode writes into that of a
+# program: flags, of which one bit is set, includeResources, and a link, an SpcLink whose file is a text.
+INDIRECT_DATA = "1.3.6.1.4.1.311.2.1.4"
+INCLUDE_RESOURCES = b"\x07\x80"
+OBSOLETE_LINK = b"\xA2\x1E\x80\x1C" + "<<<Obsolete>>>".encode("utf-16-be")
 
 
 def parameters(holder: PasswordHolder, given: PasswordParameters) -> bytes:
@@ -53,6 +80,12 @@ def encrypted_key(given: PasswordParameters) -> bytes:
 def encrypted_contents(given: PasswordParameters) -> bytes:
     """Contents that are encrypted so, a ContentInfo of encryptedData, as PKCS #12 has them (RFC 7292, 4.1)."""
     return parameters(PasswordHolder.CONTENTS, given)
+
+
+def algorithm(oid: str, parameters: Optional[Bytes] = None) -> bytes:
+    """An AlgorithmIdentifier with the element of its parameters, or without any: that of a digest or of a signature."""
+    given = PasswordParameters(library().oid_octets(oid), parameters)
+    return library().build_parameters(PasswordHolder.ALGORITHM, given)
 
 
 def _needed(octets: Bytes, name: str) -> Bytes:
@@ -149,6 +182,154 @@ def _content(index: int, given: Union[Bytes, Iterable[AnyBag]]) -> GivenContent:
         return GivenContent(bags(its_bags), True)
     except der.BadBag as bad:
         raise der.BadBag(bad.bag, bad.part, index) from None
+
+
+class Signer(NamedTuple):
+    """A signer that signed writes, which is named by its certificate or by a key identifier: one of the two is given.
+    With a digest it has signed attributes, which its signature covers; without one the signature covers the content.
+    """
+
+    # AlgorithmIdentifiers, as algorithm makes them: that of digest, or of the digest that the signature is over
+    digest_algorithm: Bytes
+    # and that of its signature
+    signature_algorithm: Bytes
+    # the DER of its X.509 certificate, whose issuer and serial number name it
+    certificate: Optional[Bytes] = None
+    # the octets of that certificate's subjectKeyIdentifier
+    key_identifier: Optional[Bytes] = None
+    # the digest of the content, and where that is an element of its contents octets (RFC 2315, 9.3)
+    digest: Optional[Bytes] = None
+    # when it signs, with a time zone, as of Library.build_attributes
+    signing_time: Optional[datetime.datetime] = None
+    # further signed attributes, each exactly one Attribute, in any order, as of Library.build_attributes
+    attributes: Sequence[Bytes] = ()
+    # those that its signature doesn't cover, each exactly one Attribute, in any order
+    unsigned_attributes: Sequence[Bytes] = ()
+
+
+class Signed(NamedTuple):
+    """Signed data, to which signatures are to be added."""
+
+    # what the signature of each signer covers, in their order: signed attributes, a SET OF Attribute, or the content
+    covered: List[bytes]
+    # the rest is what Library.build_signed takes, with signatures of no octets
+    content_type: bytes
+    content: Optional[bytes]
+    is_element: bool
+    certificates: Tuple[Bytes, ...]
+    crls: Tuple[Bytes, ...]
+    signers: Tuple[GivenSigner, ...]
+
+    def finish(self, signatures: Iterable[Bytes]) -> bytes:
+        """The file with these signatures, as Library.build_signed makes it: one for each signer, in their order. Raises
+        ValueError where there are more or fewer. Whether they are right isn't looked at.
+        """
+        given = list(signatures)
+        if len(given) != len(self.signers):
+            raise ValueError(f"{len(self.signers)} signatures are needed, and {len(given)} are given")
+        return library().build_signed(
+            self.content_type,
+            self.content,
+            is_element=self.is_element,
+            certificates=self.certificates,
+            crls=self.crls,
+            signers=[signer._replace(signature=it) for signer, it in zip(self.signers, given)],
+        )
+
+
+def signed(
+    content: Optional[Bytes],
+    signers: Iterable[Signer],
+    *,
+    content_type: str = DATA,
+    is_element: bool = False,
+    detached: bool = False,
+    certificates: Optional[Iterable[Bytes]] = None,
+    crls: Iterable[Bytes] = (),
+) -> Signed:
+    """Signed data over content: octets, or where is_element any element, as in PKCS #7 (RFC 2315, 7). Where detached,
+    or where content is None, it isn't in the file: then it counts as content of CMS, also where it is an element, so
+    that any type but DATA gives version 3 (RFC 5652, 5.1). None as certificates means those of the signers, each once,
+    and of a signer that is named by a key identifier none. Without signers the file has certificates and crls alone
+    (5.2), and content has to be None. Signed and unsigned attributes are written in the order of DER (X.690, 11.6).
+
+    Raises BadAttributes or BadSigned where something can't be written, so that nothing is signed in vain. Raises
+    ValueError where a signing time has no time zone; and of a signer without a digest, where it has signed attributes,
+    or content is None or an element.
+    """
+    given, its_type = list(signers), library().oid_octets(content_type)
+    # the octets that a signature covers have to be those that are written
+    octets = None if content is None else _kept(content)
+    covered = [_covered(index, it, its_type, None if is_element else octets) for index, it in enumerate(given)]
+    if certificates is None:
+        certificates = dict.fromkeys(_kept(it.certificate) for it in given if it.certificate is not None)
+    its_signers = tuple(map(_signer, given, covered))
+    its_content = None if detached else octets
+    made = Signed(covered, its_type, its_content, is_element, tuple(certificates), tuple(crls), its_signers)
+    # any octets are a signature, and any are content that is no element, so all else is tried here
+    tried = made if is_element or its_content is None else made._replace(content=b"")
+    tried.finish(len(given) * [b""])
+    return made
+
+
+def _kept(octets: Bytes) -> bytes:
+    """Octets as they are now, whatever is written into them afterwards. TypeError where it has none."""
+    return octets if isinstance(octets, bytes) else bytes(memoryview(octets))
+
+
+def _covered(index: int, signer: Signer, content_type: bytes, content: Optional[bytes]) -> bytes:
+    """What the signature of a signer covers, by its index, where the content is of these octets, or of none."""
+    if signer.digest is not None:
+        return library().build_attributes(content_type, signer.digest, signer.signing_time, signer.attributes)
+    if signer.signing_time is not None or signer.attributes:
+        raise ValueError(f"signer {index} has signed attributes, so it has to have a digest")
+    if content is None:
+        raise ValueError(f"signer {index} has to have a digest, as the content isn't given as octets")
+    return content
+
+
+def _signer(signer: Signer, covered: bytes) -> GivenSigner:
+    """A signer as build_signed takes it, with a signature of no octets."""
+    # the order of DER, as no encoding is a proper beginning of another
+    unsigned = tuple(sorted(map(_kept, signer.unsigned_attributes)))
+    return GivenSigner(
+        signer.digest_algorithm,
+        signer.signature_algorithm,
+        b"",
+        signer.certificate,
+        signer.key_identifier,
+        None if signer.digest is None else covered,
+        unsigned,
+    )
+
+
+def program(
+    digest_algorithm: Bytes,
+    digest: Bytes,
+    *,
+    flags: Optional[Bytes] = INCLUDE_RESOURCES,
+    link: Optional[Bytes] = OBSOLETE_LINK,
+) -> bytes:
+    """What a signature of a program for Windows signs: the element of its indirect data (SpcIndirectDataContent), as
+    Library.build_indirect makes it. By default flags and link are those of osslsigncode.
+
+    digest_algorithm is an AlgorithmIdentifier, as algorithm makes it: osslsigncode writes NULL as its parameters.
+    digest is that of the program without its checksum, without its signatures, and without the entry of the data
+    directory that says where these are. flags are the contents octets of a BIT STRING, of no bits one octet, 0. link is
+    an element, an SpcLink. None as flags or link leaves them out, which osslsigncode 2.9 doesn't read. Raises
+    BadIndirect where a part can't be written.
+    """
+    return library().build_indirect(GivenIndirect(digest_algorithm, digest, GivenImage(flags, link)))
+
+
+def indirect(
+    digest_algorithm: Bytes, digest: Bytes, attribute_type: str, attribute_value: Optional[Bytes] = None
+) -> bytes:
+    """The same of another file than a program, or with another value: attribute_type says what was hashed, as
+    "1.3.6.1.4.1.311.2.1.25", a cabinet, and attribute_value is the element of its value, None where it has none.
+    """
+    its_type = library().oid_octets(attribute_type)
+    return library().build_indirect(GivenIndirect(digest_algorithm, digest, None, its_type, attribute_value))
 
 
 def utf16(text: str) -> bytes:

@@ -22,6 +22,9 @@ DER, from Python.
     library.build_bags([GivenBag(BagKind.CERTIFICATE, its)])   the DER of bags of a store, a SafeContents, as bytes
     library.build_safe([GivenContent(bags, True)])         that of what a store holds, which its MAC covers
     library.build_store(safe, GivenMac(..))                that of the store itself, with a MAC or none
+    library.build_attributes(octets, digest, time)         that of a signer's attributes, which its signature covers
+    library.build_signed(octets, content, signers=[GivenSigner(..)])   that of signed data, around their signatures
+    library.build_indirect(GivenIndirect(algorithm, digest, GivenImage(..)))   that of what Authenticode signs
     library.oid_octets("1.3.14.3.2.26")   the contents octets of an object identifier, as bytes
     library.text_utf16("me")         a text in UTF-16, as bytes
     library.from_ber(data)           the DER of an input in BER, as bytes
@@ -164,12 +167,21 @@ class BadAttributes(ValueError):
 
     They are an empty set, lack messageDigest or contentType, have one of them several times, with no value or with
     several, or contentType is another than the content's; or there are none, and the content's type isn't id-data. It
-    has no part of a signer, so it can't be verified by mistake; and unlike None it is true, so a list without false items
-    still has it.
+    has none of the fields of a Signer, so it can't be verified by mistake; and unlike None it is true, so a list
+    without false items still has it.
+
+    Or attributes that build_attributes doesn't write: then part is an AttributesPart, where several can't be written
+    that of one of them. Of a signer that was read part is None.
     """
 
+    def __init__(self, part: Optional["AttributesPart"] = None) -> None:
+        super().__init__(*([] if part is None else [part]))
+        self.part = part
+
     def __str__(self) -> str:
-        return "signed attributes that RFC 5652 forbids"
+        if self.part is None:
+            return "signed attributes that RFC 5652 forbids"
+        return f"{self.part.name.lower()} can't be written"
 
 
 class Verdict(NamedTuple):
@@ -819,6 +831,65 @@ class StorePart(enum.Enum):
     ITERATIONS = _calls.STORE_PART_ITERATIONS
 
 
+class AttributesPart(enum.IntEnum):
+    """What build_attributes can't write, by its number in der.h: what it is given, in capitals."""
+
+    # it is no object identifier
+    CONTENT_TYPE = _calls.ATTRIBUTES_PART_CONTENT_TYPE
+    # never from Python: any octets can be written
+    MESSAGE_DIGEST = _calls.ATTRIBUTES_PART_MESSAGE_DIGEST
+    # in UTC it is before the year 1, or after the year 9999
+    SIGNING_TIME = _calls.ATTRIBUTES_PART_SIGNING_TIME
+    # one of them isn't exactly one Attribute
+    ATTRIBUTES = _calls.ATTRIBUTES_PART_ATTRIBUTES
+
+
+class SignedPart(enum.IntEnum):
+    """What build_signed can't write, by its number in der.h: what it is given, or a field of a GivenSigner, in capitals
+    and in the singular.
+    """
+
+    # it isn't given, or is no object identifier
+    CONTENT_TYPE = _calls.SIGNED_PART_CONTENT_TYPE
+    # where is_element, it isn't exactly one element, with a tag of one octet; or there are no signers, and content is
+    # given, or its type isn't id-data (RFC 5652, 5.2)
+    CONTENT = _calls.SIGNED_PART_CONTENT
+    # it is no element with the tag of a certificate, or of another choice (RFC 5652, 10.2.2)
+    CERTIFICATE = _calls.SIGNED_PART_CERTIFICATE
+    # it is no element with the tag of a revocation list, or of the other choice (10.2.1)
+    CRL = _calls.SIGNED_PART_CRL
+    # of a signer: certificate is none, or neither it nor key_identifier is given, or both are
+    IDENTIFIER = _calls.SIGNED_PART_IDENTIFIER
+    # it isn't given, or is no AlgorithmIdentifier
+    DIGEST_ALGORITHM = _calls.SIGNED_PART_DIGEST_ALGORITHM
+    # they are no SET OF Attribute, or an empty one, or not as build_signed asks; or they aren't given, and the type of
+    # the content isn't id-data
+    SIGNED_ATTRIBUTES = _calls.SIGNED_PART_SIGNED_ATTRIBUTES
+    # it isn't given, or is no AlgorithmIdentifier
+    SIGNATURE_ALGORITHM = _calls.SIGNED_PART_SIGNATURE_ALGORITHM
+    # it isn't given; any octets can be written
+    SIGNATURE = _calls.SIGNED_PART_SIGNATURE
+    # one of them isn't exactly one Attribute
+    UNSIGNED_ATTRIBUTES = _calls.SIGNED_PART_UNSIGNED_ATTRIBUTES
+
+
+class IndirectPart(enum.IntEnum):
+    """What of a GivenIndirect can't be written, by its number in der.h: a field, or one of its image, in capitals."""
+
+    # there is no image, and it isn't given, or is no object identifier
+    ATTRIBUTE_TYPE = _calls.INDIRECT_PART_ATTRIBUTE_TYPE
+    # there is no image, and it is no element
+    ATTRIBUTE_VALUE = _calls.INDIRECT_PART_ATTRIBUTE_VALUE
+    # it isn't given, or is no AlgorithmIdentifier
+    DIGEST_ALGORITHM = _calls.INDIRECT_PART_DIGEST_ALGORITHM
+    # it isn't given; any octets can be written
+    DIGEST = _calls.INDIRECT_PART_DIGEST
+    # they are no contents octets of a BIT STRING
+    IMAGE_FLAGS = _calls.INDIRECT_PART_IMAGE_FLAGS
+    # it is no element
+    IMAGE_LINK = _calls.INDIRECT_PART_IMAGE_LINK
+
+
 class BadBag(ValueError):
     """Bags that build_bags doesn't write. bag is the index of the first that can't be written, from 0 on, and part a
     BagPart: the first of it that can't. content is None, but where build.store raises it: there it is the index of the
@@ -851,6 +922,38 @@ class BadStore(ValueError):
     """What build_store doesn't write. part is a StorePart: the first that can't be written."""
 
     def __init__(self, part: StorePart) -> None:
+        super().__init__(part)
+        self.part = part
+
+    def __str__(self) -> str:
+        return f"{self.part.name.lower()} can't be written"
+
+
+class BadSigned(ValueError):
+    """Signed data that build_signed doesn't write. part is a SignedPart, where several can't be written that of
+    one of them. index is that of the certificate, the revocation list or the signer that it is of, from 0 on; None
+    where part is the content or its type.
+    """
+
+    def __init__(self, part: SignedPart, index: Optional[int] = None) -> None:
+        super().__init__(part, index)
+        self.part = part
+        self.index = index
+
+    def __str__(self) -> str:
+        name = self.part.name.lower()
+        if self.index is None:
+            return f"{name} can't be written"
+        of = "" if self.part in (SignedPart.CERTIFICATE, SignedPart.CRL) else "of signer "
+        return f"{name} {of}{self.index} can't be written"
+
+
+class BadIndirect(ValueError):
+    """Indirect data that build_indirect doesn't write. part is an IndirectPart: where several can't be written, one of
+    them.
+    """
+
+    def __init__(self, part: IndirectPart) -> None:
         super().__init__(part)
         self.part = part
 
@@ -900,6 +1003,58 @@ class GivenMac(NamedTuple):
     # the element of the algorithm's parameters. None is NULL, which SHA-1, SHA-224, SHA-256, SHA-384 and SHA-512 have
     # whatever is given
     digest_parameters: Optional[Bytes] = None
+
+
+class GivenSigner(NamedTuple):
+    """A signer that build_signed writes (RFC 5652, 5.3), which is named by its certificate or by a key identifier: one
+    of the two is given. Of a Signer that was read, digest_algorithm, signature_algorithm, signature and
+    unsigned_attributes can be given as they are, of certificate and key_identifier that which named it, and covered as
+    signed_attributes where is_over_attributes is true.
+    """
+
+    # AlgorithmIdentifiers, with their parameters
+    digest_algorithm: Bytes
+    signature_algorithm: Bytes
+    # the signature over signed_attributes, or over the content where these are None
+    signature: Bytes
+    # the DER of its X.509 certificate, whose issuer and serial number name it
+    certificate: Optional[Bytes] = None
+    # the octets of that certificate's subjectKeyIdentifier
+    key_identifier: Optional[Bytes] = None
+    # the element of a SET OF Attribute, as build_attributes writes it
+    signed_attributes: Optional[Bytes] = None
+    # those that the signature doesn't cover, each exactly one Attribute. They are written in this order: DER (X.690,
+    # 11.6) has them sorted by their octets
+    unsigned_attributes: Sequence[Bytes] = ()
+
+
+class GivenImage(NamedTuple):
+    """Image data that build_indirect writes, SpcPeImageData: in each field what ImageData have in the field of that
+    name.
+    """
+
+    # the contents octets of a BIT STRING: first the count of unused bits. None where there are none, which means the
+    # bits 1 0 0: DER leaves these out as the default (X.690, 11.5), but flags that are given are written
+    flags: Optional[Bytes] = None
+    # an element, in signatures an SpcLink, without the [0] around it; None where there is none
+    link: Optional[Bytes] = None
+
+
+class GivenIndirect(NamedTuple):
+    """Indirect data that build_indirect writes: in each field what IndirectData have in the field of that name, or what
+    they leave out.
+    """
+
+    # the AlgorithmIdentifier of the digest, with its parameters
+    digest_algorithm: Bytes
+    # the digest of the file that is to be signed, which isn't made here
+    digest: Bytes
+    # of a program; None of another file, which the attribute says
+    image: Union[GivenImage, ImageData, None] = None
+    # the contents octets of the attribute's object identifier, as oid_octets makes them; not looked at beside an image
+    attribute_type: Optional[Bytes] = None
+    # the element of its value, whatever is in it; None where it has none; not looked at beside an image
+    attribute_value: Optional[Bytes] = None
 
 
 def _number(contents: Optional[memoryview]) -> Optional[int]:
@@ -1057,14 +1212,24 @@ def _is_one(octets: _Whole) -> bool:
     return len(octets) == 2 + count + size
 
 
-def _set_of(items: Sequence[_Whole]) -> Optional[bytes]:
-    """The element of a SET OF these items, in their order. None where one of them isn't exactly one element."""
-    if not all(map(_is_one, items)):
-        return None
-    contents = b"".join(items)
+def _encoded(tag: int, contents: bytes) -> bytes:
+    """The encoding of an element with a tag of one octet and these contents octets."""
     size, count = len(contents), (len(contents).bit_length() + 7) // 8
     length = bytes([size]) if size <= 0x7F else bytes([0x80 + count]) + size.to_bytes(count, "big")
-    return bytes([SET]) + length + contents
+    return bytes([tag]) + length + contents
+
+
+def _set_of(items: Sequence[_Whole]) -> Optional[bytes]:
+    """The element of a SET OF these items, in their order. None where one of them isn't exactly one element."""
+    return _encoded(SET, b"".join(items)) if all(map(_is_one, items)) else None
+
+
+def _attributes_given(those: Iterable[Bytes], octets: _Parts) -> Tuple[bool, _calls.Range]:
+    """Attributes as the calls take them that build: whether there are any, and where the SET OF these is among the
+    octets, to which it is added. It has them in their order.
+    """
+    items = [_octets(it) for it in those]
+    return bool(items), octets.put(_set_of(items) if items else None)
 
 
 def _utf16(text: Optional[str]) -> Optional[bytes]:
@@ -1109,6 +1274,66 @@ def _password_parts(holder: PasswordHolder, given: PasswordParameters) -> Tuple[
         encrypted=put(encrypted),
     )
     return parts, octets.joined()
+
+
+def _time_given(time: Optional[datetime.datetime]) -> Optional[bytes]:
+    """A time as the call takes it that writes attributes, in UTC. ValueError where it has no time zone."""
+    if time is None:
+        return None
+    if time.utcoffset() is None:
+        raise ValueError("signing_time has no time zone")
+    try:
+        its = time.astimezone(datetime.timezone.utc)
+    except OverflowError:
+        raise BadAttributes(AttributesPart.SIGNING_TIME) from None
+    # strftime writes some years with fewer than four digits
+    return f"{its.year:04}{its:%m%d%H%M%S}Z".encode("ascii")
+
+
+def _ranges_given(those: Iterable[Bytes], octets: _Parts) -> Tuple[object, int]:
+    """Certificates or revocation lists as the call takes them that writes signed data, and how many they are. They are
+    added to these octets.
+    """
+    rows = [octets.put(it) for it in those]
+    return (_calls.Range * len(rows))(*rows), len(rows)
+
+
+def _signer_given(signer: GivenSigner, octets: _Parts) -> _calls.SignerGiven:
+    """A signer as the call takes it that writes signed data. The octets of its parts are added to these."""
+    # one that has two names is given none, so it is refused
+    has_one_name = signer.certificate is None or signer.key_identifier is None
+    has_unsigned, unsigned = _attributes_given(signer.unsigned_attributes, octets)
+    return _calls.SignerGiven(
+        has_key_identifier=has_one_name and signer.key_identifier is not None,
+        has_signed_attributes=signer.signed_attributes is not None,
+        has_unsigned_attributes=has_unsigned,
+        certificate=octets.put(signer.certificate if has_one_name else None),
+        key_identifier=octets.put(signer.key_identifier),
+        digest_algorithm=octets.put(signer.digest_algorithm),
+        signed_attributes=octets.put(signer.signed_attributes),
+        signature_algorithm=octets.put(signer.signature_algorithm),
+        signature=octets.put(signer.signature),
+        unsigned_attributes=unsigned,
+    )
+
+
+def _indirect_given(given: Union[GivenIndirect, IndirectData], octets: _Parts) -> _calls.IndirectParts:
+    """Indirect data as the call takes them that writes them. The octets of their parts are added to these."""
+    image = given.image
+    flags = None if image is None else image.flags
+    link = None if image is None else image.link
+    return _calls.IndirectParts(
+        has_attribute_value=given.attribute_value is not None,
+        is_image=image is not None,
+        has_image_flags=flags is not None,
+        has_image_link=link is not None,
+        attribute_type=octets.put(given.attribute_type),
+        attribute_value=octets.put(given.attribute_value),
+        digest_algorithm=octets.put(given.digest_algorithm),
+        digest=octets.put(given.digest),
+        image_flags=octets.put(flags),
+        image_link=octets.put(link),
+    )
 
 
 class Store:
@@ -1609,17 +1834,17 @@ class Library:
 
     def _bag_given(self, bag: Union[GivenBag, Bag], octets: _Parts) -> _calls.BagGiven:
         """A bag as the call takes it that writes bags. The octets of its parts are added to these."""
-        kind, attributes = BagKind(bag.kind), [_octets(it) for it in bag.attributes]
+        kind, (has_attributes, attributes) = BagKind(bag.kind), _attributes_given(bag.attributes, octets)
         return _calls.BagGiven(
             kind=kind.value,
             has_friendly_name=bag.friendly_name is not None,
             has_local_key_id=bag.local_key_id is not None,
-            has_attributes=bool(attributes),
+            has_attributes=has_attributes,
             identifier=octets.put(self._identifier_given(bag) if kind is BagKind.OTHER else None),
             value=octets.put(bag.value),
             friendly_name=octets.put(_utf16(bag.friendly_name)),
             local_key_id=octets.put(bag.local_key_id),
-            attributes=octets.put(_set_of(attributes) if attributes else None),
+            attributes=attributes,
         )
 
     def _identifier_given(self, bag: Union[GivenBag, Bag]) -> Optional[Bytes]:
@@ -1671,6 +1896,111 @@ class Library:
         status, text = _written(self._library.der_build_store, arguments, len(whole) + 256, ctypes.byref(part))
         if status == _calls.INVALID:
             raise BadStore(StorePart(part.value))
+        _raise_for(status, "", 0)
+        return text
+
+    def build_attributes(
+        self,
+        content_type: Optional[Bytes] = None,
+        message_digest: Optional[Bytes] = None,
+        signing_time: Optional[datetime.datetime] = None,
+        attributes: Sequence[Bytes] = (),
+    ) -> bytes:
+        """The DER of the attributes of a signer (RFC 5652, 5.3 and 11), a SET OF Attribute in the order of DER (X.690,
+        11.6): what its signature covers (5.4), and signed_attributes of a GivenSigner. These have to have content_type
+        and message_digest.
+
+        content_type is the contents octets of an object identifier, as oid_octets makes them, and message_digest the
+        digest of the content, which isn't made here. signing_time has to have a time zone. It is written in UTC and in
+        whole seconds, without its microseconds: as UTCTime in the years 1950 to 2049, and otherwise as GeneralizedTime
+        (11.3). attributes are further ones, each exactly one Attribute, in any order, of which contentType,
+        messageDigest and signingTime aren't written.
+
+        Raises BadAttributes where a part can't be written, and ValueError where signing_time has no time zone.
+        """
+        octets, part, time = _Parts(), ctypes.c_size_t(), _time_given(signing_time)
+        has_attributes, further = _attributes_given(attributes, octets)
+        given = _calls.AttributesGiven(
+            has_content_type=content_type is not None,
+            has_message_digest=message_digest is not None,
+            has_signing_time=time is not None,
+            has_attributes=has_attributes,
+            content_type=octets.put(content_type),
+            message_digest=octets.put(message_digest),
+            signing_time=octets.put(time),
+            attributes=further,
+        )
+        whole = octets.joined()
+        arguments = *_given(whole), ctypes.byref(given)
+        # headers and object identifiers take less than 128 octets
+        status, text = _written(self._library.der_build_attributes, arguments, len(whole) + 128, ctypes.byref(part))
+        if status == _calls.INVALID:
+            raise BadAttributes(AttributesPart(part.value))
+        _raise_for(status, "", 0)
+        return text
+
+    def build_signed(
+        self,
+        content_type: Bytes,
+        content: Optional[Bytes] = None,
+        *,
+        is_element: bool = False,
+        certificates: Iterable[Bytes] = (),
+        crls: Iterable[Bytes] = (),
+        signers: Iterable[GivenSigner] = (),
+    ) -> bytes:
+        """The DER of signed data under its content type, a ContentInfo (RFC 5652, 3 and 5), around signatures that the
+        caller made, over what build_attributes wrote or over the content. Nothing is hashed, signed or verified.
+
+        content_type is the contents octets of an object identifier, as oid_octets makes them. content is the octets of
+        an OCTET STRING, or where is_element any element of PKCS #7 (RFC 2315, 7), and None where it isn't in the file.
+        certificates has elements, also those of signers, which are in the file only by that; so has crls. Versions are
+        those of RFC 5652, 5.1 and 5.3; but content that is an element other than an OCTET STRING is that of PKCS #7,
+        whose type doesn't raise them (RFC 2315, 9.1). Sets are in the order of DER, so that signers may be in another
+        than here, but for a signer's attributes, which stay in theirs.
+
+        The signed attributes of a signer have to have one contentType, which is content_type, one messageDigest and at
+        most one signingTime, each with one value (11.1 to 11.3). They may be None where content_type is id-data (5.3).
+        Without signers it is that, and content is None: the file has certificates and crls alone (5.2). What is in
+        these, but for the certificate of a signer, isn't looked at. Raises BadSigned where a part can't be written.
+        """
+        octets, index, part = _Parts(), ctypes.c_size_t(), ctypes.c_size_t()
+        flags = {"has_content": content is not None, "is_element": bool(is_element)}
+        given = _calls.SignedGiven(content_type=octets.put(content_type), content=octets.put(content), **flags)
+        lists = *_ranges_given(certificates, octets), *_ranges_given(crls, octets)
+        rows = [_signer_given(it, octets) for it in signers]
+        whole, its_signers = octets.joined(), ((_calls.SignerGiven * len(rows))(*rows), len(rows))
+        arguments = *_given(whole), ctypes.byref(given), *lists, *its_signers
+        # what is around the parts of a signer takes less than 128 octets, unless it is very long
+        room, places = len(whole) + 128 * len(rows) + 128, (ctypes.byref(index), ctypes.byref(part))
+        status, text = _written(self._library.der_build_signed, arguments, room, *places)
+        if status == _calls.INVALID:
+            wrong = SignedPart(part.value)
+            raise BadSigned(wrong, index.value if wrong > SignedPart.CONTENT else None)
+        _raise_for(status, "", 0)
+        return text
+
+    def build_indirect(self, given: Union[GivenIndirect, IndirectData]) -> bytes:
+        """The DER of indirect data, SpcIndirectDataContent (Authenticode): the element that build_signed takes as
+        content under the type 1.3.6.1.4.1.311.2.1.4, and whose contents octets, as hashed_octets takes them out, the
+        messageDigest of its signers is over. Nothing is hashed or judged.
+
+        With an image it is that of a program: the attribute is of the type SPC_PE_IMAGE_DATA_OBJID, and its value has
+        the flags and the link of the image. Otherwise it has attribute_type and attribute_value. Indirect data that
+        were read may be given as they are, or with other fields by _replace, as with another digest:
+
+            library.build_indirect(library.indirect(signed)._replace(digest=digest))
+
+        Raises BadIndirect where a part can't be written.
+        """
+        octets, part = _Parts(), ctypes.c_size_t()
+        parts = _indirect_given(given, octets)
+        whole = octets.joined()
+        arguments = *_given(whole), ctypes.byref(parts)
+        # headers and the object identifier of a program take less than 128 octets
+        status, text = _written(self._library.der_build_indirect, arguments, len(whole) + 128, ctypes.byref(part))
+        if status == _calls.INVALID:
+            raise BadIndirect(IndirectPart(part.value))
         _raise_for(status, "", 0)
         return text
 
@@ -1820,6 +2150,18 @@ def attribute_values(attribute: memoryview) -> Tuple[memoryview, ...]:
     """The values of an Attribute of a signer or of a bag, each an element."""
     _, values = _inside(attribute)
     return tuple(it.whole for it in _elements(values.contents))
+
+
+def hashed_octets(element: Bytes) -> bytes:
+    """The contents octets of an element, without its tag and length: what the digest of content is over that is an
+    element (RFC 2315, 9.3). Raises ValueError where octets aren't exactly one element, as DER has it, with a tag of one
+    octet.
+    """
+    octets = bytes(_octets(element))
+    contents = bytes(next(_elements(memoryview(octets))).contents) if _is_one(octets) else b""
+    if _encoded(octets[0] if octets else 0, contents) != octets or octets[0] & 0x1F == 0x1F:
+        raise ValueError("octets aren't exactly one element with a tag of one octet")
+    return contents
 
 
 def digest_name(oid: str) -> Optional[str]:

@@ -64,8 +64,8 @@ impl<'a> Bag<'a> {
 }
 
 /// The contents of the element that octets begin with, and what follows it. Its tag has one octet, and its length is
-/// definite, since the library has read it.
-fn opened(octets: &[u8]) -> Option<(&[u8], &[u8])> {
+/// definite, as in what the library has read.
+pub(crate) fn opened(octets: &[u8]) -> Option<(&[u8], &[u8])> {
     let (first, after) = (*octets.get(1)?, octets.get(2..)?);
     let (len, after) = if first < 0x80 {
         (usize::from(first), after)

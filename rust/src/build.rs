@@ -25,9 +25,9 @@ pub(crate) fn is_there(part: Option<&[u8]>) -> usize {
 }
 
 /// What the errors of all calls that build have in common: what a status says that is no refusal, and words. Those of a
-/// refusal are given.
+/// refusal are given, as `format!` takes them.
 macro_rules! build_error {
-    ($name:ident, $refused:pat => $words:literal) => {
+    ($name:ident, $refused:pat => $words:literal $(, $word:expr)*) => {
         impl $name {
             /// Of a status that is no refusal, or one for a part that this version hasn't.
             pub(crate) fn other(status: u32) -> Self {
@@ -42,7 +42,7 @@ macro_rules! build_error {
         impl std::fmt::Display for $name {
             fn fmt(&self, f: &mut std::fmt::Formatter<'_>) -> std::fmt::Result {
                 match self {
-                    $refused => write!(f, $words),
+                    $refused => write!(f, $words $(, $word)*),
                     Self::TooLong => f.write_str("too long"),
                     Self::NoMemory => f.write_str("no memory"),
                     Self::Unknown(status) => write!(f, "unknown status {status}"),

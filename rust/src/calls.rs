@@ -89,6 +89,32 @@ pub const STORE_PART_DIGEST: usize = 4;
 pub const STORE_PART_SALT: usize = 5;
 pub const STORE_PART_ITERATIONS: usize = 6;
 
+// der_attributes_part
+pub const ATTRIBUTES_PART_CONTENT_TYPE: usize = 1;
+pub const ATTRIBUTES_PART_MESSAGE_DIGEST: usize = 2;
+pub const ATTRIBUTES_PART_SIGNING_TIME: usize = 3;
+pub const ATTRIBUTES_PART_ATTRIBUTES: usize = 4;
+
+// der_indirect_part
+pub const INDIRECT_PART_ATTRIBUTE_TYPE: usize = 1;
+pub const INDIRECT_PART_ATTRIBUTE_VALUE: usize = 2;
+pub const INDIRECT_PART_DIGEST_ALGORITHM: usize = 3;
+pub const INDIRECT_PART_DIGEST: usize = 4;
+pub const INDIRECT_PART_IMAGE_FLAGS: usize = 5;
+pub const INDIRECT_PART_IMAGE_LINK: usize = 6;
+
+// der_signed_part
+pub const SIGNED_PART_CONTENT_TYPE: usize = 1;
+pub const SIGNED_PART_CONTENT: usize = 2;
+pub const SIGNED_PART_CERTIFICATE: usize = 3;
+pub const SIGNED_PART_CRL: usize = 4;
+pub const SIGNED_PART_IDENTIFIER: usize = 5;
+pub const SIGNED_PART_DIGEST_ALGORITHM: usize = 6;
+pub const SIGNED_PART_SIGNED_ATTRIBUTES: usize = 7;
+pub const SIGNED_PART_SIGNATURE_ALGORITHM: usize = 8;
+pub const SIGNED_PART_SIGNATURE: usize = 9;
+pub const SIGNED_PART_UNSIGNED_ATTRIBUTES: usize = 10;
+
 /// `der_range`
 #[repr(C)]
 #[derive(Clone, Copy, Default)]
@@ -259,6 +285,46 @@ pub struct StoreGiven {
     pub salt: Range,
 }
 
+/// `der_attributes_given`
+#[repr(C)]
+#[derive(Clone, Copy, Default)]
+pub struct AttributesGiven {
+    pub has_content_type: usize,
+    pub has_message_digest: usize,
+    pub has_signing_time: usize,
+    pub has_attributes: usize,
+    pub content_type: Range,
+    pub message_digest: Range,
+    pub signing_time: Range,
+    pub attributes: Range,
+}
+
+/// `der_signed_given`
+#[repr(C)]
+#[derive(Clone, Copy, Default)]
+pub struct SignedGiven {
+    pub has_content: usize,
+    pub is_element: usize,
+    pub content_type: Range,
+    pub content: Range,
+}
+
+/// `der_signer_given`
+#[repr(C)]
+#[derive(Clone, Copy, Default)]
+pub struct SignerGiven {
+    pub has_key_identifier: usize,
+    pub has_signed_attributes: usize,
+    pub has_unsigned_attributes: usize,
+    pub certificate: Range,
+    pub key_identifier: Range,
+    pub digest_algorithm: Range,
+    pub signed_attributes: Range,
+    pub signature_algorithm: Range,
+    pub signature: Range,
+    pub unsigned_attributes: Range,
+}
+
 extern "C" {
     pub fn der_check_word_limited(
         word: *const u8,
@@ -379,6 +445,40 @@ extern "C" {
         input: *const u8,
         input_len: usize,
         given: *const StoreGiven,
+        out: *mut u8,
+        out_len: usize,
+        written: *mut usize,
+        part: *mut usize,
+    ) -> u32;
+    pub fn der_build_attributes(
+        input: *const u8,
+        input_len: usize,
+        given: *const AttributesGiven,
+        out: *mut u8,
+        out_len: usize,
+        written: *mut usize,
+        part: *mut usize,
+    ) -> u32;
+    pub fn der_build_signed(
+        input: *const u8,
+        input_len: usize,
+        given: *const SignedGiven,
+        certificates: *const Range,
+        certificates_len: usize,
+        crls: *const Range,
+        crls_len: usize,
+        signers: *const SignerGiven,
+        signers_len: usize,
+        out: *mut u8,
+        out_len: usize,
+        written: *mut usize,
+        index: *mut usize,
+        part: *mut usize,
+    ) -> u32;
+    pub fn der_build_indirect(
+        input: *const u8,
+        input_len: usize,
+        given: *const IndirectParts,
         out: *mut u8,
         out_len: usize,
         written: *mut usize,

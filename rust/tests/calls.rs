@@ -1,9 +1,11 @@
-//! Each call, over files that openssl made, whose offsets and octets are those that `openssl asn1parse` shows, and over
-//! examples of X.690.
+//! Each call, over files that openssl made, and one each of osslsigncode and of the package cryptography for Python,
+//! whose offsets and octets are those that `openssl asn1parse` shows, and over examples of X.690.
 use vuyhanip::{
-    BadAttributes, BagGiven, BagKind, BagPart, BuildBagsError, BuildError, BuildSafeError, BuildStoreError,
-    ContentGiven, Error, MacGiven, Part, PasswordHolder, PasswordParameters, PasswordPart, Reason, Store, StorePart,
-    Verdict,
+    build_attributes, build_indirect, build_parameters, hashed_octets, oid_octets, AttributesGiven, AttributesPart,
+    BadAttributes, BagGiven, BagKind, BagPart, BuildAttributesError, BuildBagsError, BuildError, BuildIndirectError,
+    BuildSafeError, BuildSignedError, BuildStoreError, ContentGiven, Error, IndirectAttribute, IndirectGiven,
+    IndirectPart, MacGiven, Part, PasswordHolder, PasswordParameters, PasswordPart, Reason, Signed, SignedPart,
+    SignerGiven, SignerName, Store, StorePart, Verdict,
 };
 
 /// A key store.
@@ -12,6 +14,16 @@ const STORE: &[u8] = include_bytes!("store.p12");
 const SIGNED: &[u8] = include_bytes!("signed.p7m");
 /// Signed data of one signer, of version 3, with its certificate: `openssl cms -sign -binary -nodetach -keyid`.
 const BY_KEY: &[u8] = include_bytes!("by_key.p7m");
+/// A detached signature of two signers, by RSA, and of version 3 by ECDSA, each with S/MIME capabilities: `openssl cms
+/// -sign -binary`, and then `-resign -binary -keyid -nocerts`.
+const TWO_SIGNERS: &[u8] = include_bytes!("two_signers.p7m");
+/// Signed data of two signers without attributes, by two digest algorithms with NULL as their parameters, which
+/// cryptography made, and `openssl cms -verify` takes.
+const TWO_DIGESTS: &[u8] = include_bytes!("two_digests.p7m");
+/// Two certificates, which are in the order of DER, and a revocation list: `openssl crl2pkcs7`.
+const LISTS: &[u8] = include_bytes!("lists.p7m");
+/// A signature of a program: `osslsigncode sign`, and then `osslsigncode extract-signature`.
+const OF_PROGRAM: &[u8] = include_bytes!("program.p7m");
 /// Signed data with a signer of version 3, by hand: neither content nor attributes nor certificates.
 const DETACHED: &[u8] = &[
     0x30, 0x34, 6, 9, 0x2A, 0x86, 0x48, 0x86, 0xF7, 0x0D, 1, 7, 2, 0xA0, 0x27, 0x30, 0x25, 2, 1, 3, 0x31, 0, 0x30, 5,
@@ -60,6 +72,9 @@ const WITH_NULL: &[u8] = &[0x30, 7, 6, 3, 0x2A, 3, 4, 5, 0];
 const SALT_AND_COUNT: &[u8] = &[0x30, 6, 4, 1, 7, 2, 1, 9];
 /// The greatest count.
 const GREATEST: &[u8] = &[2, 5, 0, 0xFF, 0xFF, 0xFF, 0xFF];
+/// An attribute with NULL as its value, and a SET OF it.
+const FURTHER_ONE: &[u8] = &[0x30, 9, 6, 3, 0x2A, 3, 4, 0x31, 2, 5, 0];
+const FURTHER: &[u8] = &[0x31, 11, 0x30, 9, 6, 3, 0x2A, 3, 4, 0x31, 2, 5, 0];
 /// Octets that are no object identifier and no element.
 const NEITHER: Option<&[u8]> = Some(&[0x80]);
 /// A digest info without the NULL that its algorithm has in DER, up to the digest.
@@ -79,6 +94,10 @@ const SDSI_CERTIFICATE: &[u8] = &[6, 10, 0x2A, 0x86, 0x48, 0x86, 0xF7, 0x0D, 1, 
 const X509_CRL: &[u8] = &[6, 10, 0x2A, 0x86, 0x48, 0x86, 0xF7, 0x0D, 1, 9, 23, 1];
 const FRIENDLY_NAME: &[u8] = &[6, 9, 0x2A, 0x86, 0x48, 0x86, 0xF7, 0x0D, 1, 9, 20];
 const LOCAL_KEY_ID: &[u8] = &[6, 9, 0x2A, 0x86, 0x48, 0x86, 0xF7, 0x0D, 1, 9, 21];
+/// Types of attributes: of the content's type, of its digest, and of the time of signing.
+const CONTENT_TYPE: &[u8] = &[6, 9, 0x2A, 0x86, 0x48, 0x86, 0xF7, 0x0D, 1, 9, 3];
+const MESSAGE_DIGEST: &[u8] = &[6, 9, 0x2A, 0x86, 0x48, 0x86, 0xF7, 0x0D, 1, 9, 4];
+const SIGNING_TIME: &[u8] = &[6, 9, 0x2A, 0x86, 0x48, 0x86, 0xF7, 0x0D, 1, 9, 5];
 /// What bags hold, in the least form that they are written in: any element, an encrypted key, and a secret.
 const ELEMENT: &[u8] = &[2, 1, 7];
 const ENCRYPTED_KEY: &[u8] = &[0x30, 10, 0x30, 5, 6, 3, 0x2A, 3, 4, 4, 1, 9];
@@ -1078,6 +1097,734 @@ fn a_part_of_a_store_that_is_wrong_is_named() {
     assert!(store.finish(Some(&mac)).is_ok());
     assert_eq!(BuildStoreError::Refused(StorePart::DigestAlgorithm).to_string(), "refused: digest algorithm");
     assert_eq!(BuildStoreError::NoMemory.to_string(), "no memory");
+}
+
+/// Of the files: their three, and S/MIME capabilities.
+#[test]
+fn attributes_of_files_are_built() {
+    let capabilities = element(0x31, &[&TWO_SIGNERS[722..845]]);
+    for (file, time, further) in [
+        (SIGNED, "20261126042149Z", None),
+        (BY_KEY, "20261127151847Z", None),
+        (TWO_SIGNERS, "20261130180037Z", Some(&capabilities[..])),
+    ] {
+        let digest = vuyhanip::signers(file).unwrap()[0].unwrap().message_digest.unwrap();
+        let mut given = AttributesGiven::new(&DATA[2..], digest);
+        given.signing_time = Some(time);
+        given.attributes = further;
+        assert_eq!(build_attributes(&given).ok(), vuyhanip::part(Part::SignedAttributes, 0, file).unwrap());
+    }
+}
+
+/// What gives attributes, and those that are written.
+type Written = (fn(&mut AttributesGiven<'static>), Vec<Vec<u8>>);
+
+/// In the order of X.690, 11.6.
+#[test]
+fn each_attribute_is_built() {
+    let content_type = attribute(CONTENT_TYPE, &[DATA]);
+    let (digest, empty) = (attribute(MESSAGE_DIGEST, &[&[4, 2, 7, 8]]), attribute(MESSAGE_DIGEST, &[&[4, 0]]));
+    let time = attribute(SIGNING_TIME, &[b"\x17\x0D260102030405Z"]);
+    let further = attribute(&BARE[2..], &[&[5, 0]]);
+    let written: [Written; 8] = [
+        (|_| (), vec![]),
+        (|it| it.content_type = Some(&DATA[2..]), vec![content_type.clone()]),
+        (|it| it.message_digest = Some(&[7, 8]), vec![digest.clone()]),
+        (|it| it.message_digest = Some(&[]), vec![empty]),
+        (|it| it.signing_time = Some("20260102030405Z"), vec![time.clone()]),
+        (|it| it.attributes = Some(&[0x31, 0]), vec![]),
+        (|it| it.attributes = Some(FURTHER), vec![further.clone()]),
+        (
+            |it| {
+                *it = AttributesGiven::new(&DATA[2..], &[7, 8]);
+                (it.signing_time, it.attributes) = (Some("20260102030405Z"), Some(FURTHER));
+            },
+            vec![further, digest, content_type, time],
+        ),
+    ];
+    for (give, attributes) in written {
+        let mut given = AttributesGiven::default();
+        give(&mut given);
+        assert_eq!(build_attributes(&given), Ok(element(0x31, &[&attributes.concat()])));
+    }
+}
+
+/// RFC 5652, 11.3: UTCTime has two digits of the year.
+#[test]
+fn times_of_signing_are_of_two_types() {
+    for (time, tag, written) in [
+        ("19500101000000Z", 0x17, "500101000000Z"),
+        ("19991231235959Z", 0x17, "991231235959Z"),
+        ("20000229123456Z", 0x17, "000229123456Z"),
+        ("20491231235959Z", 0x17, "491231235959Z"),
+        ("00000101000000Z", 0x18, "00000101000000Z"),
+        ("19491231235959Z", 0x18, "19491231235959Z"),
+        ("20500101000000Z", 0x18, "20500101000000Z"),
+        ("99991231235959Z", 0x18, "99991231235959Z"),
+    ] {
+        let mut given = AttributesGiven::default();
+        given.signing_time = Some(time);
+        let wanted = attribute(SIGNING_TIME, &[&element(tag, &[written.as_bytes()])]);
+        assert_eq!(build_attributes(&given), Ok(element(0x31, &[&wanted])));
+    }
+}
+
+/// Each as often as it is given, with its values in their order, but for those of the three types.
+#[test]
+fn further_attributes_are_put_in_order() {
+    let types = [CONTENT_TYPE, MESSAGE_DIGEST, SIGNING_TIME].map(|oid| attribute(oid, &[&[5, 0], &[5, 0]]));
+    let (short, two) = (attribute(&BARE[2..], &[&[5, 0]]), attribute(&BARE[2..], &[&[5, 0], &[2, 1, 1]]));
+    let long = attribute(&[6, 3, 0x2A, 3, 1], &[&element(4, &[&[7; 200]])]);
+    let set = element(0x31, &[&types[0], &long, &short, &types[1], &two, &types[2], &short]);
+    let mut given = AttributesGiven::default();
+    given.attributes = Some(&set);
+    assert_eq!(build_attributes(&given), Ok(element(0x31, &[&short, &short, &two, &long])));
+    given.content_type = Some(&BARE[4..]);
+    let its = attribute(CONTENT_TYPE, &[&BARE[2..]]);
+    assert_eq!(build_attributes(&given), Ok(element(0x31, &[&short, &short, &two, &its, &long])));
+}
+
+/// A part, and what makes it wrong in attributes that can be written.
+type WrongAttributes = (AttributesPart, fn(&mut AttributesGiven<'static>));
+
+/// Each but a digest, which may be any octets.
+#[test]
+fn a_part_of_attributes_that_is_wrong_is_named() {
+    let wrong: [WrongAttributes; 20] = [
+        (AttributesPart::ContentType, |it| it.content_type = Some(&[])),
+        (AttributesPart::ContentType, |it| it.content_type = NEITHER),
+        (AttributesPart::ContentType, |it| it.content_type = Some(&[0x2A, 0x83])),
+        // other lengths, other forms, and a character of two octets
+        (AttributesPart::SigningTime, |it| it.signing_time = Some("")),
+        (AttributesPart::SigningTime, |it| it.signing_time = Some("260102030405Z")),
+        (AttributesPart::SigningTime, |it| it.signing_time = Some("20260102030405")),
+        (AttributesPart::SigningTime, |it| it.signing_time = Some("20260102030405Z ")),
+        (AttributesPart::SigningTime, |it| it.signing_time = Some("20260102030405z")),
+        (AttributesPart::SigningTime, |it| it.signing_time = Some("2026010203040é")),
+        // no such second
+        (AttributesPart::SigningTime, |it| it.signing_time = Some("20261302030405Z")),
+        (AttributesPart::SigningTime, |it| it.signing_time = Some("20260102240405Z")),
+        (AttributesPart::SigningTime, |it| it.signing_time = Some("20260102036005Z")),
+        (AttributesPart::SigningTime, |it| it.signing_time = Some("20260102030460Z")),
+        (AttributesPart::SigningTime, |it| it.signing_time = Some("20260229030405Z")),
+        (AttributesPart::SigningTime, |it| it.signing_time = Some("19000229030405Z")),
+        (AttributesPart::Attributes, |it| it.attributes = Some(&[])),
+        (AttributesPart::Attributes, |it| it.attributes = Some(&[0xA0, 0])),
+        (AttributesPart::Attributes, |it| it.attributes = Some(&[0x31, 1])),
+        (AttributesPart::Attributes, |it| it.attributes = Some(&[0x31, 2, 5, 0])),
+        (AttributesPart::Attributes, |it| it.attributes = Some(&[0x31, 0, 0x31, 0])),
+    ];
+    let mut good = AttributesGiven::new(&DATA[2..], &[7, 8]);
+    (good.signing_time, good.attributes) = (Some("20240229235959Z"), Some(FURTHER));
+    assert!(build_attributes(&good).is_ok());
+    for (part, change) in wrong {
+        for mut given in [good, AttributesGiven::default()] {
+            change(&mut given);
+            assert_eq!(build_attributes(&given), Err(BuildAttributesError::Refused(part)));
+        }
+    }
+    let said = BuildAttributesError::Refused(AttributesPart::SigningTime).to_string();
+    assert_eq!(said, "refused: signing time");
+    assert_eq!(BuildAttributesError::TooLong.to_string(), "too long");
+}
+
+/// An algorithm without parameters, by its object identifier.
+fn algorithm(oid: &str) -> Result<Vec<u8>, Box<dyn std::error::Error>> {
+    let oid = oid_octets(oid)?;
+    Ok(build_parameters(PasswordHolder::Algorithm, &PasswordParameters::other(&oid, None))?)
+}
+
+/// Signed data of one signer, whose certificate is the first of the chain. The digest is the content's, by SHA-256.
+fn signed_file(
+    content: &[u8],
+    digest: &[u8],
+    time: &str,
+    chain: &[&[u8]],
+    sign: impl Fn(&[u8]) -> Vec<u8>,
+) -> Result<Vec<u8>, Box<dyn std::error::Error>> {
+    let data = oid_octets("1.2.840.113549.1.7.1")?;
+    let mut attributes = AttributesGiven::new(&data, digest);
+    attributes.signing_time = Some(time);
+    let covered = build_attributes(&attributes)?;
+    let signature = sign(&covered);
+    let (sha256, ecdsa) = (algorithm("2.16.840.1.101.3.4.2.1")?, algorithm("1.2.840.10045.4.3.2")?);
+    let mut signer = SignerGiven::new(SignerName::Certificate(chain[0]), &sha256, &ecdsa, &signature);
+    signer.signed_attributes = Some(&covered);
+    let mut signed = Signed::new(&data);
+    signed.content(content).signer(signer);
+    for certificate in chain {
+        signed.certificate(certificate);
+    }
+    Ok(signed.finish()?)
+}
+
+/// What openssl signed, and the file around its signature.
+#[test]
+fn a_file_is_built_around_a_signature() {
+    let sign = |covered: &[u8]| {
+        assert_eq!(covered, [&[0x31], &SIGNED[685..791]].concat());
+        SIGNED[805..876].to_vec()
+    };
+    let chain = [&SIGNED[74..357], &SIGNED[357..643]];
+    let built = signed_file(b"hello, world", &SIGNED[759..791], "20261126042149Z", &chain, sign);
+    assert_eq!(built.unwrap(), SIGNED);
+}
+
+/// Of what is listed of each, added from the last to the first.
+#[test]
+fn signed_files_are_built_again() {
+    for file in [SIGNED, BY_KEY, TWO_SIGNERS, TWO_DIGESTS] {
+        let found: Vec<_> = vuyhanip::signers(file).unwrap().into_iter().map(Result::unwrap).collect();
+        let covered: Vec<_> = found.iter().map(|it| it.covered(b"")).collect();
+        let key = |index| vuyhanip::part(Part::KeyIdentifier, index, file).unwrap();
+        let keys: Vec<_> = (0..found.len()).map(key).collect();
+        let mut signed = Signed::new(&DATA[2..]);
+        for (index, it) in found.iter().enumerate().rev() {
+            let by_certificate = || SignerName::Certificate(it.certificate.unwrap());
+            let name = keys[index].as_deref().map_or_else(by_certificate, SignerName::KeyIdentifier);
+            let mut given = SignerGiven::new(name, it.digest_algorithm, it.signature_algorithm, it.signature);
+            given.signed_attributes = it.message_digest.map(|_| &*covered[index]);
+            signed.signer(given);
+        }
+        for certificate in vuyhanip::certificates(file).unwrap().into_iter().rev() {
+            signed.certificate(certificate);
+        }
+        if let Some(content) = found[0].content {
+            signed.content(content);
+        }
+        assert_eq!(signed.finish().as_deref(), Ok(file));
+    }
+}
+
+/// Signed data by hand: its version, its digest algorithms, its content with the type, and what follows.
+fn signed_data(version: u8, algorithms: &[&[u8]], content: &[&[u8]], after: &[&[u8]]) -> Vec<u8> {
+    let parts: [&[u8]; 4] = [&[2, 1, version], &element(0x31, algorithms), &element(0x30, content), &after.concat()];
+    element(0x30, &[&DETACHED[2..13], &element(0xA0, &[&element(0x30, &parts)])])
+}
+
+/// In the order of DER, also where one is added twice; and nothing.
+#[test]
+fn certificates_and_revocation_lists_are_built_alone() {
+    let (first, second, crl) = (&LISTS[45..418], &LISTS[418..928], &LISTS[931..1100]);
+    let mut signed = Signed::new(&DATA[2..]);
+    assert_eq!(signed.finish(), Ok(signed_data(1, &[], &[DATA], &[&[0x31, 0]])));
+    signed.certificate(second).crl(crl).certificate(first);
+    assert_eq!(signed.finish().as_deref(), Ok(LISTS));
+    let built = signed.certificate(second).crl(&[0x30, 0]).crl(crl).finish();
+    let (certificates, crls) = (element(0xA0, &[first, second, second]), element(0xA1, &[&[0x30, 0], crl, crl]));
+    assert_eq!(built, Ok(signed_data(1, &[], &[DATA], &[&certificates, &crls, &[0x31, 0]])));
+}
+
+/// What names a signer, the version of the signer and of the whole, and the name as it is written.
+fn each_name() -> [(SignerName<'static>, u8, Vec<u8>); 3] {
+    [
+        (SignerName::Certificate(&SIGNED[74..357]), 1, element(0x30, &[&SIGNED[101..115], &SIGNED[86..89]])),
+        (SignerName::KeyIdentifier(&[9]), 3, vec![0x80, 1, 9]),
+        (SignerName::KeyIdentifier(&[]), 3, vec![0x80, 0]),
+    ]
+}
+
+/// Signed attributes that have to be there, in another order than that of DER.
+fn signed_set(content_type: &[u8]) -> Vec<u8> {
+    let digest = attribute(MESSAGE_DIGEST, &[&[4, 2, 7, 8]]);
+    element(0x31, &[&attribute(CONTENT_TYPE, &[content_type]), &digest])
+}
+
+/// A set of attributes as a signer has it, under another tag, or nothing.
+fn tagged(tag: u8, set: Option<&[u8]>) -> Vec<u8> {
+    set.map_or(vec![], |octets| [&[tag], &octets[1..]].concat())
+}
+
+/// A signer by hand: its version, its name, its digest algorithm, and its attributes.
+fn signer(version: u8, name: &[u8], algorithm: &[u8], signed: Option<&[u8]>, unsigned: Option<&[u8]>) -> Vec<u8> {
+    let (before, after) = (tagged(0xA0, signed), tagged(0xA1, unsigned));
+    element(0x30, &[&[2, 1, version], name, algorithm, &before, WITH_VECTOR, &[4, 1, 7], &after])
+}
+
+/// With and without both sets of attributes, whose order stays.
+#[test]
+fn each_form_of_a_signer_is_built() {
+    let (short, long) = (attribute(&BARE[2..], &[&[5, 0]]), attribute(&BARE[2..], &[&[5, 0], &[2, 1, 1]]));
+    let (set, unsigned_set) = (signed_set(DATA), element(0x31, &[&long, &short]));
+    let content = element(0xA0, &[&[4, 2, 5, 6]]);
+    let (both, without) = ([&set[..], &unsigned_set[..]].map(Some), [None, None]);
+    for (name, version, written) in each_name() {
+        for [signed, unsigned] in [without, [both[0], None], [None, both[1]], both] {
+            let mut given = SignerGiven::new(name, WITH_NULL, WITH_VECTOR, &[7]);
+            (given.signed_attributes, given.unsigned_attributes) = (signed, unsigned);
+            let built = Signed::new(&DATA[2..]).content(&[5, 6]).signer(given).finish().unwrap();
+            let signers = element(0x31, &[&signer(version, &written, WITH_NULL, signed, unsigned)]);
+            assert_eq!(built, signed_data(version, &[WITH_NULL], &[DATA, &content], &[&signers]));
+            let found = vuyhanip::signers(&built).unwrap()[0].unwrap();
+            assert_eq!((found.digest_algorithm, found.signature_algorithm), (WITH_NULL, WITH_VECTOR));
+            assert_eq!((found.signature, found.message_digest), (&[7][..], signed.map(|_| &[7, 8][..])));
+            assert_eq!(found.covered(&[5, 6]).as_ref(), signed.unwrap_or(&[5, 6]));
+            let others = vuyhanip::attributes(&built, 0, false).unwrap().unwrap();
+            assert_eq!(others, unsigned.map_or(vec![], |_| vec![&long[..], &short]));
+        }
+    }
+}
+
+/// Of the lists RFC 5652, 5.1, asks for another version by their tags alone.
+#[test]
+fn versions_are_those_of_certificates_and_lists() {
+    for (version, certificates, crls) in [
+        (1, &[0x30][..], &[0x30][..]),
+        (1, &[0x30, 0xA0], &[]),
+        (3, &[0x30, 0xA1], &[0x30]),
+        (4, &[0xA0, 0xA1, 0xA2], &[]),
+        (5, &[0xA1, 0xA2, 0xA3], &[0x30]),
+        (5, &[0xA3], &[]),
+        (5, &[], &[0xA1]),
+        (5, &[0xA2], &[0x30, 0xA1]),
+    ] {
+        let of_tags = |tags: &[u8]| -> Vec<_> { tags.iter().map(|tag| [*tag, 0]).collect() };
+        let (certificates, crls) = (of_tags(certificates), of_tags(crls));
+        let mut signed = Signed::new(&DATA[2..]);
+        for it in certificates.iter().rev() {
+            signed.certificate(it);
+        }
+        for it in crls.iter().rev() {
+            signed.crl(it);
+        }
+        let set = |tag, all: &[[u8; 2]]| if all.is_empty() { vec![] } else { element(tag, &[&all.concat()]) };
+        let after: [&[u8]; 3] = [&set(0xA0, &certificates), &set(0xA1, &crls), &[0x31, 0]];
+        assert_eq!(signed.finish(), Ok(signed_data(version, &[], &[DATA], &after)));
+    }
+}
+
+/// Octets, an element, how either is written, and the version with another type than id-data and a signer of version 1.
+type OfContent = (Option<&'static [u8]>, Option<&'static [u8]>, &'static [u8], u8);
+
+/// Another type than id-data raises the version (RFC 5652, 5.1), but not of content of PKCS #7 (RFC 2315, 9.1).
+#[test]
+fn content_is_octets_or_an_element_or_elsewhere() {
+    let forms: [OfContent; 5] = [
+        (None, None, &[], 3),
+        (Some(&[]), None, &[0xA0, 2, 4, 0], 3),
+        (Some(&[5, 6]), None, &[0xA0, 4, 4, 2, 5, 6], 3),
+        (None, Some(&[4, 2, 5, 6]), &[0xA0, 4, 4, 2, 5, 6], 3),
+        (None, Some(&[0x30, 2, 5, 0]), &[0xA0, 4, 0x30, 2, 5, 0], 1),
+    ];
+    for (octets, other, content, version_of_other) in forms {
+        for (content_type, version) in [(DATA, 1), (&BARE[2..], version_of_other)] {
+            let set = signed_set(content_type);
+            for (name, its, written) in each_name() {
+                let mut given = SignerGiven::new(name, BARE, WITH_VECTOR, &[7]);
+                given.signed_attributes = Some(&set);
+                let mut signed = Signed::new(&content_type[2..]);
+                signed.signer(given);
+                if let Some(octets) = octets {
+                    signed.content(octets);
+                }
+                if let Some(other) = other {
+                    signed.element(other);
+                }
+                let signers = element(0x31, &[&signer(its, &written, BARE, Some(&set), None)]);
+                let wanted = signed_data(version.max(its), &[BARE], &[content_type, content], &[&signers]);
+                assert_eq!(signed.finish(), Ok(wanted));
+            }
+        }
+    }
+}
+
+/// Of both ways to give content the later call counts.
+#[test]
+fn content_is_given_anew() {
+    let given = SignerGiven::new(SignerName::KeyIdentifier(&[9]), BARE, WITH_VECTOR, &[7]);
+    let signers = element(0x31, &[&signer(3, &[0x80, 1, 9], BARE, None, None)]);
+    let mut signed = Signed::new(&DATA[2..]);
+    let built = signed.element(&[5, 0]).signer(given).content(&[8]).finish();
+    assert_eq!(built, Ok(signed_data(3, &[BARE], &[DATA, &[0xA0, 3, 4, 1, 8]], &[&signers])));
+    let built = signed.element(&[5, 0]).finish();
+    assert_eq!(built, Ok(signed_data(3, &[BARE], &[DATA, &[0xA0, 2, 5, 0]], &[&signers])));
+}
+
+/// In the order of DER, with each digest algorithm once.
+#[test]
+fn many_signers_are_built() {
+    for count in [1, 2, 17, 400] {
+        let keys: Vec<_> = (0..count).map(|number: u16| number.to_be_bytes()).collect();
+        let digest = |index| if index % 2 == 0 { BARE } else { WITH_NULL };
+        let mut signed = Signed::new(&DATA[2..]);
+        let mut signers = Vec::new();
+        for (index, key) in keys.iter().enumerate().rev() {
+            signed.signer(SignerGiven::new(SignerName::KeyIdentifier(key), digest(index), WITH_VECTOR, &[7]));
+            signers.push(signer(3, &element(0x80, &[key]), digest(index), None, None));
+        }
+        signers.sort();
+        let algorithms = if count == 1 { &[BARE][..] } else { &[BARE, WITH_NULL] };
+        let set = element(0x31, &[&signers.concat()]);
+        assert_eq!(signed.finish(), Ok(signed_data(3, algorithms, &[DATA], &[&set])));
+    }
+}
+
+/// They are written twice, and so need more room than the parts and their headers.
+#[test]
+fn parameters_of_a_digest_algorithm_may_be_long() {
+    let long = element(0x30, &[&BARE[2..], &element(4, &[&[6; 1000]])]);
+    let given = SignerGiven::new(SignerName::KeyIdentifier(&[9]), &long, WITH_VECTOR, &[7]);
+    let built = Signed::new(&DATA[2..]).content(&[8]).signer(given).signer(given).finish();
+    let one = signer(3, &[0x80, 1, 9], &long, None, None);
+    let (content, signers) = ([0xA0, 3, 4, 1, 8], element(0x31, &[&one, &one]));
+    assert_eq!(built, Ok(signed_data(3, &[&long], &[DATA, &content], &[&signers])));
+}
+
+/// Signed data of these signers.
+fn signed_by(signers: &[SignerGiven<'_>]) -> Result<Vec<u8>, BuildSignedError> {
+    let mut signed = Signed::new(&DATA[2..]);
+    for signer in signers {
+        signed.signer(*signer);
+    }
+    signed.content(&[5, 6]).finish()
+}
+
+/// A part of a signer, and what makes it wrong in one that can be written.
+type WrongSigner = (SignedPart, fn(&mut SignerGiven<'_>));
+
+/// Each but a signature, which may be any octets, as a key identifier may.
+#[test]
+fn a_part_of_a_signer_that_is_wrong_is_named() {
+    let wrong: [WrongSigner; 23] = [
+        (SignedPart::Identifier, |it| it.identifier = SignerName::Certificate(&[])),
+        (SignedPart::Identifier, |it| it.identifier = SignerName::Certificate(ELEMENT)),
+        (SignedPart::Identifier, |it| it.identifier = SignerName::Certificate(&[0x30, 0])),
+        (SignedPart::Identifier, |it| it.identifier = SignerName::Certificate(SIGNED)),
+        // one that is cut, and one with an octet more
+        (SignedPart::Identifier, |it| it.identifier = SignerName::Certificate(&SIGNED[74..356])),
+        (SignedPart::Identifier, |it| it.identifier = SignerName::Certificate(&SIGNED[74..358])),
+        (SignedPart::DigestAlgorithm, |it| it.digest_algorithm = &[]),
+        (SignedPart::DigestAlgorithm, |it| it.digest_algorithm = &BARE[2..]),
+        (SignedPart::DigestAlgorithm, |it| it.digest_algorithm = &[0x30, 0]),
+        (SignedPart::DigestAlgorithm, |it| it.digest_algorithm = &[0x30, 2, 5, 0]),
+        (SignedPart::SignedAttributes, |it| it.signed_attributes = Some(&[])),
+        (SignedPart::SignedAttributes, |it| it.signed_attributes = Some(&[0x31, 0])),
+        (SignedPart::SignedAttributes, |it| it.signed_attributes = Some(&[0x31, 2, 5, 0])),
+        (SignedPart::SignedAttributes, |it| it.signed_attributes = Some(FURTHER)),
+        // as it is in the file
+        (SignedPart::SignedAttributes, |it| it.signed_attributes = Some(&SIGNED[684..791])),
+        (SignedPart::SignatureAlgorithm, |it| it.signature_algorithm = &[]),
+        (SignedPart::SignatureAlgorithm, |it| it.signature_algorithm = &SHA256[1..]),
+        (SignedPart::SignatureAlgorithm, |it| it.signature_algorithm = &[0x30, 5, 6, 3, 0x2A, 3, 4, 5, 0]),
+        (SignedPart::UnsignedAttributes, |it| it.unsigned_attributes = Some(&[])),
+        (SignedPart::UnsignedAttributes, |it| it.unsigned_attributes = Some(&[0x31, 0])),
+        (SignedPart::UnsignedAttributes, |it| it.unsigned_attributes = Some(&[0x31, 2, 5, 0])),
+        (SignedPart::UnsignedAttributes, |it| it.unsigned_attributes = Some(&[0x30, 0])),
+        (SignedPart::UnsignedAttributes, |it| it.unsigned_attributes = Some(&[0x31, 1])),
+    ];
+    let set = signed_set(DATA);
+    let mut good = SignerGiven::new(SignerName::Certificate(&SIGNED[74..357]), BARE, WITH_VECTOR, &[]);
+    (good.signed_attributes, good.unsigned_attributes) = (Some(&set[..]), Some(FURTHER));
+    assert!(signed_by(&[good; 4]).is_ok());
+    for (part, change) in wrong {
+        for index in [3, 1] {
+            let mut signers = [good; 4];
+            change(&mut signers[index]);
+            assert_eq!(signed_by(&signers), Err(BuildSignedError::Refused { part, index: Some(index) }));
+        }
+    }
+}
+
+/// RFC 5652, 11.1 to 11.3: the content's type and a digest have to be there, and all three at most once, by one value.
+#[test]
+fn signed_attributes_that_break_rfc_5652_are_named() {
+    let refused = |index| Err(BuildSignedError::Refused { part: SignedPart::SignedAttributes, index: Some(index) });
+    let of_type = |values: &[&[u8]]| attribute(CONTENT_TYPE, values);
+    let of_digest = |values: &[&[u8]]| attribute(MESSAGE_DIGEST, values);
+    let of_time = |values: &[&[u8]]| attribute(SIGNING_TIME, values);
+    let (digest, time): (&[u8], &[u8]) = (&[4, 2, 7, 8], b"\x17\x0D260102030405Z");
+    let (its, hash, at) = (of_type(&[DATA]), of_digest(&[digest]), of_time(&[time]));
+    let mut good = SignerGiven::new(SignerName::KeyIdentifier(&[9]), BARE, WITH_VECTOR, &[7]);
+    let all = element(0x31, &[&at, FURTHER_ONE, &hash, FURTHER_ONE, &its]);
+    good.signed_attributes = Some(&all);
+    assert!(signed_by(&[good; 4]).is_ok());
+    for attributes in [
+        [&hash, &at, &[][..]],
+        [&its, &at, &[]],
+        [&its, &hash, &its],
+        [&its, &hash, &hash],
+        [&of_type(&[]), &hash, &[]],
+        [&of_type(&[DATA, DATA]), &hash, &[]],
+        [&of_type(&[&BARE[2..]]), &hash, &[]],
+        [&of_type(&[&[4, 1, 7]]), &hash, &[]],
+        [&its, &of_digest(&[]), &[]],
+        [&its, &of_digest(&[digest, digest]), &[]],
+        [&its, &of_digest(&[ELEMENT]), &[]],
+        [&its, &hash, &[&at[..], &at].concat()],
+        [&its, &hash, &of_time(&[])],
+        [&its, &hash, &of_time(&[time, time])],
+        [&its, &hash, &of_time(&[ELEMENT])],
+    ] {
+        let set = element(0x31, &attributes);
+        for index in [3, 1] {
+            let mut signers = [good; 4];
+            signers[index].signed_attributes = Some(&set);
+            assert_eq!(signed_by(&signers), refused(index));
+        }
+    }
+    // those of data, and none, over another type (5.3)
+    for attributes in [Some(&all[..]), None] {
+        good.signed_attributes = attributes;
+        assert_eq!(Signed::new(&BARE[4..]).content(&[5, 6]).signer(good).finish(), refused(0));
+    }
+}
+
+/// Of several certificates or lists with its index.
+#[test]
+fn a_certificate_or_a_list_that_is_wrong_is_named() {
+    let refused = |part, index| Err(BuildSignedError::Refused { part, index: Some(index) });
+    for wrong in [&[][..], &[0x30], &[0x30, 1], &[0x30, 0, 0x30, 0], &[5, 0], &[0x31, 0], &[0xA4, 0], &[0xA5, 0]] {
+        for index in [3, 1] {
+            let (mut certificates, mut crls) = (Signed::new(&DATA[2..]), Signed::new(&DATA[2..]));
+            for it in 0..4 {
+                certificates.certificate(if it == index { wrong } else { &[0x30, 0] });
+                crls.crl(if it == index { wrong } else { &[0xA1, 0] });
+            }
+            assert_eq!(certificates.finish(), refused(SignedPart::Certificate, index));
+            assert_eq!(crls.finish(), refused(SignedPart::Crl, index));
+        }
+    }
+    for wrong in [&[0xA0, 0], &[0xA2, 0], &[0xA3, 0]] {
+        let built = Signed::new(&DATA[2..]).crl(&[0x30, 0]).crl(wrong).finish();
+        assert_eq!(built, refused(SignedPart::Crl, 1));
+    }
+}
+
+/// Without an index.
+#[test]
+fn content_that_is_wrong_is_named() {
+    let refused = |part| Err(BuildSignedError::Refused { part, index: None });
+    let given = SignerGiven::new(SignerName::KeyIdentifier(&[9]), BARE, WITH_VECTOR, &[7]);
+    for content_type in [&[][..], &[0x80], &[0x2A, 0x83]] {
+        assert_eq!(Signed::new(content_type).signer(given).finish(), refused(SignedPart::ContentType));
+    }
+    for wrong in NO_ELEMENTS {
+        let built = Signed::new(&DATA[2..]).element(wrong).signer(given).finish();
+        assert_eq!(built, refused(SignedPart::Content));
+    }
+    // without signers
+    assert_eq!(Signed::new(&DATA[2..]).content(&[]).finish(), refused(SignedPart::Content));
+    assert_eq!(Signed::new(&DATA[2..]).element(&[5, 0]).certificate(&[0x30, 0]).finish(), refused(SignedPart::Content));
+    assert_eq!(Signed::new(&BARE[4..]).finish(), refused(SignedPart::Content));
+}
+
+#[test]
+fn what_is_wrong_of_signed_data_is_said() {
+    for (part, index, said) in [
+        (SignedPart::ContentType, None, "refused: content type"),
+        (SignedPart::Content, None, "refused: content"),
+        (SignedPart::Certificate, Some(2), "refused: certificate 2"),
+        (SignedPart::Crl, Some(0), "refused: revocation list 0"),
+        (SignedPart::Identifier, Some(1), "refused: identifier of signer 1"),
+        (SignedPart::DigestAlgorithm, Some(0), "refused: digest algorithm of signer 0"),
+        (SignedPart::SignedAttributes, Some(3), "refused: signed attributes of signer 3"),
+        (SignedPart::SignatureAlgorithm, Some(0), "refused: signature algorithm of signer 0"),
+        (SignedPart::Signature, Some(0), "refused: signature of signer 0"),
+        (SignedPart::UnsignedAttributes, Some(0), "refused: unsigned attributes of signer 0"),
+    ] {
+        assert_eq!(BuildSignedError::Refused { part, index }.to_string(), said);
+    }
+    assert_eq!(BuildSignedError::NoMemory.to_string(), "no memory");
+    assert_eq!(BuildSignedError::Unknown(99).to_string(), "unknown status 99");
+}
+
+/// An Authenticode signature over indirect data, by ECDSA with SHA-256 and the key of the certificate. `hash` is by the
+/// digest algorithm of the indirect data.
+fn signed_program(
+    given: &IndirectGiven<'_>,
+    time: &str,
+    further: &[u8],
+    certificate: &[u8],
+    hash: impl Fn(&[u8]) -> Vec<u8>,
+    sign: impl Fn(&[u8]) -> Vec<u8>,
+) -> Result<Vec<u8>, Box<dyn std::error::Error>> {
+    let content = build_indirect(given)?;
+    let hashed = hash(hashed_octets(&content).ok_or("no element")?);
+    let indirect_data = oid_octets("1.3.6.1.4.1.311.2.1.4")?;
+    let mut attributes = AttributesGiven::new(&indirect_data, &hashed);
+    (attributes.signing_time, attributes.attributes) = (Some(time), Some(further));
+    let covered = build_attributes(&attributes)?;
+    let (ecdsa, signature) = (algorithm("1.2.840.10045.4.3.2")?, sign(&covered));
+    let name = SignerName::Certificate(certificate);
+    let mut signer = SignerGiven::new(name, given.digest_algorithm, &ecdsa, &signature);
+    signer.signed_attributes = Some(&covered);
+    let mut signed = Signed::new(&indirect_data);
+    Ok(signed.element(&content).certificate(certificate).signer(signer).finish()?)
+}
+
+/// What osslsigncode signed, and the file around its signature.
+#[test]
+fn a_signature_of_a_program_is_built() {
+    let hash = |octets: &[u8]| {
+        assert_eq!(octets, &OF_PROGRAM[61..166]);
+        OF_PROGRAM[734..766].to_vec()
+    };
+    let sign = |covered: &[u8]| {
+        assert_eq!(covered, [&[0x31], &OF_PROGRAM[628..766]].concat());
+        OF_PROGRAM[780..].to_vec()
+    };
+    let further = element(0x31, &[&OF_PROGRAM[687..717]]);
+    let given = IndirectGiven::program(&OF_PROGRAM[117..132], &OF_PROGRAM[134..166]);
+    let built = signed_program(&given, "20261130185415Z", &further, &OF_PROGRAM[170..563], hash, sign);
+    assert_eq!(built.unwrap(), OF_PROGRAM);
+}
+
+/// Of what is listed, as it is, and with another digest and other flags.
+#[test]
+fn listed_indirect_data_are_built_again() {
+    let found = vuyhanip::indirect(OF_PROGRAM).unwrap().unwrap();
+    let mut given = IndirectGiven::from(&found);
+    let (flags, link) = (Some(&OF_PROGRAM[79..81]), Some(&OF_PROGRAM[83..115]));
+    assert_eq!(given.attribute, IndirectAttribute::Image { flags, link });
+    assert_eq!((given.digest_algorithm, given.digest), (&OF_PROGRAM[117..132], &OF_PROGRAM[134..166]));
+    assert_eq!(build_indirect(&given).as_deref(), Ok(&OF_PROGRAM[59..166]));
+    given.digest = &[7; 32];
+    assert_eq!(build_indirect(&given), Ok([&OF_PROGRAM[59..134], &[7; 32]].concat()));
+    let digest = element(0x30, &[&OF_PROGRAM[117..132], &element(4, &[&[7; 32]])]);
+    for (flags, written) in [(None, &[][..]), (Some(&[0][..]), &[3, 1, 0])] {
+        given.attribute = IndirectAttribute::Image { flags, link };
+        let image = element(0x30, &[written, &OF_PROGRAM[81..115]]);
+        let wanted = element(0x30, &[&element(0x30, &[PROGRAM, &image]), &digest]);
+        assert_eq!(build_indirect(&given), Ok(wanted));
+    }
+}
+
+/// What is given, and the type and the value that are written.
+type OfIndirect<'a> = (IndirectAttribute<'a>, [&'a [u8]; 2]);
+
+/// Each with and without what may be absent, and as it is listed.
+#[test]
+fn each_attribute_of_indirect_data_is_built() {
+    let image = |flags, link| IndirectAttribute::Image { flags, link };
+    let other = |attribute_type, attribute_value| IndirectAttribute::Other { attribute_type, attribute_value };
+    let long = element(4, &[&[7; 70_000]]);
+    let (many, linked) = (element(3, &[&[0; 300]]), element(0x30, &[&element(0xA0, &[&long])]));
+    let many_flags = element(0x30, &[&many]);
+    let algorithm = element(0x30, &[&element(6, &[SHA256]), &[5, 0]]);
+    let written: [OfIndirect<'_>; 13] = [
+        (image(None, None), [PROGRAM, &[0x30, 0]]),
+        (image(Some(&[0]), None), [PROGRAM, &[0x30, 3, 3, 1, 0]]),
+        // the default, and bits that are unused and set
+        (image(Some(&[5, 0x80]), None), [PROGRAM, &[0x30, 4, 3, 2, 5, 0x80]]),
+        (image(Some(&[7, 0xFF]), None), [PROGRAM, &[0x30, 4, 3, 2, 7, 0xFF]]),
+        (image(Some(&[0; 300]), None), [PROGRAM, &many_flags]),
+        (image(None, Some(ELEMENT)), [PROGRAM, &[0x30, 5, 0xA0, 3, 2, 1, 7]]),
+        (image(None, Some(&long)), [PROGRAM, &linked]),
+        (image(Some(&[0, 6]), Some(ELEMENT)), [PROGRAM, &[0x30, 9, 3, 2, 0, 6, 0xA0, 3, 2, 1, 7]]),
+        (other(&CABINET[2..], None), [CABINET, &[]]),
+        (other(&CABINET[2..], Some(&[0x30, 0])), [CABINET, &[0x30, 0]]),
+        (other(&CABINET[2..], Some(&long)), [CABINET, &long]),
+        // of a program without image data
+        (other(&PROGRAM[2..], None), [PROGRAM, &[]]),
+        (other(&PROGRAM[2..], Some(&[5, 0])), [PROGRAM, &[5, 0]]),
+    ];
+    for (attribute, parts) in written {
+        let given = IndirectGiven::new(attribute, &algorithm, &[7, 8]);
+        let built = build_indirect(&given).unwrap();
+        let file = signed_digest(&parts);
+        assert_eq!(signed_over(&[INDIRECT_DATA, &element(0xA0, &[&built])]), file);
+        let found = vuyhanip::indirect(&file).unwrap().unwrap();
+        assert_eq!(IndirectGiven::from(&found), given);
+    }
+    // image data as a value
+    let value = element(0x30, &[&[3, 1, 0], &[0xA0, 3, 2, 1, 7]]);
+    let as_other = IndirectGiven::new(other(&PROGRAM[2..], Some(&value)), BARE, &[]);
+    let as_image = IndirectGiven::new(image(Some(&[0]), Some(ELEMENT)), BARE, &[]);
+    assert_eq!(build_indirect(&as_other), build_indirect(&as_image));
+}
+
+#[test]
+fn digests_are_of_any_algorithm_and_length() {
+    let attribute = IndirectAttribute::Other { attribute_type: &CABINET[2..], attribute_value: None };
+    for algorithm in [BARE, WITH_NULL, WITH_VECTOR] {
+        for len in [0, 1, 20, 64, 300, 70_000] {
+            let digest = vec![9; len];
+            let info = element(0x30, &[algorithm, &element(4, &[&digest])]);
+            let built = build_indirect(&IndirectGiven::new(attribute, algorithm, &digest));
+            assert_eq!(built, Ok(element(0x30, &[&element(0x30, &[CABINET]), &info])));
+        }
+    }
+}
+
+/// Octets that aren't exactly one element with a tag of one octet and a length as DER has it.
+const NO_ELEMENTS: [&[u8]; 10] = [
+    &[],
+    &[5],
+    &[4, 1],
+    &[5, 0, 5, 0],
+    &[4, 1, 7, 0],
+    &[0x30, 0x80],
+    &[0x30, 0x80, 0, 0],
+    &[4, 0x81, 1, 7],
+    &[0x1F, 0x81, 0, 0],
+    &[0x3F, 2, 5, 0],
+];
+
+/// Each but a digest, which may be any octets.
+#[test]
+fn a_part_of_indirect_data_that_is_wrong_is_named() {
+    let image = |flags, link| IndirectAttribute::Image { flags, link };
+    let other = |attribute_type, attribute_value| IndirectAttribute::Other { attribute_type, attribute_value };
+    let refused = |part| Err(BuildIndirectError::Refused(part));
+    let built = |attribute| build_indirect(&IndirectGiven::new(attribute, BARE, &[7, 8]));
+    for wrong in [&[][..], &[0x80], &[0x2A, 0x83]] {
+        for value in [None, Some(ELEMENT)] {
+            assert_eq!(built(other(wrong, value)), refused(IndirectPart::AttributeType));
+        }
+    }
+    // no count, no such count, and unused bits of no octet
+    for wrong in [&[][..], &[8], &[8, 0], &[0xFF, 0], &[1], &[7]] {
+        for link in [None, Some(ELEMENT)] {
+            assert_eq!(built(image(Some(wrong), link)), refused(IndirectPart::ImageFlags));
+        }
+    }
+    for wrong in NO_ELEMENTS {
+        assert_eq!(built(other(&CABINET[2..], Some(wrong))), refused(IndirectPart::AttributeValue));
+        for flags in [None, Some(&[0][..])] {
+            assert_eq!(built(image(flags, Some(wrong))), refused(IndirectPart::ImageLink));
+        }
+        for attribute in [image(Some(&[0]), Some(ELEMENT)), other(&CABINET[2..], Some(ELEMENT))] {
+            let given = IndirectGiven::new(attribute, wrong, &[7, 8]);
+            assert_eq!(build_indirect(&given), refused(IndirectPart::DigestAlgorithm));
+        }
+    }
+    for wrong in [&[5, 0][..], &[0x30, 0], &[0x30, 2, 5, 0], &[0x31, 5, 6, 3, 0x2A, 3, 4]] {
+        let given = IndirectGiven::new(other(&CABINET[2..], None), wrong, &[7, 8]);
+        assert_eq!(build_indirect(&given), refused(IndirectPart::DigestAlgorithm));
+    }
+}
+
+#[test]
+fn what_is_wrong_of_indirect_data_is_said() {
+    for (part, said) in [
+        (IndirectPart::AttributeType, "refused: attribute type"),
+        (IndirectPart::AttributeValue, "refused: attribute value"),
+        (IndirectPart::DigestAlgorithm, "refused: digest algorithm"),
+        (IndirectPart::Digest, "refused: digest"),
+        (IndirectPart::ImageFlags, "refused: image flags"),
+        (IndirectPart::ImageLink, "refused: image link"),
+    ] {
+        assert_eq!(BuildIndirectError::Refused(part).to_string(), said);
+    }
+    assert_eq!(BuildIndirectError::TooLong.to_string(), "too long");
+    assert_eq!(BuildIndirectError::Unknown(99).to_string(), "unknown status 99");
+}
+
+#[test]
+fn contents_octets_of_one_element_are_hashed() {
+    for len in [0, 1, 0x7F, 0x80, 0xFF, 0x100, 0xFFFF, 0x1_0000] {
+        let contents = vec![7; len];
+        for tag in [4, 0x30, 0xA0] {
+            assert_eq!(hashed_octets(&element(tag, &[&contents])), Some(&contents[..]));
+        }
+    }
+    for octets in NO_ELEMENTS {
+        assert_eq!(hashed_octets(octets), None);
+    }
+    // lengths with more octets than are needed, one past 64 bits, and one that isn't there
+    for octets in [&[4, 0x82, 0, 1, 7][..], &[4, 0x89, 1, 0, 0, 0, 0, 0, 0, 0, 0], &[4, 0x82, 1]] {
+        assert_eq!(hashed_octets(octets), None);
+    }
 }
 
 /// Of a signer that is named by its key.

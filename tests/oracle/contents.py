@@ -1,13 +1,16 @@
 """Finds where signed data has the parts of its content, element by element: of indirect data, which Authenticode signs,
-and of a trust list. It is the second opinion on `der_indirect`, `der_trust_list` and `der_trust_rows`, as der.h
-describes them, and shares nothing with tests/support."""
+and of a trust list; and writes indirect data from parts that are given, or says which of them can't be written. It is
+the second opinion on `der_indirect`, `der_build_indirect`, `der_trust_list` and `der_trust_rows`, as der.h describes
+them, and shares nothing with tests/support."""
 import datetime
 import re
 from typing import NamedTuple
 
 from . import signed
+from .building import is_element, is_identifier, is_read, written
 from .certificates import taken
 from .signed import NOTHING, Elements, Refused
+from .stores import Given
 
 INDIRECT_DATA, IMAGE = bytes.fromhex("2B060104018237020104"), bytes.fromhex("2B06010401823702010F")
 TRUST_LIST = bytes.fromhex("2B0601040182370A01")
@@ -52,7 +55,7 @@ class TrustEntry(NamedTuple):
 
 
 class Indirect(NamedTuple):
-    """What der_indirect writes: ranges are places and lengths."""
+    """What der_indirect writes, and der_build_indirect is given: ranges are places and lengths."""
 
     has_attribute_value: int = 0
     is_image: int = 0
@@ -109,6 +112,38 @@ def row(octets):
             algorithm, digest = signed.algorithm(info), info.one(0x04)
     ranges = {"digest_algorithm": algorithm.whole(), "digest": digest.contents()}
     return Indirect(**of_attribute(octets, kind, value), **ranges)
+
+
+# The numbers of the parts of indirect data, by their names in der.h.
+INDIRECT_PARTS = {name: number for number, name in enumerate(Indirect._fields[4:], 1)}
+
+
+def image_written(given):
+    """Image data with the parts that are given."""
+    its = []
+    if given.has("image_flags"):
+        its.append(written(0x03, given.part("image_flags", lambda it: is_read(written(0x03, it), signed.bits))))
+    if given.has("image_link"):
+        its.append(written(0xA0, given.part("image_link", is_element)))
+    return written(0x30, *its)
+
+
+def attribute_written(given):
+    """The attribute, which is that of a program, or is given."""
+    if given.row.is_image:
+        return written(0x30, written(0x06, IMAGE), image_written(given))
+    its = [written(0x06, given.part("attribute_type", is_identifier))]
+    its += [given.part("attribute_value", is_element)] if given.has("attribute_value") else []
+    return written(0x30, *its)
+
+
+def indirect_text(octets, row):
+    """What is written of a row over an input, or None; and the numbers of the parts that keep it from being written."""
+    given = Given(octets, row, INDIRECT_PARTS)
+    attribute = attribute_written(given)
+    algorithm = given.part("digest_algorithm", lambda its: is_read(its, signed.algorithm))
+    text = written(0x30, attribute, written(0x30, algorithm, written(0x04, given.part("digest"))))
+    return None if given.wrong else text, given.wrong
 
 
 def time(fields):

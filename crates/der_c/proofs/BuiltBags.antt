@@ -4,12 +4,12 @@ use Rattle.std.specs.List.{AllByRecursion, AllZip, filter}
 use Rattle.std.proofs.Common.{ap, inl, inr, subst, sym, ◌∙◌}
 use Rattle.std.proofs.lemmas.List.{get_or-map}
 use Rattle.std.proofs.lemmas.List.Elements.{All-filter, All-from_recursion, recursion_from_All}
-use Rattle.asn1_core.specs.Asn1.{OBJECT_IDENTIFIER, SET_OF}
+use Rattle.asn1_core.specs.Asn1.{OBJECT_IDENTIFIER}
 use Rattle.asn1_core.specs.Der.{Octets as OctetList}
 use Rattle.asn1_core_element.specs.declared.error.Error.{Error}
 use Rattle.asn1_core_element.specs.declared.error.Error.TheVariants.{Invalid, TooLong, Memory}
 use Rattle.bag_writers.specs.Given.{held as HELD}
-use Rattle.attribute_writers.specs.Attributes.{ATTRIBUTE, is_formed}
+use Rattle.attribute_writers.specs.Attributes.{is_formed}
 use Rattle.bag_writers.specs.GivenAttributes.{IsName, is_further, further}
 use Rattle.bag_writers.specs.Values.{held_id, held_value}
 use Rattle.bag_writers.specs.Written.{CanBeWritten, IsNotSafe, name_of}
@@ -17,8 +17,11 @@ use Rattle.bag_writers.specs.declared.bags.Bag.{Bag}
 use Rattle.bag_writers.specs.declared.held.Held.{Held}
 use Rattle.bag_writers.specs.declared.held.Held.TheVariants.{Key, ShroudedKey, Certificate, Crl, Secret, SafeContents, Other}
 use Rattle.der_c.proofs.BuiltLists.{zip_all, zip_at, zip_left}
-use Rattle.der_c.proofs.GivenBags.{gives, same_kind, same_part}
-use Rattle.der_c.specs.BuiltBags.{AreFurther, AreTooLong, GivesBag, IsBagBy, IsHeldBy, IsHeldOf, IsIdOf, IsNameOf, held_octets}
+use Rattle.der_c.proofs.FurtherRead.{all_formed}
+use Rattle.der_c.proofs.GivenBags.{gives, same_kind}
+use Rattle.der_c.proofs.GivenParts.{same_part}
+use Rattle.der_c.specs.BuiltBags.{AreTooLong, GivesBag, IsBagBy, IsHeldBy, IsHeldOf, IsIdOf, IsNameOf, held_octets}
+use Rattle.der_c.specs.Further.{AreFurther}
 use Rattle.der_c.specs.Given.{IfGiven, IsElementOf, IsPartOf}
 use Rattle.der_c.specs.GivenBags.{HasParts, IsChecked}
 use Rattle.der_c.specs.BuiltLists.{IsNoText}
@@ -46,7 +49,7 @@ module _ (b : List ℕ) where
     held_is = held_by row bag.held c.held is.held_is;
     friendly_name = name_by row.has_friendly_name row.friendly_name (name_of bag) c.friendly_name is.friendly_name;
     local_key_id = is.local_key_id;
-    attributes = subst (AreFurther b row) (sym is.attributes) c.attributes;
+    attributes = subst (AreFurther b row.has_attributes row.attributes) (sym is.attributes) c.attributes;
   }
 
   -- that of a row, by its index
@@ -84,14 +87,10 @@ module _ (b : List ℕ) where
     name_formed None is = tt
     name_formed (Some x) is = is.1.1
 
-    all_formed : (all : List attribute.Value) → AreFurther b row all → AllByRecursion is_formed all
-    all_formed all (inl none) = subst (AllByRecursion is_formed) (sym none.1) tt
-    all_formed all (inr set) = (SET_OF ATTRIBUTE).law.components.well_formed 64 set.1.0 all set.1.2
-
-    further_formed : (bag : Bag) → AreFurther b row (map attribute_value bag.attributes.now) → AllByRecursion is_formed (further bag.attributes.now)
+    further_formed : (bag : Bag) → AreFurther b row.has_attributes row.attributes (map attribute_value bag.attributes.now) → AllByRecursion is_formed (further bag.attributes.now)
     further_formed bag are =
         let all = map attribute_value bag.attributes.now in
-        recursion_from_All is_formed (filter is_further all) (All-filter is_further is_formed all (All-from_recursion is_formed all (all_formed all are)))
+        recursion_from_All is_formed (filter is_further all) (All-filter is_further is_formed all (All-from_recursion is_formed all (all_formed b row.has_attributes row.attributes all are)))
 
     can_be : (bag : Bag) → IsBagBy b row bag → CanBeWritten bag
     can_be bag g = record {

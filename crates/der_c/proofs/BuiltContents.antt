@@ -9,7 +9,7 @@ use Rattle.asn1_core_oid.specs.Known.{data_oid}
 use Rattle.asn1_borrowed.specs.Written.{IsNotWritten}
 use Rattle.bag_ranges.specs.RawContentInfos.{raw_content_info}
 use Rattle.der_c.proofs.BuiltLists.{zip_all, zip_left}
-use Rattle.der_c.proofs.GivenBags.{by_less, same_part}
+use Rattle.der_c.proofs.GivenParts.{by_less, same_part}
 use Rattle.der_c.specs.BuiltContents.{GivesContent, IsContentBy, IsContentOf, IsInfoOf, IsTooLong}
 use Rattle.der_c.specs.Given.{IsPartOf}
 use Rattle.der_c.specs.BuiltLists.{IsNoText}

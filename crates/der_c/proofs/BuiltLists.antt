@@ -1,7 +1,7 @@
 -- Lists of what rows give.
 use Rattle.std.specs.Prelude.{◌≡◌, ◌<◌, ◌+◌, ◌++◌, ℕ, zero, suc, List, [], ◌∷◌, length, map, slice_index_or, take}
 use Rattle.std.specs.List.{AllByRecursion, AllZip}
-use Rattle.std.proofs.Common.{ap, arith, subst, sym, ◌∙◌}
+use Rattle.std.proofs.Common.{ap, arith, refl, subst, sym, ◌∙◌}
 use Rattle.std.proofs.lemmas.List.{get_or_default, map-append, take_more}
 use Rattle.der_c.specs.BuiltLists.{IsNoList, at}
 use Rattle.der_c.specs.Read.{IsUnread}
@@ -56,5 +56,13 @@ all_at P (x ∷ xs) (suc i) d all l = all_at P xs i d all.1 (omega (arith, l))
 
 -- the first row that gives nothing, by its index
 pub not_at : {X : Type 0} (Gives : X → Type 0) (rows : List X) (i : ℕ) (d : X) (w : NotBuilt) → i < length rows → AllByRecursion Gives (take i rows) → IsUnread (Gives (slice_index_or rows i d)) w → IsNoList Gives rows (at i w)
-not_at Gives rows i d (Part n) l before none = record { item = slice_index_or rows i d; inside = l; is = get_or_default rows i d (slice_index_or rows i d) l; none = none; before = before }
+not_at Gives rows i d (Part n) l before none = record { one = record { item = slice_index_or rows i d; inside = l; is = get_or_default rows i d (slice_index_or rows i d) l; none = none }; before = before }
 not_at Gives rows i d (Refused e) l before m = m
+
+-- the item of the first list at the index of one of the second
+pub row_at : {A B : Type 0} (R : A → B → Type 0) (xs : List A) (ys : List B) (i : ℕ) (y : B) → AllZip R xs ys → i < length ys → y ≡ slice_index_or ys i y → (x : A) × (i < length xs) × (x ≡ slice_index_or xs i x) × R x y
+row_at R [] [] i y h l e = absurd (omega (arith, l))
+row_at R [] (v ∷ vs) i y h l e = absurd h
+row_at R (u ∷ us) [] i y h l e = absurd h
+row_at R (u ∷ us) (v ∷ vs) zero y h l e = (u, omega arith, refl, subst (R u) (sym e) h.0)
+row_at R (u ∷ us) (v ∷ vs) (suc i) y h l e = (let r = row_at R us vs i y h.1 (omega (arith, l)) e in (r.0, omega (arith, r.1), r.2, r.3))

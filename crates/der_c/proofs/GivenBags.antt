@@ -5,27 +5,18 @@ use Rattle.asn1_core.specs.Asn1.{SEQUENCE}
 use Rattle.asn1_core.specs.Der.{Octets as OctetList}
 use Rattle.bag_writers.specs.declared.held.Held.{Held}
 use Rattle.bag_writers.specs.declared.held.Held.TheVariants.{Key, ShroudedKey, Certificate, Crl, Secret, SafeContents, Other}
+use Rattle.der_c.proofs.GivenParts.{by_less, if_some, same_part}
 use Rattle.der_c.specs.BuiltBags.{GivesBag, IsAsItsKind, IsHeldBy, IsHeldOf, IsIdOf, IsNameOf, held_number, held_octets}
 use Rattle.der_c.specs.Given.{HasNone, IfGiven, IsElementOf, IsPartOf}
 use Rattle.der_c.specs.GivenBags.{IsChecked, IsIdIf}
 use Rattle.der_c.specs.Levels.{HasLevels}
 use Rattle.der_c.specs.Read.{HasOne, IsReadAs, IsUnread}
 use Rattle.der_c.specs.declared.built.NotBuilt.{NotBuilt}
-use Rattle.der_c.specs.declared.built.NotBuilt.TheVariants.{Part, Refused}
 use Rattle.der_c.specs.declared.built_bags.BagGiven.{BagGiven}
 use Rattle.der_c.specs.declared.ranges.Octets.{Octets}
 use Rattle.pkcs12_bags.specs.BagParts.{encrypted_key_bag, secret_bag}
 use Rattle.x509_base.specs.Names.{attribute}
 use Rattle.x509_pkcs12.specs.Utf16.{IsUtf16}
-
--- what is refused refuses what takes it
-pub by_less : (P Q : Type 0) (w : NotBuilt) → (Q → P) → IsUnread P w → IsUnread Q w
-by_less P Q (Part n) f none = λ q. none (f q)
-by_less P Q (Refused e) f m = m
-
--- a range of an input has one content
-pub same_part : (b : List ℕ) (r : Octets) (x y : List ℕ) → IsPartOf b r x → IsPartOf b r y → y ≡ x
-same_part b r x y p q = q.1 ∙ sym p.1
 
 -- What is read of an element, by the number of its kind: of two that a row gives it is the same.
 record IsAsKind (number : ℕ) (x : List ℕ) : Type 0 where
@@ -106,11 +97,6 @@ module _ (b : List ℕ) (row : BagGiven) where
 
   pub no_key_id : HasNone (IfGiven row.has_local_key_id (IsPartOf b row.local_key_id)) → GivesBag b row → ⊥
   no_key_id none g = none g.key_id g.given.local_key_id
-
--- a part that is there only if a flag isn't 0
-pub if_some : {X : Type 0} (flag : ℕ) (P : X → Type 0) → flag ≢ 0 → HasOne (IfGiven flag P) → HasOne P
-if_some flag P some (None, is) = absurd (some is)
-if_some flag P some (Some x, is) = (x, is.1)
 
 name_read : (b : List ℕ) (r : Octets) (x : List ℕ) → IsPartOf b r x → HasOne (IsNameOf b r) → IsUtf16 x
 name_read b r x at (y, is) = subst IsUtf16 (same_part b r x y at is.0) is.1

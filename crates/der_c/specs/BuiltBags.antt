@@ -1,18 +1,18 @@
 -- What the call from C says, by its status, of bags that it builds from what it is given.
-use Rattle.std.specs.Prelude.{◌≡◌, ◌≢◌, ◌⊎◌, ℕ, List, [], Option, map}
+use Rattle.std.specs.Prelude.{◌≡◌, ◌≢◌, ℕ, List, Option, map}
 use Rattle.std.specs.List.{AllZip}
-use Rattle.asn1_core.specs.Asn1.{SEQUENCE, SET_OF}
+use Rattle.asn1_core.specs.Asn1.{SEQUENCE}
 use Rattle.asn1_core.specs.Der.{Octets as OctetList}
 use Rattle.bag_ranges.specs.declared.ranges.BagKind.TheVariants as Kinds
-use Rattle.attribute_writers.specs.Attributes.{ATTRIBUTE}
+use Rattle.attribute_writers.specs.Refusals.{IsFirstWithout}
 use Rattle.bag_writers.specs.Written.{IsSafeContentsOf, IsTooLong, key_id_of, name_of}
 use Rattle.bag_writers.specs.declared.bags.Bag.{Bag}
 use Rattle.bag_writers.specs.declared.held.Held.{Held}
 use Rattle.bag_writers.specs.declared.held.Held.TheVariants.{Key, ShroudedKey, Certificate, Crl, Secret, SafeContents, Other}
 use Rattle.der_c.specs.Bags.{kind_number}
+use Rattle.der_c.specs.Further.{AreFurther}
 use Rattle.der_c.specs.Given.{IfGiven, IsElementOf, IsOidOf, IsPartOf}
 use Rattle.der_c.specs.Levels.{HasLevels}
-use Rattle.der_c.specs.BuiltLists.{IsFirstWithout}
 use Rattle.der_c.specs.Read.{IsReadAs}
 use Rattle.der_c.specs.Statuses.{Reasons, Writes}
 use Rattle.der_c.specs.declared.built_bags.BagGiven.{BagGiven}
@@ -82,20 +82,12 @@ pub record IsHeldOf (b : List ℕ) (row : BagGiven) (held : Held) : Type 0 where
 abbrev pub IsNameOf : List ℕ → Octets → List ℕ → Type 0
 IsNameOf b r x = IsPartOf b r x × IsUtf16 x
 
--- the attributes that a SET OF has
-abbrev pub IsSetOf : List ℕ → Octets → List attribute.Value → Type 0
-IsSetOf b r all = (x : List ℕ) × IsPartOf b r x × (SET_OF ATTRIBUTE).format.Reads 64 x all
-
--- the further attributes: none where the flag is 0
-abbrev pub AreFurther : List ℕ → BagGiven → List attribute.Value → Type 0
-AreFurther b row all = ((row.has_attributes ≡ 0) × (all ≡ [])) ⊎ ((row.has_attributes ≢ 0) × IsSetOf b row.attributes all)
-
 -- what a row gives
 pub record IsGivenBy (b : List ℕ) (row : BagGiven) (held : Held) (name key_id : Option OctetList) (further : List attribute.Value) : Type 0 where
   pub held_is : IsHeldOf b row held
   pub friendly_name : IfGiven row.has_friendly_name (IsNameOf b row.friendly_name) name
   pub local_key_id : IfGiven row.has_local_key_id (IsPartOf b row.local_key_id) key_id
-  pub attributes : AreFurther b row further
+  pub attributes : AreFurther b row.has_attributes row.attributes further
 
 -- the bag that a row gives of the input b
 abbrev pub IsBagBy : List ℕ → BagGiven → Bag → Type 0

@@ -3,10 +3,10 @@ use Rattle.std.specs.Prelude.{◌≡◌, ◌≢◌, ◌⊎◌, ◌≤◌, ◌^�
 use Rattle.std.specs.List.{AllZip}
 use Rattle.asn1_core.specs.Der.{octet_string}
 use Rattle.asn1_core_oid.specs.Known.{data_oid}
+use Rattle.attribute_writers.specs.Refusals.{IsFirstWithout}
 use Rattle.bag_ranges.specs.RawContentInfos.{raw_content_info}
 use Rattle.der_c.specs.Given.{IsPartOf}
 use Rattle.der_c.specs.Levels.{HasLevels}
-use Rattle.der_c.specs.BuiltLists.{IsFirstWithout}
 use Rattle.der_c.specs.Read.{HasOne}
 use Rattle.der_c.specs.Statuses.{Reasons, Writes}
 use Rattle.der_c.specs.declared.built_contents.ContentGiven.{ContentGiven}

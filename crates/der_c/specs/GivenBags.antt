@@ -4,7 +4,8 @@ use Rattle.bag_writers.specs.Written.{key_id_of, name_of}
 use Rattle.bag_writers.specs.declared.bags.Bag.{Bag}
 use Rattle.bag_writers.specs.declared.held.Held.{Held}
 use Rattle.bag_writers.specs.declared.held.Held.TheVariants.{Other}
-use Rattle.der_c.specs.BuiltBags.{AreFurther, IsHeldBy, IsHeldOf, IsNameOf, IsOtherId, held_number, held_octets}
+use Rattle.der_c.specs.BuiltBags.{IsHeldBy, IsHeldOf, IsNameOf, IsOtherId, held_number, held_octets}
+use Rattle.der_c.specs.Further.{AreFurther}
 use Rattle.der_c.specs.Given.{IfGiven, IsPartOf}
 use Rattle.der_c.specs.Read.{HasOne}
 use Rattle.der_c.specs.declared.built_bags.BagGiven.{BagGiven}
@@ -29,7 +30,7 @@ pub record IsChecked (b : List ℕ) (row : BagGiven) (further : List attribute.V
   pub held : HasOne (IsHeldOf b row)
   pub friendly_name : HasOne (IfGiven row.has_friendly_name (IsNameOf b row.friendly_name))
   pub local_key_id : HasOne (IfGiven row.has_local_key_id (IsPartOf b row.local_key_id))
-  pub attributes : AreFurther b row further
+  pub attributes : AreFurther b row.has_attributes row.attributes further
 
 -- a bag of parts that a row gives, with these further attributes
 pub record HasParts (b : List ℕ) (row : BagGiven) (further : List attribute.Value) (bag : Bag) : Type 0 where

@@ -2,7 +2,7 @@
 
 ghost use Rattle.std.specs.Prelude.{◌≤◌, ◌↔◌, IsTrue, MatchResult, map};
 ghost use Rattle.std.specs.List.{AllZip};
-ghost use Rattle.der_c.specs.BuiltBags.{AreFurther, AreTooLong, BuildsBags, GivesBag, HasBuiltBags, IsAsItsKind, IsBagBy, IsHeldBy, IsHeldOf, IsNameOf, IsOfNoKind, IsSetOf};
+ghost use Rattle.der_c.specs.BuiltBags.{AreTooLong, BuildsBags, GivesBag, HasBuiltBags, IsAsItsKind, IsBagBy, IsHeldBy, IsHeldOf, IsNameOf, IsOfNoKind};
 ghost use Rattle.der_c.specs.Given.{HasNone, IfGiven, IsPartOf};
 ghost use Rattle.der_c.specs.GivenBags.{HasParts, IsChecked, IsHeldAs, IsIdIf};
 ghost use Rattle.der_c.specs.BuiltLists.{IsNoList, IsNoText};
@@ -12,11 +12,12 @@ ghost use Rattle.x509_pkcs12.specs.Utf16.{IsUtf16};
 
 use crate::built::NotBuilt;
 use crate::built_lists::{NoList, at};
+use crate::further::further_if;
 use crate::given::{element_of, oid_of, part_if, part_of};
 use crate::nested::{LEVELS, check_levels};
 use crate::outputs::put_octets;
 use crate::ranges::Octets;
-use crate::readings::{check_as, read_as};
+use crate::readings::check_as;
 use crate::status;
 use crate::status::status_of;
 use asn1_core::prelude::*;
@@ -180,33 +181,6 @@ fn check_key_id_if(input: &[u8], row: &BagGiven) -> Result<(), NotBuilt>
     }
 }
 
-/// The attributes of a set.
-fn set_of(alloc: Global, input: &[u8], part: Octets) -> Result<Vec<Attribute>, NotBuilt>
-    ensures { MatchResult result
-        (λ all. IsSetOf input.now part (map attribute_value all.items))
-        (λ wrong. IsUnread (HasOne (IsSetOf input.now part)) wrong) }
-{
-    match part_of(input, part, ATTRIBUTES) {
-        Ok(octets) => {
-            let set: Asn1SetOf<Attribute> = read_as(alloc, octets, ATTRIBUTES)?;
-            Ok(set.0)
-        }
-        Err(number) => Err(NotBuilt::Part(number)),
-    }
-}
-
-/// A bag's further attributes.
-fn further_if(alloc: Global, input: &[u8], row: &BagGiven) -> Result<Vec<Attribute>, NotBuilt>
-    ensures { MatchResult result
-        (λ all. AreFurther input.now row.now (map attribute_value all.items))
-        (λ wrong. IsUnread (HasOne (AreFurther input.now row.now)) wrong) }
-{
-    if row.has_attributes == 0 {
-        return Ok(Vec::new(alloc));
-    }
-    set_of(alloc, input, row.attributes)
-}
-
 /// Whether the bag that a row gives can be written, and its further attributes.
 fn checked(alloc: Global, input: &[u8], row: &BagGiven) -> Result<Vec<Attribute>, NotBuilt>
     ensures { MatchResult result
@@ -216,7 +190,12 @@ fn checked(alloc: Global, input: &[u8], row: &BagGiven) -> Result<Vec<Attribute>
     check_value(alloc, input, row)?;
     check_name_if(input, row)?;
     check_key_id_if(input, row)?;
-    further_if(alloc, input, row)
+    further_if(
+        alloc,
+        input,
+        row.has_attributes,
+        (row.attributes, ATTRIBUTES),
+    )
 }
 
 /// The same of each row. The bags are made afterwards, since they borrow these attributes.

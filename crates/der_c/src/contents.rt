@@ -14,19 +14,19 @@ use std::alloc::Global;
 #[derive(Clone, Copy)]
 pub struct Indirect {
     /// 1 where the attribute has a value, otherwise 0.
-    has_attribute_value: usize,
+    pub(crate) has_attribute_value: usize,
     /// 1 where that is image data, otherwise 0.
-    is_image: usize,
+    pub(crate) is_image: usize,
     /// 1 where these have flags, otherwise 0.
-    has_image_flags: usize,
+    pub(crate) has_image_flags: usize,
     /// 1 where they have a link, otherwise 0.
-    has_image_link: usize,
-    attribute_type: Octets,
-    attribute_value: Octets,
-    digest_algorithm: Octets,
-    digest: Octets,
-    image_flags: Octets,
-    image_link: Octets,
+    pub(crate) has_image_link: usize,
+    pub(crate) attribute_type: Octets,
+    pub(crate) attribute_value: Octets,
+    pub(crate) digest_algorithm: Octets,
+    pub(crate) digest: Octets,
+    pub(crate) image_flags: Octets,
+    pub(crate) image_link: Octets,
 }
 
 /// What is there of no indirect data.

@@ -100,7 +100,7 @@ pub(crate) fn oid_if<'a>(
 
 /// An element, unless the flag is 0.
 #[tactic(auto, using(crate::proofs::GivenParts::none_if))]
-fn element_if<'a>(
+pub(crate) fn element_if<'a>(
     input: &'a [u8],
     flag: usize,
     part: Octets,

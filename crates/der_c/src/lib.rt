@@ -1,6 +1,6 @@
 //! Checks and rewritings of inputs of all kinds, conversions of BER to DER, what verifiers of signers and of MACs need,
 //! the parts of certificates and of contents, how a password encrypts, and texts, for callers in C. Encrypted keys and
-//! contents, and key stores, are built too.
+//! contents, key stores and signed data are built too.
 //! `der.h` has the declarations, and what a caller has to keep to.
 #![tactic(auto)]
 
@@ -11,12 +11,16 @@ ghost use Rattle.der_c.specs.Conversions.{ConvertsBer};
 
 pub mod bags;
 pub mod built;
+pub mod built_attributes;
 pub mod built_bags;
 pub mod built_contents;
+pub mod built_indirect;
 mod built_lists;
+pub mod built_signed;
 pub mod built_stores;
 pub mod certificates;
 pub mod contents;
+mod further;
 mod given;
 pub mod lists;
 mod macs;

@@ -1,4 +1,4 @@
-use Rattle.der_c.proofs.GivenBags.{if_some}
+use Rattle.der_c.proofs.GivenParts.{if_some}
 use Rattle.der_c.specs.BuiltStores.{IsMacOf}
 use Rattle.der_c.proofs.built_stores.mac_if.Goals as goal
 
