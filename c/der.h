@@ -697,7 +697,7 @@ typedef enum der_attributes_part {
  * written as UTCTime in the years 1950 to 2049, and otherwise as GeneralizedTime (11.3). Attributes are written in the
  * order of DER (X.690, 11.6). contentType, messageDigest and signingTime among the further attributes are left out,
  * also where their flag is 0. A further attribute that is given twice is written twice, and the values of one stay in
- * their order. No digest is made.
+ * their order: where they are given out of order, what is written isn't the DER that 5.3 asks for. No digest is made.
  *  - DER_NORMAL: *written bytes were written, and the rest of out is as it was. Of no attributes they are 31 00, which
  *    no signer may have.
  *  - DER_NO_ROOM: *written bytes are needed, and out_len, which may be 0, is less.
@@ -722,8 +722,11 @@ typedef struct der_signed_given {
 
 /* A signer for der_build_signed. Of a row of der_signer_rows digest_algorithm, signature_algorithm, signature and
  * certificate can be given as they are and, where over_attributes is 1, what der_covered copies, as signed_attributes.
- * Unsigned attributes, and a key identifier that names it, are to be given too: der_attribute_ranges and
- * DER_PART_KEY_IDENTIFIER find them. */
+ * Where has_certificate is 0 and issuer and serial number name the signer, give its certificate from elsewhere. A key
+ * identifier that names it is to be given too, as DER_PART_KEY_IDENTIFIER finds it, and so are unsigned attributes:
+ * der_attribute_ranges finds each Attribute; put them after one another under a header, 31 and their length.
+ * der_signer_rows also takes signers with two signing times, or with one that isn't as der_build_signed asks, which are
+ * refused here. */
 typedef struct der_signer_given {
   size_t has_key_identifier;      /* unless 0: key_identifier names the signer, otherwise its certificate does */
   size_t has_signed_attributes;   /* unless 0: the signature covers signed attributes, otherwise the content */
@@ -773,10 +776,12 @@ typedef enum der_signed_part {
  *    another order than here. A certificate, a list or a signer that is given twice is written twice. The two sets of
  *    attributes of a signer stay in the order in which they are given: the signature covers the signed ones so.
  *  - The signed attributes of a signer have to have one contentType that is content_type, one messageDigest, and at
- *    most one signingTime, each with one value (RFC 5652, 11.1 to 11.3). There have to be some unless content_type is
- *    id-data (1.2.840.113549.1.7.1; 5.3). That the digest is the content's isn't looked at, nor that a signingTime is
- *    UTCTime in the years 1950 to 2049, as der_build_attributes writes it, that none is a countersignature (11.4), nor
- *    the order of the attributes, which 5.3 asks to be that of DER: a verifier that sorts them finds another digest.
+ *    most one signingTime, each with one value: an OBJECT IDENTIFIER, an OCTET STRING, and a UTCTime or GeneralizedTime
+ *    in whole seconds that ends in Z (RFC 5652, 11.1 to 11.3). There have to be some unless content_type is id-data
+ *    (1.2.840.113549.1.7.1; 5.3). That the digest is the content's isn't looked at, nor that a signingTime is UTCTime
+ *    in the years 1950 to 2049, as der_build_attributes writes it, that none is a countersignature (11.4), nor the
+ *    order of the attributes and of the values in one, which 5.3 asks to be that of DER: a verifier that sorts them
+ *    finds another digest.
  *  - Without signers the file has certificates and revocation lists alone (5.2).
  * What is in a certificate, but for the signer's, in a revocation list, in an element or in unsigned attributes isn't
  * looked at. A part whose flag is 0 isn't looked at either.
@@ -814,21 +819,22 @@ typedef enum der_indirect_part {
  * Set all of given to 0 first: a flag is set where it isn't 0.
  *  - is_image is set: the attribute is SPC_PE_IMAGE_DATA_OBJID, and its value image data, a SEQUENCE of the flags,
  *    where has_image_flags is set, and of the link in [0], where has_image_link is set. attribute_type and
- *    attribute_value aren't looked at. Signers of programs write flags, 00 for no bits or 07 80 for the first, and a
- *    link. Flags that are left out mean the bits 1 0 0; given ones are written, also 05 80, which DER leaves out as the
- *    default (X.690, 11.5).
+ *    attribute_value aren't looked at. Signers of programs write flags, 00 for no bits or 07 80 for includeResources,
+ *    and a link. Left out, flags mean includeResources. DER leaves out that default (X.690, 11.5), whether as 07 80 or
+ *    05 80; flags that are given are written as they are, also with unused bits that aren't 0, which 11.2.1 forbids.
  *  - is_image is 0: the attribute has attribute_type, and attribute_value where has_attribute_value is set.
- * What der_indirect wrote can be given with its input, and changed before. An element has a tag of one octet and a
- * length as DER has it, and whatever is in it. A part whose flag is 0 isn't looked at. No digest is made, and none is
- * judged.
+ * What der_indirect wrote can be given with its input, and changed before: of a program its flags and its link are what
+ * counts, and attribute_type and attribute_value are written only where is_image is set to 0. An element has a tag of
+ * one octet and a length as DER has it, and whatever is in it. A part whose flag is 0 isn't looked at. No digest is
+ * made, and none is judged.
  *  - DER_NORMAL: *written bytes were written, and the rest of out is as it was.
  *  - DER_NO_ROOM: *written bytes are needed, and out_len, which may be 0, is less.
  *  - DER_INVALID: a part can't be written, and *part is its der_indirect_part; where several can't, one of them.
  *  - DER_TOO_LONG: it would have 2^64 bytes or more.
  *  - DER_NO_MEMORY.
  * Unless at DER_NORMAL out is as it was, unless at DER_NORMAL and DER_NO_ROOM *written is 0, and unless at DER_INVALID
- * *part is 0. Proved is that what is written is the encoding of indirect data with these parts, and reads as its normal
- * value alone, and image data in it as theirs; and that at DER_INVALID no indirect data can be built from what is
+ * *part is 0. Proved is that what is written is the encoding of indirect data with these parts, and reads as these
+ * parts alone, and image data in it as theirs; and that at DER_INVALID no indirect data can be built from what is
  * given, and that *part can't be written. */
 DER_CALL
 uint32_t der_build_indirect(const uint8_t *input, size_t input_len, const der_indirect_parts *given, uint8_t *out,

@@ -9,6 +9,7 @@ import copy
 import functools
 import hashlib
 import itertools
+import os
 import pickle
 import random
 import sys
@@ -264,7 +265,7 @@ class TestMadeUp(OfIndirect):
                 self.same(self.same_built(text, row._replace(digest=(at, 0))), wanted, "an empty digest at", at)
 
     def test_changed_ones_are_written_or_told_as_by_the_other_writer(self):
-        chance, counts = random.Random(15), dict.fromkeys(("built", *IndirectPart), 0)
+        chance, counts = random.Random(15), dict.fromkeys(("built", *(it.value for it in IndirectPart)), 0)
         for its in (it for _ in range(2 * ROUNDS) for it in sets(chance)):
             text, fields = given.laid_out(chance, its)
             for _ in range(CHANGES):
@@ -283,7 +284,7 @@ class TestRefused(OfIndirect):
 
     def told(self, name, text, row, *what):
         """Asks that a part is told, and nothing is written, whether there is room or not."""
-        number = IndirectPart[name.upper()]
+        number = IndirectPart[name.upper()].value
         for room in (0, ROOM, 4096):
             said = in_room(CALL, (text, len(text), row.numbers()), room, 2)
             self.same(said, (INVALID, 0, number, marked(b"", room)), name, *what, "in room for", room)
@@ -315,7 +316,7 @@ class TestRefused(OfIndirect):
             text, row = laid_out(chance, plain(**both))
             for names in (it for it in subsets(("digest_algorithm", "digest", *both)) if len(it) > 1):
                 said = self.same_built(text, row._replace(**dict.fromkeys(names, (len(text), 1))), names)
-                self.same(said in [IndirectPart[name.upper()] for name in names], True, "one of", names)
+                self.same(said in [IndirectPart[name.upper()].value for name in names], True, "one of", names)
 
     def test_nothing_is_found_in_an_empty_input(self):
         """But octets of which there may be none, beside an algorithm."""
@@ -352,7 +353,8 @@ class TestRooms(OfIndirect):
         text, row = laid_out(chance, plain(image_flags=b"\0", image_link=LINKS[0]))
         for _ in range(3):
             self.same(type(self.same_built(text, row)), bytes, "written")
-            self.same(self.same_built(text, row._replace(digest=(len(text), 1))), IndirectPart.DIGEST, "a wrong digest")
+            said = self.same_built(text, row._replace(digest=(len(text), 1)))
+            self.same(said, IndirectPart.DIGEST.value, "a wrong digest")
 
 
 # Python
@@ -551,9 +553,10 @@ ALGORITHMS = {
 }
 
 
-def by_example(*words):
-    """How python/examples/sign_program.py ends."""
-    environment = {**tools.ENVIRONMENT, "VUYHANIP_LIBRARY": str(built.shared()), "PYTHONDONTWRITEBYTECODE": "1"}
+def by_example(*words, **others):
+    """How python/examples/sign_program.py ends, with other variables in its environment."""
+    package = {"VUYHANIP_LIBRARY": str(built.shared()), "PYTHONDONTWRITEBYTECODE": "1"}
+    environment = {**tools.ENVIRONMENT, **package, **others}
     words = sys.executable, SIGN_IN_PYTHON, *words
     return tools.ended(*words, env={**environment, "PYTHONPATH": str(built.TOP / "python")})
 
@@ -678,6 +681,24 @@ class TestPrograms(InFolder):
             ran = by_example(*words)
             said = ran.returncode, ran.stdout, b"Traceback" in ran.stderr, ran.stderr == b""
             self.same(said, (1, b"", False, False), words)
+
+    def test_the_example_says_what_is_wrong(self):
+        """The key is another's, the certificate is refused, or what osslsigncode writes is refused."""
+        making.put("small.exe", making.image())
+        another, refused = b"the key isn't that of the certificate\n", b"the certificate is refused: "
+        for key, certificate, said in (
+            ("one", "two.der", another), ("two", "one.der", another), ("one", "one.pem", refused),
+        ):
+            ran = by_example(f"{key}.key", certificate, "small.exe")
+            self.same((ran.returncode, ran.stdout, ran.stderr.startswith(said)), (1, b"", True), said, ran.stderr)
+        # in place of osslsigncode a program that writes NULL
+        Path("bin").mkdir()
+        program = Path("bin/osslsigncode")
+        program.write_text('#!/bin/sh\nfor it; do :; done\nprintf "\\005\\000" > "$it"\n', encoding="ascii")
+        program.chmod(0o755)
+        ran = by_example("one.key", "one.der", "small.exe", PATH=f"{program.parent.absolute()}:{os.environ['PATH']}")
+        said = ran.returncode, ran.stdout, ran.stderr.startswith(b"what osslsigncode writes is refused: ")
+        self.same(said, (1, b"", True), "another osslsigncode", ran.stderr)
 
 
 if __name__ == "__main__":

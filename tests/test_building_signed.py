@@ -114,7 +114,7 @@ class TestAttributesByHand(OfSigned):
             try:
                 datetime.date(year, month, day)
             except ValueError:
-                self.same(said, (AttributesPart.SIGNING_TIME,), "no day", year, month, day)
+                self.same(said, (AttributesPart.SIGNING_TIME.value,), "no day", year, month, day)
             else:
                 self.same(type(said), bytes, "a day", year, month, day)
 
@@ -286,7 +286,7 @@ class TestSignedByHand(OfSigned):
             self.same(parts(part(text, 1, 0, index)), sorted(lists), "certificates, or lists")
         those.signers[-1] = {**signers[-1], "signature_algorithm": NULL}
         said = self.same_parts(those, chance, "the last of them")
-        self.same(said, (MANY - 1, SignedPart.SIGNATURE_ALGORITHM), "what is told of the last")
+        self.same(said, (MANY - 1, SignedPart.SIGNATURE_ALGORITHM.value), "what is told of the last")
 
 
 # Made-up parts
@@ -389,7 +389,7 @@ class TestMadeUp(OfSigned):
             self.same(said, set_of(attribute("messageDigest", octet_string(b""))), "an empty digest at", at)
 
     def test_changed_attributes_are_written_or_told_as_by_the_other_writer(self):
-        chance, counts = random.Random(37), dict.fromkeys(("built", *AttributesPart), 0)
+        chance, counts = random.Random(37), dict.fromkeys(("built", *(it.value for it in AttributesPart)), 0)
         for its in (it for _ in range(ROUNDS) for it in given_signed.attribute_sets(chance)):
             text, fields = given.laid_out(chance, its)
             for _ in range(40):
@@ -401,7 +401,7 @@ class TestMadeUp(OfSigned):
             self.at_least(count, 10, f"{kind!r}, of what is built or of the numbers of parts")
 
     def test_changed_signed_data_are_written_or_told_as_by_the_other_writer(self):
-        chance, counts = random.Random(38), dict.fromkeys(("built", *SignedPart), 0)
+        chance, counts = random.Random(38), dict.fromkeys(("built", *(it.value for it in SignedPart)), 0)
         for _ in range(40 * ROUNDS):
             text, fields = given_signed.laid_out(chance, given_signed.some_parts(chance))
             for _ in range(20):
@@ -442,13 +442,13 @@ class TestRefused(OfSigned):
             self.same(said, (INVALID, 0, *places, marked(b"", room)), call, *what, "in room for", room)
 
     def told_of_attributes(self, name, text, row, *what):
-        number = AttributesPart[name.upper()]
+        number = AttributesPart[name.upper()].value
         self.told(ATTRIBUTES, (text, len(text), row.numbers()), (number,), name, *what)
         self.same(signed_files.attributes_text(text, row)[1], [number], "the other writer", name, *what)
 
     def told_of_signed(self, index, name, text, file, *what):
         """The same of signed data: an index, and a part by its name."""
-        places = index, SignedPart[name.upper()]
+        places = index, SignedPart[name.upper()].value
         self.told(SIGNED, (text, len(text), *file.words()), places, name, *what)
         self.same(signed_files.signed_text(text, file)[1], [places], "the other writer", name, *what)
 
@@ -477,7 +477,7 @@ class TestRefused(OfSigned):
     def test_of_several_parts_of_attributes_one_is_told(self):
         for names in (it for it in subsets(RANGES_OF_ATTRIBUTES) if len(it) > 1):
             said = self.same_attributes(b"", signed_files.Attributes(**plain(**dict.fromkeys(names, (1, 1)))), names)
-            self.same(said[0] in [AttributesPart[name.upper()] for name in names], True, "one of", names)
+            self.same(said[0] in [AttributesPart[name.upper()].value for name in names], True, "one of", names)
 
     def test_each_part_of_a_signer_that_is_wrong_is_told_with_its_index(self):
         chance, names = random.Random(43), set()
@@ -566,7 +566,7 @@ class TestRefused(OfSigned):
         for one, other in itertools.combinations(ranges_of(fields), 2):
             those = functools.reduce(lambda those, it: it[3](those, (len(text), 1)), (one, other), fields)
             said = self.same_signed(text, signed_files.File.of(*those), one, other)
-            wanted = [(index, SignedPart[name.upper()]) for index, name, *_ in (one, other)]
+            wanted = [(index, SignedPart[name.upper()].value) for index, name, *_ in (one, other)]
             self.same(said in wanted, True, "one of", wanted)
             count += 1
         self.at_least(count, 100, "pairs")
@@ -663,7 +663,7 @@ class TestRooms(OfSigned):
         for _ in range(3):
             self.same(type(self.same_signed(text, signed_files.File.of(*fields))), bytes, "written")
             said = self.same_signed(text, signed_files.File.of(*wrong))
-            self.same(said, (1, SignedPart.SIGNATURE), "with one that is wrong")
+            self.same(said, (1, SignedPart.SIGNATURE.value), "with one that is wrong")
 
 
 # Python
@@ -824,9 +824,9 @@ class TestPython(OfSigned):
                 said = made_in_python(call, DATA, **{name: [sequence(), sequence(), wrong]})
                 self.same(said, (2, number), "told", name, wrong)
 
-    def same_said(self, bad, said, *its):
+    def same_said(self, bad, said, part_of_it, index=None):
         """Compares what is said of what can't be written, and its part and its index, here and in another process."""
-        wanted = type(bad), said, dict(zip(("part", "index"), its))
+        wanted = type(bad), said, {"part": part_of_it, "signer" if isinstance(bad, BadAttributes) else "index": index}
         for here in (bad, pickle.loads(pickle.dumps(bad)), copy.copy(bad)):
             self.same((type(here), str(here), vars(here)), wanted, "what is said, and its parts")
 
@@ -843,6 +843,7 @@ class TestPython(OfSigned):
         # Python's own digests can always be written
         digest = AttributesPart.MESSAGE_DIGEST
         self.same_said(BadAttributes(digest), "message_digest can't be written", digest)
+        self.same_said(BadAttributes(digest, 2), "message_digest of signer 2 can't be written", digest, 2)
 
     def test_bad_attributes_of_a_signer_that_was_read_have_no_part(self):
         said = "signed attributes that RFC 5652 forbids"

@@ -11,6 +11,7 @@ python/examples/build_signed.py sign is what openssl makes in the same second, b
 curve, and openssl verifies it."""
 import functools
 import hashlib
+import itertools
 import os
 import random
 import re
@@ -862,6 +863,13 @@ class Signing(InC):
             ran = in_python(SIGN_IN_PYTHON, *words)
             said = ran.returncode, ran.stdout, b"Traceback" in ran.stderr, ran.stderr == b""
             self.same(said, (1, b"", False, False), words)
+        # a key of RSA and one of an elliptic curve, and another one of an elliptic curve
+        making.certificate("third")
+        in_der("third")
+        for key, certificate in itertools.permutations(("one", "two", "third"), 2):
+            ran = in_python(SIGN_IN_PYTHON, f"{key}.key", certificate + ".der" * (certificate != "third"), "content")
+            said = ran.returncode, ran.stdout, ran.stderr
+            self.same(said, (1, b"", f"{ANOTHERS}\n".encode()), "the key of another", key, certificate)
 
 
 def verified(key, *given):

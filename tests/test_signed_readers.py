@@ -306,6 +306,41 @@ class TestPython(Comparing):
                 found = made.covered[0], signed_files.taken_apart(made.finish([b"s"])).content
                 self.same(found, wanted, "as it was signed", digest, is_element)
 
+    def test_what_is_changed_afterwards_is_written_as_it_was_given(self):
+        """Each part of signers, and certificates and lists."""
+        attributes, names = [*FURTHER, LONG], ("digest_algorithm", "signature_algorithm", "certificate")
+        its = {**dict.fromkeys(names[:2], SHORT), "certificate": CERTIFICATE, "digest": b"digest"}
+        by_key = {**its, "certificate": None, "key_identifier": b"key"}
+        lists = {"certificates": [CERTIFICATE, SHORT], "crls": [sequence(), SHORT]}
+
+        def made(octets):
+            """What is made of parts that are these octets."""
+            def given_of(value):
+                return octets(value) if isinstance(value, bytes) else value
+
+            signers = [
+                build.Signer(
+                    **{name: given_of(it) for name, it in those.items()},
+                    attributes=list(map(octets, attributes)), unsigned_attributes=list(map(octets, attributes)),
+                )
+                for those in (its, by_key)
+            ]
+            return build.signed(octets(b"text"), signers, **{name: map(octets, it) for name, it in lists.items()})
+
+        wanted, all_of_them = made(bytes).finish([b"s", b"s"]), []
+
+        def kept(octets):
+            all_of_them.append(bytearray(octets))
+            return all_of_them[-1]
+
+        for as_given in (kept, lambda it: memoryview(kept(it)), lambda it: memoryview(kept(it)).toreadonly()):
+            all_of_them.clear()
+            found = made(as_given)
+            self.same(len(all_of_them), 9 + 4 * len(attributes) + 4, "parts that are changed")
+            for it in all_of_them:
+                it[:] = bytes(len(it))
+            self.same(found.finish([b"s", b"s"]), wanted, "as it was given")
+
     def test_attributes_are_written_in_the_order_of_der(self):
         """In whatever order they are given, also unsigned ones."""
         signer = build.Signer(SHORT, SHORT, CERTIFICATE, digest=b"digest", signing_time=time_in_python(TIMES[0]))
@@ -343,13 +378,14 @@ class TestPython(Comparing):
         digested, of_element = signer._replace(digest=b"digest"), {"is_element": True}
         no_octets = "signer 1 has to have a digest, as the content isn't given as octets"
         no_digest = "signer 1 has signed attributes, so it has to have a digest"
+        no_zone = "signing_time of signer 1 has no time zone"
         for content, words, its, said in (
             (None, {}, signer, no_octets), (NULL, of_element, signer, no_octets),
             (None, {"detached": True}, signer, no_octets), (b"text", {}, signer._replace(signing_time=now), no_digest),
             (b"text", {}, signer._replace(attributes=[LONG]), no_digest),
             (None, {}, signer._replace(attributes=(LONG, LONG), signing_time=now), no_digest),
             (NULL, of_element, signer._replace(attributes=[LONG]), no_digest),
-            (b"text", {}, digested._replace(signing_time=now.replace(tzinfo=None)), "signing_time has no time zone"),
+            (b"text", {}, digested._replace(signing_time=now.replace(tzinfo=None)), no_zone),
         ):
             with self.assertRaises(ValueError) as raised:
                 build.signed(content, [digested, its, digested], **words)
@@ -384,16 +420,23 @@ class TestPython(Comparing):
             with self.assertRaises(BadSigned) as raised:
                 build.signed(b"text", [right, its], **words)
             self.same((raised.exception.index, raised.exception.part), (index, part), "told", its, words)
-        for content, words in ((b"text", {}), (b"", {}), (None, {"content_type": other})):
+        detached, element_elsewhere = {"detached": True}, {"detached": True, "is_element": True}
+        for content, words in (
+            (b"text", {}), (b"", {}), (None, {"content_type": other}), (b"text", detached), (b"", detached),
+            (NULL, element_elsewhere),
+        ):
             with self.assertRaises(BadSigned) as raised:
-                build.signed(content, [], **words)
+                build.signed(content, iter(()), **words)
             self.same((raised.exception.index, raised.exception.part), (None, SignedPart.CONTENT), "no signers", words)
         early = datetime.datetime.min.replace(tzinfo=datetime.timezone(datetime.timedelta(hours=1)))
         of_attributes = {"attributes": [LONG, NULL]}, AttributesPart.ATTRIBUTES
         for words, its_part in (of_attributes, ({"signing_time": early}, AttributesPart.SIGNING_TIME)):
-            with self.assertRaises(BadAttributes) as attributes_raised:
-                build.signed(b"text", [right, right._replace(digest=b"digest", **words)])
-            self.same(attributes_raised.exception.part, its_part, "attributes", words)
+            for index in (0, 1, 5):
+                with self.assertRaises(BadAttributes) as attributes_raised:
+                    build.signed(b"text", [*index * [right], right._replace(digest=b"digest", **words), right])
+                bad = attributes_raised.exception
+                self.same((bad.signer, bad.part), (index, its_part), "attributes", words)
+                self.same(str(bad), f"{its_part.name.lower()} of signer {index} can't be written", "it says")
         for call in (lambda: build.signed(b"text", [right], content_type="1.2."), lambda: build.algorithm("none")):
             with self.assertRaises(der.Refused):
                 call()

@@ -1,9 +1,9 @@
 """sign_program.py KEY CERTIFICATE PROGRAM writes an Authenticode signature of a program for Windows to standard output,
 in DER, which `osslsigncode attach-signature -sigin` puts into the program. KEY has an RSA key or one of an elliptic
 curve, in a form that the program openssl reads, which signs. CERTIFICATE has its certificate in DER, which is in what
-is written. The program osslsigncode makes the digest of PROGRAM, by SHA-256; the signature covers that and the time.
-That the key belongs to the certificate isn't looked at. Exits with 0 where a signature is written, and with 2 where
-there are other words than these."""
+is written, and whose key has to be that of KEY. The program osslsigncode makes the digest of PROGRAM, by SHA-256; the
+signature covers that and the time. Exits with 0 where a signature is written, with 2 where there are other words than
+these, and otherwise with 1."""
 import datetime
 import hashlib
 import subprocess
@@ -32,7 +32,11 @@ def digest_of(program):
     with tempfile.TemporaryDirectory() as room:
         unsigned = Path(room) / "unsigned"
         run("osslsigncode", "extract-data", "-h", "sha256", "-in", program, "-out", str(unsigned))
-        found = library().indirect(unsigned.read_bytes())
+        octets = unsigned.read_bytes()
+    try:
+        found = library().indirect(octets)
+    except Refused as refused:
+        sys.exit(f"what osslsigncode writes is refused: {refused}")
     if found is None or found.image is None:
         sys.exit("the file is no program")
     return found.digest
@@ -43,6 +47,9 @@ def signature_of(program, key, certificate):
     algorithm = ALGORITHMS.get(library().certificate(certificate).key_oid)
     if algorithm is None:
         sys.exit("the certificate's key is of another algorithm")
+    its_key = run("openssl", "x509", "-inform", "DER", "-noout", "-pubkey", octets=certificate)
+    if run("openssl", "pkey", "-in", key, "-pubout") != its_key:
+        sys.exit("the key isn't that of the certificate")
     sha256 = build.algorithm(build.SHA256, build.NULL)
     content = build.program(sha256, digest_of(program))
     signer = build.Signer(

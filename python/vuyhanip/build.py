@@ -189,7 +189,8 @@ class Signer(NamedTuple):
     With a digest it has signed attributes, which its signature covers; without one the signature covers the content.
     """
 
-    # AlgorithmIdentifiers, as algorithm makes them: that of digest, or of the digest that the signature is over
+    # AlgorithmIdentifiers, as algorithm makes them: that of digest; without one, that by which the signature hashes the
+    # content
     digest_algorithm: Bytes
     # and that of its signature
     signature_algorithm: Bytes
@@ -216,8 +217,8 @@ class Signed(NamedTuple):
     content_type: bytes
     content: Optional[bytes]
     is_element: bool
-    certificates: Tuple[Bytes, ...]
-    crls: Tuple[Bytes, ...]
+    certificates: Tuple[bytes, ...]
+    crls: Tuple[bytes, ...]
     signers: Tuple[GivenSigner, ...]
 
     def finish(self, signatures: Iterable[Bytes]) -> bytes:
@@ -250,22 +251,27 @@ def signed(
     """Signed data over content: octets, or where is_element any element, as in PKCS #7 (RFC 2315, 7). Where detached,
     or where content is None, it isn't in the file: then it counts as content of CMS, also where it is an element, so
     that any type but DATA gives version 3 (RFC 5652, 5.1). None as certificates means those of the signers, each once,
-    and of a signer that is named by a key identifier none. Without signers the file has certificates and crls alone
-    (5.2), and content has to be None. Signed and unsigned attributes are written in the order of DER (X.690, 11.6).
+    and of a signer that is named by a key identifier none. Where certificates is given, these alone are in the file:
+    the signers' have to be among them. Without signers the file has certificates and crls alone (5.2), and content has
+    to be None. Signed and unsigned attributes are written in the order of DER (X.690, 11.6). All octets are copied, so
+    that they may be changed before finish.
 
-    Raises BadAttributes or BadSigned where something can't be written, so that nothing is signed in vain. Raises
-    ValueError where a signing time has no time zone; and of a signer without a digest, where it has signed attributes,
-    or content is None or an element.
+    Raises BadAttributes, which has the index of the signer, or BadSigned where something can't be written, so that
+    nothing is signed in vain. Raises ValueError where a signing time has no time zone; and of a signer without a
+    digest, where it has signed attributes, or content is None or an element.
     """
     given, its_type = list(signers), library().oid_octets(content_type)
+    if not given and content is not None:
+        # nobody signs it: it is refused also where it isn't to be in the file
+        raise der.BadSigned(der.SignedPart.CONTENT)
     # the octets that a signature covers have to be those that are written
     octets = None if content is None else _kept(content)
     covered = [_covered(index, it, its_type, None if is_element else octets) for index, it in enumerate(given)]
     if certificates is None:
         certificates = dict.fromkeys(_kept(it.certificate) for it in given if it.certificate is not None)
-    its_signers = tuple(map(_signer, given, covered))
-    its_content = None if detached else octets
-    made = Signed(covered, its_type, its_content, is_element, tuple(certificates), tuple(crls), its_signers)
+    its_signers, its_content = tuple(map(_signer, given, covered)), None if detached else octets
+    lists = tuple(map(_kept, certificates)), tuple(map(_kept, crls))
+    made = Signed(covered, its_type, its_content, is_element, *lists, its_signers)
     # any octets are a signature, and any are content that is no element, so all else is tried here
     tried = made if is_element or its_content is None else made._replace(content=b"")
     tried.finish(len(given) * [b""])
@@ -277,10 +283,15 @@ def _kept(octets: Bytes) -> bytes:
     return octets if isinstance(octets, bytes) else bytes(memoryview(octets))
 
 
+def _kept_or_none(octets: Optional[Bytes]) -> Optional[bytes]:
+    """The same of octets that may be None."""
+    return None if octets is None else _kept(octets)
+
+
 def _covered(index: int, signer: Signer, content_type: bytes, content: Optional[bytes]) -> bytes:
     """What the signature of a signer covers, by its index, where the content is of these octets, or of none."""
     if signer.digest is not None:
-        return library().build_attributes(content_type, signer.digest, signer.signing_time, signer.attributes)
+        return _attributes(index, signer, content_type)
     if signer.signing_time is not None or signer.attributes:
         raise ValueError(f"signer {index} has signed attributes, so it has to have a digest")
     if content is None:
@@ -288,16 +299,30 @@ def _covered(index: int, signer: Signer, content_type: bytes, content: Optional[
     return content
 
 
+def _attributes(index: int, signer: Signer, content_type: bytes) -> bytes:
+    """The signed attributes of a signer, by its index."""
+    time = signer.signing_time
+    if time is not None and time.utcoffset() is None:
+        raise ValueError(f"signing_time of signer {index} has no time zone")
+    try:
+        return library().build_attributes(content_type, signer.digest, time, signer.attributes)
+    except der.BadAttributes as bad:
+        raise der.BadAttributes(bad.part, index) from None
+
+
 def _signer(signer: Signer, covered: bytes) -> GivenSigner:
     """A signer as build_signed takes it, with a signature of no octets."""
+    # build_signed tells where one isn't given
+    needed = signer.digest_algorithm, signer.signature_algorithm
+    digest_algorithm, signature_algorithm = (_kept(it) if it is not None else it for it in needed)
     # the order of DER, as no encoding is a proper beginning of another
     unsigned = tuple(sorted(map(_kept, signer.unsigned_attributes)))
     return GivenSigner(
-        signer.digest_algorithm,
-        signer.signature_algorithm,
+        digest_algorithm,
+        signature_algorithm,
         b"",
-        signer.certificate,
-        signer.key_identifier,
+        _kept_or_none(signer.certificate),
+        _kept_or_none(signer.key_identifier),
         None if signer.digest is None else covered,
         unsigned,
     )
@@ -315,9 +340,10 @@ def program(
 
     digest_algorithm is an AlgorithmIdentifier, as algorithm makes it: osslsigncode writes NULL as its parameters.
     digest is that of the program without its checksum, without its signatures, and without the entry of the data
-    directory that says where these are. flags are the contents octets of a BIT STRING, of no bits one octet, 0. link is
-    an element, an SpcLink. None as flags or link leaves them out, which osslsigncode 2.9 doesn't read. Raises
-    BadIndirect where a part can't be written.
+    directory that says where these are; an unsigned program is hashed as if zeros filled it up to a multiple of 8
+    octets. flags are the contents octets of a BIT STRING, of no bits one octet, 0. link is an element, an SpcLink. None
+    as flags or link leaves them out, which osslsigncode 2.9 doesn't read. Raises BadIndirect where a part can't be
+    written.
     """
     return library().build_indirect(GivenIndirect(digest_algorithm, digest, GivenImage(flags, link)))
 

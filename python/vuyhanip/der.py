@@ -170,18 +170,21 @@ class BadAttributes(ValueError):
     has none of the fields of a Signer, so it can't be verified by mistake; and unlike None it is true, so a list
     without false items still has it.
 
-    Or attributes that build_attributes doesn't write: then part is an AttributesPart, where several can't be written
-    that of one of them. Of a signer that was read part is None.
+    Or attributes that build_attributes doesn't write: then part is an AttributesPart; where several parts can't be
+    written, it is one of them. Of a signer that was read part is None. signer is None, but where build.signed raises
+    it: there it is the index of the signer, from 0 on.
     """
 
-    def __init__(self, part: Optional["AttributesPart"] = None) -> None:
-        super().__init__(*([] if part is None else [part]))
+    def __init__(self, part: Optional["AttributesPart"] = None, signer: Optional[int] = None) -> None:
+        super().__init__(*([] if part is None else [part, signer]))
         self.part = part
+        self.signer = signer
 
     def __str__(self) -> str:
         if self.part is None:
             return "signed attributes that RFC 5652 forbids"
-        return f"{self.part.name.lower()} can't be written"
+        its_signer = "" if self.signer is None else f" of signer {self.signer}"
+        return f"{self.part.name.lower()}{its_signer} can't be written"
 
 
 class Verdict(NamedTuple):
@@ -831,7 +834,7 @@ class StorePart(enum.Enum):
     ITERATIONS = _calls.STORE_PART_ITERATIONS
 
 
-class AttributesPart(enum.IntEnum):
+class AttributesPart(enum.Enum):
     """What build_attributes can't write, by its number in der.h: what it is given, in capitals."""
 
     # it is no object identifier
@@ -844,7 +847,7 @@ class AttributesPart(enum.IntEnum):
     ATTRIBUTES = _calls.ATTRIBUTES_PART_ATTRIBUTES
 
 
-class SignedPart(enum.IntEnum):
+class SignedPart(enum.Enum):
     """What build_signed can't write, by its number in der.h: what it is given, or a field of a GivenSigner, in capitals
     and in the singular.
     """
@@ -873,7 +876,7 @@ class SignedPart(enum.IntEnum):
     UNSIGNED_ATTRIBUTES = _calls.SIGNED_PART_UNSIGNED_ATTRIBUTES
 
 
-class IndirectPart(enum.IntEnum):
+class IndirectPart(enum.Enum):
     """What of a GivenIndirect can't be written, by its number in der.h: a field, or one of its image, in capitals."""
 
     # there is no image, and it isn't given, or is no object identifier
@@ -930,7 +933,7 @@ class BadStore(ValueError):
 
 
 class BadSigned(ValueError):
-    """Signed data that build_signed doesn't write. part is a SignedPart, where several can't be written that of
+    """Signed data that build_signed doesn't write. part is a SignedPart; where several parts can't be written, it is
     one of them. index is that of the certificate, the revocation list or the signer that it is of, from 0 on; None
     where part is the content or its type.
     """
@@ -949,8 +952,8 @@ class BadSigned(ValueError):
 
 
 class BadIndirect(ValueError):
-    """Indirect data that build_indirect doesn't write. part is an IndirectPart: where several can't be written, one of
-    them.
+    """Indirect data that build_indirect doesn't write. part is an IndirectPart; where several parts can't be written,
+    it is one of them.
     """
 
     def __init__(self, part: IndirectPart) -> None:
@@ -1009,7 +1012,9 @@ class GivenSigner(NamedTuple):
     """A signer that build_signed writes (RFC 5652, 5.3), which is named by its certificate or by a key identifier: one
     of the two is given. Of a Signer that was read, digest_algorithm, signature_algorithm, signature and
     unsigned_attributes can be given as they are, of certificate and key_identifier that which named it, and covered as
-    signed_attributes where is_over_attributes is true.
+    signed_attributes where is_over_attributes is true. Where certificate and key_identifier are None, issuer and serial
+    number name it: give its certificate from elsewhere. Library.signers also reads one with two signing times, or with
+    one that isn't as build_signed asks, which build_signed doesn't write.
     """
 
     # AlgorithmIdentifiers, with their parameters
@@ -1033,8 +1038,9 @@ class GivenImage(NamedTuple):
     name.
     """
 
-    # the contents octets of a BIT STRING: first the count of unused bits. None where there are none, which means the
-    # bits 1 0 0: DER leaves these out as the default (X.690, 11.5), but flags that are given are written
+    # the contents octets of a BIT STRING: first the count of unused bits. None where there are none: left out they mean
+    # includeResources. DER leaves out that default (X.690, 11.5), whether as 07 80 or 05 80; flags that are given are
+    # written as they are, also with unused bits that aren't 0, which 11.2.1 forbids
     flags: Optional[Bytes] = None
     # an element, in signatures an SpcLink, without the [0] around it; None where there is none
     link: Optional[Bytes] = None
@@ -1960,9 +1966,10 @@ class Library:
         than here, but for a signer's attributes, which stay in theirs.
 
         The signed attributes of a signer have to have one contentType, which is content_type, one messageDigest and at
-        most one signingTime, each with one value (11.1 to 11.3). They may be None where content_type is id-data (5.3).
-        Without signers it is that, and content is None: the file has certificates and crls alone (5.2). What is in
-        these, but for the certificate of a signer, isn't looked at. Raises BadSigned where a part can't be written.
+        most one signingTime, each with one value: an OBJECT IDENTIFIER, an OCTET STRING, and a UTCTime or
+        GeneralizedTime in whole seconds that ends in Z (11.1 to 11.3). They may be None where content_type is id-data
+        (5.3). Without signers it is that, and content is None: the file has certificates and crls alone (5.2). What is
+        in these, but for the certificate of a signer, isn't looked at. Raises BadSigned where a part can't be written.
         """
         octets, index, part = _Parts(), ctypes.c_size_t(), ctypes.c_size_t()
         flags = {"has_content": content is not None, "is_element": bool(is_element)}
@@ -1976,7 +1983,7 @@ class Library:
         status, text = _written(self._library.der_build_signed, arguments, room, *places)
         if status == _calls.INVALID:
             wrong = SignedPart(part.value)
-            raise BadSigned(wrong, index.value if wrong > SignedPart.CONTENT else None)
+            raise BadSigned(wrong, None if wrong in (SignedPart.CONTENT_TYPE, SignedPart.CONTENT) else index.value)
         _raise_for(status, "", 0)
         return text
 
@@ -1990,6 +1997,8 @@ class Library:
         were read may be given as they are, or with other fields by _replace, as with another digest:
 
             library.build_indirect(library.indirect(signed)._replace(digest=digest))
+
+        Of a program image is what counts: attribute_type and attribute_value are written only with image=None.
 
         Raises BadIndirect where a part can't be written.
         """

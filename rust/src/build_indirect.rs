@@ -16,8 +16,9 @@ const OBSOLETE_LINK: &[u8] = b"\xA2\x1E\x80\x1C\0<\0<\0<\0O\0b\0s\0o\0l\0e\0t\0e
 pub enum IndirectAttribute<'a> {
     /// A program: SPC_PE_IMAGE_DATA_OBJID, and image data (SpcPeImageData) of these parts as its value.
     Image {
-        /// The contents octets of the flags, a BIT STRING: first the count of unused bits. `None` means the bits 1 0 0.
-        /// `05 80` means these too, and is written, though DER leaves out the default (X.690, 11.5).
+        /// The contents octets of the flags, a BIT STRING: first the count of unused bits. Left out, by `None`, they
+        /// mean includeResources. DER leaves out that default (X.690, 11.5), whether as `07 80` or `05 80`; flags that
+        /// are given are written as they are, also with unused bits that aren't 0, which 11.2.1 forbids.
         flags: Option<&'a [u8]>,
         /// The element in file, in signatures an SpcLink, without the `[0]` around it.
         link: Option<&'a [u8]>,
@@ -51,7 +52,8 @@ impl<'a> IndirectGiven<'a> {
 
     /// Those of a program, as osslsigncode writes them: with the flags `07 80`, which are the first bit,
     /// includeResources, and with a link to the text `<<<Obsolete>>>`. The digest is that of the program without its
-    /// checksum, its signatures, and the entry of the data directory that says where these are.
+    /// checksum, its signatures, and the entry of the data directory that says where these are; an unsigned program is
+    /// hashed as if zeros filled it up to a multiple of 8 octets.
     pub fn program(digest_algorithm: &'a [u8], digest: &'a [u8]) -> Self {
         let attribute = IndirectAttribute::Image { flags: Some(INCLUDE_RESOURCES), link: Some(OBSOLETE_LINK) };
         Self::new(attribute, digest_algorithm, digest)

@@ -95,8 +95,9 @@ build_error!(BuildAttributesError, Self::Refused(part) => "refused: {part}");
 /// Builds the attributes of a signer (RFC 5652, 5.3 and 11), a SET OF Attribute, in the order of DER (X.690, 11.6). A
 /// signature covers these octets (5.4), and [`SignerGiven::signed_attributes`] takes them. With
 /// [`AttributesGiven::attributes`] alone it puts those in order, for [`SignerGiven::unsigned_attributes`]. A further
-/// attribute that is given twice is written twice, and the values of one stay in their order. No digest is made.
-/// Without any attribute the set is empty, which no signer may have.
+/// attribute that is given twice is written twice, and the values of one stay in their order: where they are given out
+/// of order, what is written isn't the DER that 5.3 asks for. No digest is made. Without any attribute the set is
+/// empty, which no signer may have.
 ///
 /// ```
 /// use vuyhanip::{build_attributes, oid_octets, AttributesGiven, Part};
@@ -146,9 +147,12 @@ pub enum SignerName<'a> {
 ///
 /// Of a [`Signer`](crate::Signer) that was listed, both algorithms, the signature and the certificate can be given as
 /// they are, and, where it has a [`message_digest`](crate::Signer::message_digest), what
-/// [`covered`](crate::Signer::covered) returns as its signed attributes. Unsigned attributes, and a key identifier that
-/// names it, are to be given too: [`attributes`](crate::attributes) and
-/// [`Part::KeyIdentifier`](crate::Part::KeyIdentifier) find them.
+/// [`covered`](crate::Signer::covered) returns as its signed attributes. Where it has no certificate, and issuer and
+/// serial number name it, give its certificate from elsewhere. A key identifier that names it is to be given too, as
+/// [`Part::KeyIdentifier`](crate::Part::KeyIdentifier) finds it, and so are unsigned attributes:
+/// [`attributes`](crate::attributes) finds each Attribute; put them after one another under a header, `31` and their
+/// length. [`signers`](crate::signers) also takes signers with two signing times, or with one that isn't as [`Signed`]
+/// asks, which are refused here.
 #[derive(Debug, Clone, Copy, PartialEq, Eq)]
 #[non_exhaustive]
 pub struct SignerGiven<'a> {
@@ -318,9 +322,11 @@ fn refused_signed(status: u32, index: usize, part: usize) -> BuildSignedError {
 ///  - Where neither [`content`](Signed::content) nor [`element`](Signed::element) is called, the signature is detached.
 ///  - Without signers, the file has certificates and revocation lists alone, no content, and the type id-data (5.2).
 ///  - The signed attributes of a signer have to have one contentType that is the content's, one messageDigest, and at
-///    most one signingTime, each with one value (RFC 5652, 11.1 to 11.3). Content of another type than id-data needs
-///    them (5.3). That the digest is the content's isn't looked at, nor that a signingTime is UTCTime in the years 1950
-///    to 2049, as [`build_attributes`] writes it, that none is a countersignature (11.4), nor their order.
+///    most one signingTime, each with one value: an OBJECT IDENTIFIER, an OCTET STRING, and a UTCTime or
+///    GeneralizedTime in whole seconds that ends in Z (RFC 5652, 11.1 to 11.3). Content of another type than id-data
+///    needs them (5.3). That the digest is the content's isn't looked at, nor that a signingTime is UTCTime in the
+///    years 1950 to 2049, as [`build_attributes`] writes it, that none is a countersignature (11.4), nor their order
+///    and that of the values in one.
 ///  - The version is that of 5.1. But what [`element`](Signed::element) takes is content of PKCS #7 unless it is an
 ///    OCTET STRING, and its type doesn't raise the version (RFC 2315, 9.1). Content that isn't in the file counts as
 ///    that of CMS.
@@ -384,7 +390,7 @@ impl<'a> Signed<'a> {
     }
 
     /// Sets the content: an element, which is written as it is (PKCS #7: RFC 2315, 7), as the indirect data of
-    /// Authenticode. Where it isn't an OCTET STRING, its digest is that of its contents octets (9.3).
+    /// Authenticode. Its digest is that of its contents octets (RFC 2315, 9.3).
     pub fn element(&mut self, octets: &'a [u8]) -> &mut Self {
         (self.content, self.is_element) = (Some(octets), true);
         self

@@ -1,5 +1,5 @@
 -- What indirect data are written of, and why they aren't.
-use Rattle.std.specs.Prelude.{◌≡◌, ℕ, List, Option, None, Some}
+use Rattle.std.specs.Prelude.{◌≡◌, ◌≢◌, ℕ, List, Option, None, Some}
 use Rattle.std.proofs.Common.{inl, inr, refl, subst, sym}
 use Rattle.asn1_borrowed.specs.Written.{IsNotWritten}
 use Rattle.asn1_core.specs.Asn1.{SEQUENCE}
@@ -38,14 +38,14 @@ module _ (b : List ℕ) (row : Indirect) where
   image_formed : (i : ImageValue) → IsImageOf b row i → image_data.IsWellFormed 64 i
   image_formed (flags, (link, u)) is = (flags_formed flags is.flags, (element_formed row.has_image_link row.image_link link is.link, tt))
 
-  pub no_image : (i : ImageValue) (e : Error) → IsImageOf b row i → IsNotWritten image_data i e → IsNoIndirect b row (NotWritten e)
-  no_image i e is (inl n) = absurd (n.1 (image_formed i is))
-  no_image i e is (inr (inl n)) = inl (n.1, inl (i, is, n.2))
-  no_image i e is (inr (inr n)) = inr n
+  pub no_image : row.is_image ≢ 0 → (i : ImageValue) (e : Error) → IsImageOf b row i → IsNotWritten image_data i e → IsNoIndirect b row (NotWritten e)
+  no_image some i e is (inl n) = absurd (n.1 (image_formed i is))
+  no_image some i e is (inr (inl n)) = inl (n.1, inl (some, i, is, n.2))
+  no_image some i e is (inr (inr n)) = inr n
 
   image_element : (x : List ℕ) → IsImageText b row x → IsElement IsTagByte x
   image_element x (i, is, text) =
-      let e = (SEQUENCE image_head).law.element 64 x (image_data.normal i) text.reads.reads in
+      let e = (SEQUENCE image_head).law.element 64 x i text.reads.reads in
       record { tag = e.tag; contents = e.contents; is_tag = e.is_tag; is = e.is; allowed = e.is_tag }
 
   subject_formed : (u : any_subject.Value) → HasSubject b row u → (SEQUENCE any_subject).format.IsWellFormed 64 u

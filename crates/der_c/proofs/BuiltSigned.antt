@@ -160,7 +160,7 @@ module _ (b : List ℕ) where
     none_given (Wrong.Certificate i) w given are can = not_all (IsPartOf b) IsChoice (GivesPart b IsChoice) (λ r g. g) rows.certificates given.certificates i w are.certificates can.certificates
     none_given (Wrong.Crl i) w given are can = not_all (IsPartOf b) IsRevocation (GivesPart b IsRevocation) (λ r g. g) rows.crls given.crls i w are.crls can.crls
     none_given (Wrong.Signer i part) w given are can =
-        not_all (IsSignerBy b) (IsConsistent (type_of given)) (GivesSigner b rows.info.content_type) (λ row g. (g.0, g.1, λ t at. subst (λ u. IsConsistent u g.0) (same_part b rows.info.content_type t (type_of given) at are.info.content_type) g.2)) rows.signers given.signers i w are.signers can.signers
+        not_all (IsSignerBy b) (IsConsistent (type_of given)) (GivesSigner b rows.info.content_type) (λ row g. (g.0, g.1, λ t at. subst (λ u. IsConsistent u g.0) (same_part b rows.info.content_type t (type_of given) at.0 are.info.content_type) g.2)) rows.signers given.signers i w are.signers can.signers
 
     no_part : (wrong : WrongPart) → IsWrong b rows wrong → IsNoSigned b rows (Part wrong)
     no_part wrong is = (is, none_given wrong is)
@@ -201,8 +201,8 @@ module _ (b : List ℕ) where
       refused Parts.RevocationList i n = row_without (IsPartOf b) IsRevocation (same_part b) rows.crls given.crls i are.crls n.one
       refused Parts.Signer i n =
           less (λ row. (s : SignerValue) × IsSignerBy b row s × IsConsistent (type_of given) s) (GivesSigner b rows.info.content_type) rows.signers i
-          (λ row g. (g.0, g.1, g.2 (type_of given) are.info.content_type))
-          (row_without (IsSignerBy b) (IsConsistent (type_of given)) same_by rows.signers given.signers i are.signers n.one)
+          (λ row g. (g.0, g.1, g.2 (type_of given) (are.info.content_type, n.0)))
+          (row_without (IsSignerBy b) (IsConsistent (type_of given)) same_by rows.signers given.signers i are.signers n.1.one)
       refused Parts.Whole i n = absurd n
 
       by_kind : (w : NotSigned) → Written.IsNotSigned given w → (w.error ≢ TooLong) × (w.error ≢ Memory) → (w.error ≡ Invalid) ⊎ ((w.error ≡ TooLong) ⊎ (w.error ≡ Memory)) → IsWrong b rows (wrong_part w.part w.index)

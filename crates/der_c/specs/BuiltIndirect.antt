@@ -54,14 +54,14 @@ pub record IsIndirectOf (b : List ℕ) (row : Indirect) (v : IndirectValue) : Ty
   pub algorithm : IsAlgorithmOf b row.digest_algorithm (algorithm_of v)
   pub digest : IsPartOf b row.digest (digest_of v)
 
--- the text is the encoding of the indirect data that the row gives, and is read as their normal value
+-- the text is the encoding of the indirect data that the row gives, and is read as them
 abbrev pub HasBuiltIndirect : List ℕ → Indirect → List ℕ → Type 0
 HasBuiltIndirect b row text = (v : IndirectValue) × IsIndirectOf b row v × IsEncodingOf indirect_data v text
 
 -- image data are too long, or all of it
 abbrev pub IsTooLong : List ℕ → Indirect → Type 0
 IsTooLong b row =
-    ((i : ImageValue) × IsImageOf b row i × (2 ^ 64 ≤ length (image_data.text i)))
+    ((row.is_image ≢ 0) × (i : ImageValue) × IsImageOf b row i × (2 ^ 64 ≤ length (image_data.text i)))
     ⊎ ((v : IndirectValue) × IsIndirectOf b row v × (2 ^ 64 ≤ length (indirect_data.text v)))
 
 -- the part that can't be written

@@ -102,7 +102,7 @@ GivesContent b rows =
 
 -- a row gives a signer that can be written with content of the type that a range gives, if it gives one
 abbrev pub GivesSigner : List ℕ → Octets → SignerGiven → Type 0
-GivesSigner b type row = (s : SignerValue) × IsSignerBy b row s × ((t : List ℕ) → IsPartOf b type t → IsConsistent t s)
+GivesSigner b type row = (s : SignerValue) × IsSignerBy b row s × ((t : List ℕ) → IsOidOf b type t → IsConsistent t s)
 
 -- the part that can't be written
 abbrev pub IsWrong : List ℕ → Rows → WrongPart → Type 0

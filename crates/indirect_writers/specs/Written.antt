@@ -16,7 +16,7 @@ indirect_value x = (
   ((algorithm_identifier_value x.digest_algorithm.now, (x.digest.now, tt)), tt),
 )
 
--- the text is the encoding of the value, and is read as its normal value and nothing else
+-- the text is the encoding of the value, and is read as it and nothing else
 pub record IsEncodingOf {V : Type 0} (F : Format V) (v : V) (text : List ℕ) : Type 0 where
   pub text_is : text ≡ F.text v
-  pub reads : IsValueOf F 64 text (F.normal v)
+  pub reads : IsValueOf F 64 text v

@@ -18,7 +18,8 @@ pub const PE_IMAGE: [u8; 10] = [0x2B, 0x06, 0x01, 0x04, 0x01, 0x82, 0x37, 0x02, 
 #[derive(Clone, Copy)]
 pub struct ImageData<'a> {
     /// The contents octets of the flags, a BIT STRING: first the count of unused bits. `None` where they are left out, which
-    /// means the bits 1 0 0. Flags that are given are written, also these, which DER leaves out (X.690, 11.5).
+    /// means `includeResources`. DER leaves out that default (X.690, 11.5), whether as `07 80` or `05 80`; flags that are given
+    /// are written as they are.
     pub flags: Option<&'a [u8]>,
     /// The element in `file`, of any type.
     pub link: Option<&'a [u8]>,

@@ -20,8 +20,8 @@ pub fn write_image_data(alloc: Global, image: &ImageData<'_>) -> Result<Vec<u8>,
     write(alloc, image)
 }
 
-/// The encoding of `SpcIndirectDataContent`. Authenticode's signature covers its contents octets, without tag and length (RFC
-/// 2315, 9.3). Refuses by `Invalid` an attribute type that is no object identifier, a value that isn't exactly one element,
+/// The encoding of `SpcIndirectDataContent`. The messageDigest of its signers is over its contents octets, without tag and
+/// length (RFC 2315, 9.3). Refuses by `Invalid` an attribute type that is no object identifier, a value that isn't exactly one element,
 /// and an ill-formed algorithm; by `TooLong`, or by `Memory`.
 pub fn write_indirect_data(alloc: Global, indirect: &IndirectData<'_>) -> Result<Vec<u8>, Error>
     ensures { MatchResult result

@@ -153,7 +153,7 @@ IsWrong given ContentType index = (index ≡ 0) × (IsOid (type_of given) → �
 IsWrong given Content index = (index ≡ 0) × (IsFormed given.info × IsSigned given.info given.signers → ⊥)
 IsWrong given Certificate index = IsFirstWithout IsChoice given.certificates index
 IsWrong given RevocationList index = IsFirstWithout IsRevocation given.crls index
-IsWrong given Signer index = IsFirstWithout (IsConsistent (type_of given)) given.signers index
+IsWrong given Signer index = IsOid (type_of given) × IsFirstWithout (IsConsistent (type_of given)) given.signers index
 IsWrong given Whole index = ⊥
 
 -- why there is no encoding

@@ -7,4 +7,4 @@ returns-in-Err c = no_part c.args.input.now c.args.row.now c.in-Err.part c.in-Er
 
 pub returns-in-Err-write_image_data : goal.returns-in-Err-write_image_data
 returns-in-Err-write_image_data c =
-    no_image c.args.input.now c.args.row.now (image_value c.in-Ok.image) c.in-Err-write_image_data.error c.in-Ok.ensures c.in-Err-write_image_data.ensures
+    no_image c.args.input.now c.args.row.now c.requires (image_value c.in-Ok.image) c.in-Err-write_image_data.error c.in-Ok.ensures c.in-Err-write_image_data.ensures
