@@ -256,7 +256,7 @@ def signed(
     to be None. Signed and unsigned attributes are written in the order of DER (X.690, 11.6). All octets are copied, so
     that they may be changed before finish.
 
-    Raises BadAttributes, which has the index of the signer, or BadSigned where something can't be written, so that
+    Raises BadAttributes, whose signer is the index of a signer, or BadSigned where something can't be written, so that
     nothing is signed in vain. Raises ValueError where a signing time has no time zone; and of a signer without a
     digest, where it has signed attributes, or content is None or an element.
     """
