@@ -21,8 +21,8 @@
  *    has none, of der_oid_octets the text spells no octets, of der_text_utf16 it isn't UTF-8, of der_build_parameters,
  *    der_build_store, der_build_attributes and der_build_indirect nothing can be built from what is given, of
  *    der_build_bags and der_build_safe the bag or content whose index they write can't be written, as said there, and
- *    of der_build_signed the parts that are given can't be written. Which of the four it is isn't proved: tests tell
- *    them apart.
+ *    of der_build_signed the parts that are given can't be written. Where a call has several of the four, which of them
+ *    it is isn't proved: tests tell them apart.
  *  - Of the bags of a store, and of parts of these, the same is said at the four and at DER_TOO_LONG: the input has no
  *    such rows as der_bag_rows writes at DER_NORMAL.
  *  - That memory was refused where a call answers DER_NO_MEMORY isn't proved. Tests show that calls with memory enough
