@@ -2,15 +2,14 @@
 use Rattle.std.specs.Prelude.{◌≡◌, ◌≢◌, ◌⊎◌, ◌<◌, ℕ, List, [], ◌∷◌, length, slice_index_or, take, Option, None, Some, Result, Ok, Err, MatchResult}
 use Rattle.std.specs.List.{AllByRecursion, AllZip}
 use Rattle.std.proofs.Common.{ap, inl, inr, refl, subst, sym, ◌∙◌}
-use Rattle.std.proofs.lemmas.List.{get_or_default}
 use Rattle.std.proofs.lemmas.Option.{none-some}
 use Rattle.asn1_core.specs.Asn1.{SEQUENCE}
 use Rattle.asn1_core.specs.Der.{IsElement, IsOid, IsTagByte, Octets as OctetList, octet_string, option_value}
 use Rattle.asn1_core_element.specs.declared.error.Error.TheVariants.{Invalid, TooLong, Memory}
 use Rattle.asn1_core_format.specs.Components.{AllIf}
 use Rattle.asn1_core_oid.specs.Known.{data_oid}
-use Rattle.attribute_writers.specs.Refusals.{IsWithout}
-use Rattle.der_c.proofs.BuiltLists.{all_at, row_at, zip_left}
+use Rattle.der_c.proofs.BuiltLists.{zip_left}
+use Rattle.der_c.proofs.GivenElements.{less, none_at, not_all, row_without, same_octets}
 use Rattle.der_c.proofs.GivenParts.{same_part}
 use Rattle.der_c.specs.BuiltSigned.{AreGivenBy, GivesNoSigned, GivesPart, GivesSigner, HasSignerParts, IsContentOf, IsIdentifierOf, IsInfoOf, IsNoSigned, IsSignerBy, IsWrong, Rows}
 use Rattle.der_c.specs.Given.{IfGiven, IsPartOf}
@@ -46,12 +45,6 @@ use Rattle.x509_pkcs7.specs.RawAttributes.{unsigned_of}
 
 module _ (b : List ℕ) where
   -- Of any parts that a row gives the same signer is read.
-  same_octets : (flag : ℕ) (r : Octets) (o p : Option OctetList) → IfGiven flag (IsPartOf b r) o → IfGiven flag (IsPartOf b r) p → o ≡ p
-  same_octets flag r None None is its = refl
-  same_octets flag r None (Some y) is its = absurd (its.0 is)
-  same_octets flag r (Some x) None is its = absurd (is.0 its)
-  same_octets flag r (Some x) (Some y) is its = ap Some (same_part b r y x its.1 is.1)
-
   module _ (row : SignerGiven) where
     same_name : (x y : Identifier) (i : signer_identifier.Value) → IsIdentifierOf b row x → IsIdentifierOf b row y → IsIdentifierIn x i → IsIdentifierIn y i
     same_name (Certificate x) (Certificate y) (inl i) is its h = (h.0, subst (λ o. (SEQUENCE certificate_head).format.Reads 64 o h.0) (same_part b row.certificate y.now x.now its.1 is.1) h.1, h.2)
@@ -66,10 +59,10 @@ module _ (b : List ℕ) where
       version = h.version;
       identifier = same_name x.identifier y.identifier (sid_of s) is.identifier its.identifier h.identifier;
       digest_algorithm = subst (λ o. ALGORITHM.format.Reads 64 o (digest_algorithm_of s)) (same_part b row.digest_algorithm y.digest_algorithm.now x.digest_algorithm.now its.digest_algorithm is.digest_algorithm) h.digest_algorithm;
-      signed = subst (λ o. AreAttributesIn o (signed_of s)) (same_octets row.has_signed_attributes row.signed_attributes (option_value (λ o. o.now) x.signed_attributes) (option_value (λ o. o.now) y.signed_attributes) is.signed its.signed) h.signed;
+      signed = subst (λ o. AreAttributesIn o (signed_of s)) (same_octets b row.has_signed_attributes row.signed_attributes (option_value (λ o. o.now) x.signed_attributes) (option_value (λ o. o.now) y.signed_attributes) is.signed its.signed) h.signed;
       signature_algorithm = subst (λ o. ALGORITHM.format.Reads 64 o (signature_algorithm_of s)) (same_part b row.signature_algorithm y.signature_algorithm.now x.signature_algorithm.now its.signature_algorithm is.signature_algorithm) h.signature_algorithm;
       signature = h.signature ∙ same_part b row.signature y.signature.now x.signature.now its.signature is.signature;
-      unsigned = subst (λ o. AreAttributesIn o (unsigned_of s)) (same_octets row.has_unsigned_attributes row.unsigned_attributes (option_value (λ o. o.now) x.unsigned_attributes) (option_value (λ o. o.now) y.unsigned_attributes) is.unsigned its.unsigned) h.unsigned;
+      unsigned = subst (λ o. AreAttributesIn o (unsigned_of s)) (same_octets b row.has_unsigned_attributes row.unsigned_attributes (option_value (λ o. o.now) x.unsigned_attributes) (option_value (λ o. o.now) y.unsigned_attributes) is.unsigned its.unsigned) h.unsigned;
     }
 
     -- the signer that is read of its parts
@@ -84,37 +77,13 @@ module _ (b : List ℕ) where
   pub all_give : (rows : List SignerGiven) (signers : List SignerValue) → AllZip (IsSignerBy b) rows signers → AllByRecursion (λ row. HasOne (IsSignerBy b row)) rows
   all_give = zip_left (IsSignerBy b) (λ row. HasOne (IsSignerBy b row)) (λ row s is. (s, is))
 
-  pub all_there : (parts : List Octets) (all : List (List ℕ)) → AllZip (IsPartOf b) parts all → AllByRecursion (λ part. HasOne (IsPartOf b part)) parts
-  all_there = zip_left (IsPartOf b) (λ part. HasOne (IsPartOf b part)) (λ part x is. (x, is))
-
   -- the first that gives nothing, and is told so
-  pub none_at : {X : Type 0} (Gives : X → Type 0) (Told : ℕ → WrongPart → Type 0) (rows : List X) (i : ℕ) (d : X) (wrong : WrongPart) → i < length rows → AllByRecursion Gives (take i rows) → (Gives (slice_index_or rows i d) → ⊥) → Told i wrong → IsNoItem Gives Told rows (Part wrong)
-  none_at Gives Told rows i d wrong l before none told = (i, told, record { one = record { item = slice_index_or rows i d; inside = l; is = get_or_default rows i d (slice_index_or rows i d) l; none = none }; before = before })
+  told_at : {X : Type 0} (Gives : X → Type 0) (Told : ℕ → WrongPart → Type 0) (rows : List X) (i : ℕ) (d : X) (wrong : WrongPart) → i < length rows → AllByRecursion Gives (take i rows) → (Gives (slice_index_or rows i d) → ⊥) → Told i wrong → IsNoItem Gives Told rows (Part wrong)
+  told_at Gives Told rows i d wrong l before none told = (i, told, none_at Gives rows i d l before none)
 
   pub no_signer_at : (rows : List SignerGiven) (i : ℕ) (d : SignerGiven) (w : NotRead) (no : NoSigned) → i < length rows → AllByRecursion (λ row. HasOne (IsSignerBy b row)) (take i rows) → IsUnread (HasOne (IsSignerBy b (slice_index_or rows i d))) w → IsNoSigner i w no → IsNoItem (λ row. HasOne (IsSignerBy b row)) IsSignerAt rows no
-  no_signer_at rows i d w (Part wrong) l before unread is = none_at (λ row. HasOne (IsSignerBy b row)) IsSignerAt rows i d wrong l before (unread.1 is.0) (w.part, is.1)
+  no_signer_at rows i d w (Part wrong) l before unread is = told_at (λ row. HasOne (IsSignerBy b row)) IsSignerAt rows i d wrong l before (unread.1 is.0) (w.part, is.1)
   no_signer_at rows i d w (NotWritten e) l before unread is = is
-
-  -- an item that gives nothing gives nothing of which more is asked
-  less : {X : Type 0} (P Q : X → Type 0) (xs : List X) (i : ℕ) → ((x : X) → Q x → P x) → IsWithout P xs i → IsWithout Q xs i
-  less P Q xs i f w = record { item = w.item; inside = w.inside; is = w.is; none = λ q. w.none (f w.item q) }
-
-  zip_with : {X Y : Type 0} (R : X → Y → Type 0) (P : Y → Type 0) (xs : List X) (ys : List Y) → AllZip R xs ys → AllByRecursion P ys → AllByRecursion (λ x. (y : Y) × R x y × P y) xs
-  zip_with R P [] ys are all = tt
-  zip_with R P (x ∷ xs) [] are all = absurd are
-  zip_with R P (x ∷ xs) (y ∷ ys) are all = ((y, are.0, all.0), zip_with R P xs ys are.1 all.1)
-
-  -- where a row gives nothing of which P holds, P doesn't hold of all that the rows give
-  not_all : {X Y : Type 0} (R : X → Y → Type 0) (P : Y → Type 0) (Q : X → Type 0) → ((x : X) → ((y : Y) × R x y × P y) → Q x) → (xs : List X) (ys : List Y) (i : ℕ) → IsWithout Q xs i → AllZip R xs ys → AllByRecursion P ys → ⊥
-  not_all {X} {Y} R P Q f xs ys i w are all =
-      let there = all_at (λ x. (y : Y) × R x y × P y) xs i w.item (zip_with R P xs ys are all) w.inside in
-      w.none (subst Q (sym w.is) (f (slice_index_or xs i w.item) there))
-
-  -- of an item of which P doesn't hold the row gives none of which it does
-  row_without : {X Y : Type 0} (R : X → Y → Type 0) (P : Y → Type 0) → ((x : X) (y z : Y) → R x y → R x z → z ≡ y) → (xs : List X) (ys : List Y) (i : ℕ) → AllZip R xs ys → IsWithout P ys i → IsWithout (λ x. (y : Y) × R x y × P y) xs i
-  row_without R P same xs ys i are w =
-      let row = row_at R xs ys i w.item are w.inside w.is in
-      record { item = row.0; inside = row.1; is = row.2; none = λ g. w.none (subst P (same row.0 w.item g.0 row.3 g.1) g.2) }
 
   same_content : (row : SignedGiven) (o p : Option Content) → IsContentOf b row o → IsContentOf b row p → option_value content_octets o ≡ option_value content_octets p
   same_content row None None is its = refl

@@ -1,5 +1,6 @@
 -- What the call from C says, by its status, of indirect data that it builds from what it is given.
 use Rattle.std.specs.Prelude.{◌≡◌, ◌≢◌, ◌⊎◌, ◌≤◌, ◌^◌, ℕ, List, length, Some}
+use Rattle.asn1_borrowed.specs.Written.{IsEncodingOf}
 use Rattle.asn1_core.specs.Asn1.{SEQUENCE}
 use Rattle.asn1_core_element.specs.declared.error.Error.TheVariants.{TooLong, Memory}
 use Rattle.asn1_leaves_strings.specs.Bits.{IsBits}
@@ -17,7 +18,6 @@ use Rattle.der_c.specs.declared.built_indirect.WrongIndirect.TheVariants.{Attrib
 use Rattle.der_c.specs.declared.contents.Indirect.{Indirect}
 use Rattle.der_c.specs.declared.ranges.Octets.{Octets}
 use Rattle.der_c.specs.declared.status.TheConstants.{INVALID, MALFORMED, MISSING, TOO_DEEP}
-use Rattle.indirect_writers.specs.Written.{IsEncodingOf}
 use Rattle.pkcs7_content.specs.Oids.{pe_image_oid}
 use Rattle.x509_base.specs.AlgorithmLaws.{algorithm_identifier}
 

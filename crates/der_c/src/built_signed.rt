@@ -12,6 +12,7 @@ ghost use Rattle.der_c.specs.declared.built_signed.NoSigned.TheVariants.{NotWrit
 ghost use Rattle.signed_writers.specs.Signers.{IsUnread};
 ghost use Rattle.x509_pkcs7.specs.RawSigners.{raw_signer_info_value};
 
+use crate::elements::{NoElement, elements_of};
 use crate::given::part_of;
 use crate::outputs::put_octets;
 use crate::ranges::{NOTHING, Octets};
@@ -184,7 +185,7 @@ fn wrong_part(part: SignedPart, index: usize) -> WrongPart
 }
 
 /// The elements of ranges, as those parts. That they are well-formed isn't looked at.
-fn elements_of<'a>(
+fn elements_as<'a>(
     alloc: Global,
     input: &'a [u8],
     parts: &[Octets],
@@ -194,14 +195,11 @@ fn elements_of<'a>(
         (λ all. AllZip (IsPartOf input.now) parts.now (map (λ x. x.0.now) all.items))
         (λ wrong. IsNoItem (λ part. HasOne (IsPartOf input.now part)) (IsPartAt of) parts.now wrong) }
 {
-    let mut all = Vec::new(alloc);
-    for (index, part) in parts.iter().enumerate() {
-        match part_of(input, *part, 0) {
-            Ok(octets) => all.push(ElementRef(octets))?,
-            Err(_number) => return Err(NoSigned::Part(wrong_part(of, index))),
-        }
+    match elements_of(alloc, input, parts) {
+        Ok(all) => Ok(all),
+        Err(NoElement::At(index)) => Err(NoSigned::Part(wrong_part(of, index))),
+        Err(NoElement::NotListed(error)) => Err(NoSigned::NotWritten(error)),
     }
-    Ok(all)
 }
 
 /// The octets of a part of a signer.
@@ -348,8 +346,8 @@ fn signed_text(
         (λ text. HasBuiltSigned input.now rows text.items)
         (λ wrong. IsNoSigned input.now rows wrong) }
 {
-    let certificates = elements_of(alloc, input, certificates, SignedPart::Certificate)?;
-    let crls = elements_of(alloc, input, crls, SignedPart::RevocationList)?;
+    let certificates = elements_as(alloc, input, certificates, SignedPart::Certificate)?;
+    let crls = elements_as(alloc, input, crls, SignedPart::RevocationList)?;
     let signers = all_signers(alloc, input, signers)?;
     match info_of(input, given) {
         Ok(info) => match write_signed_data(

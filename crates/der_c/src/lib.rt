@@ -1,6 +1,6 @@
 //! Checks and rewritings of inputs of all kinds, conversions of BER to DER, what verifiers of signers and of MACs need,
 //! the parts of certificates and of contents, how a password encrypts, and texts, for callers in C. Encrypted keys and
-//! contents, key stores and signed data are built too.
+//! contents, key stores, signed and enveloped data are built too.
 //! `der.h` has the declarations, and what a caller has to keep to.
 #![tactic(auto)]
 
@@ -14,12 +14,15 @@ pub mod built;
 pub mod built_attributes;
 pub mod built_bags;
 pub mod built_contents;
+pub mod built_enveloped;
 pub mod built_indirect;
 mod built_lists;
+pub mod built_recipient;
 pub mod built_signed;
 pub mod built_stores;
 pub mod certificates;
 pub mod contents;
+mod elements;
 mod further;
 mod given;
 pub mod lists;

@@ -1,7 +1,5 @@
--- What is written of given parts: the encoding of the value that has them.
-use Rattle.std.specs.Prelude.{◌≡◌, ℕ, List}
-use Rattle.asn1_core.specs.Der.{Format, option_value}
-use Rattle.asn1_core_format.specs.Whole.{IsValueOf}
+-- The values that parts are given of.
+use Rattle.asn1_core.specs.Der.{option_value}
 use Rattle.content_ranges.specs.IndirectRoutes.{ImageValue, IndirectValue}
 use Rattle.indirect_writers.specs.declared.data.ImageData.{ImageData}
 use Rattle.indirect_writers.specs.declared.data.IndirectData.{IndirectData}
@@ -15,8 +13,3 @@ indirect_value x = (
   (x.attribute_type.now, (option_value (λ o. o.now) x.attribute_value, tt)),
   ((algorithm_identifier_value x.digest_algorithm.now, (x.digest.now, tt)), tt),
 )
-
--- the text is the encoding of the value, and is read as it and nothing else
-pub record IsEncodingOf {V : Type 0} (F : Format V) (v : V) (text : List ℕ) : Type 0 where
-  pub text_is : text ≡ F.text v
-  pub reads : IsValueOf F 64 text v

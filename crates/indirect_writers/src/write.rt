@@ -1,9 +1,9 @@
 //! Writing what Authenticode signs.
 
 ghost use Rattle.std.specs.Prelude.{MatchResult};
-ghost use Rattle.asn1_borrowed.specs.Written.{IsNotWritten};
+ghost use Rattle.asn1_borrowed.specs.Written.{IsEncodingOf, IsNotWritten};
 ghost use Rattle.content_ranges.specs.IndirectRoutes.{image_data, indirect_data};
-ghost use Rattle.indirect_writers.specs.Written.{IsEncodingOf, image_value, indirect_value};
+ghost use Rattle.indirect_writers.specs.Written.{image_value, indirect_value};
 
 use crate::data::{ImageData, IndirectData};
 use asn1_borrowed::write;

@@ -19,7 +19,7 @@ const ENVELOPED_DATA: [u8; 9] = [0x2A, 0x86, 0x48, 0x86, 0xF7, 0x0D, 0x01, 0x07,
 
 /// Names `id-envelopedData`.
 #[derive(Drop)]
-struct EnvelopedDataType;
+pub struct EnvelopedDataType;
 
 impl Named for EnvelopedDataType {
     ghost OID = { enveloped_data_oid };

@@ -33,7 +33,7 @@ name_normal : (n : name.Value) → (SEQUENCE name).format.normal n ≡ n
 name_normal [] = refl
 name_normal (s ∷ n) = ap (λ x. x ∷ (SEQUENCE name).format.normal n) (set_normal s) ∙ ap (λ l. s ∷ l) (name_normal n)
 
-identifier_normal : (i : signer_identifier.Value) → signer_identifier.format.normal i ≡ i
+pub identifier_normal : (i : signer_identifier.Value) → signer_identifier.format.normal i ≡ i
 identifier_normal (inl (n, (s, u))) = ap (λ m. inl (m, (s, u))) (name_normal n)
 identifier_normal (inr k) = refl
 

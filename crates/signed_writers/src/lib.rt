@@ -12,6 +12,8 @@ mod write;
 pub use attributes::{SignedAttributes, write_attributes};
 pub use checks::{NotSigned, SignedPart};
 pub use content::{Content, ContentInfo};
-pub use signers::{Identifier, NotRead, Signer, SignerPart, read_signer};
-pub use versions::signer_version;
+pub use signers::{
+    Identifier, NotRead, Signer, SignerPart, read_attributes, read_identifier, read_signer,
+};
+pub use versions::{any_tagged, is_tagged, signer_version};
 pub use write::write_signed_data;

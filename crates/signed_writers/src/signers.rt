@@ -116,7 +116,8 @@ fn key_identifier(alloc: Global, octets: &[u8]) -> Result<SignerIdentifier, NotR
     }
 }
 
-fn identifier_in(alloc: Global, given: &Identifier<'_>) -> Result<SignerIdentifier, NotRead>
+/// What names a signer, or a recipient, whose identifier is alike (RFC 5652, 5.3 and 6.2.1).
+pub fn read_identifier(alloc: Global, given: &Identifier<'_>) -> Result<SignerIdentifier, NotRead>
     ensures { MatchResult result
         (λ id. IsIdentifierIn given.now (signer_identifier_value id))
         (λ e. IsUnread (HasOne (IsIdentifierIn given.now)) e) }
@@ -137,8 +138,9 @@ pub(crate) fn has_none(attributes: &Vec<Attribute>) -> bool
     attributes.is_empty()
 }
 
-/// The attributes of a set that isn't empty, or none.
-fn attributes_in(
+/// The attributes of a set that isn't empty, in their order, or none where there are no octets. The part is the one that
+/// a refusal names.
+pub fn read_attributes(
     alloc: Global,
     octets: Option<&[u8]>,
     part: SignerPart,
@@ -180,16 +182,16 @@ pub fn read_signer(alloc: Global, given: &Signer<'_>) -> Result<RawSignerInfo, N
         (λ s. IsSignerIn given.now (raw_signer_info_value s))
         (λ e. IsUnread (HasOne (IsSignerIn given.now)) e) }
 {
-    let sid = identifier_in(alloc, &given.identifier)?;
+    let sid = read_identifier(alloc, &given.identifier)?;
     let digest_algorithm = read_part(alloc, given.digest_algorithm, SignerPart::DigestAlgorithm)?;
-    let signed = attributes_in(alloc, given.signed_attributes, SignerPart::SignedAttributes)?;
+    let signed = read_attributes(alloc, given.signed_attributes, SignerPart::SignedAttributes)?;
     let signature_algorithm = read_part(
         alloc,
         given.signature_algorithm,
         SignerPart::SignatureAlgorithm,
     )?;
     let signature = signature_of(alloc, given.signature)?;
-    let unsigned = attributes_in(
+    let unsigned = read_attributes(
         alloc,
         given.unsigned_attributes,
         SignerPart::UnsignedAttributes,

@@ -25,7 +25,7 @@ pub fn signer_version(identifier: &SignerIdentifier) -> CmsVersion
 }
 
 /// Whether an element has that tag.
-pub(crate) fn is_tagged(element: &[u8], tag: u8) -> bool
+pub fn is_tagged(element: &[u8], tag: u8) -> bool
     ensures { result ≡ has_tag tag element.now }
 {
     match element {
@@ -35,7 +35,7 @@ pub(crate) fn is_tagged(element: &[u8], tag: u8) -> bool
 }
 
 /// Whether one of some elements has that tag.
-fn any_tagged(elements: &[ElementRef<'_>], tag: u8) -> bool
+pub fn any_tagged(elements: &[ElementRef<'_>], tag: u8) -> bool
     ensures { result ≡ any_tagged tag (map (λ x. x.0.now) elements.now) }
 {
     for element in elements {

@@ -1,8 +1,11 @@
-//! Tests of signed data, signed attributes and indirect data that are written from their parts, by public calls.
+//! Tests of signed data, signed attributes, indirect data and enveloped data that are written from their parts, by
+//! public calls.
 #![tactic(auto)]
 
 #[cfg(test)]
 mod attributes;
+#[cfg(test)]
+mod enveloped;
 #[cfg(test)]
 mod files;
 #[cfg(test)]

@@ -1,7 +1,8 @@
 use Rattle.asn1_core.specs.Asn1.{SEQUENCE}
 use Rattle.content_ranges.specs.Heads.{image_head}
 use Rattle.content_ranges.specs.IndirectRoutes.{image_data}
-use Rattle.indirect_writers.proofs.Encodings.{encoding_result, image_normal}
+use Rattle.asn1_borrowed.proofs.Encodings.{encoding_result}
+use Rattle.indirect_writers.proofs.Encodings.{image_normal}
 use Rattle.indirect_writers.specs.Written.{image_value}
 use Rattle.indirect_writers.proofs.write.write_image_data.Goals as goal
 

@@ -1,7 +1,8 @@
 use Rattle.asn1_core.specs.Asn1.{SEQUENCE}
 use Rattle.content_ranges.specs.Heads.{indirect_head}
 use Rattle.content_ranges.specs.IndirectRoutes.{indirect_data}
-use Rattle.indirect_writers.proofs.Encodings.{encoding_result, indirect_normal}
+use Rattle.asn1_borrowed.proofs.Encodings.{encoding_result}
+use Rattle.indirect_writers.proofs.Encodings.{indirect_normal}
 use Rattle.indirect_writers.specs.Written.{indirect_value}
 use Rattle.indirect_writers.proofs.write.write_indirect_data.Goals as goal
 

@@ -3,7 +3,7 @@ use Rattle.std.proofs.Common.{ap}
 use Rattle.asn1_core.specs.Der.{option_value}
 use Rattle.signed_writers.proofs.ReadParts.{empty_set}
 use Rattle.x509_base.specs.Names.{attribute_value}
-use Rattle.signed_writers.proofs.signers.attributes_in.Goals as goal
+use Rattle.signed_writers.proofs.signers.read_attributes.Goals as goal
 
 pub returns-then-has_none : goal.returns-then-has_none
 returns-then-has_none c =

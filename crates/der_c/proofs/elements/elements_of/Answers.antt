@@ -1,16 +1,15 @@
 use Rattle.std.specs.Prelude.{take}
 use Rattle.der_c.proofs.BuiltLists.{one_more_seen}
-use Rattle.der_c.proofs.BuiltSigned.{all_there, none_at}
+use Rattle.der_c.proofs.GivenElements.{all_there, none_at}
 use Rattle.der_c.specs.Given.{IsPartOf}
-use Rattle.der_c.specs.GivenSigned.{IsPartAt}
 use Rattle.der_c.specs.Read.{HasOne}
-use Rattle.der_c.proofs.built_signed.elements_of.Goals as goal
+use Rattle.der_c.proofs.elements.elements_of.Goals as goal
 
 pub returns-in-Err : goal.returns-in-Err
 returns-in-Err c =
     let before = all_there c.args.input.now (take c.loop-index.index c.args.parts.now) _ c.loop-index.invariant in
-    none_at c.args.input.now (λ part. HasOne (IsPartOf c.args.input.now part)) (IsPartAt c.args.of) c.args.parts.now c.loop-index.index _ c.wrong_part.result c.loop-index-test.true before
-    (λ one. c.in-Err.ensures one.0 one.1) c.wrong_part.ensures
+    none_at (λ part. HasOne (IsPartOf c.args.input.now part)) c.args.parts.now c.loop-index.index _ c.loop-index-test.true before
+    (λ one. c.in-Err.ensures one.0 one.1)
 
 pub loop-index-preserved : goal.loop-index-preserved
 loop-index-preserved c =

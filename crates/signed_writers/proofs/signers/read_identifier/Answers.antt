@@ -1,7 +1,7 @@
 use Rattle.pkcs7_signed_crl.specs.SignerParts.{issuer_and_serial_number_value}
 use Rattle.pkcs7_verifier.specs.Heads.{certificate_head_value}
 use Rattle.signed_writers.proofs.ReadParts.{by_certificate}
-use Rattle.signed_writers.proofs.signers.identifier_in.Goals as goal
+use Rattle.signed_writers.proofs.signers.read_identifier.Goals as goal
 
 pub returns-in_ok-head-in-Certificate : goal.returns-in_ok-head-in-Certificate
 returns-in_ok-head-in-Certificate c =

@@ -1,0 +1,4 @@
+pub mod Sequences
+pub mod RecipientVersions
+pub mod RecipientTexts
+pub mod Envelopes

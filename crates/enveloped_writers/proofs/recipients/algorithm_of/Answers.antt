@@ -1,0 +1,5 @@
+use Rattle.std.proofs.Common.{refl}
+use Rattle.enveloped_writers.proofs.recipients.algorithm_of.Goals as goal
+
+pub returns-in-Err : goal.returns-in-Err
+returns-in-Err c = (refl, c.in-Err.ensures.kind, λ m h. c.in-Err.ensures.none m h.0 h.1)

@@ -1,0 +1,4 @@
+pub mod Elements
+pub mod Enveloped
+pub mod Recipients
+pub mod Values
