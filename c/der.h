@@ -1,15 +1,15 @@
 /* Checks and rewritings of DER, the parts of containers that a verifier needs, as octets, those of certificates and of
  * the contents of signed data, the parameters of encryption with a password, conversions of BER to DER, and PKCS #12
- * files, signed data, indirect data and such parameters built from their parts: the static library der_c. Only
- * der_from_ber takes BER. Pass every other call what it wrote, and der_mac_ber and der_mac_part_ber where the MAC of a
- * PKCS #12 file is to be verified.
+ * files, signed data, indirect data, enveloped data and such parameters built from their parts: the static library
+ * der_c. Only der_from_ber takes BER. Pass every other call what it wrote, and der_mac_ber and der_mac_part_ber where
+ * the MAC of a PKCS #12 file is to be verified.
  *
  * What is proved of its calls der_check_word_limited, der_rewrite_word_limited, der_kind_word, der_part_octets,
  * der_signer_rows, der_part_ranges, der_attribute_ranges, der_mac_range, der_mac, der_from_ber, der_mac_ber,
  * der_mac_part_ber, der_name_text, der_oid_text, der_oid_octets, der_oid_name, der_integer_text, der_utf16_text,
  * der_text_utf16, der_bag_rows, der_certificate, der_indirect, der_trust_list, der_trust_rows, der_password_parameters,
- * der_build_parameters, der_build_bags, der_build_safe, der_build_store, der_build_attributes, der_build_signed and
- * der_build_indirect, for all inputs, and what isn't:
+ * der_build_parameters, der_build_bags, der_build_safe, der_build_store, der_build_attributes, der_build_signed,
+ * der_build_indirect, der_build_recipient and der_build_enveloped, for all inputs, and what isn't:
  *  - A call answers no status but those that are listed at it. What it writes into numbers and into out is as said
  *    below.
  *  - DER_NORMAL, DER_LOOSE, DER_UNKNOWN_KIND, DER_NO_ROOM, DER_NO_RANGE and DER_NO_PART are true where they are
@@ -19,10 +19,10 @@
  *  - At DER_MALFORMED, DER_MISSING, DER_INVALID and DER_TOO_DEEP the input is no encoding of the kind, of der_from_ber
  *    it has no DER, of the calls for parts, signers and ranges it isn't what has the part, of those that write text it
  *    has none, of der_oid_octets the text spells no octets, of der_text_utf16 it isn't UTF-8, of der_build_parameters,
- *    der_build_store, der_build_attributes and der_build_indirect nothing can be built from what is given, of
- *    der_build_bags and der_build_safe the bag or content whose index they write can't be written, as said there, and
- *    of der_build_signed the parts that are given can't be written. Where a call has several of the four, which of them
- *    it is isn't proved: tests tell them apart.
+ *    der_build_store, der_build_attributes, der_build_indirect, der_build_recipient and der_build_enveloped nothing can
+ *    be built from what is given, of der_build_bags and der_build_safe the bag or content whose index they write can't
+ *    be written, as said there, and of der_build_signed the parts that are given can't be written. Where a call has
+ *    several of the four, which of them it is isn't proved: tests tell them apart.
  *  - Of the bags of a store, and of parts of these, the same is said at the four and at DER_TOO_LONG: the input has no
  *    such rows as der_bag_rows writes at DER_NORMAL.
  *  - That memory was refused where a call answers DER_NO_MEMORY isn't proved. Tests show that calls with memory enough
@@ -30,20 +30,20 @@
  *  - The functions in this file, in C, are tested and not proved, nor are der_version and der_processor.
  *
  * What a caller has to keep to:
- *  - word, input, octets, text, given, bags, contents, certificates, crls, signers, out and the pointers to numbers
- *    aren't null, also where a length is 0; but the functions in this file take null for an input or out of length 0.
- *    word, input, octets and text point to so many bytes that can be read, given to one struct that can be read, bags,
- *    contents, certificates, crls and signers to so many structs that can be read, and out to so many bytes that can be
- *    read and written.
+ *  - word, input, octets, text, given, bags, contents, certificates, crls, signers, recipients, out and the pointers to
+ *    numbers aren't null, also where a length is 0; but the functions in this file take null for an input or out of
+ *    length 0. word, input, octets and text point to so many bytes that can be read, given to one struct that can be
+ *    read, bags, contents, certificates, crls, signers and recipients to so many structs that can be read, and out to
+ *    so many bytes that can be read and written.
  *  - A pointer to a number is aligned as a size_t is, and what it points to can be written. out of der_signer_rows,
  *    der_bag_rows, der_trust_rows and the calls for ranges points to out_len structs and not bytes, that of
  *    der_certificate, der_indirect, der_trust_list and der_password_parameters to one, and is aligned so too. So are
- *    given, bags, contents, certificates, crls and signers.
+ *    given, bags, contents, certificates, crls, signers and recipients.
  *  - The string kind ends in a zero byte.
- *  - out and each number overlap nothing else that is passed, also not given, bags, contents, certificates, crls or
- *    signers, and not one another.
+ *  - out and each number overlap nothing else that is passed, also not given, bags, contents, certificates, crls,
+ *    signers or recipients, and not one another.
  *  - While a call runs nothing else reads or writes out or the numbers, and nothing writes word, input, octets, text,
- *    given, bags, contents, certificates, crls or signers: no other thread, and no signal handler.
+ *    given, bags, contents, certificates, crls, signers or recipients: no other thread, and no signal handler.
  *  - Lengths are below 2^63.
  *  - Memory comes from malloc, realloc and free, which are those of one allocator. A block of malloc and of realloc is
  *    aligned to each power of two up to 16 that divides its size.
@@ -839,6 +839,99 @@ typedef enum der_indirect_part {
 DER_CALL
 uint32_t der_build_indirect(const uint8_t *input, size_t input_len, const der_indirect_parts *given, uint8_t *out,
                             size_t out_len, size_t *written, size_t *part);
+
+/* A recipient for der_build_recipient. */
+typedef struct der_recipient_given {
+  size_t is_kek;             /* unless 0: it has a key-encryption key (kekri), otherwise a key pair (ktri) */
+  size_t has_key_identifier; /* of ktri, unless 0: key_identifier names it, otherwise its certificate does */
+  der_range certificate;     /* of ktri: the recipient's certificate, whose issuer and serial number name it */
+  der_range key_identifier;  /* of ktri: the octets of the certificate's subjectKeyIdentifier; of kekri: those that name
+                                the key-encryption key */
+  der_range algorithm;       /* an AlgorithmIdentifier, with its parameters: how the key is encrypted */
+  der_range key;             /* the octets of the encrypted key */
+} der_recipient_given;
+
+/* Which part der_build_recipient can't write, and why. */
+typedef enum der_recipient_part {
+  DER_RECIPIENT_PART_IDENTIFIER = 1, /* not inside of the input, or no certificate */
+  DER_RECIPIENT_PART_ALGORITHM = 2,  /* not inside of the input, or no AlgorithmIdentifier */
+  DER_RECIPIENT_PART_KEY = 3         /* not inside of the input */
+} der_recipient_part;
+
+/* Writes a recipient of enveloped data, one RecipientInfo (RFC 5652, 6.2), to the front of out: for der_build_enveloped,
+ * which takes it as a range of its input. given says of each part where the input has its octets, in any order; ranges
+ * may overlap. Set all of given to 0 first: a flag is set where it isn't 0. No key is encrypted: the caller encrypts it
+ * and says how.
+ *  - is_kek is 0: KeyTransRecipientInfo (6.2.1), for the key pair of a certificate. It is named by the issuer and the
+ *    serial number of the certificate, out of which they are read, and has version 0; or by the key identifier, and has
+ *    version 2.
+ *  - is_kek is set: KEKRecipientInfo (6.2.3), of version 4, with the key identifier, and without date and other.
+ *    has_key_identifier and certificate aren't looked at.
+ * Recipients of other kinds, by key agreement, with a password or of a type of their own, have no call: give them to
+ * der_build_enveloped as they are. That key and algorithm fit isn't looked at.
+ *  - DER_NORMAL: *written bytes were written, and the rest of out is as it was.
+ *  - DER_NO_ROOM: *written bytes are needed, and out_len, which may be 0, is less.
+ *  - DER_INVALID: a part can't be written, and *part is its der_recipient_part; where several can't, one of them.
+ *  - DER_TOO_LONG: it would have 2^64 bytes or more.
+ *  - DER_NO_MEMORY.
+ * Unless at DER_NORMAL out is as it was, unless at DER_NORMAL and DER_NO_ROOM *written is 0, and unless at DER_INVALID
+ * *part is 0. Proved is that what is written is the encoding of a recipient with these parts, and reads as these alone,
+ * and that der_build_enveloped doesn't refuse it; and that at DER_INVALID no recipient can be built from what is given, and that *part can't be written. */
+DER_CALL
+uint32_t der_build_recipient(const uint8_t *input, size_t input_len, const der_recipient_given *given, uint8_t *out,
+                             size_t out_len, size_t *written, size_t *part);
+
+/* Enveloped data for der_build_enveloped, but for their recipients. */
+typedef struct der_enveloped_given {
+  size_t has_content;     /* unless 0: the encrypted content is in the file, otherwise it is elsewhere */
+  size_t has_attributes;  /* unless 0: there are unprotected attributes */
+  der_range content_type; /* the contents octets of an object identifier, the type of what was encrypted: see
+                             der_oid_octets */
+  der_range algorithm;    /* an AlgorithmIdentifier, with its parameters: how the content is encrypted */
+  der_range content;      /* the octets of the encrypted content */
+  der_range attributes;   /* the element of a SET OF Attribute, as der_build_attributes writes it, which isn't empty */
+} der_enveloped_given;
+
+/* Which part der_build_enveloped can't write, and why. */
+typedef enum der_enveloped_part {
+  DER_ENVELOPED_PART_CONTENT_TYPE = 1, /* not inside of the input, or no object identifier */
+  DER_ENVELOPED_PART_ALGORITHM = 2,    /* not inside of the input, or no AlgorithmIdentifier */
+  DER_ENVELOPED_PART_CONTENT = 3,      /* not inside of the input */
+  DER_ENVELOPED_PART_RECIPIENT = 4,    /* not inside of the input, or no element with the tag of a RecipientInfo: 30, A1,
+                                          A2, A3 or A4 (RFC 5652, 6.2); or one with 30 whose contents don't begin with
+                                          the version, 02 01 00 or 02 01 02 (6.2.1) */
+  DER_ENVELOPED_PART_RECIPIENTS = 5,   /* there is none, and RFC 5652, 6.1 asks for one */
+  DER_ENVELOPED_PART_ATTRIBUTES = 6    /* not inside of the input, or no SET OF Attribute, or an empty one */
+} der_enveloped_part;
+
+/* Writes enveloped data under their content type, a ContentInfo (RFC 5652, 3 and 6), to the front of out: an encrypted
+ * content, or none, with recipients_len recipients and without originatorInfo. given and recipients say of each part
+ * where the input has its octets, in any order; ranges may overlap. Set all of given to 0 first: a flag is set where it
+ * isn't 0. A recipient is a RecipientInfo of any kind, as der_build_recipient writes it, or as der_part_ranges finds it
+ * under DER_PART_RECIPIENT. Nothing is encrypted: the caller encrypts the content, and its key for each recipient.
+ * Enveloped data don't say who made them, nor that nobody changed them.
+ *  - The version is that of RFC 5652, 6.1, where originatorInfo is absent: 3 with a recipient that has a password or is
+ *    of another type (A3 or A4), else 0 where has_attributes is 0 and all recipients have the tag 30 and version 0,
+ *    else 2.
+ *  - Recipients are in the order of DER (X.690, 11.6), whatever order they are given in, each as it is. One that is given
+ *    twice is written twice. What is in one isn't looked at, but for the version of one with the tag 30.
+ *  - Unprotected attributes stay in the order in which they are given.
+ * A part whose flag is 0 isn't looked at.
+ *  - DER_NORMAL: *written bytes were written, and the rest of out is as it was.
+ *  - DER_NO_ROOM: *written bytes are needed, and out_len, which may be 0, is less.
+ *  - DER_INVALID: a part can't be written, and *part is its der_enveloped_part. Of a recipient *index is its index, from
+ *    0 on, and otherwise 0. Where several can't, they are those of one of them.
+ *  - DER_TOO_LONG: it would have 2^64 bytes or more.
+ *  - DER_NO_MEMORY.
+ * Unless at DER_NORMAL out is as it was, unless at DER_NORMAL and DER_NO_ROOM *written is 0, and unless at DER_INVALID
+ * *index and *part are 0. Proved is that what is written is the encoding of enveloped data with these parts, their
+ * recipients in the order of DER and their version as said, and reads as these alone, so that der_part_ranges finds the
+ * recipients, the algorithm and the content with the octets that are given. And that at DER_INVALID no enveloped data can
+ * be written of what is given, as said above, and that *part and *index say one part that can't. */
+DER_CALL
+uint32_t der_build_enveloped(const uint8_t *input, size_t input_len, const der_enveloped_given *given,
+                             const der_range *recipients, size_t recipients_len, uint8_t *out, size_t out_len,
+                             size_t *written, size_t *index, size_t *part);
 
 /* Which octets of a PKCS #12 file a MAC covers: the contents octets of the OCTET STRING that is the content of
  * authSafe, without its tag and length.

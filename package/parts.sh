@@ -106,7 +106,7 @@ rust_crate() {
     mkdir -p "$to/src" "$to/tests" "$to/examples"
     install -m 644 rust/build.rs "$to"
     install -m 644 rust/src/* "$to/src"
-    install -m 644 rust/tests/calls.rs rust/tests/*.p12 rust/tests/*.p7m "$to/tests"
+    install -m 644 rust/tests/calls.rs rust/tests/*.{der,p12,p7m} "$to/tests"
     install -m 644 rust/examples/* "$to/examples"
     sed "s/^version = .*/version = \"${version/.dev/-dev.}\"/" rust/Cargo.toml > "$to/Cargo.toml"
 }
@@ -118,9 +118,9 @@ documents() {
     install -m 644 docs/*.* "$to/docs"
     install -m 644 docs/theorems/* "$to/docs/theorems"
     install -m 644 c/tests/{check,installed}.c "$to/examples"
-    install -m 644 c/examples/{build_signed,build_store,digest,encrypt,entries}.c "$to/examples"
+    install -m 644 c/examples/{build_enveloped,build_signed,build_store,digest,encrypt,entries}.c "$to/examples"
     install -m 644 c/examples/{from_ber,mac,parameters,store,verify}.c "$to/examples"
-    install -m 644 python/examples/{build_signed,build_store,digest,encrypt,entries}.py "$to/examples"
+    install -m 644 python/examples/{build_enveloped,build_signed,build_store,digest,encrypt,entries}.py "$to/examples"
     install -m 644 python/examples/{parameters,scan,sign_program,store,verify}.py "$to/examples"
     install -m 755 python/examples/stores.sh "$to/examples"
 }

@@ -22,10 +22,12 @@ PASSWORDS, PASSWORDS_IN_SPECS = "crates/der_c/src/passwords.rt", "crates/der_c/s
 BUILT, BUILT_BAGS, BUILT_CONTENTS, BUILT_STORES, BUILT_ATTRIBUTES, BUILT_SIGNED, BUILT_INDIRECT = (
     f"crates/der_c/src/{name}.rt" for name in (
         "built", "built_bags", "built_contents", "built_stores", "built_attributes", "built_signed", "built_indirect"))
-ATTRIBUTES_IN_SPECS, SIGNED_IN_SPECS, INDIRECT_IN_SPECS = (f"crates/der_c/specs/{name}.antt" for name in (
-    "BuiltAttributes", "BuiltSigned", "BuiltIndirect"))
-BUILT_IN_RUST, STORES_IN_RUST, SIGNED_IN_RUST, INDIRECT_IN_RUST = (f"rust/src/{name}.rs" for name in (
-    "build", "build_stores", "build_signed", "build_indirect"))
+BUILT_RECIPIENT, BUILT_ENVELOPED = (f"crates/der_c/src/{name}.rt" for name in ("built_recipient", "built_enveloped"))
+ATTRIBUTES_IN_SPECS, SIGNED_IN_SPECS, INDIRECT_IN_SPECS, RECIPIENT_IN_SPECS, ENVELOPED_IN_SPECS = (
+    f"crates/der_c/specs/{name}.antt" for name in (
+        "BuiltAttributes", "BuiltSigned", "BuiltIndirect", "BuiltRecipient", "BuiltEnveloped"))
+BUILT_IN_RUST, STORES_IN_RUST, SIGNED_IN_RUST, INDIRECT_IN_RUST, ENVELOPED_IN_RUST = (
+    f"rust/src/{name}.rs" for name in ("build", "build_stores", "build_signed", "build_indirect", "build_enveloped"))
 # What tools/calls reads.
 READ = (FILE, C, PYTHON, NAMES, "rust/src/*.rs", CHECK, "crates/der_c/src/*.rt", "crates/der_c/specs/*.antt", PARTS,
         PARTS_IN_SPECS, *calls.LEVELS)
@@ -58,6 +60,10 @@ MADE = {
         C, "DER_SIGNED_PART_SIGNATURE = 9,", "DER_SIGNED_PART_SIGNATURE = 8,", "DER_SIGNED_PART_SIGNATURE"),
     "C, a part of indirect data": (
         C, "DER_INDIRECT_PART_IMAGE_FLAGS = 5,", "DER_INDIRECT_PART_IMAGE_FLAGS = 4,", "DER_INDIRECT_PART_IMAGE_FLAGS"),
+    "C, a part of a recipient": (
+        C, "DER_RECIPIENT_PART_ALGORITHM = 2,", "DER_RECIPIENT_PART_ALGORITHM = 4,", "DER_RECIPIENT_PART_ALGORITHM"),
+    "C, a part of enveloped data": (
+        C, "DER_ENVELOPED_PART_CONTENT = 3,", "DER_ENVELOPED_PART_CONTENT = 4,", "DER_ENVELOPED_PART_CONTENT"),
     "C, a struct that is read": (C, "const der_password_parts *given,", "der_password_parts *given,", "given"),
     "C, structs that are read": (C, "const der_bag_given *bags,", "der_bag_given *bags,", "bags"),
     "C, attributes that are read": (C, "const der_attributes_given *given,", "der_attributes_given *given,", "given"),
@@ -65,6 +71,10 @@ MADE = {
     "C, content that is read": (C, "const der_signed_given *given,", "const der_signer_given *given,", "given"),
     "C, ranges that are read": (C, LISTS_IN_C, LISTS_IN_C.replace("const der_range *crls", "der_range *crls"), "crls"),
     "C, how many signers": (C, "*signers, size_t signers_len,", "*signers, uint8_t signers_len,", "signers_len"),
+    "C, a recipient that is read": (C, "const der_recipient_given *given,", "der_recipient_given *given,", "given"),
+    "C, enveloped data that is read": (
+        C, "const der_enveloped_given *given,", "const der_recipient_given *given,", "given"),
+    "C, recipients that are read": (C, "const der_range *recipients,", "der_range *recipients,", "recipients"),
     "C, how many structs": (C, "size_t contents_len,", "uint8_t contents_len,", "contents_len"),
     "C, the type of a field": (C, "  der_range octets;", "  size_t octets;", "octets"),
     "C, levels": (C, "#define DER_MAX_NESTING 64", "#define DER_MAX_NESTING 65", "DER_MAX_NESTING"),
@@ -86,6 +96,13 @@ MADE = {
         PYTHON, "INDIRECT_PART_IMAGE_FLAGS: Final = 5", "INDIRECT_PART_IMAGE_FLAGS: Final = 4",
         "DER_INDIRECT_PART_IMAGE_FLAGS"),
     "Python, structs of another kind": (PYTHON, "POINTER(SignerGiven),", "POINTER(SignerParts),", "der_build_signed"),
+    "Python, a part of a recipient": (
+        PYTHON, "RECIPIENT_PART_KEY: Final = 3", "RECIPIENT_PART_KEY: Final = 4", "DER_RECIPIENT_PART_KEY"),
+    "Python, a part of enveloped data": (
+        PYTHON, "ENVELOPED_PART_RECIPIENTS: Final = 5", "ENVELOPED_PART_RECIPIENTS: Final = 4",
+        "DER_ENVELOPED_PART_RECIPIENTS"),
+    "Python, a struct of another kind": (
+        PYTHON, "POINTER(RecipientGiven),", "POINTER(EnvelopedGiven),", "der_build_recipient"),
     "Python, how many structs": (PYTHON, "POINTER(BagGiven), _SIZE,", "POINTER(BagGiven),", "der_build_bags"),
     "Python, the type of a field": (
         PYTHON, DATA_IN_PYTHON, DATA_IN_PYTHON.replace("Range", "ctypes.c_size_t"), "octets"),
@@ -106,6 +123,15 @@ MADE = {
         RUST, "INDIRECT_PART_IMAGE_FLAGS: usize = 5;", "INDIRECT_PART_IMAGE_FLAGS: usize = 4;",
         "DER_INDIRECT_PART_IMAGE_FLAGS"),
     "Rust, indirect data that are read": (RUST, "given: *const IndirectParts,", "given: *mut IndirectParts,", "given"),
+    "Rust, a part of a recipient": (
+        RUST, "RECIPIENT_PART_KEY: usize = 3;", "RECIPIENT_PART_KEY: usize = 4;", "DER_RECIPIENT_PART_KEY"),
+    "Rust, a part of enveloped data": (
+        RUST, "ENVELOPED_PART_RECIPIENTS: usize = 5;", "ENVELOPED_PART_RECIPIENTS: usize = 4;",
+        "DER_ENVELOPED_PART_RECIPIENTS"),
+    "Rust, a recipient that is read": (RUST, "given: *const RecipientGiven,", "given: *mut RecipientGiven,", "given"),
+    "Rust, enveloped data that is read": (
+        RUST, "given: *const EnvelopedGiven,", "given: *mut EnvelopedGiven,", "given"),
+    "Rust, recipients that are read": (RUST, "recipients: *const Range,", "recipients: *mut Range,", "recipients"),
     "Rust, signers that are read": (RUST, "signers: *const SignerGiven,", "signers: *mut SignerGiven,", "signers"),
     "Rust, ranges that are read": (RUST, "crls: *const Range,", "crls: *mut Range,", "crls"),
     "Rust, a struct that is read": (RUST, "given: *const PasswordParts,", "given: *mut PasswordParts,", "given"),
@@ -156,6 +182,20 @@ BY_HAND = {
         " DIGEST_ALGORITHM = _calls.SIGNED_PART_DIGEST_ALGORITHM", "DIGEST_ALGORITHM", NAMES),
     "Python, no part of indirect data": (
         NAMES, "    DIGEST = _calls.INDIRECT_PART_DIGEST\n", "", "DER_INDIRECT_PART_DIGEST", f"{NAMES}:1"),
+    "Python, a part of a recipient": (
+        NAMES, " KEY = _calls.RECIPIENT_PART_KEY", " KEY = _calls.RECIPIENT_PART_ALGORITHM", "KEY", NAMES),
+    "Python, no part of a recipient": (
+        NAMES, "    IDENTIFIER = _calls.RECIPIENT_PART_IDENTIFIER\n", "", "DER_RECIPIENT_PART_IDENTIFIER",
+        f"{NAMES}:1"),
+    "Python, a part of enveloped data": (
+        NAMES, " RECIPIENTS = _calls.ENVELOPED_PART_RECIPIENTS", " RECIPIENTS = _calls.ENVELOPED_PART_RECIPIENT",
+        "RECIPIENTS", NAMES),
+    "Python, a part of a recipient for one of enveloped data": (
+        NAMES, " ALGORITHM = _calls.ENVELOPED_PART_ALGORITHM", " ALGORITHM = _calls.RECIPIENT_PART_ALGORITHM",
+        "ALGORITHM", NAMES),
+    "Python, no part of enveloped data": (
+        NAMES, "    ATTRIBUTES = _calls.ENVELOPED_PART_ATTRIBUTES\n", "", "DER_ENVELOPED_PART_ATTRIBUTES",
+        f"{NAMES}:1"),
     "Rust, a password part": (BUILT_IN_RUST, "Salt = calls::PASSWORD_SALT", "Salt = calls::PASSWORD_PRF", "Salt"),
     "Rust, a bag part": (STORES_IN_RUST, "Value = calls::BAG_PART_VALUE", "Value = calls::BAG_PART_KIND", "Value"),
     "Rust, a store part": (STORES_IN_RUST, "Salt = calls::STORE_PART_SALT", "Salt = calls::STORE_PART_SAFE", "Salt"),
@@ -167,6 +207,11 @@ BY_HAND = {
     "Rust, a part of indirect data": (
         INDIRECT_IN_RUST, "ImageLink = calls::INDIRECT_PART_IMAGE_LINK", "ImageLink = calls::INDIRECT_PART_IMAGE_FLAGS",
         "ImageLink"),
+    "Rust, a part of a recipient": (
+        ENVELOPED_IN_RUST, "Key = calls::RECIPIENT_PART_KEY", "Key = calls::RECIPIENT_PART_ALGORITHM", "Key"),
+    "Rust, a part of enveloped data": (
+        ENVELOPED_IN_RUST, "Recipients = calls::ENVELOPED_PART_RECIPIENTS",
+        "Recipients = calls::ENVELOPED_PART_RECIPIENT", "Recipients"),
     "Rust, a holder": (HOLDERS, "Key = calls::HOLDER_KEY", "Key = calls::HOLDER_CONTENTS", "Key"),
     "Rust, a name": ("rust/src/lib.rs", "Issuer = calls::PART_ISSUER", "Issuer = calls::PART_SIGNATURE", "Issuer"),
     "Rust, a kind": ("rust/src/bags.rs", "BAG_CRL => BagKind::Crl", "BAG_CRL => BagKind::OtherCrl", "OtherCrl"),
@@ -201,6 +246,11 @@ BY_HAND = {
         BUILT_SIGNED, "const SIGNATURE: usize = 9;", "const SIGNATURE: usize = 8;", "DER_SIGNED_PART_SIGNATURE"),
     "proved, a part of indirect data": (
         BUILT_INDIRECT, "const IMAGE_LINK: usize = 6;", "const IMAGE_LINK: usize = 7;", "DER_INDIRECT_PART_IMAGE_LINK"),
+    "proved, a part of a recipient": (
+        BUILT_RECIPIENT, "const KEY: usize = 3;", "const KEY: usize = 4;", "DER_RECIPIENT_PART_KEY"),
+    "proved, a part of enveloped data": (
+        BUILT_ENVELOPED, "const RECIPIENTS: usize = 5;", "const RECIPIENTS: usize = 6;",
+        "DER_ENVELOPED_PART_RECIPIENTS"),
     "specs, a part of attributes": (
         ATTRIBUTES_IN_SPECS, "number_of SigningTime = 3", "number_of SigningTime = 4",
         "DER_ATTRIBUTES_PART_SIGNING_TIME"),
@@ -211,6 +261,18 @@ BY_HAND = {
         "DER_SIGNED_PART_SIGNATURE"),
     "specs, a part of indirect data": (
         INDIRECT_IN_SPECS, "number_of ImageLink = 6", "number_of ImageLink = 7", "DER_INDIRECT_PART_IMAGE_LINK"),
+    "specs, a part of a recipient": (
+        RECIPIENT_IN_SPECS, "number_of Wrong.Key = 3", "number_of Wrong.Key = 4", "DER_RECIPIENT_PART_KEY"),
+    "specs, a part of enveloped data": (
+        ENVELOPED_IN_SPECS, "number_of Wrong.Recipients = 5", "number_of Wrong.Recipients = 6",
+        "DER_ENVELOPED_PART_RECIPIENTS"),
+    "proved, a recipient that is read": (
+        BUILT_RECIPIENT, "    given: &RecipientGiven,", "    given: &mut RecipientGiven,", "given"),
+    "proved, enveloped data that is read": (
+        BUILT_ENVELOPED, "    given: &EnvelopedGiven,\n    recipients: &[Octets],\n    out",
+        "    given: &RecipientGiven,\n    recipients: &[Octets],\n    out", "given"),
+    "proved, recipients that are read": (
+        BUILT_ENVELOPED, "    recipients: &[Octets],\n    out", "    recipients: &[usize],\n    out", "recipients"),
     "proved, indirect data that are read": (
         BUILT_INDIRECT, "    given: &Indirect,", "    given: &mut Indirect,", "given"),
     "proved, attributes that are read": (

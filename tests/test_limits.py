@@ -2,14 +2,14 @@
 refuses its requests for memory in turn. Its lines are compared with what derbox, dertree and the readers and writers
 of tests/oracle say of the input, and with what Python is told where other tests compare that. Each status is met that a
 call can answer, but 7, which takes an encoding past 64 bits. Signed data of 10,000 certificates, revocation lists and
-signers are what the writer of tests/oracle makes of them."""
+signers, and enveloped data of 10,000 recipients, are what the writers of tests/oracle make of them."""
 import functools
 import unittest
 
 from support import built, inputs, oids
 from support.cases import Comparing
 from support.containers import NULL, attribute, bare_bag, store_of
-from support.elements import element, octet_string, sequence, set_of
+from support.elements import element, integer, octet_string, sequence, set_of
 from support.parts import certificate_places, covered, mac_parts, over_any_octets
 from support.rooms import InRooms, in_room, marked
 from support.statuses import (
@@ -17,17 +17,17 @@ from support.statuses import (
     checked, outcome, place, status_and_length,
 )
 from support.tools import needs
-from oracle import answers, building, contents, signed_files, stores
+from oracle import answers, building, contents, enveloped_files, signed_files, stores
 from vuyhanip import der
 
 LIMITS = built.TOP / "c/tests/limits.c"
 WRAPPED = "-Wl,--wrap=malloc,--wrap=realloc,--wrap=free"
 # How many octets of an input the program takes as those of an INTEGER.
 INTEGER_OCTETS = 24
-# What the program has after an input of which it builds bags, stores, signed data and indirect data: the contents
-# octets of an object identifier, a name, which is taken as flags too, and attributes, of which a friendlyName isn't
-# written into a bag; the contents octets of another object identifier, a time, an algorithm, and signed attributes. And
-# the count of a MAC.
+# What the program has after an input of which it builds bags, stores, signed data, indirect data and enveloped data:
+# the contents octets of an object identifier, a name, which is taken as flags too, and attributes, of which a
+# friendlyName isn't written into a bag; the contents octets of another object identifier, a time, an algorithm, signed
+# attributes, and a recipient with a key pair. And the count of a MAC.
 IDENTIFIER, NAME = bytes.fromhex("2A0304"), "a\U0001F600".encode("utf-16-be")
 ATTRIBUTES = set_of(sequence(element(0x06, IDENTIFIER), set_of(NULL)), attribute("friendlyName"))
 TIME, ALGORITHM = b"20500101000000Z", sequence(element(0x06, IDENTIFIER), NULL)
@@ -36,9 +36,10 @@ CONTENT_TYPE, DIGESTED, SIGNED_NOW = (
     attribute("signingTime", element(0x17, b"261130120000Z")),
 )
 SIGNED_ATTRIBUTES = set_of(CONTENT_TYPE, DIGESTED)
-REST = IDENTIFIER, NAME, ATTRIBUTES, oids.octets("data"), TIME, ALGORITHM, SIGNED_ATTRIBUTES
+RECIPIENT = sequence(integer(0))
+REST = IDENTIFIER, NAME, ATTRIBUTES, oids.octets("data"), TIME, ALGORITHM, SIGNED_ATTRIBUTES, RECIPIENT
 ITERATIONS = 2048
-# How many certificates, revocation lists and signers it has in signed data of many.
+# How many certificates, revocation lists and signers it has in signed data of many, and recipients in enveloped data.
 MANY = 10_000
 # Inputs that are parts of signers, beside those that other tests have: times, and sets of attributes, some of which may
 # be signed with data (RFC 5652, 5.3 and 11).
@@ -47,6 +48,14 @@ OF_SIGNERS = (
     set_of(CONTENT_TYPE, DIGESTED, SIGNED_NOW), set_of(SIGNED_NOW, DIGESTED, CONTENT_TYPE),
     set_of(CONTENT_TYPE, DIGESTED, SIGNED_NOW, SIGNED_NOW), set_of(CONTENT_TYPE, DIGESTED, DIGESTED),
     set_of(attribute("contentType", oids.oid("TSTInfo")), DIGESTED),
+)
+# Inputs that are recipients, and such as aren't quite (RFC 5652, 6.2): with a key pair, of each version from 0 on, of
+# one that takes two octets, and of none; and with the tags of other kinds, and tags beside these.
+OF_RECIPIENTS = (
+    *(sequence(integer(version), NULL) for version in range(4)), RECIPIENT, sequence(element(0x02, b"\0\0")),
+    sequence(element(0x02)), sequence(), sequence(NULL, integer(0)), RECIPIENT + NULL, RECIPIENT[:-1],
+    *(element(tag, integer(version)) for tag in range(0xA0, 0xA6) for version in (0, 4)), element(0xA2), element(0x82),
+    set_of(integer(0)),
 )
 # What each call is to be seen to answer.
 WANTED = {
@@ -84,6 +93,8 @@ WANTED = {
     "build_attributes": {0, 5, 8, 9},
     "build_signed": {0, 5, 8, 9},
     "build_indirect": {0, 5, 8, 9},
+    "build_recipient": {0, 5, 8, 9},
+    "build_enveloped": {0, 5, 8, 9},
     "integer_text": {0, 5, 8, 9},
 }
 
@@ -318,7 +329,7 @@ def signed_of(file, places):
     """What signed data is built of: nothing; two certificates and two revocation lists; and two signers too, with an
     input, which is a range, in the place of the second certificate, of the second list, of each part of the second
     signer, and of the content, as octets and as an element. At most one part can't be written."""
-    _, name, attributes, data, _, algorithm, signed_attributes = places
+    _, name, attributes, data, _, algorithm, signed_attributes, _ = places
     signer = signed_files.Signer(
         1, 1, 1, key_identifier=name, digest_algorithm=algorithm, signed_attributes=signed_attributes,
         signature_algorithm=algorithm, signature=name, unsigned_attributes=attributes,
@@ -344,11 +355,43 @@ def lines_on_signed_data(text):
 def lines_on_built_indirect_data(text):
     """The lines on indirect data that are built of an input, with what follows it: of another file and of a program,
     with the input in the place of each part in turn, and of none. At most one part can't be written."""
-    octets, (identifier, name, attributes, _, _, algorithm, _) = with_rest(text)
+    octets, (identifier, name, attributes, _, _, algorithm, *_) = with_rest(text)
     whole = contents.Indirect(1, 0, 1, 1, identifier, attributes, algorithm, name, name, attributes)
     rows = [*(whole._replace(**{part: (0, len(text))}) for part in contents.INDIRECT_PARTS), whole]
     made = [contents.indirect_text(octets, row._replace(is_image=it)) for it in (0, 1) for row in rows]
     return [line for made, wrong in made for line in told("build_indirect", made, wrong)]
+
+
+def lines_on_recipients(text):
+    """The lines on recipients that are built of an input, with what follows it: with a key pair and with a
+    key-encryption key, with the input in the place of each part in turn, and of none. Where a certificate is given, a
+    key pair has no key identifier. At most one part can't be written."""
+    octets, (_, name, _, _, _, algorithm, *_) = with_rest(text)
+    whole = enveloped_files.Recipient(0, 1, key_identifier=name, algorithm=algorithm, key=name)
+    others = [whole._replace(**{part: (0, len(text))}) for part in whole._fields[2:]]
+    rows = [others[0]._replace(has_key_identifier=0), *others[1:], whole]
+    made = [enveloped_files.recipient_text(octets, row._replace(is_kek=it)) for it in (0, 1) for row in rows]
+    return [line for made, wrong in made for line in told("build_recipient", made, wrong)]
+
+
+def enveloped_of(file, places):
+    """What enveloped data is built of, without content and attributes, and with both: no recipient; and two, with an
+    input, which is a range, in the place of each part, of the second recipient, and of none. At most one part can't be
+    written."""
+    _, name, attributes, data, _, algorithm, _, recipient = places
+    for it in (0, 1):
+        its = enveloped_files.Enveloped(it, it, data, algorithm, name, attributes)
+        others = [enveloped_files.File(its._replace(**{part: file}), 2 * (recipient,)) for part in its._fields[2:]]
+        yield enveloped_files.File(its)
+        yield from (*others[:3], enveloped_files.File(its, (recipient, file)), others[3])
+        yield enveloped_files.File(its, 2 * (recipient,))
+
+
+def lines_on_enveloped_data(text):
+    """The lines on enveloped data that is built of an input, with what follows it."""
+    octets, places = with_rest(text)
+    made = [enveloped_files.enveloped_text(octets, file) for file in enveloped_of((0, len(text)), places)]
+    return [line for made, wrong in made for line in told("build_enveloped", made, *wrong)]
 
 
 def pairs(count):
@@ -369,6 +412,21 @@ def of_many():
     return octets, signed_files.File(signed_files.Content(content_type=data), ranges, ranges, signers)
 
 
+def recipient_of_many(pair):
+    """A recipient of enveloped data of many."""
+    return sequence(integer(0), octet_string(pair))
+
+
+def for_many():
+    """The octets and the parts of enveloped data of many recipients, in the order that is the other way round than
+    theirs in the file."""
+    elements = b"".join(map(recipient_of_many, pairs(MANY)[::-1]))
+    octets, size = elements + oids.octets("data") + ALGORITHM, len(elements) // MANY
+    data, algorithm = ((octets.index(it, len(elements)), len(it)) for it in (oids.octets("data"), ALGORITHM))
+    its = enveloped_files.Enveloped(content_type=data, algorithm=algorithm)
+    return octets, enveloped_files.File(its, tuple((nth * size, size) for nth in range(MANY)))
+
+
 def lines_on_an_integer(text):
     """The lines on the number that the first octets of an input hold."""
     octets = text[:INTEGER_OCTETS]
@@ -386,7 +444,8 @@ def lines_on(status, size, text):
     lines += [*lines_on_ranges(text), *lines_on_attributes(text), *lines_on_bags(text)]
     lines += [*lines_on_a_certificate(text), *lines_on_indirect_data(text), *lines_on_a_trust_list(text)]
     lines += [*lines_on_passwords(text), *lines_on_stores(text), *lines_on_built_attributes(text)]
-    return [*lines, *lines_on_signed_data(text), *lines_on_built_indirect_data(text), *lines_on_an_integer(text)]
+    lines += [*lines_on_signed_data(text), *lines_on_built_indirect_data(text), *lines_on_recipients(text)]
+    return [*lines, *lines_on_enveloped_data(text), *lines_on_an_integer(text)]
 
 
 class TestLimits(Comparing):
@@ -409,6 +468,7 @@ class TestLimits(Comparing):
     def program_agrees(self, program):
         kinds = built.library().kinds()
         found = [*inputs.cases(kinds, answers.is_over_attributes), *(("of a signer", text) for text in OF_SIGNERS)]
+        found += [("recipient", text) for text in OF_RECIPIENTS]
         for kind, text in found:
             status, size = checked(kind, text) if kind in kinds else (UNKNOWN_KIND, 0)
             wanted = lines_on_places(kind, status, text) + lines_on(status, size, text)
@@ -416,9 +476,10 @@ class TestLimits(Comparing):
         for kind, limit, text, line in inputs.limited(kinds):
             self.lines_agree(program, [kind, limit], text, lines_on(*status_and_length(line), text))
         words = [("kind", status, len(kind)) for kind in kinds for status in (NORMAL, NORMAL, NO_ROOM)]
-        many, _ = signed_files.signed_text(*of_many())
-        wanted = [*words, *2 * [("kind", UNKNOWN_KIND)], *written("build_signed", len(many))]
-        self.lines_agree(program, [], b"", wanted)
+        signed, _ = signed_files.signed_text(*of_many())
+        enveloped, _ = enveloped_files.enveloped_text(*for_many())
+        wanted = [*words, *2 * [("kind", UNKNOWN_KIND)], *written("build_signed", len(signed))]
+        self.lines_agree(program, [], b"", [*wanted, *written("build_enveloped", len(enveloped))])
         for call, wanted in WANTED.items():
             self.same(self.met[call], wanted, program.name, "statuses of", call)
 
@@ -438,7 +499,7 @@ class TestLimits(Comparing):
 
 
 class TestMany(InRooms):
-    """Signed data of many certificates, revocation lists and signers."""
+    """Signed data of many certificates, revocation lists and signers, and enveloped data of many recipients."""
 
     def test_many_are_written_in_the_order_of_der(self):
         octets, file = of_many()
@@ -459,6 +520,24 @@ class TestMany(InRooms):
             said = in_room("der_build_signed", (octets, len(octets), *wrong.words()), 64, 3)
             self.same(said, (INVALID, 0, number, told_part, marked(b"", 64)), "the last of", part)
             self.same(index, number, "as by the other writer", part)
+
+    def test_many_recipients_are_written_in_the_order_of_der(self):
+        octets, file = for_many()
+        wanted, _ = enveloped_files.enveloped_text(octets, file)
+        given = octets, len(octets), *file.words()
+        self.same_octets("der_build_enveloped", given, wanted, MANY, "recipients", places=2)
+        found = [bytes(it) for it in built.library().recipients(wanted)]
+        self.same(found, list(map(recipient_of_many, pairs(MANY))), "recipients in order")
+
+    def test_the_last_of_many_recipients_is_told(self):
+        octets, file = for_many()
+        part = enveloped_files.ENVELOPED_PARTS["recipient"]
+        # what isn't inside of the input, and what is no element
+        for wrong in ((len(octets), 1), (0, 1)):
+            other = file._replace(recipients=(*file.recipients[:-1], wrong))
+            said = in_room("der_build_enveloped", (octets, len(octets), *other.words()), 64, 3)
+            self.same(said, (INVALID, 0, MANY - 1, part, marked(b"", 64)), "the last recipient", wrong)
+            self.same(enveloped_files.enveloped_text(octets, other)[1], [(MANY - 1, part)], "by the other writer")
 
 
 if __name__ == "__main__":

@@ -8,7 +8,8 @@ openssl, by what it was asked for, and by hand. Keys that c/examples/encrypt.c a
 openssl opens, with their password and with no other; so it does stores that python/examples/build_store.py builds, and
 stores of c/examples/build_store.c, which are what is made by hand. What c/examples/build_signed.c and
 python/examples/build_signed.py sign is what openssl makes in the same second, but for the signature by an elliptic
-curve, and openssl verifies it."""
+curve, and openssl verifies it. What c/examples/build_enveloped.c and python/examples/build_enveloped.py encrypt is what
+openssl makes, but for what is random, and openssl decrypts it with the key of the certificate alone."""
 import functools
 import hashlib
 import itertools
@@ -37,12 +38,12 @@ PASSWORD, ITERATIONS = "test", 2048
 NAMES = "a", "Größe", "x" * 40
 SIZES = 0, 1, 16, 1000, 70000
 MONTHS = "Jan Feb Mar Apr May Jun Jul Aug Sep Oct Nov Dec".split()
-DIGEST_IN_C, ENTRIES_IN_C, PARAMETERS_IN_C, ENCRYPT_IN_C, BUILD_IN_C, SIGN_IN_C, VERIFY_IN_C = (
-    built.TOP / f"c/examples/{name}.c"
-    for name in ("digest", "entries", "parameters", "encrypt", "build_store", "build_signed", "verify")
+DIGEST_IN_C, ENTRIES_IN_C, PARAMETERS_IN_C, ENCRYPT_IN_C, BUILD_IN_C, SIGN_IN_C, VERIFY_IN_C, ENVELOP_IN_C = (
+    built.TOP / f"c/examples/{name}.c" for name in (
+        "digest", "entries", "parameters", "encrypt", "build_store", "build_signed", "verify", "build_enveloped")
 )
-ENCRYPT_IN_PYTHON, BUILD_IN_PYTHON, SIGN_IN_PYTHON = (
-    built.TOP / f"python/examples/{name}.py" for name in ("encrypt", "build_store", "build_signed")
+ENCRYPT_IN_PYTHON, BUILD_IN_PYTHON, SIGN_IN_PYTHON, ENVELOP_IN_PYTHON = (
+    built.TOP / f"python/examples/{name}.py" for name in ("encrypt", "build_store", "build_signed", "build_enveloped")
 )
 # Passwords, and what an example says of a key that it encrypted with one, and of contents.
 PASSWORDS = PASSWORD, "Größe, with blanks \r", "x" * 300
@@ -893,6 +894,125 @@ def without_signature(file):
     *others, signers = making.fields_of(octets(file))
     [signer] = parts(signers)
     return others, parts(signer)[:-1]
+
+
+# How openssl encrypts a key as python/examples/build_enveloped.py does with --oaep.
+OAEP = "-keyopt rsa_padding_mode:oaep -keyopt rsa_oaep_md:sha256"
+NO_RSA_KEY = "the certificate has no RSA key"
+
+
+class Enveloping(InC):
+    """Content that is encrypted for the holder of a certificate's key."""
+
+    def setUp(self):
+        super().setUp()
+        for file in keys().iterdir():
+            put(file.name, file.read_bytes())
+
+    def in_c(self, *words, by=None):
+        """How the example in C ends over the names of files, and what it writes."""
+        return tools.ended(built.in_c(ENVELOP_IN_C, "-lcrypto", by=by), *words)
+
+    def encrypts(self, example, options=""):
+        """Compares what openssl decrypts of what an example encrypts of the file `content`, and all of that but what is
+        random with what openssl encrypts. No two are encrypted alike."""
+        making.certificate("other", key="rsa:1024")
+        seen, count = set(), 0
+        for size in SIZES:
+            put("content", random.randbytes(size))
+            ran = example()
+            self.same((ran.returncode, ran.stderr), (0, b""), "an example, over octets", size)
+            put("made", ran.stdout)
+            making.seal("theirs", f"-aes-256-cbc -recip two.pem {options}", octets("content"))
+            made, seen_in_it = but_for_what_is_random("made")
+            self.same(made, but_for_what_is_random("theirs")[0], "beside openssl's", size)
+            for words in ("-inkey two.key", "-recip two.pem -inkey two.key"):
+                self.same(deciphered(words), octets("content"), "what openssl decrypts with", words, size)
+            self.same(deciphered("-inkey other.key") == octets("content"), False, "with another key", size)
+            said = deciphered("-recip other.pem -inkey other.key")
+            self.same(said, "refused", "for another certificate", size)
+            seen, count = seen | seen_in_it, count + len(seen_in_it)
+        self.same(len(seen), count, "keys and vectors")
+        self.at_least(count, 2 * len(SIZES), "keys and vectors")
+
+    def test_openssl_decrypts_what_the_example_in_c_encrypts(self):
+        self.encrypts(lambda: self.in_c("two.der", "content"))
+
+    @needs("gcc", "clang")
+    def test_openssl_decrypts_what_the_example_that_clang_builds_encrypts(self):
+        self.encrypts(lambda: self.in_c("two.der", "content", by="clang"))
+
+    @needs("cryptography")
+    def test_openssl_decrypts_what_the_example_in_python_encrypts(self):
+        """Of a file, and of standard input."""
+        for words, options in (([], ""), (["--oaep"], OAEP)):
+            example = functools.partial(in_python, ENVELOP_IN_PYTHON, *words, "two.der")
+            self.encrypts(lambda example=example: example("content"), options)
+            self.encrypts(lambda example=example: example(text=octets("content")), options)
+
+    def no_certificates(self):
+        """Files in which there is no certificate with a key of RSA."""
+        put("content", b"content")
+        put("empty", b"")
+        put("more", octets("two.der") + b"\0")
+        making.certificate("curve", key="ed25519")
+        making.certificate("pss", key="rsa-pss -pkeyopt rsa_keygen_bits:2048")
+        in_der("curve")
+        in_der("pss")
+        return "empty", "two.pem", "two.pkcs8", "one.der", "curve", "pss"
+
+    def test_what_the_example_in_c_refuses(self):
+        """Another number of words, a file that isn't there, what is no certificate, one with another key than of RSA,
+        and octets after one."""
+        wrong = self.no_certificates()
+        usage = "usage: build_enveloped CERTIFICATE FILE"
+        cases = [(words, 2, usage) for words in ((), ("two.der",), ("two.der", "content", "more"))]
+        missing = ("nothing", "content"), ("two.der", "nothing")
+        cases += [(words, 2, "nothing isn't read, or has 1 GiB") for words in missing]
+        cases += [((it, "content"), 1, "no certificate with a key of RSA") for it in wrong]
+        cases.append((("more", "content"), 1, "the certificate is no DER"))
+        for words, status, said in cases:
+            ran = self.in_c(*words)
+            self.same((ran.returncode, ran.stdout, ran.stderr), (status, b"", f"{said}\n".encode()), words)
+
+    @needs("cryptography")
+    def test_what_the_example_in_python_refuses(self):
+        *unread, curve, other_curve, pss = self.no_certificates()
+        usage = b"usage: build_enveloped.py [--oaep] CERTIFICATE [FILE]\n"
+        for words in ((), ("--oaep",), ("two.der", "content", "more"), ("--oaep", "two.der", "content", "more")):
+            ran = in_python(ENVELOP_IN_PYTHON, *words)
+            self.same((ran.returncode, ran.stdout, ran.stderr), (2, b"", usage), words)
+        making.certificate("short", key="rsa:512")
+        in_der("short")
+        cases = [((it, "content"), NO_RSA_KEY) for it in (curve, other_curve, pss)]
+        cases += [((it, "content"), "the certificate is refused: ") for it in (*unread, "more")]
+        cases += [(words, "[Errno 2] ") for words in (("nothing", "content"), ("two.der", "nothing"), ("nothing",))]
+        # a key of which OAEP has no room for another one
+        cases.append((("--oaep", "short", "content"), ""))
+        for words, said in cases:
+            ran = in_python(ENVELOP_IN_PYTHON, *words)
+            found = ran.stderr.decode()
+            its = ran.returncode, ran.stdout, found.startswith(said), found.count("\n"), "Traceback" in found
+            self.same(its, (1, b"", True, 1, False), words, found)
+
+
+def deciphered(words):
+    """What openssl decrypts of the file `made`."""
+    given = "cms", "-decrypt", "-binary", "-inform", "DER", "-in", "made", *words.split()
+    ran = tools.ended("openssl", *given)
+    return ran.stdout if ran.returncode == 0 else "refused"
+
+
+def but_for_what_is_random(file):
+    """The parts of enveloped data with one recipient, of which the encrypted key, the vector and the encrypted content
+    are lengths; and that key and that vector."""
+    version, recipients, content = making.fields_of(octets(file))
+    [recipient] = parts(recipients)
+    *named, key = parts(recipient)
+    content_type, algorithm, encrypted = parts(content)
+    cipher, vector = parts(algorithm)
+    lengths = [(it[0], len(it)) for it in (key, vector, encrypted)]
+    return (version, recipient[0], named, content_type, cipher, lengths), {key, vector}
 
 
 if __name__ == "__main__":

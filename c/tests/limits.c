@@ -1,8 +1,8 @@
 /* limits KIND < FILE makes each call over a file, with marks around all that the call may write, and says its status
  * and its numbers. Then it makes the call again, while one request for memory after another is refused: each comes to
  * DER_NO_MEMORY, or changes nothing. limits KIND LIMIT allows so many levels of nesting. limits alone asks for the
- * words of all kinds, and builds signed data of many certificates, revocation lists and signers, with room enough and a
- * byte less.
+ * words of all kinds, and builds signed data of many certificates, revocation lists and signers, and enveloped data of
+ * many recipients, with room enough and a byte less.
  * Ends with 4, and says why, where a call writes what der.h doesn't say, or keeps memory.
  * To be linked with -Wl,--wrap=malloc,--wrap=realloc,--wrap=free. */
 #include "der.h"
@@ -14,11 +14,11 @@ enum { MARK = 0xEE, MARGIN = 64, SPARE = 16, LONGEST = 1 << 20 };
 /* How many octets at the front of an input are taken as those of an INTEGER: each digit of it takes memory. */
 enum { LONGEST_INTEGER = 24 };
 
-/* What follows an input of which bags, stores, signed data and indirect data are built: the contents octets of an
- * object identifier; a name in UTF-16, which is taken as flags too; and a SET OF Attribute, of one of that type with
- * the value NULL, and of a friendlyName without a value, which isn't written into a bag. Then the contents octets of
- * id-data; a time; an AlgorithmIdentifier; and a SET OF Attribute, of a contentType that is id-data and of a
- * messageDigest. */
+/* What follows an input of which bags, stores, signed data, indirect data and enveloped data are built: the contents
+ * octets of an object identifier; a name in UTF-16, which is taken as flags too; and a SET OF Attribute, of one of that
+ * type with the value NULL, and of a friendlyName without a value, which isn't written into a bag. Then the contents
+ * octets of id-data; a time; an AlgorithmIdentifier; a SET OF Attribute, of a contentType that is id-data and of a
+ * messageDigest; and a KeyTransRecipientInfo with nothing but its version. */
 static const uint8_t rest[] = {
     0x2A, 3, 4, 0, 'a', 0xD8, 0x3D, 0xDE, 0, 0x31, 26, 0x30, 9, 6, 3, 0x2A, 3, 4, 0x31, 2, 5, 0, 0x30, 13, 6, 9, 0x2A,
     0x86, 0x48, 0x86, 0xF7, 0x0D, 1, 9, 20, 0x31, 0,
@@ -26,19 +26,22 @@ static const uint8_t rest[] = {
     '2', '0', '5', '0', '0', '1', '0', '1', '0', '0', '0', '0', '0', '0', 'Z',
     0x30, 7, 6, 3, 0x2A, 3, 4, 5, 0,
     0x31, 46, 0x30, 24, 6, 9, 0x2A, 0x86, 0x48, 0x86, 0xF7, 0x0D, 1, 9, 3, 0x31, 11, 6, 9, 0x2A, 0x86, 0x48, 0x86, 0xF7,
-    0x0D, 1, 7, 1, 0x30, 18, 6, 9, 0x2A, 0x86, 0x48, 0x86, 0xF7, 0x0D, 1, 9, 4, 0x31, 5, 4, 3, 0x2A, 3, 4};
+    0x0D, 1, 7, 1, 0x30, 18, 6, 9, 0x2A, 0x86, 0x48, 0x86, 0xF7, 0x0D, 1, 9, 4, 0x31, 5, 4, 3, 0x2A, 3, 4,
+    0x30, 3, 2, 1, 0};
 
 /* The calls, by the word that begins their lines. */
 typedef enum {
   CHECK, LOCATE, LOOSE_END, REWRITE, MAC, MAC_NUMBERS, FROM_BER, MAC_BER, MAC_PART_BER, NAME, OID, OID_OCTETS, OID_NAME,
   PART, KIND, SIGNERS, SIGNER, RANGES, ATTRIBUTES, BAGS, CERTIFICATE, INDIRECT, TRUST_LIST, TRUST_ROWS, PASSWORD, BUILD,
-  BUILD_BAGS, BUILD_SAFE, BUILD_STORE, BUILD_ATTRIBUTES, BUILD_SIGNED, BUILD_INDIRECT, INTEGER, UTF16, TEXT_UTF16
+  BUILD_BAGS, BUILD_SAFE, BUILD_STORE, BUILD_ATTRIBUTES, BUILD_SIGNED, BUILD_INDIRECT, BUILD_RECIPIENT,
+  BUILD_ENVELOPED, INTEGER, UTF16, TEXT_UTF16
 } call;
 static const char *const calls[] = {
     "check",     "locate",   "loose_end", "rewrite", "mac",  "mac_numbers", "from_ber", "mac_ber", "mac_part_ber",
     "name_text", "oid_text", "oid_octets", "oid_name", "part", "kind", "signers", "signer", "ranges", "attributes",
     "bags", "certificate", "indirect", "trust_list", "trust_rows", "password", "build", "build_bags", "build_safe",
-    "build_store", "build_attributes", "build_signed", "build_indirect", "integer_text", "utf16_text", "text_utf16"};
+    "build_store", "build_attributes", "build_signed", "build_indirect", "build_recipient", "build_enveloped",
+    "integer_text", "utf16_text", "text_utf16"};
 
 /* What a call is given: the index of a kind or of a signer, or the number of a part or of a holder, where it takes one,
  * a limit if there is one, and what it builds from: of bags, and of contents, so many. */
@@ -59,6 +62,10 @@ typedef struct {
   const der_range *certificates, *crls;
   const der_signer_given *signers;
   size_t certificates_len, crls_len, signers_len;
+  der_recipient_given recipient;
+  der_enveloped_given enveloped;
+  const der_range *recipients;
+  size_t recipients_len;
 } given;
 
 /* What a call answers: its status, and its numbers, 0 where it has but one. */
@@ -113,9 +120,11 @@ static int lists(call it) {
 /* How many numbers a call writes. */
 static int numbers_of(call it) {
   const int is_built = it == BUILD || it == BUILD_SAFE || it == BUILD_STORE || it == BUILD_ATTRIBUTES ||
-                       it == BUILD_INDIRECT;
+                       it == BUILD_INDIRECT || it == BUILD_RECIPIENT;
   const int two = it == MAC || it == FROM_BER || it == PART || is_built || lists(it);
-  return it == MAC_NUMBERS || it == MAC_BER || it == BUILD_BAGS || it == BUILD_SIGNED ? 3 : two ? 2 : 1;
+  const int three = it == MAC_NUMBERS || it == MAC_BER || it == BUILD_BAGS || it == BUILD_SIGNED ||
+                    it == BUILD_ENVELOPED;
+  return three ? 3 : two ? 2 : 1;
 }
 
 /* Whether a call writes so many bytes as its first number says. */
@@ -123,7 +132,7 @@ static int says_written(call it) {
   return it == REWRITE || it == FROM_BER || it == MAC_PART_BER || it == NAME || it == OID || it == OID_OCTETS ||
          it == OID_NAME || it == INTEGER || it == UTF16 || it == TEXT_UTF16 || it == PART || it == KIND ||
          it == BUILD || it == BUILD_BAGS || it == BUILD_SAFE || it == BUILD_STORE || it == BUILD_ATTRIBUTES ||
-         it == BUILD_SIGNED || it == BUILD_INDIRECT;
+         it == BUILD_SIGNED || it == BUILD_INDIRECT || it == BUILD_RECIPIENT || it == BUILD_ENVELOPED;
 }
 
 /* How many bytes a call writes of signers, of which there are so many from that index on. */
@@ -323,6 +332,14 @@ static answer made(call it, const given *its, uint8_t *room, size_t out_len) {
   case BUILD_INDIRECT:
     said.status = (der_status)der_build_indirect(its->input, its->len, &its->indirect, out, out_len, &first.it,
                                                  &second.it);
+    break;
+  case BUILD_RECIPIENT:
+    said.status = (der_status)der_build_recipient(its->input, its->len, &its->recipient, out, out_len, &first.it,
+                                                  &second.it);
+    break;
+  case BUILD_ENVELOPED:
+    said.status = (der_status)der_build_enveloped(its->input, its->len, &its->enveloped, its->recipients,
+                                                  its->recipients_len, out, out_len, &first.it, &second.it, &third.it);
     break;
   }
   said.first = first.it;
@@ -860,7 +877,132 @@ static void found_indirect(given its, uint8_t *room) {
     text(BUILD_INDIRECT, &its, room);
 }
 
-/* Builds bags, stores, signed data and indirect data of the input. */
+/* Builds a recipient with what can't be written in the place of each part in turn: that part is told, or isn't looked
+ * at. Then with other flags, which mean the same. */
+static void wrong_recipient(given its, uint8_t *room, size_t size) {
+  static const size_t most = (size_t)-1;
+  der_recipient_given *now = &its.recipient;
+  const int by_key = now->is_kek || now->has_key_identifier;
+  const told parts[] = {{DER_RECIPIENT_PART_IDENTIFIER, 0, &now->certificate, !by_key, 0},
+                        {DER_RECIPIENT_PART_IDENTIFIER, 0, &now->key_identifier, by_key, 1},
+                        {DER_RECIPIENT_PART_ALGORITHM, 0, &now->algorithm, 1, 0},
+                        {DER_RECIPIENT_PART_KEY, 0, &now->key, 1, 1}};
+  for (size_t nth = 0; nth < sizeof parts / sizeof *parts; nth++)
+    wrong_ranges(BUILD_RECIPIENT, &its, parts[nth], room, size);
+  now->has_key_identifier = now->is_kek ? !now->has_key_identifier : now->has_key_identifier ? most : 0;
+  now->is_kek = now->is_kek ? most : 0;
+  const answer said = made(BUILD_RECIPIENT, &its, room, size);
+  if (said.status != DER_NORMAL || said.first != size)
+    fault(BUILD_RECIPIENT, "a flag means something else where it isn't 1, or of a key-encryption key");
+}
+
+/* Builds recipients with a key pair and with a key-encryption key, with the input in the place of each part in turn,
+ * and in the place of none. A certificate in the input names the former. */
+static void recipients(given its, uint8_t *room) {
+  const size_t at = its.len - sizeof rest;
+  der_range *const places[] = {&its.recipient.certificate, &its.recipient.key_identifier, &its.recipient.algorithm,
+                               &its.recipient.key};
+  enum { PLACES = sizeof places / sizeof *places };
+  for (size_t nth = 0; nth < 2 * (PLACES + 1); nth++) {
+    const size_t place = nth % (PLACES + 1);
+    its.recipient = (der_recipient_given){.is_kek = nth / (PLACES + 1), .has_key_identifier = place > 0,
+                                          .key_identifier = {at + 3, 6}, .algorithm = {at + 61, 9}, .key = {at + 3, 6}};
+    if (place < PLACES)
+      *places[place] = (der_range){0, at};
+    const answer said = text(BUILD_RECIPIENT, &its, room);
+    if (said.status == DER_NORMAL)
+      wrong_recipient(its, room, said.first);
+  }
+}
+
+/* Builds enveloped data with what can't be written in the place of each part in turn, and of each of two recipients: it
+ * is told, or isn't looked at. Then without a recipient. */
+static void wrong_parts_of_enveloped(given its, uint8_t *room, size_t size) {
+  der_range two[] = {its.recipients[0], its.recipients[1]};
+  der_enveloped_given *now = &its.enveloped;
+  const told parts[] = {{DER_ENVELOPED_PART_CONTENT_TYPE, 0, &now->content_type, 1, 0},
+                        {DER_ENVELOPED_PART_ALGORITHM, 0, &now->algorithm, 1, 0},
+                        {DER_ENVELOPED_PART_CONTENT, 0, &now->content, !!now->has_content, 1},
+                        {DER_ENVELOPED_PART_RECIPIENT, 0, &two[0], 1, 0},
+                        {DER_ENVELOPED_PART_RECIPIENT, 1, &two[1], 1, 0},
+                        {DER_ENVELOPED_PART_ATTRIBUTES, 0, &now->attributes, !!now->has_attributes, 0}};
+  its.recipients = two;
+  for (size_t nth = 0; nth < sizeof parts / sizeof *parts; nth++)
+    wrong_ranges(BUILD_ENVELOPED, &its, parts[nth], room, size);
+  its.recipients_len = 0;
+  const answer said = made(BUILD_ENVELOPED, &its, room, size);
+  if (said.status != DER_INVALID || said.second || said.third != DER_ENVELOPED_PART_RECIPIENTS)
+    fault(BUILD_ENVELOPED, "it takes no recipients, or tells another part");
+}
+
+/* The same; and with other flags, which mean the same, and with those that say that parts aren't there, which then
+ * aren't looked at. */
+static void wrong_enveloped(given its, uint8_t *room, size_t size) {
+  static const size_t most = (size_t)-1;
+  der_enveloped_given *now = &its.enveloped;
+  const int has_more = now->has_content || now->has_attributes;
+  wrong_parts_of_enveloped(its, room, size);
+  now->has_content = now->has_content ? most : 0;
+  now->has_attributes = now->has_attributes ? most : 0;
+  answer said = made(BUILD_ENVELOPED, &its, room, size);
+  if (said.status != DER_NORMAL || said.first != size)
+    fault(BUILD_ENVELOPED, "a flag means something else where it isn't 1");
+  now->has_content = now->has_attributes = 0;
+  now->content.len = now->attributes.len = most;
+  said = made(BUILD_ENVELOPED, &its, room, size);
+  if (said.status != DER_NORMAL || (has_more ? said.first >= size : said.first != size))
+    fault(BUILD_ENVELOPED, "it looks at parts that aren't there");
+}
+
+/* Builds enveloped data without a recipient; and of two, without content and attributes and with both, with the input
+ * in the place of the second recipient, and of each other part in turn, and in the place of none. */
+static void enveloped(given its, uint8_t *room) {
+  const size_t at = its.len - sizeof rest;
+  const der_range recipient = {at + 118, 5};
+  der_range two[2];
+  der_range *const places[] = {&its.enveloped.content_type, &its.enveloped.algorithm, &its.enveloped.content, &two[1],
+                               &its.enveloped.attributes};
+  enum { PLACES = sizeof places / sizeof *places };
+  its.recipients = two;
+  for (size_t nth = 0; nth < 2 * (PLACES + 1); nth++) {
+    const size_t place = nth % (PLACES + 1), has_more = nth / (PLACES + 1);
+    two[0] = two[1] = recipient;
+    its.enveloped = (der_enveloped_given){.has_content = has_more, .has_attributes = has_more,
+                                          .content_type = {at + 37, 9}, .algorithm = {at + 61, 9},
+                                          .content = {at + 3, 6}, .attributes = {at + 9, 28}};
+    its.recipients_len = 0;
+    if (!place)
+      text(BUILD_ENVELOPED, &its, room);
+    if (place < PLACES)
+      *places[place] = (der_range){0, at};
+    its.recipients_len = 2;
+    const answer said = text(BUILD_ENVELOPED, &its, room);
+    if (said.status == DER_NORMAL)
+      wrong_enveloped(its, room, said.first);
+  }
+}
+
+/* Builds enveloped data of many recipients, each with two octets of its own. */
+static void many_enveloped(uint8_t *room) {
+  enum { MANY = 10000 };
+  static uint8_t input[9 * MANY + 18];
+  static der_range elements[MANY];
+  static const uint8_t others[] = {0x2A, 0x86, 0x48, 0x86, 0xF7, 0x0D, 1, 7, 1, 0x30, 7, 6, 3, 0x2A, 3, 4, 5, 0};
+  const size_t at = 9 * MANY;
+  const given its = {.input = input, .len = sizeof input, .recipients = elements, .recipients_len = MANY,
+                     .enveloped = {.content_type = {at, 9}, .algorithm = {at + 9, 9}}};
+  memcpy(input + at, others, sizeof others);
+  for (size_t nth = 0; nth < MANY; nth++) {
+    const size_t number = MANY - nth;
+    const uint8_t element[] = {0x30, 7, 2, 1, 0, 4, 2, (uint8_t)(number / 256), (uint8_t)number};
+    memcpy(input + 9 * nth, element, sizeof element);
+    elements[nth] = (der_range){9 * nth, 9};
+  }
+  const answer said = tried_some(BUILD_ENVELOPED, &its, room, LONGEST, 1);
+  tried_some(BUILD_ENVELOPED, &its, room, said.first - 1, 1);
+}
+
+/* Builds bags, stores, signed data, indirect data and enveloped data of the input. */
 static void built(given its, uint8_t *room) {
   its.len += sizeof rest;
   bags(its, room);
@@ -869,6 +1011,8 @@ static void built(given its, uint8_t *room) {
   attributes(its, room);
   signed_data(its, room);
   indirect(its, room);
+  recipients(its, room);
+  enveloped(its, room);
 }
 
 int main(int count, char **words) {
@@ -879,6 +1023,7 @@ int main(int count, char **words) {
   if (count == 1) {
     kinds(room);
     many_signed(room);
+    many_enveloped(room);
     return 0;
   }
   its.kind = words[1];

@@ -17,6 +17,7 @@ command `vuyhanip` over files, which is `python -m vuyhanip` too.
     vuyhanip.build.store([..])      what a store holds, and what its MAC covers; finish(mac) makes the store
     vuyhanip.build.signed(octets, [..])   what signatures cover; finish(signatures) makes the file of signed data
     vuyhanip.build.program(algorithm, digest)   what a signature of a program for Windows signs, as Authenticode has it
+    vuyhanip.build.enveloped(encrypted, [..], algorithm)   enveloped data around what was encrypted for recipients
     vuyhanip.mac_verdict(data, password).is_right   whether the MAC of a store is right, as the program openssl says
 
 help(vuyhanip.der) says what each call does. An installed package has the library for C in its folder, and its version.
@@ -35,20 +36,24 @@ from .der import (
     BadAttributes,
     BadBag,
     BadContent,
+    BadEnveloped,
     BadIndirect,
     BadParameters,
+    BadRecipient,
     BadSigned,
     BadStore,
     Bag,
     BagKind,
     BagPart,
     Certificate,
+    EnvelopedPart,
     EnvelopePart,
     GivenBag,
     GivenContent,
     GivenImage,
     GivenIndirect,
     GivenMac,
+    GivenRecipient,
     GivenSigner,
     ImageData,
     IndirectData,
@@ -59,6 +64,7 @@ from .der import (
     PasswordHolder,
     PasswordParameters,
     PasswordPart,
+    RecipientPart,
     Refused,
     SignedData,
     SignedPart,
@@ -79,13 +85,13 @@ from .der import (
 if TYPE_CHECKING:
     from .findings import Finding
 
-__all__ = ["MAX_NESTING", "AttributesPart", "BadAttributes", "BadBag", "BadContent", "BadIndirect", "BadParameters"]
-__all__ += ["BadSigned", "BadStore", "Bag", "BagKind", "BagPart", "Certificate", "EnvelopePart", "GivenBag"]
-__all__ += ["GivenContent", "GivenImage", "GivenIndirect", "GivenMac", "GivenSigner", "ImageData", "IndirectData"]
-__all__ += ["IndirectPart", "Library", "Mac", "Part", "PasswordHolder", "PasswordParameters", "PasswordPart", "Refused"]
-__all__ += ["SignedData", "SignedPart", "Signer", "SignerInfo", "Store", "StorePart", "TrustEntry", "TrustList"]
-__all__ += ["UnknownKind", "Verdict", "attribute_oid", "attribute_values", "dotted", "hashed_octets", "library"]
-__all__ += ["mac_verdict"]
+__all__ = ["MAX_NESTING", "AttributesPart", "BadAttributes", "BadBag", "BadContent", "BadEnveloped", "BadIndirect"]
+__all__ += ["BadParameters", "BadRecipient", "BadSigned", "BadStore", "Bag", "BagKind", "BagPart", "Certificate"]
+__all__ += ["EnvelopedPart", "EnvelopePart", "GivenBag", "GivenContent", "GivenImage", "GivenIndirect", "GivenMac"]
+__all__ += ["GivenRecipient", "GivenSigner", "ImageData", "IndirectData", "IndirectPart", "Library", "Mac", "Part"]
+__all__ += ["PasswordHolder", "PasswordParameters", "PasswordPart", "RecipientPart", "Refused", "SignedData"]
+__all__ += ["SignedPart", "Signer", "SignerInfo", "Store", "StorePart", "TrustEntry", "TrustList", "UnknownKind"]
+__all__ += ["Verdict", "attribute_oid", "attribute_values", "dotted", "hashed_octets", "library", "mac_verdict"]
 
 _HERE = os.path.dirname(os.path.realpath(__file__))
 

@@ -115,6 +115,19 @@ SIGNED_PART_SIGNATURE_ALGORITHM: Final = 8
 SIGNED_PART_SIGNATURE: Final = 9
 SIGNED_PART_UNSIGNED_ATTRIBUTES: Final = 10
 
+# der_recipient_part
+RECIPIENT_PART_IDENTIFIER: Final = 1
+RECIPIENT_PART_ALGORITHM: Final = 2
+RECIPIENT_PART_KEY: Final = 3
+
+# der_enveloped_part
+ENVELOPED_PART_CONTENT_TYPE: Final = 1
+ENVELOPED_PART_ALGORITHM: Final = 2
+ENVELOPED_PART_CONTENT: Final = 3
+ENVELOPED_PART_RECIPIENT: Final = 4
+ENVELOPED_PART_RECIPIENTS: Final = 5
+ENVELOPED_PART_ATTRIBUTES: Final = 6
+
 
 class Range(ctypes.Structure):
     """A der_range."""
@@ -466,6 +479,44 @@ class SignerGiven(ctypes.Structure):
     unsigned_attributes: Range
 
 
+class RecipientGiven(ctypes.Structure):
+    """A der_recipient_given."""
+
+    _fields_ = [
+        ("is_kek", ctypes.c_size_t),
+        ("has_key_identifier", ctypes.c_size_t),
+        ("certificate", Range),
+        ("key_identifier", Range),
+        ("algorithm", Range),
+        ("key", Range),
+    ]
+    is_kek: int
+    has_key_identifier: int
+    certificate: Range
+    key_identifier: Range
+    algorithm: Range
+    key: Range
+
+
+class EnvelopedGiven(ctypes.Structure):
+    """A der_enveloped_given."""
+
+    _fields_ = [
+        ("has_content", ctypes.c_size_t),
+        ("has_attributes", ctypes.c_size_t),
+        ("content_type", Range),
+        ("algorithm", Range),
+        ("content", Range),
+        ("attributes", Range),
+    ]
+    has_content: int
+    has_attributes: int
+    content_type: Range
+    algorithm: Range
+    content: Range
+    attributes: Range
+
+
 # What calls answer, and what they take.
 STATUS = ctypes.c_uint32
 _BYTE, _SIZE = ctypes.c_uint8, ctypes.c_size_t
@@ -492,6 +543,9 @@ ARGUMENTS: Dict[str, Tuple[object, ...]] = {
     "der_build_signed": (_OCTETS, _SIZE, ctypes.POINTER(SignedGiven), ctypes.POINTER(Range), _SIZE,
         ctypes.POINTER(Range), _SIZE, ctypes.POINTER(SignerGiven), _SIZE, _OCTETS, _SIZE, _NUMBER, _NUMBER, _NUMBER),
     "der_build_indirect": (_OCTETS, _SIZE, ctypes.POINTER(IndirectParts), _OCTETS, _SIZE, _NUMBER, _NUMBER),
+    "der_build_recipient": (_OCTETS, _SIZE, ctypes.POINTER(RecipientGiven), _OCTETS, _SIZE, _NUMBER, _NUMBER),
+    "der_build_enveloped": (_OCTETS, _SIZE, ctypes.POINTER(EnvelopedGiven), ctypes.POINTER(Range), _SIZE, _OCTETS,
+        _SIZE, _NUMBER, _NUMBER, _NUMBER),
     "der_mac_range": (_OCTETS, _SIZE, _NUMBER, _NUMBER),
     "der_mac": (_OCTETS, _SIZE, _NUMBER, _NUMBER, _NUMBER),
     "der_from_ber": (_OCTETS, _SIZE, _OCTETS, _SIZE, _NUMBER, _NUMBER),

@@ -1,5 +1,5 @@
 """Parameters of encryption with a password, made from scratch, and what is built with them; stores of PKCS #12 (RFC
-7292); signed data of CMS (RFC 5652) and PKCS #7; and what Authenticode signs. All is DER:
+7292); signed data of CMS (RFC 5652) and PKCS #7; what Authenticode signs; and enveloped data of CMS. All is DER:
 
     its = build.pbes2(
         build.AES_256_CBC, initialization_vector=vector, salt=salt, iterations=600_000, prf=build.HMAC_WITH_SHA256,
@@ -26,12 +26,16 @@
     build.hashed_octets(content)     what the digest of that is over, which the signer has
     build.signed(content, [signer], content_type=build.INDIRECT_DATA, is_element=True)
 
+    its = build.Recipient(build.algorithm(build.RSA, build.NULL), encrypted_key, certificate)
+    build.enveloped(encrypted, [its], build.algorithm(build.AES_256_CBC, parameters))   a file for that recipient
+
 Nothing is derived, encrypted, hashed, signed or judged here. Take a new random salt (RFC 8018, 4.1) and a new random
 vector each time, derive the key by the same salt, count and function, and encrypt by that key and the vector: encrypted
-is written as it is given, and so are the digest of a MAC, the digest of a content or of a program and a signature.
-Object identifiers are text, as "1.3.14.3.2.26". Where a part can't be written, BadParameters is raised, BadBag,
-BadContent, BadStore, BadAttributes, BadSigned or BadIndirect; and Refused where pbes2, pbes1, pkcs12, algorithm, signed
-or indirect is given what is no object identifier.
+is written as it is given, and so are the digest of a MAC, the digest of a content or of a program, a signature, and
+what enveloped data hold and the keys of their recipients. Object identifiers are text, as "1.3.14.3.2.26". Where a part
+can't be written, BadParameters is raised, BadBag, BadContent, BadStore, BadAttributes, BadSigned, BadIndirect,
+BadRecipient or BadEnveloped; and Refused where pbes2, pbes1, pkcs12, algorithm, signed, indirect or enveloped is given
+what is no object identifier.
 """
 import datetime
 from typing import Iterable, List, NamedTuple, Optional, Sequence, Tuple, Union
@@ -40,9 +44,10 @@ from . import der, library
 from .der import Bytes, GivenContent, GivenImage, GivenIndirect, GivenSigner, PasswordHolder, PasswordParameters
 from .der import hashed_octets as hashed_octets
 
-# A bag and a MAC that are made from scratch.
+# A bag, a MAC and a recipient that are made from scratch.
 Bag = der.GivenBag
 Mac = der.GivenMac
+Recipient = der.GivenRecipient
 
 # PBES2 (RFC 8018, A.4) and PBKDF2 (A.2).
 PBES2, PBKDF2 = "1.2.840.113549.1.5.13", "1.2.840.113549.1.5.12"
@@ -65,6 +70,15 @@ NULL = b"\x05\x00"
 INDIRECT_DATA = "1.3.6.1.4.1.311.2.1.4"
 INCLUDE_RESOURCES = b"\x07\x80"
 OBSOLETE_LINK = b"\xA2\x1E\x80\x1C" + "<<<Obsolete>>>".encode("utf-16-be")
+# How the key of a recipient is encrypted. RSA, above, is PKCS #1 v1.5 there (RFC 3370, 4.2.1); RSAES-OAEP has
+# parameters (RFC 4055, 4.1), here those of SHA-256 and of MGF1 with SHA-256, as openssl writes them. The AES Key Wrap,
+# for a recipient with a key-encryption key, has none (RFC 3565, 2.3.2).
+RSAES_OAEP = "1.2.840.113549.1.1.7"
+OAEP_WITH_SHA256 = bytes.fromhex(
+    "302BA00D300B0609608648016503040201A11A301806092A864886F70D010108300B0609608648016503040201"
+)
+AES_128_WRAP, AES_192_WRAP = "2.16.840.1.101.3.4.1.5", "2.16.840.1.101.3.4.1.25"
+AES_256_WRAP = "2.16.840.1.101.3.4.1.45"
 
 
 def parameters(holder: PasswordHolder, given: PasswordParameters) -> bytes:
@@ -356,6 +370,48 @@ def indirect(
     """
     its_type = library().oid_octets(attribute_type)
     return library().build_indirect(GivenIndirect(digest_algorithm, digest, None, its_type, attribute_value))
+
+
+def recipient(recipient: Recipient) -> bytes:
+    """A recipient, one RecipientInfo, as Library.build_recipient makes it: enveloped takes it too. Raises BadRecipient
+    where a part can't be written.
+    """
+    return library().build_recipient(recipient)
+
+
+def enveloped(
+    content: Optional[Bytes],
+    recipients: Iterable[Union[Recipient, Bytes]],
+    algorithm: Bytes,
+    *,
+    content_type: str = DATA,
+    attributes: Bytes = b"",
+) -> bytes:
+    """Enveloped data, as Library.build_enveloped makes them, around content that is encrypted already: None where it
+    isn't in the file. A recipient is a Recipient, or octets: a RecipientInfo of any kind, as it is. In the file they
+    are in the order of DER. algorithm is the AlgorithmIdentifier by which the content is encrypted, with the element of
+    its parameters: of AES in CBC mode its vector, an OCTET STRING. content_type is the type of what was encrypted, and
+    attributes the element of a SET OF Attribute that isn't encrypted, as Library.build_attributes makes it, or no
+    octets where there are none.
+
+    Nothing in the file says whether it was changed: content that is changed, or a vector, is decrypted to something
+    else. Raises BadRecipient, whose index is that of a recipient, or BadEnveloped where something can't be written.
+    """
+    its_type = library().oid_octets(content_type)
+    its_recipients = [_recipient(index, it) for index, it in enumerate(recipients)]
+    # a memoryview may be of octets and false
+    its_attributes = attributes if len(attributes) else None
+    return library().build_enveloped(its_type, content, algorithm, its_recipients, its_attributes)
+
+
+def _recipient(index: int, given: Union[Recipient, Bytes]) -> Bytes:
+    """The RecipientInfo of a recipient, by its index."""
+    if not isinstance(given, der.GivenRecipient):
+        return given
+    try:
+        return recipient(given)
+    except der.BadRecipient as bad:
+        raise der.BadRecipient(bad.part, index) from None
 
 
 def utf16(text: str) -> bytes:

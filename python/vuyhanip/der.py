@@ -25,6 +25,8 @@ DER, from Python.
     library.build_attributes(octets, digest, time)         that of a signer's attributes, which its signature covers
     library.build_signed(octets, content, signers=[GivenSigner(..)])   that of signed data, around their signatures
     library.build_indirect(GivenIndirect(algorithm, digest, GivenImage(..)))   that of what Authenticode signs
+    library.build_recipient(GivenRecipient(algorithm, key, certificate))       that of a recipient, with its key
+    library.build_enveloped(octets, content, algorithm, [recipient])           that of enveloped data, as bytes
     library.oid_octets("1.3.14.3.2.26")   the contents octets of an object identifier, as bytes
     library.text_utf16("me")         a text in UTF-16, as bytes
     library.from_ber(data)           the DER of an input in BER, as bytes
@@ -893,6 +895,38 @@ class IndirectPart(enum.Enum):
     IMAGE_LINK = _calls.INDIRECT_PART_IMAGE_LINK
 
 
+class RecipientPart(enum.Enum):
+    """What of a GivenRecipient can't be written, by its number in der.h: a field, or what names it, in capitals."""
+
+    # certificate is none, or neither it nor key_identifier is given, or both are; or where is_kek, key_identifier isn't
+    # given
+    IDENTIFIER = _calls.RECIPIENT_PART_IDENTIFIER
+    # it isn't given, or is no AlgorithmIdentifier
+    ALGORITHM = _calls.RECIPIENT_PART_ALGORITHM
+    # it isn't given; any octets can be written
+    KEY = _calls.RECIPIENT_PART_KEY
+
+
+class EnvelopedPart(enum.Enum):
+    """What build_enveloped can't write, by its number in der.h: what it is given, in capitals, and one of the
+    recipients in the singular. An EnvelopePart is another thing: one that ranges lists.
+    """
+
+    # it isn't given, or is no object identifier
+    CONTENT_TYPE = _calls.ENVELOPED_PART_CONTENT_TYPE
+    # it isn't given, or is no AlgorithmIdentifier
+    ALGORITHM = _calls.ENVELOPED_PART_ALGORITHM
+    # never from Python: any octets can be written
+    CONTENT = _calls.ENVELOPED_PART_CONTENT
+    # it is no element with the tag of a RecipientInfo (RFC 5652, 6.2); or it has that of one with a key pair, and isn't
+    # a SEQUENCE that begins with the version 0 or 2
+    RECIPIENT = _calls.ENVELOPED_PART_RECIPIENT
+    # there are none
+    RECIPIENTS = _calls.ENVELOPED_PART_RECIPIENTS
+    # they are no SET OF Attribute, or an empty one
+    ATTRIBUTES = _calls.ENVELOPED_PART_ATTRIBUTES
+
+
 class BadBag(ValueError):
     """Bags that build_bags doesn't write. bag is the index of the first that can't be written, from 0 on, and part a
     BagPart: the first of it that can't. content is None, but where build.store raises it: there it is the index of the
@@ -962,6 +996,37 @@ class BadIndirect(ValueError):
 
     def __str__(self) -> str:
         return f"{self.part.name.lower()} can't be written"
+
+
+class BadRecipient(ValueError):
+    """A recipient that build_recipient doesn't write. part is a RecipientPart; where several parts can't be written, it
+    is one of them. index is None, but where build.enveloped raises it: there it is the index of the recipient, from 0
+    on.
+    """
+
+    def __init__(self, part: RecipientPart, index: Optional[int] = None) -> None:
+        super().__init__(part, index)
+        self.part = part
+        self.index = index
+
+    def __str__(self) -> str:
+        its_recipient = "" if self.index is None else f" of recipient {self.index}"
+        return f"{self.part.name.lower()}{its_recipient} can't be written"
+
+
+class BadEnveloped(ValueError):
+    """Enveloped data that build_enveloped doesn't write. part is an EnvelopedPart; where several parts can't be
+    written, it is one of them. index is that of the recipient that it is, from 0 on; None where part is another one.
+    """
+
+    def __init__(self, part: EnvelopedPart, index: Optional[int] = None) -> None:
+        super().__init__(part, index)
+        self.part = part
+        self.index = index
+
+    def __str__(self) -> str:
+        its_index = "" if self.index is None else f" {self.index}"
+        return f"{self.part.name.lower()}{its_index} can't be written"
 
 
 class GivenBag(NamedTuple):
@@ -1061,6 +1126,24 @@ class GivenIndirect(NamedTuple):
     attribute_type: Optional[Bytes] = None
     # the element of its value, whatever is in it; None where it has none; not looked at beside an image
     attribute_value: Optional[Bytes] = None
+
+
+class GivenRecipient(NamedTuple):
+    """A recipient that build_recipient writes, with a key that the caller encrypted. One that has a key pair
+    (KeyTransRecipientInfo; RFC 5652, 6.2.1) is named by its certificate or by a key identifier: one of the two is
+    given. One that has a key-encryption key, where is_kek, has a key identifier (KEKRecipientInfo; 6.2.3).
+    """
+
+    # an AlgorithmIdentifier, with its parameters: how the key is encrypted
+    algorithm: Bytes
+    # the encrypted key: the octets of encryptedKey
+    key: Bytes
+    # the DER of its X.509 certificate, whose issuer and serial number name it
+    certificate: Optional[Bytes] = None
+    # the octets of that certificate's subjectKeyIdentifier; where is_kek, those that name the key-encryption key
+    key_identifier: Optional[Bytes] = None
+    # whether it has a key-encryption key, and no key pair
+    is_kek: bool = False
 
 
 def _number(contents: Optional[memoryview]) -> Optional[int]:
@@ -1297,8 +1380,8 @@ def _time_given(time: Optional[datetime.datetime]) -> Optional[bytes]:
 
 
 def _ranges_given(those: Iterable[Bytes], octets: _Parts) -> Tuple[object, int]:
-    """Certificates or revocation lists as the call takes them that writes signed data, and how many they are. They are
-    added to these octets.
+    """Certificates, revocation lists or recipients as the calls take them that write signed data and enveloped data,
+    and how many they are. They are added to these octets.
     """
     rows = [octets.put(it) for it in those]
     return (_calls.Range * len(rows))(*rows), len(rows)
@@ -1320,6 +1403,20 @@ def _signer_given(signer: GivenSigner, octets: _Parts) -> _calls.SignerGiven:
         signature_algorithm=octets.put(signer.signature_algorithm),
         signature=octets.put(signer.signature),
         unsigned_attributes=unsigned,
+    )
+
+
+def _recipient_given(given: GivenRecipient, octets: _Parts) -> _calls.RecipientGiven:
+    """A recipient as the call takes it that writes one. The octets of its parts are added to these."""
+    # one that has two names is given none, so it is refused
+    has_one_name = given.certificate is None or given.key_identifier is None
+    return _calls.RecipientGiven(
+        is_kek=bool(given.is_kek),
+        has_key_identifier=given.key_identifier is not None,
+        certificate=octets.put(given.certificate),
+        key_identifier=octets.put(given.key_identifier if has_one_name else None),
+        algorithm=octets.put(given.algorithm),
+        key=octets.put(given.key),
     )
 
 
@@ -2010,6 +2107,68 @@ class Library:
         status, text = _written(self._library.der_build_indirect, arguments, len(whole) + 128, ctypes.byref(part))
         if status == _calls.INVALID:
             raise BadIndirect(IndirectPart(part.value))
+        _raise_for(status, "", 0)
+        return text
+
+    def build_recipient(self, given: GivenRecipient) -> bytes:
+        """The DER of a recipient, one RecipientInfo (RFC 5652, 6.2), which build_enveloped takes: of a key pair
+        KeyTransRecipientInfo, of version 0 where its certificate names it and of version 2 where a key identifier does;
+        of a key-encryption key KEKRecipientInfo under [2], without a date and without another attribute. Recipients by
+        key agreement, by a password and of other kinds aren't made here: their elements come from elsewhere.
+
+        Nothing is encrypted: key is written as it is given. That the certificate belongs to whom it names, is valid or
+        may encrypt keys isn't looked at. Raises BadRecipient where a part can't be written.
+        """
+        octets, part = _Parts(), ctypes.c_size_t()
+        parts = _recipient_given(given, octets)
+        whole = octets.joined()
+        arguments = *_given(whole), ctypes.byref(parts)
+        # headers and a version take less than 128 octets
+        status, text = _written(self._library.der_build_recipient, arguments, len(whole) + 128, ctypes.byref(part))
+        if status == _calls.INVALID:
+            raise BadRecipient(RecipientPart(part.value))
+        _raise_for(status, "", 0)
+        return text
+
+    def build_enveloped(
+        self,
+        content_type: Bytes,
+        content: Optional[Bytes],
+        algorithm: Bytes,
+        recipients: Iterable[Bytes],
+        attributes: Optional[Bytes] = None,
+    ) -> bytes:
+        """The DER of enveloped data under its content type, a ContentInfo (RFC 5652, 3 and 6), without originatorInfo
+        and of the version that 6.1 says, around what the caller encrypted. Nothing is encrypted, padded or derived.
+
+        content_type is the contents octets of an object identifier, as oid_octets makes them: the type of what was
+        encrypted. content is the encrypted octets, and None where they aren't in the file. algorithm is an
+        AlgorithmIdentifier with its parameters, as a vector: how the content is encrypted. recipients has elements,
+        each a RecipientInfo of any kind, as build_recipient makes it or recipients reads it. In the file they are in
+        the order of DER, and one that is given twice is there twice. attributes is the element of a SET OF Attribute,
+        as build_attributes makes it, which isn't encrypted, and None where there are none. Its order stays.
+
+        Raises BadEnveloped where a part can't be written. What is in a recipient isn't looked at, but for the version
+        of one that has a key pair.
+        """
+        octets, index, part = _Parts(), ctypes.c_size_t(), ctypes.c_size_t()
+        given = _calls.EnvelopedGiven(
+            has_content=content is not None,
+            has_attributes=attributes is not None,
+            content_type=octets.put(content_type),
+            algorithm=octets.put(algorithm),
+            content=octets.put(content),
+            attributes=octets.put(attributes),
+        )
+        ranges = _ranges_given(recipients, octets)
+        whole = octets.joined()
+        arguments = *_given(whole), ctypes.byref(given), *ranges
+        # headers, a version and the object identifier of enveloped data take less than 128 octets
+        room, places = len(whole) + 128, (ctypes.byref(index), ctypes.byref(part))
+        status, text = _written(self._library.der_build_enveloped, arguments, room, *places)
+        if status == _calls.INVALID:
+            wrong = EnvelopedPart(part.value)
+            raise BadEnveloped(wrong, index.value if wrong is EnvelopedPart.RECIPIENT else None)
         _raise_for(status, "", 0)
         return text
 

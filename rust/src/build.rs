@@ -19,6 +19,11 @@ pub(crate) fn place(input: &mut Vec<u8>, part: Option<&[u8]>) -> Range {
     })
 }
 
+/// The same of several parts.
+pub(crate) fn all_placed(input: &mut Vec<u8>, parts: &[&[u8]]) -> Vec<Range> {
+    parts.iter().map(|part| place(input, Some(part))).collect()
+}
+
 /// The flag that says whether there is a part.
 pub(crate) fn is_there(part: Option<&[u8]>) -> usize {
     part.is_some().into()

@@ -1,5 +1,5 @@
 //! Signed data, built from its parts, around signatures that the caller made.
-use crate::build::{build_error, is_there, place};
+use crate::build::{all_placed, build_error, is_there, place};
 use crate::calls;
 use crate::{written, NORMAL};
 use std::fmt;
@@ -423,8 +423,8 @@ impl<'a> Signed<'a> {
             content_type: place(&mut input, Some(self.content_type)),
             content: place(&mut input, self.content),
         };
-        let certificates = all_placed(&self.certificates, &mut input);
-        let crls = all_placed(&self.crls, &mut input);
+        let certificates = all_placed(&mut input, &self.certificates);
+        let crls = all_placed(&mut input, &self.crls);
         let signers: Vec<_> = self.signers.iter().map(|signer| signer.placed(&mut input)).collect();
         let (mut index, mut part) = (0, 0);
         // headers, a version and the digest algorithm once more add less than 128 octets to a signer, unless its
@@ -440,9 +440,4 @@ impl<'a> Signed<'a> {
         });
         if status == NORMAL { Ok(out) } else { Err(refused_signed(status, index, part)) }
     }
-}
-
-/// Adds the octets of parts to the input of a call, and says where they are.
-fn all_placed(parts: &[&[u8]], input: &mut Vec<u8>) -> Vec<calls::Range> {
-    parts.iter().map(|part| place(input, Some(part))).collect()
 }

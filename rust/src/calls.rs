@@ -115,6 +115,19 @@ pub const SIGNED_PART_SIGNATURE_ALGORITHM: usize = 8;
 pub const SIGNED_PART_SIGNATURE: usize = 9;
 pub const SIGNED_PART_UNSIGNED_ATTRIBUTES: usize = 10;
 
+// der_recipient_part
+pub const RECIPIENT_PART_IDENTIFIER: usize = 1;
+pub const RECIPIENT_PART_ALGORITHM: usize = 2;
+pub const RECIPIENT_PART_KEY: usize = 3;
+
+// der_enveloped_part
+pub const ENVELOPED_PART_CONTENT_TYPE: usize = 1;
+pub const ENVELOPED_PART_ALGORITHM: usize = 2;
+pub const ENVELOPED_PART_CONTENT: usize = 3;
+pub const ENVELOPED_PART_RECIPIENT: usize = 4;
+pub const ENVELOPED_PART_RECIPIENTS: usize = 5;
+pub const ENVELOPED_PART_ATTRIBUTES: usize = 6;
+
 /// `der_range`
 #[repr(C)]
 #[derive(Clone, Copy, Default)]
@@ -325,6 +338,30 @@ pub struct SignerGiven {
     pub unsigned_attributes: Range,
 }
 
+/// `der_recipient_given`
+#[repr(C)]
+#[derive(Clone, Copy, Default)]
+pub struct RecipientGiven {
+    pub is_kek: usize,
+    pub has_key_identifier: usize,
+    pub certificate: Range,
+    pub key_identifier: Range,
+    pub algorithm: Range,
+    pub key: Range,
+}
+
+/// `der_enveloped_given`
+#[repr(C)]
+#[derive(Clone, Copy, Default)]
+pub struct EnvelopedGiven {
+    pub has_content: usize,
+    pub has_attributes: usize,
+    pub content_type: Range,
+    pub algorithm: Range,
+    pub content: Range,
+    pub attributes: Range,
+}
+
 extern "C" {
     pub fn der_check_word_limited(
         word: *const u8,
@@ -482,6 +519,27 @@ extern "C" {
         out: *mut u8,
         out_len: usize,
         written: *mut usize,
+        part: *mut usize,
+    ) -> u32;
+    pub fn der_build_recipient(
+        input: *const u8,
+        input_len: usize,
+        given: *const RecipientGiven,
+        out: *mut u8,
+        out_len: usize,
+        written: *mut usize,
+        part: *mut usize,
+    ) -> u32;
+    pub fn der_build_enveloped(
+        input: *const u8,
+        input_len: usize,
+        given: *const EnvelopedGiven,
+        recipients: *const Range,
+        recipients_len: usize,
+        out: *mut u8,
+        out_len: usize,
+        written: *mut usize,
+        index: *mut usize,
         part: *mut usize,
     ) -> u32;
     pub fn der_mac_range(input: *const u8, input_len: usize, start: *mut usize, len: *mut usize) -> u32;

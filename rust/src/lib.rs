@@ -1,7 +1,7 @@
 //! Safe calls of the library for C: checks and rewritings of DER, the parts of containers that a verifier needs, as
 //! octets, the certificates and signers of signed data, the bags of stores, the parts of certificates, of what
 //! Authenticode signs and of trust lists, the parameters of encryption with a password, and conversions of BER to DER.
-//! Bags, stores, signed data, what Authenticode signs and such parameters are built too.
+//! Bags, stores, signed and enveloped data, what Authenticode signs and such parameters are built too.
 //!
 //! ```
 //! // the shortest PKCS #12 file
@@ -19,6 +19,7 @@
 
 mod bags;
 mod build;
+mod build_enveloped;
 mod build_indirect;
 mod build_signed;
 mod build_stores;
@@ -32,6 +33,10 @@ mod trust_lists;
 
 pub use bags::{bags, Bag, BagKind};
 pub use build::{build_parameters, BuildError, PasswordPart};
+pub use build_enveloped::{
+    build_recipient, BuildEnvelopedError, BuildRecipientError, Enveloped, EnvelopedPart, Recipient, RecipientName,
+    RecipientPart,
+};
 pub use build_indirect::{
     build_indirect, hashed_octets, BuildIndirectError, IndirectAttribute, IndirectGiven, IndirectPart,
 };

@@ -1,11 +1,12 @@
 //! Each call, over files that openssl made, and one each of osslsigncode and of the package cryptography for Python,
 //! whose offsets and octets are those that `openssl asn1parse` shows, and over examples of X.690.
 use vuyhanip::{
-    build_attributes, build_indirect, build_parameters, hashed_octets, oid_octets, AttributesGiven, AttributesPart,
-    BadAttributes, BagGiven, BagKind, BagPart, BuildAttributesError, BuildBagsError, BuildError, BuildIndirectError,
-    BuildSafeError, BuildSignedError, BuildStoreError, ContentGiven, Error, IndirectAttribute, IndirectGiven,
-    IndirectPart, MacGiven, Part, PasswordHolder, PasswordParameters, PasswordPart, Reason, Signed, SignedPart,
-    SignerGiven, SignerName, Store, StorePart, Verdict,
+    build_attributes, build_indirect, build_parameters, build_recipient, hashed_octets, oid_octets, AttributesGiven,
+    AttributesPart, BadAttributes, BagGiven, BagKind, BagPart, BuildAttributesError, BuildBagsError,
+    BuildEnvelopedError, BuildError, BuildIndirectError, BuildRecipientError, BuildSafeError, BuildSignedError,
+    BuildStoreError, ContentGiven, Enveloped, EnvelopedPart, Error, IndirectAttribute, IndirectGiven, IndirectPart,
+    MacGiven, Part, PasswordHolder, PasswordParameters, PasswordPart, Reason, Recipient, RecipientName, RecipientPart,
+    Signed, SignedPart, SignerGiven, SignerName, Store, StorePart, Verdict,
 };
 
 /// A key store.
@@ -24,6 +25,14 @@ const TWO_DIGESTS: &[u8] = include_bytes!("two_digests.p7m");
 const LISTS: &[u8] = include_bytes!("lists.p7m");
 /// A signature of a program: `osslsigncode sign`, and then `osslsigncode extract-signature`.
 const OF_PROGRAM: &[u8] = include_bytes!("program.p7m");
+/// Enveloped data of one recipient, by the RSA key of the second certificate in `LISTS`: `openssl cms -encrypt -binary
+/// -aes-128-cbc -outform DER`, which writes DER, with definite lengths.
+const ENVELOPED: &[u8] = include_bytes!("enveloped.der");
+/// The same of one recipient who has a key-encryption key: `-secretkey` and `-secretkeyid 4B454B`.
+const BY_KEK: &[u8] = include_bytes!("by_kek.der");
+/// The same of four recipients: by the RSA key, and by key agreement on an elliptic curve, which both certificates in
+/// `LISTS` have, with `-keyid`; by a key-encryption key; and by a password, `-pwri_password`.
+const RECIPIENTS: &[u8] = include_bytes!("recipients.der");
 /// Signed data with a signer of version 3, by hand: neither content nor attributes nor certificates.
 const DETACHED: &[u8] = &[
     0x30, 0x34, 6, 9, 0x2A, 0x86, 0x48, 0x86, 0xF7, 0x0D, 1, 7, 2, 0xA0, 0x27, 0x30, 0x25, 2, 1, 3, 0x31, 0, 0x30, 5,
@@ -1230,8 +1239,13 @@ fn a_part_of_attributes_that_is_wrong_is_named() {
 
 /// An algorithm without parameters, by its object identifier.
 fn algorithm(oid: &str) -> Result<Vec<u8>, Box<dyn std::error::Error>> {
+    algorithm_with(oid, None)
+}
+
+/// An algorithm with these parameters.
+fn algorithm_with(oid: &str, parameters: Option<&[u8]>) -> Result<Vec<u8>, Box<dyn std::error::Error>> {
     let oid = oid_octets(oid)?;
-    Ok(build_parameters(PasswordHolder::Algorithm, &PasswordParameters::other(&oid, None))?)
+    Ok(build_parameters(PasswordHolder::Algorithm, &PasswordParameters::other(&oid, parameters))?)
 }
 
 /// Signed data of one signer, whose certificate is the first of the chain. The digest is the content's, by SHA-256.
@@ -1827,6 +1841,318 @@ fn contents_octets_of_one_element_are_hashed() {
     }
 }
 
+/// Of the files, each but those by key agreement and by a password.
+#[test]
+fn recipients_of_files_are_built() {
+    let (certificate, key_identifier) = (&LISTS[418..928], &LISTS[711..731]);
+    for (name, algorithm, key, file, recipient) in [
+        (RecipientName::Certificate(certificate), 75..90, 93..221, ENVELOPED, 29..221),
+        (RecipientName::KeyIdentifier(key_identifier), 58..73, 76..204, RECIPIENTS, 30..204),
+        (RecipientName::Kek(b"KEK"), 35..48, 50..74, BY_KEK, 23..74),
+        (RecipientName::Kek(b"KEK"), 385..398, 400..424, RECIPIENTS, 373..424),
+    ] {
+        let built = build_recipient(&Recipient::new(name, &file[algorithm], &file[key]));
+        assert_eq!(built.as_deref(), Ok(&file[recipient]));
+    }
+}
+
+/// Enveloped data for the RSA key of a certificate, by AES with 128 bits in CBC mode with this vector.
+fn enveloped_file(
+    content: &[u8],
+    certificate: &[u8],
+    vector: &[u8],
+    encrypt: impl Fn(&[u8]) -> Vec<u8>,
+    encrypted_key: impl Fn() -> Vec<u8>,
+) -> Result<Vec<u8>, Box<dyn std::error::Error>> {
+    let rsa = algorithm_with("1.2.840.113549.1.1.1", Some(&[5, 0]))?;
+    let aes = algorithm_with("2.16.840.1.101.3.4.1.2", Some(&element(4, &[vector])))?;
+    let (data, key, encrypted) = (oid_octets("1.2.840.113549.1.7.1")?, encrypted_key(), encrypt(content));
+    let recipient = build_recipient(&Recipient::new(RecipientName::Certificate(certificate), &rsa, &key))?;
+    Ok(Enveloped::new(&data, &aes).content(&encrypted).recipient(&recipient).finish()?)
+}
+
+/// What openssl encrypted, and the file around it.
+#[test]
+fn a_file_is_built_around_an_encrypted_key() {
+    let encrypt = |content: &[u8]| {
+        assert_eq!(content, b"hello, world");
+        ENVELOPED[267..].to_vec()
+    };
+    let key = || ENVELOPED[93..221].to_vec();
+    let built = enveloped_file(b"hello, world", &LISTS[418..928], &ENVELOPED[249..265], encrypt, key);
+    assert_eq!(built.unwrap(), ENVELOPED);
+}
+
+/// Of what is listed of each, added from the last to the first.
+#[test]
+fn enveloped_files_are_built_again() {
+    for (file, count) in [(ENVELOPED, 1), (BY_KEK, 1), (RECIPIENTS, 4)] {
+        let algorithm = vuyhanip::encryption_algorithm(file).unwrap().unwrap();
+        let mut enveloped = Enveloped::new(&DATA[2..], algorithm);
+        enveloped.content(vuyhanip::encrypted_content(file).unwrap().unwrap());
+        let recipients = vuyhanip::recipients(file).unwrap();
+        assert_eq!(recipients.len(), count);
+        for recipient in recipients.into_iter().rev() {
+            enveloped.recipient(recipient);
+        }
+        assert_eq!(enveloped.finish().as_deref(), Ok(file));
+    }
+}
+
+/// What names a recipient, the tag and the version of the recipient, and the name as it is written.
+fn each_name_of_a_recipient() -> [(RecipientName<'static>, u8, u8, Vec<u8>); 5] {
+    let issuer_and_serial_number = element(0x30, &[&SIGNED[101..115], &SIGNED[86..89]]);
+    [
+        (RecipientName::Certificate(&SIGNED[74..357]), 0x30, 0, issuer_and_serial_number),
+        (RecipientName::KeyIdentifier(&[9]), 0x30, 2, vec![0x80, 1, 9]),
+        (RecipientName::KeyIdentifier(&[]), 0x30, 2, vec![0x80, 0]),
+        (RecipientName::Kek(&[9]), 0xA2, 4, vec![0x30, 3, 4, 1, 9]),
+        (RecipientName::Kek(&[]), 0xA2, 4, vec![0x30, 2, 4, 0]),
+    ]
+}
+
+/// With keys of any length.
+#[test]
+fn each_form_of_a_recipient_is_built() {
+    for (name, tag, version, written) in each_name_of_a_recipient() {
+        for algorithm in [BARE, WITH_NULL, WITH_VECTOR] {
+            for len in [0, 1, 127, 128, 256, 70_000] {
+                let key = vec![7; len];
+                let wanted = element(tag, &[&[2, 1, version], &written, algorithm, &element(4, &[&key])]);
+                assert_eq!(build_recipient(&Recipient::new(name, algorithm, &key)).as_ref(), Ok(&wanted));
+                let built = Enveloped::new(&DATA[2..], BARE).recipient(&wanted).finish().unwrap();
+                assert_eq!(vuyhanip::recipients(&built), Ok(vec![&wanted[..]]));
+            }
+        }
+    }
+}
+
+/// Recipients by key transport with nothing but their version.
+const VERSION_0: &[u8] = &[0x30, 3, 2, 1, 0];
+const VERSION_2: &[u8] = &[0x30, 3, 2, 1, 2];
+
+/// Enveloped data by hand: its version, its recipients, what is encrypted, with its type and its algorithm, and
+/// unprotected attributes.
+fn enveloped_data(version: u8, recipients: &[&[u8]], info: &[&[u8]], attributes: Option<&[u8]>) -> Vec<u8> {
+    let (recipients, attributes) = (element(0x31, recipients), tagged(0xA1, attributes));
+    let parts: [&[u8]; 4] = [&[2, 1, version], &recipients, &element(0x30, info), &attributes];
+    element(0x30, &[&ENVELOPE[2..13], &element(0xA0, &[&element(0x30, &parts)])])
+}
+
+/// RFC 5652, 6.1: without attributes and with them.
+#[test]
+fn versions_are_those_of_recipients_and_attributes() {
+    let [agreed, by_kek, by_password, by_other]: [&[u8]; 4] = [&[0xA1, 0], &[0xA2, 0], &[0xA3, 0], &[0xA4, 0]];
+    for (versions, recipients) in [
+        ([0, 2], &[VERSION_0][..]),
+        ([0, 2], &[VERSION_0, VERSION_0]),
+        ([2, 2], &[VERSION_2]),
+        ([2, 2], &[VERSION_0, VERSION_2]),
+        ([2, 2], &[VERSION_0, agreed]),
+        ([2, 2], &[VERSION_0, by_kek]),
+        ([2, 2], &[agreed]),
+        ([2, 2], &[by_kek]),
+        ([3, 3], &[by_password]),
+        ([3, 3], &[by_other]),
+        ([3, 3], &[VERSION_0, by_password]),
+        ([3, 3], &[VERSION_0, by_other]),
+        ([3, 3], &[VERSION_0, VERSION_2, agreed, by_kek, by_password, by_other]),
+    ] {
+        let mut enveloped = Enveloped::new(&DATA[2..], BARE);
+        for recipient in recipients.iter().rev() {
+            enveloped.recipient(recipient);
+        }
+        assert_eq!(enveloped.finish(), Ok(enveloped_data(versions[0], recipients, &[DATA, BARE], None)));
+        let built = enveloped.attributes(FURTHER).finish();
+        assert_eq!(built, Ok(enveloped_data(versions[1], recipients, &[DATA, BARE], Some(FURTHER))));
+    }
+}
+
+/// Of any type, by any algorithm.
+#[test]
+fn content_is_encrypted_octets_or_elsewhere() {
+    let long = [7; 70_000];
+    for content_type in [DATA, &BARE[2..]] {
+        for algorithm in [BARE, WITH_NULL, WITH_VECTOR] {
+            for content in [None, Some(&[][..]), Some(&[5, 6]), Some(&long[..])] {
+                let mut enveloped = Enveloped::new(&content_type[2..], algorithm);
+                enveloped.recipient(VERSION_0);
+                if let Some(octets) = content {
+                    enveloped.content(octets);
+                }
+                let built = enveloped.finish().unwrap();
+                let encrypted = content.map_or(vec![], |octets| element(0x80, &[octets]));
+                let info = [content_type, algorithm, &encrypted];
+                assert_eq!(built, enveloped_data(0, &[VERSION_0], &info, None));
+                assert_eq!(vuyhanip::encryption_algorithm(&built), Ok(Some(algorithm)));
+                assert_eq!(vuyhanip::encrypted_content(&built), Ok(content));
+            }
+        }
+    }
+}
+
+/// Their order stays. Of two calls that give content, or attributes, the later counts.
+#[test]
+fn unprotected_attributes_are_written_as_they_are() {
+    let (short, long) = (attribute(&BARE[2..], &[&[5, 0]]), attribute(&BARE[2..], &[&[5, 0], &[2, 1, 1]]));
+    let set = element(0x31, &[&long, &short, &long]);
+    let mut enveloped = Enveloped::new(&DATA[2..], BARE);
+    let built = enveloped.recipient(VERSION_0).attributes(FURTHER).content(&[5, 6]).attributes(&set).finish();
+    assert_eq!(built, Ok(enveloped_data(2, &[VERSION_0], &[DATA, BARE, &[0x80, 2, 5, 6]], Some(&set))));
+    let built = enveloped.attributes(FURTHER).content(&[8]).finish();
+    assert_eq!(built, Ok(enveloped_data(2, &[VERSION_0], &[DATA, BARE, &[0x80, 1, 8]], Some(FURTHER))));
+}
+
+/// In the order of DER, and as often as they are added.
+#[test]
+fn many_recipients_are_built() {
+    for count in [1, 2, 17, 400] {
+        let keys: Vec<_> = (0..count).map(|number: u16| number.to_be_bytes()).collect();
+        let built = |key| build_recipient(&Recipient::new(RecipientName::KeyIdentifier(key), BARE, &[7])).unwrap();
+        let mut recipients: Vec<_> = keys.iter().map(|key| built(key)).collect();
+        recipients.push(recipients[0].clone());
+        let mut enveloped = Enveloped::new(&DATA[2..], BARE);
+        for recipient in recipients.iter().rev() {
+            enveloped.recipient(recipient);
+        }
+        let mut sorted: Vec<_> = recipients.iter().map(|it| &it[..]).collect();
+        sorted.sort();
+        let built = enveloped.finish().unwrap();
+        assert_eq!(built, enveloped_data(2, &sorted, &[DATA, BARE], None));
+        assert_eq!(vuyhanip::recipients(&built), Ok(sorted));
+    }
+}
+
+/// A part of a recipient, and what makes it wrong in one that can be written.
+type WrongRecipient = (RecipientPart, fn(&mut Recipient<'_>));
+
+/// Each but a key, which may be any octets, as what names a key may.
+#[test]
+fn a_part_of_a_recipient_that_is_wrong_is_named() {
+    let wrong: [WrongRecipient; 11] = [
+        (RecipientPart::Identifier, |it| it.identifier = RecipientName::Certificate(&[])),
+        (RecipientPart::Identifier, |it| it.identifier = RecipientName::Certificate(ELEMENT)),
+        (RecipientPart::Identifier, |it| it.identifier = RecipientName::Certificate(&[0x30, 0])),
+        (RecipientPart::Identifier, |it| it.identifier = RecipientName::Certificate(LISTS)),
+        // one that is cut, and one with an octet more
+        (RecipientPart::Identifier, |it| it.identifier = RecipientName::Certificate(&LISTS[418..927])),
+        (RecipientPart::Identifier, |it| it.identifier = RecipientName::Certificate(&LISTS[418..929])),
+        (RecipientPart::Algorithm, |it| it.algorithm = &BARE[2..]),
+        (RecipientPart::Algorithm, |it| it.algorithm = &[0x30, 0]),
+        (RecipientPart::Algorithm, |it| it.algorithm = &[0x30, 2, 5, 0]),
+        (RecipientPart::Algorithm, |it| it.algorithm = &[0x31, 5, 6, 3, 0x2A, 3, 4]),
+        (RecipientPart::Algorithm, |it| it.algorithm = &[0x30, 5, 6, 3, 0x2A, 3, 4, 5, 0]),
+    ];
+    let good = Recipient::new(RecipientName::Certificate(&LISTS[418..928]), WITH_NULL, &[7]);
+    assert!(build_recipient(&good).is_ok());
+    for (part, change) in wrong {
+        let mut given = good;
+        change(&mut given);
+        assert_eq!(build_recipient(&given), Err(BuildRecipientError::Refused(part)));
+    }
+    for (name, ..) in each_name_of_a_recipient() {
+        for algorithm in NO_ELEMENTS {
+            let built = build_recipient(&Recipient::new(name, algorithm, &[7]));
+            assert_eq!(built, Err(BuildRecipientError::Refused(RecipientPart::Algorithm)));
+        }
+    }
+}
+
+/// Enveloped data of these recipients.
+fn enveloped_for(recipients: &[&[u8]]) -> Result<Vec<u8>, BuildEnvelopedError> {
+    let mut enveloped = Enveloped::new(&DATA[2..], BARE);
+    for recipient in recipients {
+        enveloped.recipient(recipient);
+    }
+    enveloped.finish()
+}
+
+/// RFC 5652, 6.2 and 6.2.1: with its index among several.
+#[test]
+fn a_recipient_that_is_wrong_is_named() {
+    let refused = |index| Err(BuildEnvelopedError::Refused { part: EnvelopedPart::Recipient, index: Some(index) });
+    let others: [&[u8]; 18] = [
+        // other tags
+        &[5, 0],
+        &[0x31, 3, 2, 1, 0],
+        &[0x10, 3, 2, 1, 0],
+        &[0xA0, 3, 2, 1, 0],
+        &[0xA5, 3, 2, 1, 0],
+        &[0x81, 0],
+        &[0x82, 0],
+        // no version of key transport
+        &[0x30, 0],
+        &[0x30, 2, 5, 0],
+        &[0x30, 2, 2, 0],
+        &[0x30, 3, 2, 1, 1],
+        &[0x30, 3, 2, 1, 3],
+        &[0x30, 3, 2, 1, 4],
+        &[0x30, 3, 4, 1, 0],
+        &[0x30, 4, 2, 2, 0, 0],
+        // one that is cut, two, and one whose length has more octets than are needed
+        &[0xA2, 1],
+        &[0xA2, 0, 0xA2, 0],
+        &[0xA2, 0x81, 0],
+    ];
+    let good = [VERSION_0, VERSION_2, &[0xA1, 0], &[0xA2, 0], &[0xA3, 0], &[0xA4, 0]];
+    assert!(enveloped_for(&good).is_ok());
+    for wrong in others.into_iter().chain(NO_ELEMENTS) {
+        for index in [0, 3, 5] {
+            let mut recipients = good;
+            recipients[index] = wrong;
+            assert_eq!(enveloped_for(&recipients), refused(index));
+        }
+        assert_eq!(enveloped_for(&[wrong]), refused(0));
+    }
+}
+
+/// Without an index.
+#[test]
+fn a_part_of_enveloped_data_that_is_wrong_is_named() {
+    let refused = |part| Err(BuildEnvelopedError::Refused { part, index: None });
+    for content_type in [&[][..], &[0x80], &[0x2A, 0x83]] {
+        let built = Enveloped::new(content_type, BARE).recipient(VERSION_0).finish();
+        assert_eq!(built, refused(EnvelopedPart::ContentType));
+    }
+    let others: [&[u8]; 4] = [&[5, 0], &[0x30, 0], &[0x30, 2, 5, 0], &[0x31, 5, 6, 3, 0x2A, 3, 4]];
+    for algorithm in others.into_iter().chain(NO_ELEMENTS) {
+        let built = Enveloped::new(&DATA[2..], algorithm).recipient(VERSION_0).content(&[5, 6]).finish();
+        assert_eq!(built, refused(EnvelopedPart::Algorithm));
+    }
+    assert_eq!(enveloped_for(&[]), refused(EnvelopedPart::Recipients));
+    // none, no set, and as they are in the file
+    let others: [&[u8]; 5] = [&[0x31, 0], &[0x30, 0], &[0x31, 1], &[0x31, 2, 5, 0], &[&[0xA1], &FURTHER[1..]].concat()];
+    for attributes in others.into_iter().chain(NO_ELEMENTS) {
+        let built = Enveloped::new(&DATA[2..], BARE).recipient(VERSION_0).attributes(attributes).finish();
+        assert_eq!(built, refused(EnvelopedPart::Attributes));
+    }
+}
+
+#[test]
+fn what_is_wrong_of_enveloped_data_is_said() {
+    for (part, said) in [
+        (RecipientPart::Identifier, "refused: identifier"),
+        (RecipientPart::Algorithm, "refused: algorithm"),
+        (RecipientPart::Key, "refused: key"),
+    ] {
+        assert_eq!(BuildRecipientError::Refused(part).to_string(), said);
+    }
+    for (part, index, said) in [
+        (EnvelopedPart::ContentType, None, "refused: content type"),
+        (EnvelopedPart::Algorithm, None, "refused: algorithm"),
+        (EnvelopedPart::Content, None, "refused: content"),
+        (EnvelopedPart::Recipient, Some(2), "refused: recipient 2"),
+        (EnvelopedPart::Recipients, None, "refused: recipients"),
+        (EnvelopedPart::Attributes, None, "refused: attributes"),
+    ] {
+        assert_eq!(BuildEnvelopedError::Refused { part, index }.to_string(), said);
+    }
+    assert_eq!(BuildRecipientError::NoMemory.to_string(), "no memory");
+    assert_eq!(BuildRecipientError::Unknown(99).to_string(), "unknown status 99");
+    assert_eq!(BuildEnvelopedError::TooLong.to_string(), "too long");
+    assert_eq!(BuildEnvelopedError::Unknown(99).to_string(), "unknown status 99");
+}
+
 /// Of a signer that is named by its key.
 #[test]
 fn parts_of_a_signer_of_version_3() {
@@ -2110,6 +2436,10 @@ fn parts_of_enveloped_data_are_where_they_are() {
     assert_eq!(vuyhanip::encryption_algorithm(ENVELOPE), Ok(Some(&ENVELOPE[37..44])));
     assert_eq!(vuyhanip::encrypted_content(ENVELOPE), Ok(Some(&ENVELOPE[46..48])));
     assert_eq!(vuyhanip::certificates(ENVELOPE), Err(Error::Refused { reason: Reason::Invalid, place: 2 }));
+    let places = [30..204, 204..373, 373..424, 424..538];
+    assert_eq!(vuyhanip::recipients(RECIPIENTS), Ok(places.map(|place| &RECIPIENTS[place]).to_vec()));
+    assert_eq!(vuyhanip::encryption_algorithm(RECIPIENTS), Ok(Some(&RECIPIENTS[551..582])));
+    assert_eq!(vuyhanip::encrypted_content(RECIPIENTS), Ok(Some(&RECIPIENTS[584..600])));
 }
 
 #[test]
