@@ -1,8 +1,9 @@
 /* Checks and rewritings of DER, the parts of containers that a verifier needs, as octets, those of certificates and of
  * the contents of signed data, the parameters of encryption with a password, conversions of BER to DER, and PKCS #12
  * files, signed data, indirect data, enveloped data and such parameters built from their parts: the static library
- * der_c. Only der_from_ber takes BER. Pass every other call what it wrote, and der_mac_ber and der_mac_part_ber where
- * the MAC of a PKCS #12 file is to be verified.
+ * der_c. Only der_from_ber takes BER. If an input may be BER, convert it by der_from_ber, and pass what that wrote to
+ * the other calls. To verify the MAC of such a PKCS #12 file, call der_mac_ber and der_mac_part_ber in place of der_mac
+ * and der_part.
  *
  * What is proved of its calls der_check_word_limited, der_rewrite_word_limited, der_kind_word, der_part_octets,
  * der_signer_rows, der_part_ranges, der_attribute_ranges, der_mac_range, der_mac, der_from_ber, der_mac_ber,
@@ -13,18 +14,22 @@
  *  - A call answers no status but those that are listed at it. What it writes into numbers and into out is as said
  *    below.
  *  - DER_NORMAL, DER_LOOSE, DER_UNKNOWN_KIND, DER_NO_ROOM, DER_NO_RANGE and DER_NO_PART are true where they are
- *    answered, and so is DER_TOO_LONG, but by der_bag_rows and of parts of bags. DER_BAD_ATTRIBUTES is true where a row
- *    of der_signer_rows has it: of an empty set of signed attributes it is proved that the signer's value has none, and
- *    that the input has the signer's algorithms with the octets A0 00 between them.
- *  - At DER_MALFORMED, DER_MISSING, DER_INVALID and DER_TOO_DEEP the input is no encoding of the kind, of der_from_ber
- *    it has no DER, of the calls for parts, signers and ranges it isn't what has the part, of those that write text it
- *    has none, of der_oid_octets the text spells no octets, of der_text_utf16 it isn't UTF-8, of der_build_parameters,
- *    der_build_store, der_build_attributes, der_build_indirect, der_build_recipient and der_build_enveloped nothing can
- *    be built from what is given, of der_build_bags and der_build_safe the bag or content whose index they write can't
- *    be written, as said there, and of der_build_signed the parts that are given can't be written. Where a call has
- *    several of the four, which of them it is isn't proved: tests tell them apart.
- *  - Of the bags of a store, and of parts of these, the same is said at the four and at DER_TOO_LONG: the input has no
- *    such rows as der_bag_rows writes at DER_NORMAL.
+ *    answered. So is DER_TOO_LONG, unless der_bag_rows answers it, or der_part_octets for a part of a store.
+ *    DER_BAD_ATTRIBUTES is true where a row of der_signer_rows has it: of an empty set of signed attributes it is proved
+ *    that the signer's value has none, and that the input has the signer's algorithms with the octets A0 00 between
+ *    them.
+ *  - At DER_MALFORMED, DER_MISSING, DER_INVALID and DER_TOO_DEEP:
+ *     - of a check or a rewriting, the input is no encoding of the kind;
+ *     - of der_from_ber, the input has no DER;
+ *     - of the calls for parts, signers and ranges, the input isn't what has the part;
+ *     - of the calls that write text, the input has no text; of der_oid_octets, the text spells no octets; of
+ *       der_text_utf16, the text isn't UTF-8;
+ *     - of der_build_bags and der_build_safe, the bag or the content whose index they write can't be written;
+ *     - of der_build_signed, the parts that are given can't be written;
+ *     - of the other calls that build, nothing can be built from what is given.
+ *    Where a call has several of the four, which of them it is isn't proved: tests tell them apart.
+ *  - Of the bags of a store, and of parts of these, DER_TOO_LONG says the same as the four: the input has no such rows
+ *    as der_bag_rows writes at DER_NORMAL.
  *  - That memory was refused where a call answers DER_NO_MEMORY isn't proved. Tests show that calls with memory enough
  *    don't answer it, on inputs of up to 190 KB and of hundreds of parts, and that calls keep no memory.
  *  - The functions in this file, in C, are tested and not proved, nor are der_version and der_processor.
@@ -34,7 +39,7 @@
  *    numbers aren't null, also where a length is 0; but the functions in this file take null for an input or out of
  *    length 0. word, input, octets and text point to so many bytes that can be read, given to one struct that can be
  *    read, bags, contents, certificates, crls, signers and recipients to so many structs that can be read, and out to
- *    so many bytes that can be read and written.
+ *    so many bytes that can be read and written. For an empty list pass any aligned pointer that isn't null, and 0.
  *  - A pointer to a number is aligned as a size_t is, and what it points to can be written. out of der_signer_rows,
  *    der_bag_rows, der_trust_rows and the calls for ranges points to out_len structs and not bytes, that of
  *    der_certificate, der_indirect, der_trust_list and der_password_parameters to one, and is aligned so too. So are
@@ -720,13 +725,13 @@ typedef struct der_signed_given {
   der_range content;      /* the octets of the content, which are written into an OCTET STRING; or that element */
 } der_signed_given;
 
-/* A signer for der_build_signed. Of a row of der_signer_rows digest_algorithm, signature_algorithm, signature and
- * certificate can be given as they are and, where over_attributes is 1, what der_covered copies, as signed_attributes.
- * Where has_certificate is 0 and issuer and serial number name the signer, give its certificate from elsewhere. A key
- * identifier that names it is to be given too, as DER_PART_KEY_IDENTIFIER finds it, and so are unsigned attributes:
- * der_attribute_ranges finds each Attribute; put them after one another under a header, 31 and their length.
- * der_signer_rows also takes signers with two signing times, or with one that isn't as der_build_signed asks, which are
- * refused here. */
+/* A signer for der_build_signed. To give a signer that der_signer_rows listed: digest_algorithm, signature_algorithm,
+ * signature and certificate can be given as they are. Where over_attributes is 1, give what der_covered copies as
+ * signed_attributes. If the signer is named by issuer and serial number and has_certificate is 0, give its certificate
+ * from elsewhere. If it is named by a key identifier, give the octets of DER_PART_KEY_IDENTIFIER. For unsigned
+ * attributes put what der_attribute_ranges finds one after another, behind a header: 31 and their length.
+ * der_build_signed refuses a signer that has two signing times, or one that isn't of the form it asks for, though
+ * der_signer_rows lists it. */
 typedef struct der_signer_given {
   size_t has_key_identifier;      /* unless 0: key_identifier names the signer, otherwise its certificate does */
   size_t has_signed_attributes;   /* unless 0: the signature covers signed attributes, otherwise the content */
@@ -751,7 +756,7 @@ typedef enum der_signed_part {
   DER_SIGNED_PART_CRL = 4,                  /* not inside of the input, or no element with the tag of a revocation list
                                                or of the other choice: 30 or A1 (10.2.1) */
   /* of a signer */
-  DER_SIGNED_PART_IDENTIFIER = 5,           /* not inside of the input, or no certificate */
+  DER_SIGNED_PART_IDENTIFIER = 5,           /* not inside of the input, or no certificate as der_certificate reads one */
   DER_SIGNED_PART_DIGEST_ALGORITHM = 6,     /* not inside of the input, or no AlgorithmIdentifier */
   DER_SIGNED_PART_SIGNED_ATTRIBUTES = 7,    /* not inside of the input, or no SET OF Attribute, or an empty one; or
                                                they, or their absence, break RFC 5652: see der_build_signed */
@@ -847,21 +852,23 @@ typedef struct der_recipient_given {
   der_range certificate;     /* of ktri: the recipient's certificate, whose issuer and serial number name it */
   der_range key_identifier;  /* of ktri: the octets of the certificate's subjectKeyIdentifier; of kekri: those that name
                                 the key-encryption key */
-  der_range algorithm;       /* an AlgorithmIdentifier, with its parameters: how the key is encrypted */
-  der_range key;             /* the octets of the encrypted key */
+  der_range algorithm;       /* an AlgorithmIdentifier, with its parameters: how the key is encrypted. der_build_parameters
+                                writes one for DER_HOLDER_ALGORITHM: of rsaEncryption the parameters are NULL, 05 00
+                                (RFC 3370, 4.2.1), of AES Key Wrap there are none (RFC 3565, 2.3.2) */
+  der_range key;             /* encryptedKey: the content-encryption key, as the caller encrypted it for this recipient */
 } der_recipient_given;
 
 /* Which part der_build_recipient can't write, and why. */
 typedef enum der_recipient_part {
-  DER_RECIPIENT_PART_IDENTIFIER = 1, /* not inside of the input, or no certificate */
+  DER_RECIPIENT_PART_IDENTIFIER = 1, /* not inside of the input, or no certificate as der_certificate reads one */
   DER_RECIPIENT_PART_ALGORITHM = 2,  /* not inside of the input, or no AlgorithmIdentifier */
   DER_RECIPIENT_PART_KEY = 3         /* not inside of the input */
 } der_recipient_part;
 
 /* Writes a recipient of enveloped data, one RecipientInfo (RFC 5652, 6.2), to the front of out: for der_build_enveloped,
  * which takes it as a range of its input. given says of each part where the input has its octets, in any order; ranges
- * may overlap. Set all of given to 0 first: a flag is set where it isn't 0. No key is encrypted: the caller encrypts it
- * and says how.
+ * may overlap. Set all of given to 0 first: a flag is set where it isn't 0. This call encrypts nothing: the caller
+ * encrypts the content-encryption key, gives the result as key, and says in algorithm how.
  *  - is_kek is 0: KeyTransRecipientInfo (6.2.1), for the key pair of a certificate. It is named by the issuer and the
  *    serial number of the certificate, out of which they are read, and has version 0; or by the key identifier, and has
  *    version 2.
@@ -876,7 +883,8 @@ typedef enum der_recipient_part {
  *  - DER_NO_MEMORY.
  * Unless at DER_NORMAL out is as it was, unless at DER_NORMAL and DER_NO_ROOM *written is 0, and unless at DER_INVALID
  * *part is 0. Proved is that what is written is the encoding of a recipient with these parts, and reads as these alone,
- * and that der_build_enveloped doesn't refuse it; and that at DER_INVALID no recipient can be built from what is given, and that *part can't be written. */
+ * and that der_build_enveloped doesn't refuse it; and that at DER_INVALID no recipient can be built from what is given,
+ * and that *part can't be written. */
 DER_CALL
 uint32_t der_build_recipient(const uint8_t *input, size_t input_len, const der_recipient_given *given, uint8_t *out,
                              size_t out_len, size_t *written, size_t *part);
@@ -887,9 +895,13 @@ typedef struct der_enveloped_given {
   size_t has_attributes;  /* unless 0: there are unprotected attributes */
   der_range content_type; /* the contents octets of an object identifier, the type of what was encrypted: see
                              der_oid_octets */
-  der_range algorithm;    /* an AlgorithmIdentifier, with its parameters: how the content is encrypted */
+  der_range algorithm;    /* an AlgorithmIdentifier, with its parameters: how the content is encrypted. Of AES in CBC
+                             mode they are the initialization vector, an OCTET STRING: 04 10 and 16 octets (RFC 3565,
+                             4.1) */
   der_range content;      /* the octets of the encrypted content */
-  der_range attributes;   /* the element of a SET OF Attribute, as der_build_attributes writes it, which isn't empty */
+  der_range attributes;   /* the element of a SET OF Attribute, which isn't empty, as der_build_attributes writes it of
+                             further attributes alone. RFC 5652, 11.1 to 11.4, allows no contentType, messageDigest,
+                             signingTime and countersignature here, which isn't looked at */
 } der_enveloped_given;
 
 /* Which part der_build_enveloped can't write, and why. */
@@ -909,7 +921,9 @@ typedef enum der_enveloped_part {
  * where the input has its octets, in any order; ranges may overlap. Set all of given to 0 first: a flag is set where it
  * isn't 0. A recipient is a RecipientInfo of any kind, as der_build_recipient writes it, or as der_part_ranges finds it
  * under DER_PART_RECIPIENT. Nothing is encrypted: the caller encrypts the content, and its key for each recipient.
- * Enveloped data don't say who made them, nor that nobody changed them.
+ * Enveloped data don't say who made them, nor that nobody changed them. To change a file that was read, take recipients,
+ * algorithm and encrypted content from der_part_ranges. No call finds its content type, its unprotected attributes or
+ * its originatorInfo: read them yourself. A file with originatorInfo can't be built again.
  *  - The version is that of RFC 5652, 6.1, where originatorInfo is absent: 3 with a recipient that has a password or is
  *    of another type (A3 or A4), else 0 where has_attributes is 0 and all recipients have the tag 30 and version 0,
  *    else 2.
@@ -926,8 +940,8 @@ typedef enum der_enveloped_part {
  * Unless at DER_NORMAL out is as it was, unless at DER_NORMAL and DER_NO_ROOM *written is 0, and unless at DER_INVALID
  * *index and *part are 0. Proved is that what is written is the encoding of enveloped data with these parts, their
  * recipients in the order of DER and their version as said, and reads as these alone, so that der_part_ranges finds the
- * recipients, the algorithm and the content with the octets that are given. And that at DER_INVALID no enveloped data can
- * be written of what is given, as said above, and that *part and *index say one part that can't. */
+ * recipients, the algorithm and the content with the octets that are given. And that at DER_INVALID no enveloped data
+ * can be written of what is given, as said above, and that *part and *index say one part that can't. */
 DER_CALL
 uint32_t der_build_enveloped(const uint8_t *input, size_t input_len, const der_enveloped_given *given,
                              const der_range *recipients, size_t recipients_len, uint8_t *out, size_t out_len,
@@ -1167,7 +1181,7 @@ static inline der_status der_rewrite(const char *kind, const uint8_t *input, siz
  *    der_bag_rows, whatever the part is. *place says where, as there and as of der_locate.
  *  - DER_TOO_LONG: the part is too long.
  *  - DER_NO_RANGE: never.
- *  - DER_UNKNOWN_KIND: no part has that number.
+ *  - DER_UNKNOWN_KIND: no part has that number, or it is one of the three of enveloped data, which der_ranges lists.
  *  - DER_NO_MEMORY: *place is an offset without use.
  * Unless at DER_NORMAL out is as it was, unless at DER_NORMAL and DER_NO_ROOM *written is 0, and but for the refusals
  * and DER_NO_MEMORY *place is 0. That *place is at most input_len is proved; which place it is, is tested. Each call

@@ -224,9 +224,10 @@ fn refused_enveloped(status: u32, index: usize, part: usize) -> BuildEnvelopedEr
 /// What is in a recipient isn't looked at, but for the version under the tag `30`, nor are the values of an attribute.
 /// Of a file that was read, what [`recipients`](crate::recipients),
 /// [`encryption_algorithm`](crate::encryption_algorithm) and [`encrypted_content`](crate::encrypted_content) return can
-/// be given as it is. With the file's content type that makes the same file, where it is the normal encoding, has
-/// neither originatorInfo nor unprotected attributes, and its version is that of 6.1. Unprotected attributes are to be
-/// given too: no call finds them.
+/// be given as it is. With the content type of the file this makes the same file again if five things hold: the file is
+/// normal; its recipients are in the order of DER, and `Enveloped` takes each of them; it has no originatorInfo; it has
+/// no unprotected attributes; and its version is that of 6.1. No call finds the content type or the unprotected
+/// attributes: the caller has to give them.
 ///
 /// ```
 /// use vuyhanip::{build_recipient, Enveloped, Recipient, RecipientName};
