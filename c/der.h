@@ -116,7 +116,8 @@ typedef enum der_part_number {
   /* signed data with its content type, of any CMSVersion, with signers of any CMSVersion, which isn't compared with how
    * they are named, and over content of any type (RawPkcs7Certificate; RFC 5652, 5) */
   DER_PART_HASHED_CONTENT = 0,      /* contents octets of the content, which are hashed; the index isn't looked at */
-  DER_PART_CERTIFICATE = 1,         /* a certificate, or another choice, as it is in certificates */
+  DER_PART_CERTIFICATE = 1,         /* a certificate, or another choice, as it is in certificates: any element,
+                                     * whatever its tag */
   DER_PART_SIGNED_ATTRIBUTES = 2,   /* of a signer: signedAttrs under the tag of a SET OF, which the signature covers; in
                                      * the file's order, also where that isn't DER's */
   DER_PART_ISSUER = 3,              /* of a signer: the encoding of the issuer's Name */
@@ -127,16 +128,17 @@ typedef enum der_part_number {
   DER_PART_SIGNATURE = 8,           /* of a signer: the octets of signature */
   /* a PKCS #12 file, in the order of der_bag_rows and with its statuses: without what is encrypted, and with bags in
    * bags (RFC 7292, 4) */
-  DER_PART_STORE_CERTIFICATE = 9,    /* an X.509 certificate, as it is */
+  DER_PART_STORE_CERTIFICATE = 9,    /* an X.509 certificate, as it is: any octets, or none, which aren't looked at */
   DER_PART_STORE_KEY = 10,           /* a key that isn't encrypted: a PrivateKeyInfo, as it is */
   DER_PART_STORE_ENCRYPTED_KEY = 11, /* an encrypted key: an EncryptedPrivateKeyInfo, as it is */
   DER_PART_STORE_BAG = 12,           /* a bag, as it is, with all that it holds; what is unread is no bag */
   /* "rawpfx": the MAC of a PKCS #12 file; the index isn't looked at */
   DER_PART_MAC_DIGEST_ALGORITHM = 13, /* the contents octets of the object identifier */
-  DER_PART_MAC_DIGEST = 14,           /* what a verifier compares with the MAC that it makes */
+  DER_PART_MAC_DIGEST = 14,           /* what a verifier compares with the MAC that it makes, and first their lengths:
+                                       * whoever made the file chose it, and it may have any length, also 0 */
   DER_PART_MAC_SALT = 15,             /* macSalt */
   /* of enveloped data under its content type, a ContentInfo (RFC 5652, 3 and 6.1): der_ranges alone knows these */
-  DER_PART_RECIPIENT = 16,            /* a RecipientInfo of any kind, as it is */
+  DER_PART_RECIPIENT = 16,            /* a RecipientInfo of any kind, as it is: any element, whatever its tag */
   DER_PART_ENCRYPTION_ALGORITHM = 17, /* contentEncryptionAlgorithm, with its parameters: one item */
   DER_PART_ENCRYPTED_CONTENT = 18     /* the octets of encryptedContent: one item, or none where that is absent */
 } der_part_number;
@@ -187,13 +189,14 @@ uint32_t der_attribute_ranges(size_t is_signed, size_t index, const uint8_t *inp
 
 /* What a verification of one signer needs (RFC 5652, 5.3 to 5.6). A verifier
  *  1. takes the signer only where status is DER_NORMAL;
- *  2. where over_attributes is 1, hashes the content's octets by digest_algorithm, and compares with digest;
+ *  2. where over_attributes is 1, hashes the content's octets by digest_algorithm, and compares with digest, first
+ *     their lengths: digest may have any, also 0;
  *  3. verifies signature over what der_covered copies, by signature_algorithm and the certificate's key.
  * Where has_content is 0 the signature is detached, and the content's octets are the caller's. So are the octets that
  * the signature covers, where over_attributes is 0 too: covered then has none. Nothing in a signature says whether it
  * covers signed attributes or the content (RFC 5652, 5.4): where a key always signs with attributes, refuse signers
  * whose over_attributes is 0, and where it never does, those whose over_attributes is 1. That the certificate is to be
- * trusted, and may sign, isn't looked at. */
+ * trusted, and may sign, isn't looked at. Where there is no signer, nobody signed anything. */
 typedef struct der_signer_parts {
   size_t status;                 /* DER_NORMAL, or DER_BAD_ATTRIBUTES, or what der_signer answers: all else is 0 then */
   size_t over_attributes;        /* 1: the signature covers signed attributes, 0: the content */
@@ -210,8 +213,8 @@ typedef struct der_signer_parts {
 
 /* What a verifier needs of the signers of signed data, of any CMSVersion and over content of any type (RawSignedData),
  * in one reading. out has room for out_len signers, and takes those with the index first and after.
- *  - DER_NORMAL: *count is how many signers there are in all. Those asked for are at the front of out, at most out_len,
- *    and the rest of out is as it was. The status of each is DER_BAD_ATTRIBUTES where signed attributes are an empty
+ *  - DER_NORMAL: *count is how many signers there are in all, and where it is 0 nothing is signed. Those asked for are
+ *    at the front of out, at most out_len, and the rest of out is as it was. The status of each is DER_BAD_ATTRIBUTES where signed attributes are an empty
  *    set, A0 00, lack messageDigest or contentType, have one of them several times, with no value or with several,
  *    where contentType is another than the content's, or where there are none and the content's type isn't id-data
  *    (RFC 5652, 5.3, 11.1, 11.2). A second signingTime isn't looked at.
@@ -233,8 +236,8 @@ typedef enum der_bag_kind {
   DER_BAG_OTHER = 0,
   DER_BAG_KEY = 1,
   DER_BAG_SHROUDED_KEY = 2,
-  DER_BAG_CERTIFICATE = 3,       /* of X.509 */
-  DER_BAG_CRL = 4,               /* of X.509 */
+  DER_BAG_CERTIFICATE = 3,       /* of X.509, as the bag says */
+  DER_BAG_CRL = 4,               /* of X.509, as the bag says */
   DER_BAG_SECRET = 5,
   DER_BAG_SAFE_CONTENTS = 6,     /* bags, whose rows follow this one, one level down */
   DER_BAG_UNREAD = 7,            /* no bag, but a whole ContentInfo that isn't data: encrypted bags, say */
@@ -249,9 +252,10 @@ typedef struct der_bag_parts {
   size_t has_friendly_name; /* 1: it has one */
   size_t has_local_key_id;  /* 1: it has one */
   der_range element;        /* the whole bag, or the ContentInfo */
-  der_range value;          /* DER of the X.509 certificate or revocation list; of one of another type its element; of
-                               other kinds the element that the bag holds, without the [0] around it; of what is unread
-                               the ContentInfo */
+  der_range value;          /* the octets that should be the DER of the X.509 certificate or revocation list: any, or
+                               none, which aren't looked at; of one of another type its element; of other kinds the
+                               element that the bag holds, without the [0] around it; of what is unread the
+                               ContentInfo */
   der_range friendly_name;  /* in UTF-16, two octets for each unit, the high one first; it may be empty: see
                                der_utf16_text */
   der_range local_key_id;   /* its octets; a key has those of its certificate */
@@ -261,9 +265,9 @@ typedef struct der_bag_parts {
  * at most 64 levels. The MAC isn't looked at, and nothing is decrypted: see der_mac.
  *  - DER_NORMAL: *count rows are at the front of out, in the order of the file, and the rest of out is as it was.
  *  - DER_NO_ROOM: there are *count rows, and out_len is less.
- *  - DER_MALFORMED to DER_TOO_DEEP: the input is no PFX, read as "rawpfx"; or a SafeContents, certificate, revocation
- *    list or encrypted key doesn't read as its type, or a friendlyName or localKeyId doesn't, or is there twice. *place
- *    says where: of an attribute, where the first of its type begins.
+ *  - DER_MALFORMED to DER_TOO_DEEP: the input is no PFX, read as "rawpfx"; or a SafeContents, CertBag, CRLBag or
+ *    encrypted key doesn't read as its type, or a friendlyName or localKeyId doesn't, or is there twice. *place says
+ *    where: of an attribute, where the first of its type begins.
  *  - DER_TOO_LONG: no input is known where it is answered.
  *  - DER_NO_MEMORY: *place is an offset without use.
  *  - DER_NO_RANGE: never.
@@ -569,7 +573,7 @@ typedef enum der_bag_part {
  *    [0].
  *  - DER_BAG_SAFE_CONTENTS: a SafeContents, as this call writes it. Its bags are read, and those in bags of it, and so
  *    on: at most 64 SafeContents, with this one, may be in one another. What its other bags hold isn't looked at, nor are
- *    attributes: der_bag_rows may refuse them.
+ *    the values of attributes: der_bag_rows may refuse them.
  *  - DER_BAG_OTHER: any element, under the object identifier that identifier is.
  * A certificate or revocation list of another type than X.509 isn't written. An element has a tag of one octet and a
  * length as DER has it, and whatever is in it. Of the rows that der_bag_rows wrote give those of level 0: the others are
@@ -614,8 +618,8 @@ typedef struct der_content_given {
  *  - DER_INVALID: the content with the index *content, from 0 on, can't be written, of several the first.
  *    - It isn't inside of the input.
  *    - is_data is set, and it is no SafeContents. Its bags are read, and those in bags of it, and so on: at most 65
- *      SafeContents, with this one, may be in one another. What its other bags hold isn't looked at, nor are
- *      attributes.
+ *      SafeContents, with this one, may be in one another. What its other bags hold isn't looked at, nor are the
+ *      values of attributes.
  *    - is_data is 0, and it is no ContentInfo: a SEQUENCE of an object identifier and one element of any type in [0],
  *      which may be absent.
  *    - is_data is 0, and it is a ContentInfo of the type data (1.2.840.113549.1.7.1): give its SafeContents instead.
@@ -920,7 +924,7 @@ typedef enum der_enveloped_part {
  * content, or none, with recipients_len recipients and without originatorInfo. given and recipients say of each part
  * where the input has its octets, in any order; ranges may overlap. Set all of given to 0 first: a flag is set where it
  * isn't 0. A recipient is a RecipientInfo of any kind, as der_build_recipient writes it, or as der_part_ranges finds it
- * under DER_PART_RECIPIENT. Nothing is encrypted: the caller encrypts the content, and its key for each recipient.
+ * under DER_PART_RECIPIENT, which may also find elements that are refused here. Nothing is encrypted: the caller encrypts the content, and its key for each recipient.
  * Enveloped data don't say who made them, nor that nobody changed them. To change a file that was read, take recipients,
  * algorithm and encrypted content from der_part_ranges. No call finds its content type, its unprotected attributes or
  * its originatorInfo: read them yourself. A file with originatorInfo can't be built again.
@@ -964,9 +968,11 @@ DER_CALL
 uint32_t der_mac_range(const uint8_t *input, size_t input_len, size_t *start, size_t *len);
 
 /* What a verifier of a PKCS #12 file's MAC needs beside DER_PART_MAC_DIGEST_ALGORITHM, DER_PART_MAC_DIGEST and
- * DER_PART_MAC_SALT: the range of der_mac_range, and how often the key derivation hashes, 1 where that is left out.
+ * DER_PART_MAC_SALT: the range of der_mac_range, and how often the key derivation hashes, 1 where that is left out. The
+ * parameters of the digest's algorithm, which PBMAC1 has (RFC 9579), no call gives.
  *  - DER_NORMAL: the file has a MAC, which covers the *len octets from input + *start on. Nothing is said of whether it
- *    is right: the caller makes it and compares.
+ *    is right: the caller makes it and compares, first the lengths. Limit the count before a key is derived: it is what
+ *    the file says, from 0 to 4294967295.
  *  - DER_NO_PART: its authSafe is data, and it has no MAC.
  *  - DER_NO_RANGE, DER_MALFORMED to DER_TOO_DEEP, DER_NO_MEMORY: as of der_mac_range.
  * Unless at DER_NORMAL the numbers are 0. */

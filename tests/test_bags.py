@@ -151,7 +151,7 @@ def copied(part, octets):
 def rust_lines(octets):
     """The lines of rust/examples/bags.rs."""
     for bag in built.library().bags(octets):
-        name = "" if bag.friendly_name is None else f", {bag.friendly_name}"
+        name = "" if bag.friendly_name is None else f', "{bag.friendly_name}"'
         kind = bag.kind.name.title().replace("_", "")
         yield f"{'  ' * bag.level}{kind}, {len(bag.value)} octets{name}\n"
 

@@ -13,7 +13,7 @@ from support.elements import octet_string, sequence
 from support.parts import covered, mac_parts, over_any_octets
 from support.rooms import InRooms
 from support.statuses import LOOSE, NORMAL, answered, checked, outcome
-from support.tools import ended, needs, openssl
+from support.tools import ended, ended_when_full, needs, openssl
 from oracle.answers import is_over_attributes
 from vuyhanip import der
 
@@ -103,14 +103,24 @@ class TestMacs(InRooms):
             self.same(library.mac_ber(text).covered, range(*covered(text)), text)
 
     def example_agrees(self, program):
-        """Compares what c/examples/mac.c writes of each store."""
+        """Compares what c/examples/mac.c writes of each store, which is nothing of one without a MAC."""
         for text in stores():
-            place = covered(text) if checked("rawpfx", text)[0] <= LOOSE else None
+            place = covered(text) if checked("rawpfx", text)[0] <= LOOSE and mac_parts(text)[0] else None
             wanted = (0, text[slice(*place)]) if place else (1, b"")
             self.same(outcome(program, text=text), wanted, program.name, text)
 
     def test_the_example_in_c_writes_what_a_mac_covers(self):
         self.example_agrees(built.in_c(MAC_IN_C))
+
+    def test_examples_in_c_fail_where_nothing_can_be_written(self):
+        """Each over a store that it reads, to a device that is full."""
+        text = store("data", octet_string(sequence()), 3, mac_data(b"MAC", b"salt", 1))
+        path = built.room() / "small.p12"
+        path.write_bytes(text)
+        for name, words in (("store", [path]), ("mac", []), ("from_ber", [])):
+            program = built.in_c(MAC_IN_C.with_name(f"{name}.c"))
+            self.same(ended(program, *words, text=text).returncode, 0, name)
+            self.same(ended_when_full(program, *words, text=text), 1, name, "to a full device")
 
     def test_examples_in_c_say_nothing_of_a_file_that_is_longer_than_they_read(self):
         """A store of just as many octets as there is room for, and more after it."""

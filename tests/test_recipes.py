@@ -369,10 +369,12 @@ class InC(Recipe):
     """Tests of an example in C."""
 
     def says(self, example, cases, by=None):
-        """Compares how it ends over inputs, and its lines."""
+        """Compares how it ends over inputs, and its lines; and asks that it fails where it can't write these."""
         for made, said in cases:
             put("made", made)
             self.same(said_in_c(example, "made", by), said, example.name, made)
+            if said[0] == 0 and said[1]:
+                self.same(tools.ended_when_full(built.in_c(example, by=by), "made"), 1, example.name, made)
 
     def reads_less_than_its_room(self, example, of, lines_on):
         """Compares what it says of what is made of lengths: the longest that it reads, and longer ones."""

@@ -16,10 +16,13 @@ static size_t input_len = 2;
 
 static _Noreturn void stop(const char *why) { fprintf(stderr, "%s\n", why); exit(1); }
 static void done(uint32_t status) { if (status != DER_NORMAL) stop(der_status_word((der_status)status)); }
+/* The octets of a file, of which no copy is left beside these: it may have a key. */
 static octets file(const char *name) {
   octets all = {NULL, 0};
   FILE *from = fopen(name, "rb");
-  for (size_t room = 1 << 12, got = 1; from && got && room <= 1 << 30 && (all.at = realloc(all.at, room)); room *= 2)
+  if (from) setvbuf(from, NULL, _IONBF, 0);
+  for (size_t room = 1 << 12, got = 1;
+       from && got && room <= 1 << 30 && (all.at = OPENSSL_clear_realloc(all.at, all.len, room)); room *= 2)
     all.len += got = fread(all.at + all.len, 1, room - all.len, from);
   if (!all.at || ferror(from) || !feof(from)) { fprintf(stderr, "%s isn't read, or has 1 GiB\n", name); exit(2); }
   fclose(from);

@@ -49,5 +49,5 @@ int main(int count, char **words) {
   print_type("type", parts.attribute_type);
   print_octets("algorithm", parts.digest_algorithm);
   print_octets("digest", parts.digest);
-  return 0;
+  return fflush(stdout) != 0 || ferror(stdout) != 0;
 }

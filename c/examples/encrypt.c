@@ -33,6 +33,7 @@ static der_range encrypted(size_t len, const char *password, const der_password_
     stop("not encrypted");
   EVP_CIPHER_CTX_free(context);
   OPENSSL_cleanse(key, sizeof key);
+  OPENSSL_cleanse(file, len);
   return added((size_t)(most + rest));
 }
 int main(int count, char **words) {
@@ -41,6 +42,8 @@ int main(int count, char **words) {
   FILE *stream = count == 2 ? fopen(words[1], "rb") : NULL;
   char password[1024];
   if (!stream) return 2;
+  /* so that no buffer keeps the key or the password */
+  setvbuf(stream, NULL, _IONBF, 0), setvbuf(stdin, NULL, _IONBF, 0);
   size_t len = fread(file, 1, sizeof file, stream), written, part;
   if (ferror(stream) || len == sizeof file)
     return fprintf(stderr, "not read, or longer than %zu octets\n", sizeof file - 1), 1;

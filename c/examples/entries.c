@@ -47,5 +47,5 @@ int main(int count, char **words) {
   for (nth = 0; nth < entries; nth++)
     print_octets(rows[nth].identifier);
   free(rows);
-  return 0;
+  return fflush(stdout) != 0 || ferror(stdout) != 0;
 }

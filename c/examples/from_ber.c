@@ -17,7 +17,7 @@ int main(void) {
   if (status == DER_NO_ROOM && (der = malloc(room)) != NULL)
     status = der_from_ber(ber, ber_len, der, room, &size, &place);
   if (status == DER_NORMAL)
-    return fwrite(der, 1, size, stdout) != size;
+    return fwrite(der, 1, size, stdout) != size || fflush(stdout);
   fprintf(stderr, "%s at %zu\n", der_status_word((der_status)status), place);
   return 1;
 }

@@ -6,15 +6,15 @@
 static uint8_t input[1 << 22];
 
 int main(void) {
-  size_t len = fread(input, 1, sizeof input, stdin), start, covered;
+  size_t len = fread(input, 1, sizeof input, stdin), start, covered, iterations;
   if (ferror(stdin) || len == sizeof input) {
     fprintf(stderr, "not read, or longer than %zu octets\n", sizeof input - 1);
     return 1;
   }
-  der_status status = (der_status)der_mac_range(input, len, &start, &covered);
+  der_status status = (der_status)der_mac(input, len, &start, &covered, &iterations);
   if (status != DER_NORMAL) {
     fprintf(stderr, "%s\n", der_status_word(status));
     return 1;
   }
-  return fwrite(input + start, 1, covered, stdout) != covered;
+  return fwrite(input + start, 1, covered, stdout) != covered || fflush(stdout);
 }

@@ -79,5 +79,5 @@ int main(int count, char **words) {
       print_line("contents", DER_HOLDER_CONTENTS, rows[nth].element);
   }
   free(rows);
-  return 0;
+  return fflush(stdout) != 0 || ferror(stdout) != 0;
 }

@@ -24,5 +24,5 @@ int main(int count, char **words) {
   printf("%s, %zu octets\n", der_status_word(status), len);
   if (der_mac(file, len, &place, &covered, &rounds) == DER_NORMAL)
     printf("its MAC covers %zu octets, by %zu iterations\n", covered, rounds);
-  return 0;
+  return fflush(stdout) != 0 || ferror(stdout) != 0;
 }

@@ -5,7 +5,7 @@ fn main() -> Result<(), Box<dyn Error>> {
     let path = std::env::args().nth(1).ok_or("usage: bags FILE")?;
     let file = std::fs::read(path)?;
     for bag in vuyhanip::bags(&file)? {
-        let name = bag.name().map_or(String::new(), |name| format!(", {name}"));
+        let name = bag.name().map_or(String::new(), |name| format!(", {name:?}"));
         println!("{}{:?}, {} octets{name}", "  ".repeat(bag.level), bag.kind, bag.value.len());
     }
     Ok(())

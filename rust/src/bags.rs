@@ -39,7 +39,8 @@ pub struct Bag<'a> {
     pub level: usize,
     /// The whole bag.
     pub element: &'a [u8],
-    /// The DER of an X.509 certificate or revocation list; of other kinds the element that the bag holds.
+    /// The octets that should be the DER of an X.509 certificate or revocation list: any, or none, which aren't looked
+    /// at; of other kinds the element that the bag holds.
     pub value: &'a [u8],
     /// The friendly name, in UTF-16, two octets for each unit, the high one first.
     pub friendly_name: Option<&'a [u8]>,

@@ -274,7 +274,7 @@ impl<'a> Enveloped<'a> {
     }
 
     /// Adds a recipient: a RecipientInfo of any kind (RFC 5652, 6.2), as [`build_recipient`] builds one, or as
-    /// [`recipients`](crate::recipients) finds it in a file.
+    /// [`recipients`](crate::recipients) finds it in a file; that may also find elements which are refused here.
     pub fn recipient(&mut self, octets: &'a [u8]) -> &mut Self {
         self.recipients.push(octets);
         self

@@ -196,6 +196,8 @@ fn written(room: usize, mut call: impl FnMut(*mut u8, usize, &mut usize) -> u32)
         let status = call(out.as_mut_ptr(), out.len(), &mut len);
         if status != NO_ROOM || len <= out.len() {
             out.truncate(if status == NORMAL { len } else { 0 });
+            // a part is often much shorter than its room
+            out.shrink_to_fit();
             return (status, out);
         }
         out.resize(len, 0);
@@ -299,18 +301,19 @@ pub fn mac_range(input: &[u8]) -> Result<Option<Range<usize>>, Error> {
     }
 }
 
-/// What a verifier of a PKCS #12 file's MAC needs beside the password. Nothing says that the MAC is right.
+/// What a verifier of a PKCS #12 file's MAC needs beside the password. Nothing says that the MAC is right: the caller makes
+/// it and compares, first the lengths. Limit the count before a key is derived.
 #[derive(Debug, Clone, PartialEq, Eq)]
 pub struct Mac {
     /// Where the file has the octets that the MAC covers.
     pub covered: Range<usize>,
     /// The contents octets of the digest algorithm's object identifier.
     pub digest_algorithm: Vec<u8>,
-    /// The MAC that the file has.
+    /// The MAC that the file has, of any length, also 0.
     pub digest: Vec<u8>,
     /// Its salt.
     pub salt: Vec<u8>,
-    /// How often the key derivation hashes.
+    /// How often the key derivation hashes: what the file says, from 0 to 4294967295.
     pub iterations: usize,
 }
 

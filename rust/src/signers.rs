@@ -55,8 +55,8 @@ impl fmt::Display for BadAttributes {
 
 impl std::error::Error for BadAttributes {}
 
-/// The signers of signed data, of any CMSVersion and over content of any type. Up to 16 are found in one reading,
-/// more in two.
+/// The signers of signed data, of any CMSVersion and over content of any type. Where there are none, the list is empty,
+/// and nothing is signed: ask for that too. Up to 16 are found in one reading, more in two.
 ///
 /// ```
 /// let file = std::fs::read("tests/by_key.p7m")?;

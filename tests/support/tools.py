@@ -27,6 +27,12 @@ def ended(*words, text=None, cwd=None, env=ENVIRONMENT):
     return subprocess.run(list(map(str, words)), input=text, capture_output=True, check=False, cwd=cwd, env=env)
 
 
+def ended_when_full(*words, text=None):
+    """The exit status of a program whose standard output is a device that is full."""
+    with open("/dev/full", "wb") as full:
+        return subprocess.run(list(map(str, words)), input=text, stdout=full, check=False).returncode
+
+
 def openssl(*words, text=None, cwd=None):
     """What openssl writes, which has to succeed."""
     return run("openssl", *words, text=text, cwd=cwd)
