@@ -21,11 +21,13 @@ import warnings
 from unittest import mock
 
 from support import attacks, attacks_on_keys, attacks_on_stores, attacks_on_trust, built, good_files, signing, verdicts
-from support.attacks import UNNAMED
+from support.attacks import UNNAMED, attack
 from support.attacks_on_stores import locked, store
+from support.attacks_on_trust import SIGNING_CERTIFICATE, another_name
 from support.cases import Comparing
+from support.elements import octet_string, sequence
 from support.removals import REMOVALS
-from support.signing import CONTENT, OTHER, Signer, attribute, put
+from support.signing import CONTENT, OTHER, Signer, attribute, attributes_of, digest_of, put
 from support.stand_in import PACKAGE, VERDICTS, changed_copy, standing_in
 from support.tools import ended, needs
 from vuyhanip.rules import RULES
@@ -292,6 +294,42 @@ class Rules(Comparing):
         for it in REMOVALS:
             text = (PACKAGE / it.file).read_text("utf-8")
             self.same((text.count(it.old), "\n" in it.old + it.new), (1, False), it.rule, it.old)
+
+
+@functools.lru_cache(maxsize=None)
+def named_twice():
+    """Signers whose signed attributes name their certificate by two values, where RFC 5035, 5.4 has one."""
+    value = sequence(sequence(sequence(octet_string(digest_of("sha256", another_name())))))
+    one, content = attribute(SIGNING_CERTIFICATE, value), good_files.of_program()
+    given, found = put("named-twice.content", content), []
+    for name, those in (("values", [attribute(SIGNING_CERTIFICATE, value, value)]), ("attributes", [one, one])):
+        by, rule = {"by": "rsa", "certificate": another_name()}, "signing-certificate"
+        file = Signer(attributes=[*attributes_of(CONTENT), *those], **by).file()
+        found.append(attack(f"its certificate is named by two {name}", file, rule))
+        those = [*attributes_of(content, signing.INDIRECT_DATA), *those]
+        signer = Signer(content=content, content_type=signing.INDIRECT_DATA, attributes=those, **by)
+        name = f"its certificate is named by two {name}, indirect data"
+        asked = (attacks.smime(attacks.of_file(name), given),)
+        found.append(attack(name, signer.file(content=sequence(content)), rule, questions=asked))
+    return found
+
+
+class NamedTwice(Comparing):
+    """The first line of the rule signing-certificate, by which openssl cms refuses such files, and smime doesn't."""
+
+    def test_a_certificate_is_named_by_one_value(self):
+        for it in named_twice():
+            self.same(fault_of(it), "", it.name)
+            self.same(verdicts.accepts(*it.questions), "indirect" in it.name, it.name, "by openssl")
+            said = verdicts.verdict(it.name).words
+            self.same("its signed attributes name more than one certificate (RFC 5035, 5.4)" in said, True, said)
+
+    def test_without_that_line_such_a_file_is_right(self):
+        old = "if len(values) > len({digest for _, digest in values}):"
+        self.same((PACKAGE / "rules.py").read_text("utf-8").count(old), 1, old)
+        with standing_in(VERDICTS["succeeds"], file="rules.py", old=old, new="if not case.own:") as it:
+            for each in named_twice():
+                self.same(fault_of(each, it.package, it.environment.items())[:8], "status 4", each.name)
 
 
 def is_right_now(rule):

@@ -38,7 +38,7 @@ RULES = (
     *("a salt length that isn't a number of 31 bits", "an RSA key whose exponent is even, or below 3"),
     *(r"an RSA key whose exponent has more than \d+ bits", "a key on a curve without a name"),
     "openssl doesn't find its key right",
-    "its signed attributes name another certificate",
+    "its signed attributes name (another|more than one) certificate",
 )
 WEAK = r"(the (digest|signature algorithm) [\w.-]+( of what is stamped)?|RSA of \d+ bits|a curve of \d+ bits|DSA)"
 CAUSES = (
@@ -48,7 +48,7 @@ CAUSES = (
     "there is no program openssl, whose yes a yes is here",
     "openssl has no purpose for programs, so --ca asks for --purpose any",
     r"OpenSSL [^,]+ verifies no (signatures of Ed25519 and Ed448 in CMS|signers by key identifier over such content)",
-    r"\d+ iterations, more than the \d+ that --most-iterations allows",
+    r"(\d+|more than 2\*\*64) iterations, more than the \d+ that --most-iterations allows",
 )
 # What follows on a verdict: what isn't compared or checked, and what the signer is.
 DESCRIPTION = (

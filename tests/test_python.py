@@ -1,17 +1,20 @@
 """What the module for Python hands to its callers: lists that can be counted, objects that say what they are and can be
-sent to another process, reasons that are texts, and octets that aren't copied where nobody can write into them."""
+sent to another process, reasons that are texts, object identifiers of any length, and octets that aren't copied where
+they can only be read."""
 import copy
+import datetime
 import mmap
+import os
 import pickle
 import re
 import tempfile
 import unittest
 
-from support import built, inputs
-from support.containers import bare_bag, content_info, long_signers, store_of
-from support.elements import integer, octet_string, sequence
-from vuyhanip import der
-from vuyhanip.der import BadAttributes, Part, Reason, Refused, Signer
+from support import built, containers, inputs
+from support.containers import NULL, bare_bag, content_info, long_signers, mac_data, store_of
+from support.elements import element, integer, octet_string, sequence, set_of
+from vuyhanip import build, der
+from vuyhanip.der import BadAttributes, BagKind, GivenImage, Part, Reason, Refused, Signer
 
 STORE = store_of(
     bare_bag("certificate bag", content_info("X.509 certificate", octet_string(b"C"))),
@@ -19,6 +22,21 @@ STORE = store_of(
 )
 # Some of its signers have bad attributes.
 SIGNED = next(long_signers())[0]
+# Contents octets of object identifiers, and what they are as text: of more than 64 octets, in hexadecimal.
+DOTTED = (
+    (b"", ""), (b"\x2A", "1.2"), (b"\x2A\x86\x48\x86\xF7\x0D", "1.2.840.113549"), (b"\x88\x37\x03", "2.999.3"),
+    # a UUID (X.667)
+    (b"\x69\x83" + 17 * b"\xFF" + b"\x7F", f"2.25.{2**128 - 1}"),
+    (b"\x2A" + 63 * b"\3", "1.2" + 63 * ".3"), (b"\x2A" + 64 * b"\3", "2A" + 64 * ":03"),
+    (b"\x2A" + 62 * b"\xFF" + b"\x7F", f"1.2.{2**441 - 1}"),
+    (b"\x2A" + 63 * b"\xFF" + b"\x7F", "2A" + 63 * ":FF" + ":7F"),
+)
+# One whose number takes more digits than Python writes, and more time than anybody has.
+LONG = b"\x2A" + 100_000 * b"\xFF" + b"\x7F"
+
+
+class OurBag(der.GivenBag):
+    """A bag of a caller's own type."""
 
 
 def library():
@@ -65,6 +83,31 @@ class TestPython(unittest.TestCase):
         self.assertEqual(bytes(pickle.loads(pickle.dumps(signed.signer_infos[0])).element), bytes(signed.signer_infos[0].element))
         self.assertEqual(len({good, pickle.loads(pickle.dumps(good))}), 1)
 
+    def test_what_is_given_goes_to_another_process_and_is_equal_there(self):
+        """Memoryviews too, also in lists and in what is given of an image."""
+        its, time = memoryview(NULL), datetime.datetime(2026, 11, 30, tzinfo=datetime.timezone.utc)
+        those = [its, NULL]
+        for it in (
+            der.GivenBag(BagKind.KEY, its, "me", its, those, "1.2"), OurBag(BagKind.KEY, its, attributes=tuple(those)),
+            der.GivenContent(its, True), der.GivenMac("1.2", its, its, 1, its), der.GivenImage(its, its),
+            der.GivenSigner(*6 * [its], those), der.GivenIndirect(its, its, GivenImage(its), its, its),
+            der.GivenIndirect(its, its, der.ImageData(its, its)), der.GivenRecipient(*4 * [its], True),
+            build.Signer(*5 * [its], time, those, tuple(those)), der.PasswordParameters(its, salt=its, iterations=1),
+        ):
+            sent = [pickle.loads(pickle.dumps(it, number)) for number in range(pickle.HIGHEST_PROTOCOL + 1)]
+            for again in (*sent, copy.copy(it), copy.deepcopy(it)):
+                self.assertEqual((type(again), again), (type(it), it))
+
+    def test_object_identifiers_of_any_length_are_text(self):
+        for octets, text in DOTTED:
+            for its in (octets, bytearray(octets), memoryview(octets)):
+                self.assertEqual(der.dotted(its), text)
+        wanted, algorithm = LONG.hex(":").upper(), sequence(element(6, LONG), NULL)
+        data = containers.store("data", octet_string(sequence()), 3, mac_data(b"digest", b"salt", 2, algorithm))
+        for mac in (library().mac(data), library().mac_ber(data)):
+            self.assertEqual(mac.digest_algorithm, wanted)
+        self.assertEqual(der.attribute_oid(memoryview(sequence(element(6, LONG), set_of()))), wanted)
+
     def test_reasons_are_texts_and_one_of_a_few(self):
         with self.assertRaises(Refused) as caught:
             library().check("pfx", b"")
@@ -94,6 +137,19 @@ class TestPython(unittest.TestCase):
                 self.assertEqual(library().check("pfx", part), library().check("pfx", STORE))
                 # else the file can't be closed
                 del bags, part
+
+    def test_a_mapped_file_that_another_writes_changes_what_was_given(self):
+        """As the module says, with what keeps it as it was."""
+        self.assertIn("gives bytes(mapped)", der.__doc__)
+        with tempfile.TemporaryFile() as file:
+            file.write(STORE)
+            file.flush()
+            with mmap.mmap(file.fileno(), 0, access=mmap.ACCESS_READ) as mapped:
+                bags, kept = library().bags(mapped), library().bags(bytes(mapped))
+                os.pwrite(file.fileno(), b"D", STORE.index(octet_string(b"C")) + 2)
+                self.assertEqual((bytes(bags[0].value), bytes(kept[0].value)), (b"D", b"C"))
+                # else the file can't be closed
+                del bags
 
     def test_what_can_be_written_is_copied(self):
         """Also by another name than that by which it is given."""

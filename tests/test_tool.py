@@ -73,6 +73,18 @@ class Tool(Command):
         folder.mkdir()
         return folder
 
+    def ends(self, file):
+        """Asks that the process ends whose number a file has: a busy machine may take a moment to end it."""
+        state = Path(f"/proc/{int(self.octets(file))}/stat")
+        for _ in range(100):
+            try:
+                if " Z " in state.read_text():
+                    return
+            except (FileNotFoundError, ProcessLookupError):
+                return
+            time.sleep(0.1)
+        self.fail(f"the process of {file} goes on")
+
     def test_a_run_that_takes_too_long_is_killed_with_all_that_it_started(self):
         self.stand_in(f"#!/bin/sh\nsleep 60 & echo $! > {self.room}/child\necho begun\nwait\n")
         with unittest.mock.patch.object(tool, "MOST_SECONDS", 0.5):
@@ -80,12 +92,7 @@ class Tool(Command):
             ran = tool.run(["version"])
             self.assertEqual((ran.status, ran.is_yes, ran.words), (None, False, "no answer in 0.5 seconds"))
         self.assertLess(time.monotonic() - began, 30)
-        child = int(self.octets("child"))
-        for _ in range(100):
-            if not Path(f"/proc/{child}").exists() or " Z " in Path(f"/proc/{child}/stat").read_text():
-                return
-            time.sleep(0.1)
-        self.fail("a child of the run goes on")
+        self.ends("child")
 
     def test_of_much_output_a_beginning_is_kept(self):
         self.stand_in("#!/bin/sh\nhead -c 100000000 /dev/zero | tr '\\0' a\nhead -c 1000000 /dev/zero >&2\nexit 3\n")
@@ -149,7 +156,7 @@ class Tool(Command):
                     process.send_signal(number)
                     self.assertEqual(process.wait(30), status)
                 self.assertEqual(os.listdir(self.room / "temporary"), [])
-                self.assertFalse(Path(f"/proc/{int(self.octets('pid'))}").exists())
+                self.ends("pid")
                 (self.room / "pid").unlink()
 
     def test_a_name_does_not_say_what_a_key_is(self):

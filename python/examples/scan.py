@@ -65,7 +65,10 @@ def names_in(source: str) -> Iterator[str]:
     if os.path.isdir(source):
         yield from files.under(source)
         return
-    with sys.stdin if source == "-" else open(source, encoding="utf-8", errors="surrogateescape") as lines:
+    is_input = source == "-"
+    with open(
+        0 if is_input else source, encoding="utf-8", errors="surrogateescape", newline="\n", closefd=not is_input
+    ) as lines:
         yield from filter(None, (line.rstrip("\n") for line in lines))
 
 

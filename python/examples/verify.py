@@ -1,6 +1,7 @@
-"""verify.py FILE [CONTENT] says of each signer of signed data what verify.c says, by the package cryptography. CONTENT
-has the octets that are signed where the signature is detached; a file that has content has to have the same. That a
-certificate is to be trusted isn't looked at. Exits with 0 where there are signers and each is verified."""
+"""verify.py FILE [CONTENT] says of each signer of signed data what verify.c says, by the package cryptography; "not
+checked" where that doesn't read the certificate or has no verification by its key. CONTENT has the octets that are
+signed where the signature is detached; a file that has content has to have the same. That a certificate is to be trusted
+isn't looked at. Exits with 0 where there are signers and each is verified."""
 import hashlib
 import sys
 
@@ -32,8 +33,10 @@ def verify(signer, content):
         key = x509.load_der_x509_certificate(bytes(signer.certificate)).public_key()
         key.verify(signer.signature, covered, *HOW[signer.signature_oid])
         return "verified"
-    except (exceptions.InvalidSignature, TypeError, ValueError, exceptions.UnsupportedAlgorithm):  # or another key
+    except (exceptions.InvalidSignature, TypeError):  # or another key
         return "wrong signature"
+    except (AttributeError, ValueError, x509.InvalidVersion, exceptions.UnsupportedAlgorithm):
+        return "not checked"
 
 
 file, content = ([open(name, "rb").read() for name in sys.argv[1:]] + [None])[:2]

@@ -21,7 +21,8 @@ command `vuyhanip` over files, which is `python -m vuyhanip` too.
     vuyhanip.mac_verdict(data, password).is_right   whether the MAC of a store is right, as the program openssl says
 
 help(vuyhanip.der) says what each call does. An installed package has the library for C in its folder, and its version.
-In a clone the library is that of the environment's VUYHANIP_LIBRARY, or else crates/der_c/out/libder.so.
+The environment's VUYHANIP_LIBRARY names another one, of the same version. In a clone, which has no version, the library
+is that, or else crates/der_c/out/libder.so.
 """
 import ctypes
 import functools
@@ -94,6 +95,8 @@ __all__ += ["SignedPart", "Signer", "SignerInfo", "Store", "StorePart", "TrustEn
 __all__ += ["Verdict", "attribute_oid", "attribute_values", "dotted", "hashed_octets", "library", "mac_verdict"]
 
 _HERE = os.path.dirname(os.path.realpath(__file__))
+# In place of a version, in a clone.
+_OF_A_CLONE = "of a clone"
 
 
 def _version() -> str:
@@ -101,42 +104,48 @@ def _version() -> str:
     try:
         found: str = importlib.import_module(f"{__name__}.version").VERSION
     except ImportError:
-        return "of a clone"
+        return _OF_A_CLONE
     return found
 
 
 __version__ = _version()
 
 
-def _installed(path: str) -> Library:
-    """The library that was installed with this package. ImportError says that it is of another version."""
-    call = ctypes.CDLL(path).der_version
-    call.argtypes, call.restype = [], ctypes.c_char_p
-    version: bytes = call()
-    if version != __version__.encode():
-        raise ImportError(f"{path} is of version {version.decode()}, and this package of {__version__}")
-    return Library(path)
+def _at(path: str) -> Library:
+    """The library at a path. ImportError says that it is of another version than this package, unless that is of a
+    clone, or lacks a call."""
+    path = os.path.realpath(path)
+    try:
+        if __version__ != _OF_A_CLONE:
+            call = ctypes.CDLL(path).der_version
+            call.argtypes, call.restype = [], ctypes.c_char_p
+            version: bytes = call()
+            if version != __version__.encode():
+                raise ImportError(f"{path} is of version {version.decode()}, and this package of {__version__}")
+        return Library(path)
+    except AttributeError:
+        raise ImportError(f"{path} isn't the library, or lacks calls that this package has") from None
 
 
 @functools.lru_cache(maxsize=None)
 def library() -> Library:
     """The library of VUYHANIP_LIBRARY, or that was installed with this package, or that is in a clone.
 
-    Raises OSError where there is none, and ImportError where it is of another version than the package.
+    Raises OSError where there is none, and ImportError where it is of another version than the package, or lacks calls.
     """
     if "VUYHANIP_LIBRARY" in os.environ:
-        return Library(os.environ["VUYHANIP_LIBRARY"])
+        return _at(os.environ["VUYHANIP_LIBRARY"])
     installed = os.path.join(_HERE, "libvuyhanip.so")
     if os.path.exists(installed):
-        return _installed(os.path.realpath(installed))
-    return Library(os.path.join(_HERE, "..", "..", "crates", "der_c", "out", "libder.so"))
+        return _at(installed)
+    return _at(os.path.join(_HERE, "..", "..", "crates", "der_c", "out", "libder.so"))
 
 
 def mac_verdict(store: bytes, password: str) -> "Finding":
     """What the command says of the MAC of a PKCS #12 file, in DER or BER, under a password: is_right, and what is said.
 
-    The program openssl is asked, whose yes a yes is. Raises Refused where the file is none, and vuyhanip.tool.NoTool
-    where there is no openssl.
+    The program openssl is asked, whose yes a yes is. Raises Refused where the file is none, and where there is no
+    openssl NoTool of the module vuyhanip.tool, which has to be imported by its name.
     """
     from .verifying import mac_verdict as verdict
 

@@ -35,10 +35,10 @@ is written as it is given, and so are the digest of a MAC, the digest of a conte
 what enveloped data hold and the keys of their recipients. Object identifiers are text, as "1.3.14.3.2.26". Where a part
 can't be written, BadParameters is raised, BadBag, BadContent, BadStore, BadAttributes, BadSigned, BadIndirect,
 BadRecipient or BadEnveloped; and Refused where pbes2, pbes1, pkcs12, algorithm, signed, indirect or enveloped is given
-what is no object identifier.
+what is no object identifier, or utf16 a surrogate. Where something is of another type, TypeError is raised.
 """
 import datetime
-from typing import Iterable, List, NamedTuple, Optional, Sequence, Tuple, Union
+from typing import Iterable, List, NamedTuple, Optional, Sequence, Tuple, Union, cast
 
 from . import der, library
 from .der import Bytes, GivenContent, GivenImage, GivenIndirect, GivenSigner, PasswordHolder, PasswordParameters
@@ -140,8 +140,8 @@ def pbes2(
 
 
 def pbes1(algorithm: str, *, salt: Bytes, iterations: int, encrypted: Optional[Bytes] = None) -> PasswordParameters:
-    """An algorithm of PBES1 (RFC 8018, 6.1 and A.3), as "1.2.840.113549.1.5.10", pbeWithSHA1AndDES-CBC. Its salt has to
-    have 8 octets. For new applications RFC 8018 recommends PBES2.
+    """An algorithm of PBES1 (RFC 8018, 6.1 and A.3), as "1.2.840.113549.1.5.10", pbeWithSHA1AndDES-CBC. RFC 8018
+    asks for a salt of 8 octets, which isn't checked. For new applications it recommends PBES2.
     """
     identifier, salt = library().oid_octets(algorithm), _needed(salt, "salt")
     return PasswordParameters(identifier, is_pbes1=True, salt=salt, iterations=iterations, encrypted=encrypted)
@@ -184,14 +184,19 @@ def store(contents: Iterable[Union[Bytes, Iterable[AnyBag]]]) -> Store:
     Raises BadBag where a bag can't be written: its content is the index of the first list that has such a bag, and its
     bag the index in that list. Otherwise raises BadContent where octets are no such ContentInfo.
     """
-    return Store(library().build_safe([_content(index, it) for index, it in enumerate(contents)]))
+    those = der._items(contents, "contents")
+    return Store(library().build_safe([_content(index, it) for index, it in enumerate(those)]))
 
 
 def _content(index: int, given: Union[Bytes, Iterable[AnyBag]]) -> GivenContent:
     """A content as build_safe takes it, by its index."""
-    if isinstance(given, (bytes, bytearray, memoryview)):
-        return GivenContent(given, False)
-    its_bags = list(given)
+    octets = der._viewed(given)
+    if octets is not None:
+        return GivenContent(octets, False)
+    if isinstance(given, (str, dict)) or hasattr(given, "_fields"):
+        wrong = der._type_name(type(given))
+        raise TypeError(f"content {index} has to be a list of bags, or octets, not {wrong}")
+    its_bags = list(cast(Iterable[AnyBag], given))
     try:
         return GivenContent(bags(its_bags), True)
     except der.BadBag as bad:
@@ -221,6 +226,9 @@ class Signer(NamedTuple):
     # those that its signature doesn't cover, each exactly one Attribute, in any order
     unsigned_attributes: Sequence[Bytes] = ()
 
+    def __reduce__(self) -> Tuple[object, ...]:
+        return type(self), der._plain(self)
+
 
 class Signed(NamedTuple):
     """Signed data, to which signatures are to be added."""
@@ -239,7 +247,7 @@ class Signed(NamedTuple):
         """The file with these signatures, as Library.build_signed makes it: one for each signer, in their order. Raises
         ValueError where there are more or fewer. Whether they are right isn't looked at.
         """
-        given = list(signatures)
+        given = list(der._items(signatures, "signatures"))
         if len(given) != len(self.signers):
             raise ValueError(f"{len(self.signers)} signatures are needed, and {len(given)} are given")
         return library().build_signed(
@@ -274,7 +282,9 @@ def signed(
     nothing is signed in vain. Raises ValueError where a signing time has no time zone; and of a signer without a
     digest, where it has signed attributes, or content is None or an element.
     """
-    given, its_type = list(signers), library().oid_octets(content_type)
+    given, its_type = list(der._items(signers, "signers")), library().oid_octets(content_type)
+    for index, it in enumerate(given):
+        der._typed(it, f"signer {index}", Signer)
     if not given and content is not None:
         # nobody signs it: it is refused also where it isn't to be in the file
         raise der.BadSigned(der.SignedPart.CONTENT)
@@ -284,17 +294,19 @@ def signed(
     if certificates is None:
         certificates = dict.fromkeys(_kept(it.certificate) for it in given if it.certificate is not None)
     its_signers, its_content = tuple(map(_signer, given, covered)), None if detached else octets
-    lists = tuple(map(_kept, certificates)), tuple(map(_kept, crls))
+    lists = _kept_list(certificates, "certificates"), _kept_list(crls, "crls")
     made = Signed(covered, its_type, its_content, is_element, *lists, its_signers)
-    # any octets are a signature, and any are content that is no element, so all else is tried here
-    tried = made if is_element or its_content is None else made._replace(content=b"")
-    tried.finish(len(given) * [b""])
+    # any octets are a signature, and any are content that is no element, so all else is tried here: an element also
+    # where it isn't to be in the file
+    tried = octets if is_element else None if its_content is None else b""
+    made._replace(content=tried).finish(len(given) * [b""])
     return made
 
 
 def _kept(octets: Bytes) -> bytes:
     """Octets as they are now, whatever is written into them afterwards. TypeError where it has none."""
-    return octets if isinstance(octets, bytes) else bytes(memoryview(octets))
+    # an object of a subclass may say other octets than it has
+    return octets if type(octets) is bytes else bytes(memoryview(octets))
 
 
 def _kept_or_none(octets: Optional[Bytes]) -> Optional[bytes]:
@@ -302,11 +314,16 @@ def _kept_or_none(octets: Optional[Bytes]) -> Optional[bytes]:
     return None if octets is None else _kept(octets)
 
 
+def _kept_list(those: Iterable[Bytes], name: str) -> Tuple[bytes, ...]:
+    """The same of each in a list. TypeError, which says its name, where octets are in place of that."""
+    return tuple(map(_kept, der._items(those, name)))
+
+
 def _covered(index: int, signer: Signer, content_type: bytes, content: Optional[bytes]) -> bytes:
     """What the signature of a signer covers, by its index, where the content is of these octets, or of none."""
     if signer.digest is not None:
         return _attributes(index, signer, content_type)
-    if signer.signing_time is not None or signer.attributes:
+    if signer.signing_time is not None or der._kept_items(signer.attributes, "attributes"):
         raise ValueError(f"signer {index} has signed attributes, so it has to have a digest")
     if content is None:
         raise ValueError(f"signer {index} has to have a digest, as the content isn't given as octets")
@@ -316,7 +333,7 @@ def _covered(index: int, signer: Signer, content_type: bytes, content: Optional[
 def _attributes(index: int, signer: Signer, content_type: bytes) -> bytes:
     """The signed attributes of a signer, by its index."""
     time = signer.signing_time
-    if time is not None and time.utcoffset() is None:
+    if time is not None and der._typed(time, "signing_time", datetime.datetime).utcoffset() is None:
         raise ValueError(f"signing_time of signer {index} has no time zone")
     try:
         return library().build_attributes(content_type, signer.digest, time, signer.attributes)
@@ -330,7 +347,7 @@ def _signer(signer: Signer, covered: bytes) -> GivenSigner:
     needed = signer.digest_algorithm, signer.signature_algorithm
     digest_algorithm, signature_algorithm = (_kept(it) if it is not None else it for it in needed)
     # the order of DER, as no encoding is a proper beginning of another
-    unsigned = tuple(sorted(map(_kept, signer.unsigned_attributes)))
+    unsigned = tuple(sorted(map(_kept, der._kept_items(signer.unsigned_attributes, "unsigned_attributes"))))
     return GivenSigner(
         digest_algorithm,
         signature_algorithm,
@@ -385,22 +402,21 @@ def enveloped(
     algorithm: Bytes,
     *,
     content_type: str = DATA,
-    attributes: Bytes = b"",
+    attributes: Optional[Bytes] = b"",
 ) -> bytes:
     """Enveloped data, as Library.build_enveloped makes them, around content that is encrypted already: None where it
     isn't in the file. A recipient is a Recipient, or octets: a RecipientInfo of any kind, as it is. In the file they
     are in the order of DER. algorithm is the AlgorithmIdentifier by which the content is encrypted, with the element of
     its parameters: of AES in CBC mode its vector, an OCTET STRING. content_type is the type of what was encrypted, and
-    attributes the element of a SET OF Attribute that isn't encrypted, as Library.build_attributes makes it, or no
-    octets where there are none.
+    attributes the element of a SET OF Attribute that isn't encrypted, as Library.build_attributes makes it, or None or
+    no octets where there are none.
 
     Nothing in the file says whether it was changed: content that is changed, or a vector, is decrypted to something
     else. Raises BadRecipient, whose index is that of a recipient, or BadEnveloped where something can't be written.
     """
     its_type = library().oid_octets(content_type)
-    its_recipients = [_recipient(index, it) for index, it in enumerate(recipients)]
-    # a memoryview may be of octets and false
-    its_attributes = attributes if len(attributes) else None
+    its_recipients = [_recipient(index, it) for index, it in enumerate(der._items(recipients, "recipients"))]
+    its_attributes = None if attributes is None or memoryview(attributes).nbytes == 0 else attributes
     return library().build_enveloped(its_type, content, algorithm, its_recipients, its_attributes)
 
 

@@ -18,10 +18,10 @@ from .findings import lines
 from .judging import Terms, certificates_in, pem
 from .page import page
 from .rewriting import KEEPING, rewritten
-from .running import Progress, coloured, over
+from .running import Line, Progress, coloured, over
 from .showing import show, table
 from .trees import of_dertree, own_lines
-from .values import printable
+from .values import file_name, printable, seen
 from .verifying import verify
 from .writing import mode_like, write
 
@@ -41,7 +41,7 @@ FAULTS = (OSError, MemoryError, ValueError, IndexError, OverflowError, Recursion
 class Said(NamedTuple):
     """What a verb says of one file: lines, or fields, and what goes to standard error."""
 
-    lines: List[str]
+    lines: List[Line]
     fields: Mapping[str, object]
     status: int
     complaint: str = ""
@@ -49,7 +49,7 @@ class Said(NamedTuple):
 
 def complain(name: str, said: str) -> None:
     """Says on standard error why a file isn't read."""
-    print(f"{printable(name)}: {said}", file=sys.stderr)
+    print(f"{file_name(name)}: {said}", file=sys.stderr)
 
 
 def why(fault: BaseException) -> str:
@@ -66,10 +66,11 @@ def why(fault: BaseException) -> str:
 
 
 def loaded() -> der.Library:
-    """The library. Raises OSError where it isn't there, and ImportError where it is of another version."""
+    """The library. Raises OSError where it isn't there, and ImportError where it is of another version, or lacks
+    calls."""
     try:
         return library()
-    except (OSError, AttributeError):
+    except OSError:
         raise OSError(errno.ELIBACC, "the library isn't there; VUYHANIP_LIBRARY names another", "vuyhanip") from None
 
 
@@ -103,9 +104,9 @@ def _limited(limits: Limits, job: Callable[[str], Said], name: str) -> Said:
 
 def said_of(answer: Answer, tells_more: bool) -> Said:
     """The line of a check, and of the kinds that were tried before."""
-    lines_of = [f"{printable(answer.file)}: {answer.line}"] if answer.line else []
+    lines_of = [Line(f"{file_name(answer.file)}: ", answer.line)] if answer.line else []
     if tells_more:
-        lines_of += [f"  not {it}" for it in answer.tried]
+        lines_of += [Line("", f"  not {it}") for it in answer.tried]
     return Said(lines_of, dict(answer.fields), answer.status, answer.complaint)
 
 
@@ -128,7 +129,7 @@ def _guarded(work: Callable[[str], Said], name: str) -> Said:
     try:
         return work(name)
     except (NoPem, der.Refused) as fault:
-        return Said([f"{printable(name)}: {why(fault)}"], {"file": name, "error": str(fault)}, REFUSED)
+        return Said([Line(f"{file_name(name)}: ", why(fault))], {"file": name, "error": str(fault)}, REFUSED)
     except FAULTS as fault:
         return failed(name, why(fault))
 
@@ -136,17 +137,16 @@ def _guarded(work: Callable[[str], Said], name: str) -> Said:
 def show_one(kind: Optional[str], strict: bool, name: str) -> Said:
     """The verb show, of one file."""
     said = show(read(name), kind, strict)
-    head = f"{printable(name)}: {said.refused or said.title}"
+    head = Line(f"{file_name(name)}: ", said.refused or said.title)
     fields = {"file": name, "title": said.title, "refused": said.refused, "rows": [list(it) for it in said.rows]}
-    return Said([head, *table(said.rows)], fields, said.status)
+    return Said([head, *map(Line, table(said.rows))], fields, said.status)
 
 
 def verify_one(terms: Terms, name: str) -> Said:
     """The verb verify, of one file."""
     findings = verify(read(name), terms)
-    said = [f"{printable(name)}: {it}" for it in lines(findings)]
     fields = {"file": name, "findings": [it.fields for it in findings]}
-    return Said(said, fields, worst([it.status for it in findings]))
+    return Said(lines(findings, f"{file_name(name)}: "), fields, worst([it.status for it in findings]))
 
 
 def extract_one(folder: str, strict: bool, name: str) -> Said:
@@ -156,9 +156,10 @@ def extract_one(folder: str, strict: bool, name: str) -> Said:
     except FileExistsError as fault:
         return failed(name, f"{printable(str(fault.filename))} is there already")
     except Nothing as fault:
-        return Said([f"{printable(name)}: {fault}"], {"file": name, "error": str(fault)}, REFUSED)
+        return Said([Line(f"{file_name(name)}: ", str(fault))], {"file": name, "error": str(fault)}, REFUSED)
     complaint = f"left in the file: {', '.join(left)}" if left else ""
-    return Said([printable(it) for it in paths], {"file": name, "written": paths, "left": left}, NORMAL, complaint)
+    written = [Line(file_name(it)) for it in paths]
+    return Said(written, {"file": name, "written": paths, "left": left}, NORMAL, complaint)
 
 
 # Verbs that write a file
@@ -211,7 +212,7 @@ def tree(asked: argparse.Namespace) -> int:
     place = said.furthest.place if isinstance(said, NoKind) else said.verdict.loose_end
     made = of_dertree(data, kind)
     for line in made if made is not None else map(str, own_lines(data, place)):
-        print(printable(line))
+        print(seen(line))
     if made is None:
         print(said)
     if isinstance(said, NoKind):

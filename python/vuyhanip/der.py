@@ -38,7 +38,11 @@ place.
 Only from_ber takes BER. Pass every other call what it returned, and mac_ber where the MAC of a PKCS #12 file is to be
 verified.
 The calls are those of der.h, which says what is proved of them. Calls share nothing, so threads may make them side by
-side.
+side. Where something is of another type than a call takes, TypeError is raised.
+
+Octets that come back as memoryviews are of what was given, and of a copy where that could be written, as a bytearray. A
+file that is mapped to be read alone isn't copied: whoever can write into that file changes what was given, also while a
+call runs, and ends the program by making the file shorter. Who can't exclude that gives bytes(mapped).
 
 The shared library is made of the static ones, at the top of a clone, after `rt lib` in crates/der_c:
 
@@ -52,9 +56,10 @@ import enum
 import functools
 import hashlib
 import mmap
+import operator
 import os
 import re
-from typing import Callable, Dict, Iterable, Iterator, List, NamedTuple, Optional, Sequence, Tuple, Union
+from typing import Any, Callable, Dict, Iterable, Iterator, List, NamedTuple, Optional, Sequence, Tuple, TypeVar, Union
 
 from . import _calls
 
@@ -80,6 +85,9 @@ FEW_ENTRIES = 64
 # What a call gets as a number that isn't given, or that no size_t holds, and as the place of a part that isn't given:
 # where it looks at that, it refuses it.
 NOT_GIVEN = (1 << 64) - 1
+# How many contents octets of an object identifier dotted shows as numbers. A UUID under 2.25 has 20; and the longer a
+# number is, the longer each of its octets takes.
+MAX_DOTTED = 64
 # Tags of elements; of a signer's signed attributes and of its unsigned ones, and of crls in signed data.
 SEQUENCE, SET, UTC_TIME, GENERALIZED_TIME = 0x30, 0x31, 0x17, 0x18
 SIGNED, UNSIGNED, CRLS = 0xA0, 0xA1, 0xA1
@@ -117,6 +125,8 @@ HMAC_WITH_SHA1 = "1.2.840.113549.2.7"
 Bytes = Union[bytes, bytearray, memoryview]
 # The octets of an input as they are kept.
 _Whole = Union[bytes, memoryview]
+# What is given, one by one.
+_Item = TypeVar("_Item")
 # A call of the library, which returns a status.
 Call = Callable[..., int]
 
@@ -247,6 +257,10 @@ class EnvelopePart(enum.Enum):
     ENCRYPTED_CONTENT = _calls.PART_ENCRYPTED_CONTENT
 
 
+# These, and their numbers, which no Part has.
+_ENVELOPE_PARTS: Tuple[object, ...] = (*EnvelopePart, *(it.value for it in EnvelopePart))
+
+
 class Mac(NamedTuple):
     """What a verifier of a PKCS #12 file's MAC needs beside the password. Whether the MAC is right isn't said here."""
 
@@ -276,8 +290,15 @@ def _shown(of: object, **fields: object) -> str:
 
 
 def _plain(fields: Iterable[object]) -> Tuple[object, ...]:
-    """Fields as they are pickled: octets of the input as octets of their own."""
-    return tuple(bytes(it) if isinstance(it, memoryview) else it for it in fields)
+    """Fields as they are pickled: memoryviews, also in lists, as octets of their own."""
+    return tuple(map(_plain_field, fields))
+
+
+def _plain_field(it: object) -> object:
+    """The same of one field. A field that is a NamedTuple is pickled by itself."""
+    if isinstance(it, memoryview):
+        return bytes(it)
+    return type(it)(map(_plain_field, it)) if type(it) is list or type(it) is tuple else it
 
 
 class _Element(NamedTuple):
@@ -1046,6 +1067,9 @@ class GivenBag(NamedTuple):
     # of BagKind.OTHER its object identifier, as "1.2.3"
     identifier: Optional[str] = None
 
+    def __reduce__(self) -> Tuple[object, ...]:
+        return type(self), _plain(self)
+
 
 class GivenContent(NamedTuple):
     """A content that build_safe writes."""
@@ -1054,6 +1078,9 @@ class GivenContent(NamedTuple):
     # whether these are bags, as build_bags writes them, which stay in clear; otherwise they are a ContentInfo of
     # another type than data, as encrypted bags
     is_data: bool
+
+    def __reduce__(self) -> Tuple[object, ...]:
+        return type(self), _plain(self)
 
 
 class GivenMac(NamedTuple):
@@ -1071,6 +1098,9 @@ class GivenMac(NamedTuple):
     # the element of the algorithm's parameters. None is NULL, which SHA-1, SHA-224, SHA-256, SHA-384 and SHA-512 have
     # whatever is given
     digest_parameters: Optional[Bytes] = None
+
+    def __reduce__(self) -> Tuple[object, ...]:
+        return type(self), _plain(self)
 
 
 class GivenSigner(NamedTuple):
@@ -1097,6 +1127,9 @@ class GivenSigner(NamedTuple):
     # 11.6) has them sorted by their octets
     unsigned_attributes: Sequence[Bytes] = ()
 
+    def __reduce__(self) -> Tuple[object, ...]:
+        return type(self), _plain(self)
+
 
 class GivenImage(NamedTuple):
     """Image data that build_indirect writes, SpcPeImageData: in each field what ImageData have in the field of that
@@ -1109,6 +1142,9 @@ class GivenImage(NamedTuple):
     flags: Optional[Bytes] = None
     # an element, in signatures an SpcLink, without the [0] around it; None where there is none
     link: Optional[Bytes] = None
+
+    def __reduce__(self) -> Tuple[object, ...]:
+        return type(self), _plain(self)
 
 
 class GivenIndirect(NamedTuple):
@@ -1127,6 +1163,9 @@ class GivenIndirect(NamedTuple):
     # the element of its value, whatever is in it; None where it has none; not looked at beside an image
     attribute_value: Optional[Bytes] = None
 
+    def __reduce__(self) -> Tuple[object, ...]:
+        return type(self), _plain(self)
+
 
 class GivenRecipient(NamedTuple):
     """A recipient that build_recipient writes, with a key that the caller encrypted. One that has a key pair
@@ -1144,6 +1183,9 @@ class GivenRecipient(NamedTuple):
     key_identifier: Optional[Bytes] = None
     # whether it has a key-encryption key, and no key pair
     is_kek: bool = False
+
+    def __reduce__(self) -> Tuple[object, ...]:
+        return type(self), _plain(self)
 
 
 def _number(contents: Optional[memoryview]) -> Optional[int]:
@@ -1266,9 +1308,65 @@ def _password_parameters(parts: _calls.PasswordParts, data: memoryview) -> Passw
     )
 
 
+def _whole_number(number: int) -> int:
+    """A number, whatever its type says in comparisons. TypeError where that isn't one of whole numbers, as float."""
+    return int(operator.index(number))
+
+
 def _size(number: Optional[int]) -> int:
     """A number as the calls take it that build."""
-    return number if number is not None and 0 <= number <= NOT_GIVEN else NOT_GIVEN
+    its = NOT_GIVEN if number is None else _whole_number(number)
+    return its if 0 <= its <= NOT_GIVEN else NOT_GIVEN
+
+
+def _index(number: int) -> int:
+    """An index. ValueError where it is negative."""
+    its = _whole_number(number)
+    if its < 0:
+        raise ValueError(f"an index of {its}")
+    return its
+
+
+def _type_name(kind: type) -> str:
+    """The name of a type, with the module that it is of, as two modules have a Signer."""
+    return kind.__name__ if kind.__module__ == "builtins" else f"{kind.__module__}.{kind.__name__}"
+
+
+def _typed(it: _Item, name: str, *kinds: type) -> _Item:
+    """What is of one of these types. TypeError, which says its name, where it is of another."""
+    if not isinstance(it, kinds):
+        wanted = " or ".join(map(_type_name, kinds))
+        raise TypeError(f"{name} has to be of the type {wanted}, not {_type_name(type(it))}")
+    return it
+
+
+def _utf8(text: str, name: str) -> bytes:
+    """A text in UTF-8, a surrogate as if it were a character. TypeError, which says its name, where it is none."""
+    return str.encode(_typed(text, name, str), "utf-8", "surrogatepass")
+
+
+def _viewed(it: Any) -> Optional[memoryview]:
+    """The octets that something is, as bytes, a bytearray, a memoryview or an array. None where it isn't octets."""
+    try:
+        return memoryview(it)
+    except TypeError:
+        return None
+
+
+def _items(those: Iterable[_Item], name: str) -> Iterable[_Item]:
+    """What is in a list, in an iterator or the like. TypeError, which says its name, where one item is in place of it:
+    octets, a text, or a NamedTuple as a GivenBag is.
+    """
+    if isinstance(those, str) or hasattr(those, "_fields") or _viewed(those) is not None:
+        raise TypeError(f"{name} have to be a list, not {_type_name(type(those))}")
+    return those
+
+
+def _kept_items(those: Iterable[_Item], name: str) -> List[_Item]:
+    """The same of a list or a tuple. TypeError also where it is an iterator, which would be empty at the second use."""
+    if not hasattr(those, "__len__"):
+        raise TypeError(f"{name} have to be a list, not {_type_name(type(those))}")
+    return list(_items(those, name))
 
 
 class _Parts:
@@ -1313,18 +1411,18 @@ def _set_of(items: Sequence[_Whole]) -> Optional[bytes]:
     return _encoded(SET, b"".join(items)) if all(map(_is_one, items)) else None
 
 
-def _attributes_given(those: Iterable[Bytes], octets: _Parts) -> Tuple[bool, _calls.Range]:
+def _attributes_given(those: Sequence[Bytes], octets: _Parts) -> Tuple[bool, _calls.Range]:
     """Attributes as the calls take them that build: whether there are any, and where the SET OF these is among the
     octets, to which it is added. It has them in their order.
     """
-    items = [_octets(it) for it in those]
+    items = [_octets(it) for it in _kept_items(those, "attributes")]
     return bool(items), octets.put(_set_of(items) if items else None)
 
 
 def _utf16(text: Optional[str]) -> Optional[bytes]:
     """A text in UTF-16. None where it isn't given, or has a surrogate."""
     try:
-        return None if text is None else text.encode("utf-16-be")
+        return None if text is None else str.encode(_typed(text, "friendly_name", str), "utf-16-be")
     except UnicodeEncodeError:
         return None
 
@@ -1333,6 +1431,7 @@ def _password_parts(holder: PasswordHolder, given: PasswordParameters) -> Tuple[
     """Parameters as the call takes them that writes them: their parts, and the octets that these have ranges of. An
     algorithm has nothing that is encrypted.
     """
+    _typed(given, "what is given", PasswordParameters)
     encrypted = None if holder is PasswordHolder.ALGORITHM else given.encrypted
     octets = _Parts()
     put = octets.put
@@ -1369,7 +1468,7 @@ def _time_given(time: Optional[datetime.datetime]) -> Optional[bytes]:
     """A time as the call takes it that writes attributes, in UTC. ValueError where it has no time zone."""
     if time is None:
         return None
-    if time.utcoffset() is None:
+    if _typed(time, "signing_time", datetime.datetime).utcoffset() is None:
         raise ValueError("signing_time has no time zone")
     try:
         its = time.astimezone(datetime.timezone.utc)
@@ -1379,16 +1478,24 @@ def _time_given(time: Optional[datetime.datetime]) -> Optional[bytes]:
     return f"{its.year:04}{its:%m%d%H%M%S}Z".encode("ascii")
 
 
-def _ranges_given(those: Iterable[Bytes], octets: _Parts) -> Tuple[object, int]:
+def _ranges_given(those: Iterable[Bytes], name: str, octets: _Parts) -> Tuple[object, int]:
     """Certificates, revocation lists or recipients as the calls take them that write signed data and enveloped data,
     and how many they are. They are added to these octets.
     """
-    rows = [octets.put(it) for it in those]
+    rows = [octets.put(it) for it in _items(those, name)]
     return (_calls.Range * len(rows))(*rows), len(rows)
 
 
-def _signer_given(signer: GivenSigner, octets: _Parts) -> _calls.SignerGiven:
-    """A signer as the call takes it that writes signed data. The octets of its parts are added to these."""
+def _content_given(content: GivenContent, index: int, octets: _Parts) -> _calls.ContentGiven:
+    """A content as the call takes it that writes all, by its index. Its octets are added to these."""
+    _typed(content, f"content {index}", GivenContent)
+    return _calls.ContentGiven(is_data=bool(content.is_data), octets=octets.put(content.octets))
+
+
+def _signer_given(signer: GivenSigner, index: int, octets: _Parts) -> _calls.SignerGiven:
+    """A signer as the call takes it that writes signed data, by its index. The octets of its parts are added to these.
+    """
+    _typed(signer, f"signer {index}", GivenSigner)
     # one that has two names is given none, so it is refused
     has_one_name = signer.certificate is None or signer.key_identifier is None
     has_unsigned, unsigned = _attributes_given(signer.unsigned_attributes, octets)
@@ -1408,6 +1515,7 @@ def _signer_given(signer: GivenSigner, octets: _Parts) -> _calls.SignerGiven:
 
 def _recipient_given(given: GivenRecipient, octets: _Parts) -> _calls.RecipientGiven:
     """A recipient as the call takes it that writes one. The octets of its parts are added to these."""
+    _typed(given, "a recipient", GivenRecipient)
     # one that has two names is given none, so it is refused
     has_one_name = given.certificate is None or given.key_identifier is None
     return _calls.RecipientGiven(
@@ -1422,8 +1530,8 @@ def _recipient_given(given: GivenRecipient, octets: _Parts) -> _calls.RecipientG
 
 def _indirect_given(given: Union[GivenIndirect, IndirectData], octets: _Parts) -> _calls.IndirectParts:
     """Indirect data as the call takes them that writes them. The octets of their parts are added to these."""
-    image = given.image
-    flags = None if image is None else image.flags
+    image = _typed(given, "what is given", GivenIndirect, IndirectData).image
+    flags = None if image is None else _typed(image, "image", GivenImage, ImageData).flags
     link = None if image is None else image.link
     return _calls.IndirectParts(
         has_attribute_value=given.attribute_value is not None,
@@ -1700,13 +1808,12 @@ class Library:
         None where the container has no such part, or not so many. Raises Refused where the input isn't such a container,
         or something in a store doesn't read as its type.
         """
-        if index < 0:
-            raise ValueError(f"an index of {index}")
-        if index >= 1 << 64:
+        number = _index(index)
+        if number >= 1 << 64:
             return None
         data = _octets(data)
         place = ctypes.c_size_t()
-        call, given = self._library.der_part_octets, (Part(part).value, index, *_given(data))
+        call, given = self._library.der_part_octets, (Part(part).value, number, *_given(data))
         status, octets = _written(call, given, len(data) + 64, ctypes.byref(place))
         if status == NO_PART:
             return None
@@ -1720,6 +1827,7 @@ class Library:
         Signed data are taken of any CMSVersion and over content of any type. Raises Refused where data are none, and
         ValueError where the items of the part aren't listed.
         """
+        part = EnvelopePart(part) if part in _ENVELOPE_PARTS else Part(part)
         return [range(start, start + size) for start, size in self._places(part, _octets(data))]
 
     def certificates(self, data: Bytes) -> Tuple[memoryview, ...]:
@@ -1740,10 +1848,8 @@ class Library:
         """Each Attribute of the signer with an index, from 0 on, in order, as certificates does: signed ones, or unsigned
         ones. None where there are fewer signers.
         """
-        if index < 0:
-            raise ValueError(f"an index of {index}")
-        octets = _octets(data)
-        found = self._listed(self._library.der_attribute_ranges, (is_signed, min(index, (1 << 64) - 1)), octets)
+        which, octets = (bool(is_signed), min(_index(index), (1 << 64) - 1)), _octets(data)
+        found = self._listed(self._library.der_attribute_ranges, which, octets)
         whole = memoryview(octets)
         return None if found is None else [whole[start : start + size] for start, size in found]
 
@@ -1924,7 +2030,7 @@ class Library:
         one element. Raises BadBag where a bag can't be written.
         """
         octets, bag, part = _Parts(), ctypes.c_size_t(), ctypes.c_size_t()
-        rows = [self._bag_given(it, octets) for it in bags]
+        rows = [self._bag_given(it, index, octets) for index, it in enumerate(_items(bags, "bags"))]
         whole = octets.joined()
         arguments = *_given(whole), (_calls.BagGiven * len(rows))(*rows), len(rows)
         # what is around the parts of a bag takes less than 128 octets, unless it is very long
@@ -1935,8 +2041,9 @@ class Library:
         _raise_for(status, "", 0)
         return text
 
-    def _bag_given(self, bag: Union[GivenBag, Bag], octets: _Parts) -> _calls.BagGiven:
-        """A bag as the call takes it that writes bags. The octets of its parts are added to these."""
+    def _bag_given(self, bag: Union[GivenBag, Bag], index: int, octets: _Parts) -> _calls.BagGiven:
+        """A bag as the call takes it that writes bags, by its index. The octets of its parts are added to these."""
+        _typed(bag, f"bag {index}", GivenBag, Bag)
         kind, (has_attributes, attributes) = BagKind(bag.kind), _attributes_given(bag.attributes, octets)
         return _calls.BagGiven(
             kind=kind.value,
@@ -1969,7 +2076,7 @@ class Library:
         than 64 others; or another is no ContentInfo, or is of the type data, of which the bags are to be given.
         """
         octets, content = _Parts(), ctypes.c_size_t()
-        rows = [_calls.ContentGiven(is_data=bool(it.is_data), octets=octets.put(it.octets)) for it in contents]
+        rows = [_content_given(it, index, octets) for index, it in enumerate(_items(contents, "contents"))]
         whole = octets.joined()
         arguments = *_given(whole), (_calls.ContentGiven * len(rows))(*rows), len(rows)
         # what is around the octets of a content takes less than 64
@@ -1988,6 +2095,7 @@ class Library:
         octets, part = _Parts(), ctypes.c_size_t()
         given = _calls.StoreGiven(has_mac=mac is not None, safe=octets.put(safe))
         if mac is not None:
+            _typed(mac, "a MAC", GivenMac)
             given.has_digest_parameters = mac.digest_parameters is not None
             given.iterations = _size(mac.iterations)
             given.digest_algorithm = octets.put(self._oid_given(mac.digest_algorithm))
@@ -2071,8 +2179,8 @@ class Library:
         octets, index, part = _Parts(), ctypes.c_size_t(), ctypes.c_size_t()
         flags = {"has_content": content is not None, "is_element": bool(is_element)}
         given = _calls.SignedGiven(content_type=octets.put(content_type), content=octets.put(content), **flags)
-        lists = *_ranges_given(certificates, octets), *_ranges_given(crls, octets)
-        rows = [_signer_given(it, octets) for it in signers]
+        lists = *_ranges_given(certificates, "certificates", octets), *_ranges_given(crls, "crls", octets)
+        rows = [_signer_given(it, index, octets) for index, it in enumerate(_items(signers, "signers"))]
         whole, its_signers = octets.joined(), ((_calls.SignerGiven * len(rows))(*rows), len(rows))
         arguments = *_given(whole), ctypes.byref(given), *lists, *its_signers
         # what is around the parts of a signer takes less than 128 octets, unless it is very long
@@ -2160,7 +2268,7 @@ class Library:
             content=octets.put(content),
             attributes=octets.put(attributes),
         )
-        ranges = _ranges_given(recipients, octets)
+        ranges = _ranges_given(recipients, "recipients", octets)
         whole = octets.joined()
         arguments = *_given(whole), ctypes.byref(given), *ranges
         # headers, a version and the object identifier of enveloped data take less than 128 octets
@@ -2194,13 +2302,11 @@ class Library:
 
         Raises BadAttributes where it breaks RFC 5652, and Refused as signers does.
         """
-        if index < 0:
-            raise ValueError(f"an index of {index}")
-        octets = _octets(data)
-        rows, _ = self._signer_rows(octets, min(index, (1 << 64) - 1), 1)
+        number, octets = _index(index), _octets(data)
+        rows, _ = self._signer_rows(octets, min(number, (1 << 64) - 1), 1)
         if not rows:
             return None
-        found = _signer(rows[0], _SignedFile(octets), index)
+        found = _signer(rows[0], _SignedFile(octets), number)
         if isinstance(found, BadAttributes):
             raise found
         return found
@@ -2219,6 +2325,7 @@ class Library:
 
         Raises Refused as mac_ber does.
         """
+        part = Part(part)
         if part not in MAC_PARTS:
             raise ValueError(f"{part.name} is no part of a MAC")
         data = _octets(data)
@@ -2242,7 +2349,7 @@ class Library:
         """The contents octets of an object identifier, by its text, as "1.3.14.3.2.26": numbers without leading zeros,
         joined by dots. Raises Refused where it spells none, or has a number that 64 bits don't hold.
         """
-        data = text.encode("utf-8", "surrogatepass")
+        data = _utf8(text, "an object identifier")
         status, octets = _written(self._library.der_oid_octets, _given(data), len(data) + 16)
         _raise_for(status, "", 0)
         return octets
@@ -2276,7 +2383,7 @@ class Library:
 
         Raises Refused where it has a surrogate, which is no character.
         """
-        data = text.encode("utf-8", "surrogatepass")
+        data = _utf8(text, "a text")
         status, octets = _written(self._library.der_text_utf16, _given(data), 2 * len(data) + 16)
         _raise_for(status, "", 0)
         return octets
@@ -2298,10 +2405,15 @@ class Library:
 
 
 def dotted(contents: bytes) -> str:
-    """An object identifier, as "1.3.14.3.2.26", by its contents octets."""
+    """An object identifier, as "1.3.14.3.2.26", by its contents octets: where these are more than 64 they come back
+    themselves, in hexadecimal, as "2A:86:48". All that has one as text has it so, as Mac.digest_algorithm.
+    """
+    octets = bytes(_octets(contents))
+    if len(octets) > MAX_DOTTED:
+        return octets.hex(":").upper()
     arcs: List[int] = []
     arc = 0
-    for octet in contents:
+    for octet in octets:
         arc = arc << 7 | octet & 0x7F
         if octet < 0x80:
             arcs += [arc] if arcs else [min(arc // 40, 2), arc - 40 * min(arc // 40, 2)]
@@ -2381,10 +2493,11 @@ def _time(element: _Element) -> datetime.datetime:
 
 def _octets(data: Bytes) -> _Whole:
     """The octets of an input, whatever its items are: of a copy unless it is bytes, or mapped to be read alone, or a view
-    of one of these whose octets follow one another, so that no other thread can write into it. TypeError where it has
-    none.
+    of one of these whose octets follow one another. No other thread can write into what is kept, but whoever can write
+    a mapped file can. TypeError where it has none.
     """
-    if isinstance(data, bytes):
+    # an object of a subclass may say another length than it has
+    if type(data) is bytes:
         return data
     view = memoryview(data)
     is_kept = isinstance(view.obj, (bytes, mmap.mmap)) and view.readonly and view.c_contiguous
@@ -2404,7 +2517,7 @@ class _Buffer(ctypes.Structure):
 
 def _given(data: _Whole) -> Tuple[object, int]:
     """An input as the calls take it: a pointer, and a length. The memoryview keeps its octets where they are."""
-    if isinstance(data, bytes):
+    if type(data) is bytes:
         return data, len(data)
     buffer = _Buffer()
     ctypes.pythonapi.PyObject_GetBuffer(ctypes.py_object(data), ctypes.byref(buffer), 0)
@@ -2426,10 +2539,10 @@ def _written(call: Call, given: Tuple[object, ...], room: int, *place: object) -
 
 def _input(kind: str, data: _Whole, limit: int) -> Tuple[object, ...]:
     """The arguments that say what is asked of which input."""
-    if limit < 0:
-        raise ValueError(f"a limit of {limit} levels")
-    word = kind.encode()
-    return word, len(word), min(limit, MAX_NESTING), *_given(data)
+    levels, word = _whole_number(limit), _utf8(kind, "a kind")
+    if levels < 0:
+        raise ValueError(f"a limit of {levels} levels")
+    return word, len(word), min(levels, MAX_NESTING), *_given(data)
 
 
 def _raise_for_range(status: int, place: int) -> None:

@@ -150,7 +150,9 @@ def extract(data: bytes, folder: str, strict: bool = False) -> Extracted:
     for path in paths:
         if os.path.lexists(path):
             raise FileExistsError(None, "is there already", path)
+    # before anything is written, so that nothing is where this fails
+    made = Extracted(paths, left(said))
     os.makedirs(folder, exist_ok=True)
     for path, piece in zip(paths, found):
         _write(path, piece)
-    return Extracted(paths, left(said))
+    return made

@@ -33,6 +33,8 @@ BLANK_LINE = re.compile(rb"\n[ \t\v\f\r]*\n")
 DATA, PBMAC1 = "1.2.840.113549.1.7.1", "1.2.840.113549.1.5.14"
 # A function that derives keys by memory too (RFC 7914).
 SCRYPT = "1.3.6.1.4.1.11591.4.11"
+# The greatest number of iterations that is said: a file may have one of so many digits that Python writes none.
+MOST_TOLD = 1 << 64
 # Names of standard input, and of others of this process's files, that another process reads as others.
 STANDARD_INPUT, DESCRIPTORS = ("-", "/dev/stdin"), ("/dev/fd/", "/proc/self/fd/")
 
@@ -46,7 +48,8 @@ class Limits(NamedTuple):
     iterations: int = 2_000_000
 
 
-# What files may cost in this process: the command sets it once, and in each process of -j.
+# What files may cost in this thread, or task of asyncio: the command sets it once, and in each process of -j. A new
+# thread begins with the default.
 LIMITS: "contextvars.ContextVar[Limits]" = contextvars.ContextVar("LIMITS", default=Limits())
 
 
@@ -245,7 +248,8 @@ def allow(iterations: int) -> None:
     """Raises TooMany where a file asks for more iterations, in sum, than the limits have it."""
     most = LIMITS.get().iterations
     if iterations > most:
-        raise TooMany(f"{iterations} iterations, more than the {most} that --most-iterations allows")
+        count = str(iterations) if iterations <= MOST_TOLD else "more than 2**64"
+        raise TooMany(f"{count} iterations, more than the {most} that --most-iterations allows")
 
 
 # PEM

@@ -5,9 +5,15 @@ from . import tool
 from .checking import NORMAL, NOT_JUDGED, REFUSED
 from .judging import Answer
 from .rules import Effect, Rule
+from .running import Line
 
-# How many characters of a certificate's name a line has, so that no line scrolls others away.
+# How many characters of a certificate's name, or of a time, a line has, so that no line scrolls others away.
 MOST_OF_NAME = 300
+
+
+def _cut(text: str) -> str:
+    """The beginning of what a file says, where it is long."""
+    return text if len(text) <= MOST_OF_NAME else f"{text[:MOST_OF_NAME]} .."
 
 
 class Finding(NamedTuple):
@@ -39,18 +45,16 @@ class Finding(NamedTuple):
         """Whether openssl said yes, and no rule refused."""
         return self.status in (NORMAL, NOT_JUDGED)
 
-    @property
-    def line(self) -> str:
-        """The words after the file's name."""
+    def line(self, before: str) -> Line:
+        """Its line, which the file's name begins."""
         if self.what.endswith("MAC"):
-            return f"{self.what} {self.said}"
+            return Line(before, f"{self.what} {self.said}")
         said = self.said if self.what == "file" else f"{self.what}: {self.said}"
         size = "" if self.bits is None else f"{self.bits} bits"
-        when = "" if self.time is None else f"at {self.time}"
-        name = self.by or ""
-        name = name if len(name) <= MOST_OF_NAME else f"{name[:MOST_OF_NAME]} .."
-        by = "" if self.by is None else f"by a certificate that calls itself {name}"
-        return ", ".join(filter(None, (said, *self.notes, self.digest, self.scheme, size, when, by)))
+        when = "" if self.time is None else f"at {_cut(self.time)}"
+        by = "" if self.by is None else "by a certificate that calls itself "
+        told = ", ".join(filter(None, (said, *self.notes, self.digest, self.scheme, size, when, by)))
+        return Line(before, told, _cut(self.by or ""))
 
     @property
     def fields(self) -> Dict[str, object]:
@@ -61,13 +65,14 @@ class Finding(NamedTuple):
         return {**fields, "tool": self.tool, "words": self.words, "notes": list(self.notes)}
 
 
-def lines(findings: Sequence[Finding]) -> List[str]:
-    """The lines of a file: one for each finding, and the words of openssl after the last that they are about."""
+def lines(findings: Sequence[Finding], before: str) -> List[Line]:
+    """The lines of a file, which its name begins: one for each finding, and the words of openssl after the last that
+    they are about."""
     made = []
     for it, after in zip(findings, [*findings[1:], None]):
-        made.append(it.line)
+        made.append(it.line(before))
         if it.words and (after is None or after.words != it.words):
-            made.append(f"openssl: {it.words}")
+            made.append(Line(f"{before}openssl: {it.words}"))
     return made
 
 

@@ -18,6 +18,8 @@ def _read(table: str) -> Dict[str, Known]:
 
 
 NAMES: Dict[str, Known] = _read(TABLE)
+# How many characters are shown of an object identifier without a name: 64 octets, of more of which it is in hexadecimal.
+MOST_OF_IDENTIFIER = 64 * 3 - 1
 
 # Types of attributes in names that the library leaves dotted, by their names of RFC 4519 and RFC 2985.
 SHORT_NAMES: Dict[str, str] = {
@@ -38,5 +40,8 @@ SHORT_NAMES: Dict[str, str] = {
 
 
 def name_of(oid: str) -> str:
-    """The name of an object identifier, or itself where it has none here."""
-    return NAMES[oid].name if oid in NAMES else oid
+    """The name of an object identifier, or itself where it has none here, of a long one the beginning: this is shown,
+    and decides nothing."""
+    if oid in NAMES:
+        return NAMES[oid].name
+    return oid if len(oid) <= MOST_OF_IDENTIFIER else f"{oid[:MOST_OF_IDENTIFIER]} .."

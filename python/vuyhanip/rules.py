@@ -5,7 +5,7 @@ A rule answers why it refuses a case, or nothing. Of a store the case is its MAC
 import enum
 import functools
 import hashlib
-from typing import Callable, List, NamedTuple, Optional, Sequence, Tuple, Union
+from typing import Callable, FrozenSet, List, NamedTuple, Optional, Sequence, Tuple, Union
 
 from . import der, library
 from .containers import COUNTER_SIGNATURE, DATA
@@ -208,7 +208,7 @@ def _in_der(certificate: bytes) -> bytes:
 def signing_certificate(case: Case, number: int) -> str:
     """The certificate that signed attributes name is the signer's: another one of the same key says another name, and
     what else names a certificate isn't signed. openssl looks at that in time stamps alone, and there at one of several
-    that may be the signer's."""
+    that may be the signer's. Of each type there is one value."""
     if isinstance(case.signers[number], der.BadAttributes):
         return ""
     values = [
@@ -217,6 +217,8 @@ def signing_certificate(case: Case, number: int) -> str:
         if (which := der.attribute_oid(attribute)) in NAMES_CERTIFICATE
         for value in der.attribute_values(attribute)
     ]
+    if len(values) > len({digest for _, digest in values}):
+        return "its signed attributes name more than one certificate"
     is_so = all(_names(value, digest, it) for value, digest in values for it in case.own[number])
     return "" if is_so else "its signed attributes name another certificate"
 
@@ -227,10 +229,16 @@ def _names(value: bytes, digest: str, certificate: bytes) -> bool:
         first, *more = whole(value).first(1)[0].first(1)[0].first(2)
         if first.tag == SEQUENCE:
             digest, first = der.DIGESTS[oid(first.inside())], more[0]
-        made = {hashlib.new(digest, it).digest() for it in (certificate, _in_der(certificate))}
+        made = _digests(digest, certificate)
         return first.tag == OCTET_STRING and first.contents in made
     except (LookupError, ValueError):
         return False
+
+
+@functools.lru_cache(maxsize=64)
+def _digests(digest: str, certificate: bytes) -> FrozenSet[bytes]:
+    """The digests of a certificate as it is and in DER, which are made once for all that names it."""
+    return frozenset(hashlib.new(digest, it).digest() for it in (certificate, _in_der(certificate)))
 
 
 def algorithm_of_key(case: Case, number: int) -> str:
@@ -242,7 +250,7 @@ def algorithm_of_key(case: Case, number: int) -> str:
     for it in case.facts_of(number):
         is_other = signer.signature_oid == PSS and it.key == RSA and not case.is_of_cms
         if is_other or signer.signature_oid not in ALGORITHMS.get(it.key, ()):
-            return f"{name_of(signer.signature_oid)} by a key of {it.key}"
+            return f"{name_of(signer.signature_oid)} by a key of {name_of(it.key)}"
     return ""
 
 

@@ -6,7 +6,7 @@ import sys
 import time
 from concurrent.futures import ProcessPoolExecutor
 from concurrent.futures.process import BrokenProcessPool
-from typing import Callable, Iterator, Sequence, TextIO, TypeVar
+from typing import Callable, Iterator, NamedTuple, Sequence, TextIO, TypeVar
 
 from .files import is_stream
 
@@ -18,6 +18,18 @@ COLOURS = {"normal": "32", "right": "32", "loose": "33", "weak": "33", "refused"
 COLOURS.update({"not right": "31", "not checked": "33"})
 # Those words, the longer ones first.
 COLOURED = re.compile(rf"(?<!\S)({'|'.join(sorted(COLOURS, key=len, reverse=True))})(?=[:,]?(?:\s|$))")
+
+
+class Line(NamedTuple):
+    """A line that is printed: what this package says, with what others chose before and after it, as the name of a
+    file and that of a certificate."""
+
+    before: str
+    said: str = ""
+    after: str = ""
+
+    def __str__(self) -> str:
+        return "".join(self)
 
 
 class Progress:
@@ -64,8 +76,9 @@ def is_coloured(stream: TextIO) -> bool:
     return stream.isatty() and not os.environ.get("NO_COLOR") and os.environ.get("TERM") != "dumb"
 
 
-def coloured(line: str, stream: TextIO) -> str:
-    """A line with the words of verdicts in colours."""
+def coloured(line: Line, stream: TextIO) -> str:
+    """A line with the words of verdicts in colours where this package says them, and nowhere else."""
     if not is_coloured(stream):
-        return line
-    return COLOURED.sub(lambda word: f"\x1b[{COLOURS[word[0]]}m{word[0]}\x1b[0m", line)
+        return str(line)
+    said = COLOURED.sub(lambda word: f"\x1b[{COLOURS[word[0]]}m{word[0]}\x1b[0m", line.said)
+    return str(line._replace(said=said))

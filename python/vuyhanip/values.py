@@ -25,15 +25,37 @@ CODECS = {0x0C: "utf-8", 0x12: "ascii", 0x13: "ascii", 0x14: "latin-1", 0x16: "a
 CODECS.update({0x1C: "utf-32-be", 0x1E: "utf-16-be"})
 # An attribute by its dotted type and its value's encoding. In a value a comma and a plus have a \\ before them.
 DOTTED = re.compile(r"(?:^|(?<=(?<!\\)[,+]))([0-9.]+)=#([0-9A-F]+)")
+# Characters that look like nothing though Python has them for printable: fillers, an empty sign, what joins or varies
+# others. And a blank after a blank, by which a name would fill the rest of a line.
+LIKE_NOTHING = re.compile(
+    "[\u034f\u115f\u1160\u17b4\u17b5\u180b-\u180f\u2800\u3164\ufe00-\ufe0f\uffa0\U000e0100-\U000e01ef]"
+)
+AFTER_BLANK = re.compile("(?<= ) ")
 # The tags of strings that a tree shows as text, as dertree does.
 TEXTS = (0x0C, 0x12, 0x13, 0x14, 0x16, 0x1A, BMP_STRING)
 
 
-def printable(text: str) -> str:
-    """Text that a terminal takes as it looks: what isn't printable is written as in Python, a newline as \\n."""
-    if text.isprintable():
+def is_seen(text: str) -> bool:
+    """Whether a terminal shows each character of a text."""
+    return text.isprintable() and LIKE_NOTHING.search(text) is None
+
+
+def seen(text: str) -> str:
+    """Text that a terminal takes as it looks: what isn't printable, or looks like nothing, is written as in Python, a
+    newline as \\n."""
+    if is_seen(text):
         return text
-    return "".join(it if it.isprintable() else it.encode("unicode_escape").decode() for it in text)
+    return "".join(it if is_seen(it) else it.encode("unicode_escape").decode() for it in text)
+
+
+def printable(text: str) -> str:
+    """The same of text that others chose, in a line of ours: a blank after a blank is written as \\x20."""
+    return AFTER_BLANK.sub(r"\\x20", seen(text))
+
+
+def file_name(name: str) -> str:
+    """The name of a file as it begins a line: in quotes where it may be taken for more than the name."""
+    return printable(quoted(name, False) if ": " in name or name.startswith('"') else name)
 
 
 def is_oid(contents: bytes) -> bool:
@@ -124,7 +146,7 @@ def _escaped(text: str) -> str:
         is_blank_at_end = it == " " and at in (0, len(text) - 1)
         if it in '",+;<>\\' or is_blank_at_end or it == "#" and at == 0:
             made.append("\\" + it)
-        elif it.isprintable():
+        elif is_seen(it):
             made.append(it)
         else:
             made.append("".join(f"\\{octet:02X}" for octet in it.encode("utf-8", "surrogatepass")))

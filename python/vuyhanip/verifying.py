@@ -204,11 +204,12 @@ def described(it: Finding, case: Case, number: int) -> Finding:
 
 
 def moment(text: str) -> str:
-    """A time as openssl writes it, as other times are written; as it is where it has a fraction of a second."""
+    """A time as openssl writes it, as other times are written; as it is where it has a fraction of a second, but for two
+    blanks before a day."""
     try:
         return f"{datetime.datetime.strptime(text, '%b %d %H:%M:%S %Y GMT'):%Y-%m-%d %H:%M:%S}"
     except ValueError:
-        return text
+        return " ".join(text.split())
 
 
 def inside(case: Case, number: int, terms: Terms, around: Around) -> List[Finding]:
