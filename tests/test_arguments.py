@@ -14,7 +14,7 @@ from support.elements import integer, octet_string, sequence
 from support.given_signed import DATA, certificate_of
 from support.signed_data import CERTIFICATE, ISSUER_AND_SERIAL, NAME, SHORT, signer_info, whole
 from support.stores import FURTHER
-from vuyhanip import build, der
+from vuyhanip import build, der, mac_verdict
 from vuyhanip.der import BagKind, BagPart, EnvelopePart, Part, PasswordHolder, SignedPart, StorePart
 
 # One of each that is given, and the files that are read.
@@ -58,6 +58,7 @@ TEXTS = {
     "identifier": lambda it: build.bags([BAG._replace(kind=BagKind.OTHER, identifier=it)]),
     "digest_algorithm": lambda it: build.Store(sequence()).finish(MAC._replace(digest_algorithm=it)),
     "algorithm": lambda it: build.algorithm(it),
+    "a password": lambda it: mac_verdict(STORE, it),
     "prf": lambda it: build.pbes2("1.2.3", initialization_vector=b"", salt=b"", iterations=1, prf=it),
     "a type of signed data": lambda it: signed(content_type=it),
     "a type of enveloped data": lambda it: enveloped(content_type=it),

@@ -261,6 +261,7 @@ def mac_finding(store: bytes, mac: Optional[der.Mac], password: Optional[str]) -
 def mac_verdict(store: bytes, password: str) -> Finding:
     """What is said of the MAC of a PKCS #12 file, in DER or BER, which isn't checked where it takes more iterations
     than files.LIMITS allow. Raises der.Refused, and tool.NoTool."""
+    der._typed(password, "a password", str)
     made = library().from_ber(store)
     try:
         allow(iterations_of(made))
