@@ -297,7 +297,7 @@ class Examples(unittest.TestCase):
         ran = ended(*words, text=text, cwd=self.room, env=self.environment())
         self.assertEqual(ran.returncode, 0, ran.stderr.decode())
         lines = (self.room / "found").read_text().splitlines()
-        self.assertEqual([json.loads(it)["file"] for it in lines], wanted)
+        self.assertCountEqual([json.loads(it)["file"] for it in lines], wanted)
 
     @needs("cryptography")
     def test_a_certificate_that_is_not_read_leaves_the_other_signers(self):
