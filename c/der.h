@@ -214,10 +214,10 @@ typedef struct der_signer_parts {
 /* What a verifier needs of the signers of signed data, of any CMSVersion and over content of any type (RawSignedData),
  * in one reading. out has room for out_len signers, and takes those with the index first and after.
  *  - DER_NORMAL: *count is how many signers there are in all, and where it is 0 nothing is signed. Those asked for are
- *    at the front of out, at most out_len, and the rest of out is as it was. The status of each is DER_BAD_ATTRIBUTES where signed attributes are an empty
- *    set, A0 00, lack messageDigest or contentType, have one of them several times, with no value or with several,
- *    where contentType is another than the content's, or where there are none and the content's type isn't id-data
- *    (RFC 5652, 5.3, 11.1, 11.2). A second signingTime isn't looked at.
+ *    at the front of out, at most out_len, and the rest of out is as it was. The status of each is DER_BAD_ATTRIBUTES
+ *    where signed attributes are an empty set, A0 00, lack messageDigest or contentType, have one of them several
+ *    times, with no value or with several, where contentType is another than the content's, or where there are none and
+ *    the content's type isn't id-data (RFC 5652, 5.3, 11.1, 11.2). A second signingTime isn't looked at.
  *  - DER_MALFORMED to DER_TOO_DEEP: the input is no signed data, and *place says where, as of der_locate.
  *  - DER_NO_MEMORY: *place is an offset without use.
  *  - DER_NO_RANGE: never.
@@ -924,10 +924,11 @@ typedef enum der_enveloped_part {
  * content, or none, with recipients_len recipients and without originatorInfo. given and recipients say of each part
  * where the input has its octets, in any order; ranges may overlap. Set all of given to 0 first: a flag is set where it
  * isn't 0. A recipient is a RecipientInfo of any kind, as der_build_recipient writes it, or as der_part_ranges finds it
- * under DER_PART_RECIPIENT, which may also find elements that are refused here. Nothing is encrypted: the caller encrypts the content, and its key for each recipient.
- * Enveloped data don't say who made them, nor that nobody changed them. To change a file that was read, take recipients,
- * algorithm and encrypted content from der_part_ranges. No call finds its content type, its unprotected attributes or
- * its originatorInfo: read them yourself. A file with originatorInfo can't be built again.
+ * under DER_PART_RECIPIENT, which may also find elements that are refused here. Nothing is encrypted: the caller
+ * encrypts the content, and its key for each recipient. Enveloped data don't say who made them, nor that nobody changed
+ * them. To change a file that was read, take recipients, algorithm and encrypted content from der_part_ranges. No call
+ * finds its content type, its unprotected attributes or its originatorInfo: read them yourself. A file with
+ * originatorInfo can't be built again.
  *  - The version is that of RFC 5652, 6.1, where originatorInfo is absent: 3 with a recipient that has a password or is
  *    of another type (A3 or A4), else 0 where has_attributes is 0 and all recipients have the tag 30 and version 0,
  *    else 2.
