@@ -1,51 +1,117 @@
-//! Parts of containers, as octets, for callers in C.
+//! Signers, certificates, MACs and other parts of an input.
 
-ghost use Rattle.std.specs.Prelude.{◌≤◌, length, MatchOption};
-ghost use Rattle.container_parts.specs.Parts.{parts};
-ghost use Rattle.der_c.specs.Calls.{CopiesPart, IsPartAt};
-ghost use Rattle.der_c.specs.Statuses.{PutsSome};
+ghost use Rattle.part_calls.specs.Certificates.{FindsCertificate};
+ghost use Rattle.part_calls.specs.Lists.{ListsRanges, ListsAttributes};
+ghost use Rattle.part_calls.specs.Macs.{FindsRange, FindsMac, ber_file, FindsMacIn, CopiesMacPart};
+ghost use Rattle.part_calls.specs.Parts.{CopiesPart};
+ghost use Rattle.part_calls.specs.Signers.{FindsSigners};
 
-use crate::outputs::{place_of, put_octets, status_of_refusal};
-use crate::status;
-use container_parts::{ContainerPart, container_part};
-use input_ranges::Refusal;
+use call_values::ranges::Octets;
+use part_calls::certificates::Certificate;
+use part_calls::signers::Signer;
+use part_calls::{certificates, lists, macs, parts, signers};
 use std::alloc::Global;
 
-pub(crate) fn part_at(number: usize) -> Option<ContainerPart>
-    ensures { MatchOption result (length parts ≤ number) (λ part. IsPartAt number part) }
-{
-    match ContainerPart::all().get(number) {
-        Some(part) => Some(*part),
-        None => None,
-    }
-}
-
-/// Writes the octets of a part that was found, or says why there are none.
-fn put_part(
-    found: Result<Option<Vec<u8>>, Refusal>,
-    out: &mut [u8],
-    written: &mut usize,
+/// As `certificates::der_certificate` of `part_calls`.
+#[unsafe(no_mangle)]
+pub extern "C" fn der_certificate(
+    alloc: Global,
+    input: &[u8],
+    out: &mut Certificate,
     place: &mut usize,
 ) -> u32
-    ensures { PutsSome (λ octets. octets.items) found out.old out.new written.new place.new result }
+    ensures { FindsCertificate input.now out.new place.new result }
 {
-    *written = 0;
-    *place = 0;
-    match found {
-        Ok(Some(octets)) => put_octets(&octets, out, written),
-        Ok(None) => status::NO_PART,
-        Err(refusal) => {
-            *place = place_of(refusal);
-            status_of_refusal(refusal)
-        }
-    }
+    certificates::der_certificate(alloc, input, out, place)
 }
 
-/// Writes the part with that number and index to the front of `out`, as octets. At `NORMAL` `written` is their count,
-/// at `NO_ROOM`, where `out` is too short, the count that it needs, and otherwise 0. At `UNKNOWN_KIND` no part has the
-/// number, and at `NO_PART` the container has no such part. From `MALFORMED` to `TOO_DEEP` the input is no container
-/// that has it, and `place` is where; at `NO_MEMORY` it is an offset without use, and otherwise 0. At `TOO_LONG` the
-/// part is too long. `NO_RANGE` is never answered. Unless at `NORMAL` `out` is as it was.
+/// As `lists::der_part_ranges` of `part_calls`.
+#[unsafe(no_mangle)]
+pub extern "C" fn der_part_ranges(
+    alloc: Global,
+    number: usize,
+    input: &[u8],
+    out: &mut [Octets],
+    count: &mut usize,
+    place: &mut usize,
+) -> u32
+    ensures { ListsRanges number input.now out.old out.new count.new place.new result }
+{
+    lists::der_part_ranges(alloc, number, input, out, count, place)
+}
+
+/// As `lists::der_attribute_ranges` of `part_calls`.
+#[unsafe(no_mangle)]
+pub extern "C" fn der_attribute_ranges(
+    alloc: Global,
+    signed: usize,
+    index: usize,
+    input: &[u8],
+    out: &mut [Octets],
+    count: &mut usize,
+    place: &mut usize,
+) -> u32
+    ensures { ListsAttributes signed index input.now out.old out.new count.new place.new result }
+{
+    lists::der_attribute_ranges(alloc, signed, index, input, out, count, place)
+}
+
+/// As `macs::der_mac_range` of `part_calls`.
+#[unsafe(no_mangle)]
+pub extern "C" fn der_mac_range(
+    alloc: Global,
+    input: &[u8],
+    start: &mut usize,
+    len: &mut usize,
+) -> u32
+    ensures { FindsRange input.now start.new len.new result }
+{
+    macs::der_mac_range(alloc, input, start, len)
+}
+
+/// As `macs::der_mac` of `part_calls`.
+#[unsafe(no_mangle)]
+pub extern "C" fn der_mac(
+    alloc: Global,
+    input: &[u8],
+    start: &mut usize,
+    len: &mut usize,
+    iterations: &mut usize,
+) -> u32
+    ensures { FindsMac input.now start.new len.new iterations.new result }
+{
+    macs::der_mac(alloc, input, start, len, iterations)
+}
+
+/// As `macs::der_mac_ber` of `part_calls`.
+#[unsafe(no_mangle)]
+pub extern "C" fn der_mac_ber(
+    alloc: Global,
+    input: &[u8],
+    start: &mut usize,
+    len: &mut usize,
+    iterations: &mut usize,
+) -> u32
+    ensures { FindsMacIn ber_file input.now start.new len.new iterations.new result }
+{
+    macs::der_mac_ber(alloc, input, start, len, iterations)
+}
+
+/// As `macs::der_mac_part_ber` of `part_calls`.
+#[unsafe(no_mangle)]
+pub extern "C" fn der_mac_part_ber(
+    alloc: Global,
+    number: usize,
+    input: &[u8],
+    out: &mut [u8],
+    written: &mut usize,
+) -> u32
+    ensures { CopiesMacPart number input.now out.old out.new written.new result }
+{
+    macs::der_mac_part_ber(alloc, number, input, out, written)
+}
+
+/// As `parts::der_part_octets` of `part_calls`.
 #[unsafe(no_mangle)]
 pub extern "C" fn der_part_octets(
     alloc: Global,
@@ -58,15 +124,20 @@ pub extern "C" fn der_part_octets(
 ) -> u32
     ensures { CopiesPart number index input.now out.old out.new written.new place.new result }
 {
-    *written = 0;
-    *place = 0;
-    let Some(part) = part_at(number) else {
-        return status::UNKNOWN_KIND;
-    };
-    put_part(
-        container_part(alloc, part, index, input),
-        out,
-        written,
-        place,
-    )
+    parts::der_part_octets(alloc, number, index, input, out, written, place)
+}
+
+/// As `signers::der_signer_rows` of `part_calls`.
+#[unsafe(no_mangle)]
+pub extern "C" fn der_signer_rows(
+    alloc: Global,
+    input: &[u8],
+    first: usize,
+    out: &mut [Signer],
+    count: &mut usize,
+    place: &mut usize,
+) -> u32
+    ensures { FindsSigners input.now first out.old out.new count.new place.new result }
+{
+    signers::der_signer_rows(alloc, input, first, out, count, place)
 }

@@ -1,35 +1,19 @@
-//! Texts for people, for callers in C.
+//! Texts for people.
 
-ghost use Rattle.std.specs.Prelude.{◌≡◌, string_bytes, MatchResult};
-ghost use Rattle.std.specs.Str.{IsUtf8};
-ghost use Rattle.asn1_core_element.specs.declared.error.Error.TheVariants.{Memory};
-ghost use Rattle.asn1_core.specs.Der.{octets_of};
-ghost use Rattle.asn1_core_oid.specs.OidText.{IsTextOf};
-ghost use Rattle.asn1_core_oid.specs.Refusal.{IsRefusal};
-ghost use Rattle.oid_names.specs.Names.{IsObjectName};
 ghost use Rattle.x509_text.specs.Encodings.{HasNoNameText};
+ghost use Rattle.text_calls.specs.Names.{IsUtf8OfName, WritesText, HasNoOidText, IsUtf8OfUtf16, IsUtf16OfUtf8};
+ghost use Rattle.asn1_core_oid.specs.OidText.{IsTextOf};
+ghost use Rattle.call_values.specs.Given.{HasNone};
+ghost use Rattle.text_calls.specs.ObjectNames.{WritesObjectName};
 ghost use Rattle.x509_text.specs.Integers.{IsIntegerText};
+ghost use Rattle.text_calls.specs.Integers.{HasNoIntegerText};
 ghost use Rattle.x509_pkcs12.specs.Utf16.{IsUtf16};
-ghost use Rattle.der_c.specs.Given.{HasNone};
-ghost use Rattle.der_c.specs.Integers.{HasNoIntegerText};
-ghost use Rattle.der_c.specs.Names.{HasNoOidText, IsUtf16OfUtf8, IsUtf16Refusal, IsUtf8OfName, IsUtf8OfUtf16, WritesText};
-ghost use Rattle.der_c.specs.ObjectNames.{WritesObjectName};
+ghost use Rattle.std.specs.Str.{IsUtf8};
 
-use crate::outputs::put_octets;
-use crate::status;
-use crate::status::status_of;
-use asn1_core::prelude::{Leaf, ObjectIdentifier};
-use oid_names::object_name;
 use std::alloc::Global;
-use std::str;
-use x509_containers::Error;
-use x509_pkcs12::Utf16String;
-use x509_text::{encoded_name_text, integer_text, oid_text};
+use text_calls::texts;
 
-/// Writes the `Name` that the input encodes to the front of `out`, as text (RFC 4514) in UTF-8. At `NORMAL` `written`
-/// is its length, at `NO_ROOM`, where `out` is too short, the length that it needs, and otherwise 0. From `MALFORMED`
-/// to `TOO_DEEP` the input isn't the encoding of a `Name`, or a type in it has a number above 2^64; at `NO_MEMORY`
-/// memory was refused. Unless at `NORMAL` `out` is as it was.
+/// As `texts::der_name_text` of `text_calls`.
 #[unsafe(no_mangle)]
 pub extern "C" fn der_name_text(
     alloc: Global,
@@ -39,15 +23,10 @@ pub extern "C" fn der_name_text(
 ) -> u32
     ensures { WritesText (IsUtf8OfName input.now) (HasNoNameText input.now) out.old out.new written.new result }
 {
-    *written = 0;
-    match encoded_name_text(alloc, input) {
-        Ok(text) => put_octets(text.as_bytes(), out, written),
-        Err(error) => status_of(error),
-    }
+    texts::der_name_text(alloc, input, out, written)
 }
 
-/// Writes an object identifier, by its contents octets, in decimal numbers and dots. What it answers is as of
-/// `der_name_text`: at `INVALID` the octets are no object identifier's, or have a number above 2^64.
+/// As `texts::der_oid_text` of `text_calls`.
 #[unsafe(no_mangle)]
 pub extern "C" fn der_oid_text(
     alloc: Global,
@@ -57,25 +36,10 @@ pub extern "C" fn der_oid_text(
 ) -> u32
     ensures { WritesText (λ text. IsTextOf text octets.now) (HasNoOidText octets.now) out.old out.new written.new result }
 {
-    *written = 0;
-    match oid_text(alloc, octets) {
-        Ok(text) => put_octets(text.as_bytes(), out, written),
-        Err(error) => status_of(error),
-    }
+    texts::der_oid_text(alloc, octets, out, written)
 }
 
-/// The object identifier that a text spells.
-fn spelled_oid(alloc: Global, text: &[u8]) -> Result<ObjectIdentifier, Error>
-    ensures { MatchResult result (λ oid. IsTextOf text.now (octets_of oid)) (IsRefusal (HasNone (IsTextOf text.now))) }
-{
-    let Ok(text) = str::from_utf8(text) else {
-        return Err(Error::Invalid);
-    };
-    ObjectIdentifier::from_text(alloc, text)
-}
-
-/// Writes the contents octets of the object identifier that a text spells, in decimal numbers and dots. What it answers is as
-/// of `der_oid_text`: at `INVALID` the text spells none, or one of which a number has 2^64 or more.
+/// As `texts::der_oid_octets` of `text_calls`.
 #[unsafe(no_mangle)]
 pub extern "C" fn der_oid_octets(
     alloc: Global,
@@ -85,29 +49,18 @@ pub extern "C" fn der_oid_octets(
 ) -> u32
     ensures { WritesText (IsTextOf text.now) (HasNone (IsTextOf text.now)) out.old out.new written.new result }
 {
-    *written = 0;
-    match spelled_oid(alloc, text) {
-        Ok(oid) => put_octets(oid.octets(), out, written),
-        Err(error) => status_of(error),
-    }
+    texts::der_oid_octets(alloc, text, out, written)
 }
 
-/// Writes the name of an object identifier, by its contents octets, to the front of `out`. At `NORMAL` `written` is its
-/// length, at `NO_ROOM`, where `out` is too short, the length that it needs, and at `NO_PART`, where the table has no
-/// name for it, 0. Unless at `NORMAL` `out` is as it was.
+/// As `texts::der_oid_name` of `text_calls`.
 #[unsafe(no_mangle)]
 pub extern "C" fn der_oid_name(octets: &[u8], out: &mut [u8], written: &mut usize) -> u32
     ensures { WritesObjectName octets.now out.old out.new written.new result }
 {
-    *written = 0;
-    match object_name(octets) {
-        Some(name) => put_octets(name.as_bytes(), out, written),
-        None => status::NO_PART,
-    }
+    texts::der_oid_name(octets, out, written)
 }
 
-/// Writes the number that the contents octets of an INTEGER hold, in decimal, after a minus where it is negative. What
-/// it answers is as of `der_name_text`: at `INVALID` there are no octets, or more than 1,024.
+/// As `texts::der_integer_text` of `text_calls`.
 #[unsafe(no_mangle)]
 pub extern "C" fn der_integer_text(
     alloc: Global,
@@ -117,22 +70,10 @@ pub extern "C" fn der_integer_text(
 ) -> u32
     ensures { WritesText (IsIntegerText octets.now) (HasNoIntegerText octets.now) out.old out.new written.new result }
 {
-    *written = 0;
-    match integer_text(alloc, octets) {
-        Ok(text) => put_octets(&text, out, written),
-        Err(error) => status_of(error),
-    }
+    texts::der_integer_text(alloc, octets, out, written)
 }
 
-/// The text of UTF-16 octets. Refuses what is no UTF-16.
-fn utf16_text(alloc: Global, octets: &[u8]) -> Result<String, Error>
-    ensures { MatchResult result (λ text. IsUtf8OfUtf16 octets.now (string_bytes text)) (λ e. IsUtf16Refusal octets.now e) }
-{
-    Utf16String::from_contents(alloc, octets)?.to_text(alloc)
-}
-
-/// Writes UTF-16, two octets for each unit, the high one first, as UTF-8. What it answers is as of `der_name_text`: at
-/// `INVALID` the octets are no UTF-16.
+/// As `texts::der_utf16_text` of `text_calls`.
 #[unsafe(no_mangle)]
 pub extern "C" fn der_utf16_text(
     alloc: Global,
@@ -142,36 +83,10 @@ pub extern "C" fn der_utf16_text(
 ) -> u32
     ensures { WritesText (IsUtf8OfUtf16 octets.now) (¬ (IsUtf16 octets.now)) out.old out.new written.new result }
 {
-    *written = 0;
-    match utf16_text(alloc, octets) {
-        Ok(text) => put_octets(text.as_bytes(), out, written),
-        Err(error) => status_of(error),
-    }
+    texts::der_utf16_text(alloc, octets, out, written)
 }
 
-/// The UTF-16 of a text, two octets for each unit, the high one first. Refuses by `Memory` alone.
-fn utf16_of(alloc: Global, text: &str) -> Result<Vec<u8>, Error>
-    ensures { MatchResult result (λ octets. IsUtf8OfUtf16 octets.items text.now) (λ e. e ≡ Memory) }
-{
-    let mut octets = Vec::new(alloc);
-    for unit in text.encode_utf16() {
-        octets.extend_from_slice(&unit.to_be_bytes())?;
-    }
-    Ok(octets)
-}
-
-/// The UTF-16 of a text in UTF-8. Refuses by `Invalid` what is no UTF-8.
-fn text_utf16(alloc: Global, text: &[u8]) -> Result<Vec<u8>, Error>
-    ensures { MatchResult result (λ octets. IsUtf8OfUtf16 octets.items text.now) (IsRefusal (¬ (IsUtf8 text.now))) }
-{
-    let Ok(text) = str::from_utf8(text) else {
-        return Err(Error::Invalid);
-    };
-    utf16_of(alloc, text)
-}
-
-/// Writes a text in UTF-8 as UTF-16, two octets for each unit, the high one first. What it answers is as of `der_name_text`:
-/// at `INVALID` the text is no UTF-8.
+/// As `texts::der_text_utf16` of `text_calls`.
 #[unsafe(no_mangle)]
 pub extern "C" fn der_text_utf16(
     alloc: Global,
@@ -181,9 +96,5 @@ pub extern "C" fn der_text_utf16(
 ) -> u32
     ensures { WritesText (IsUtf16OfUtf8 text.now) (¬ (IsUtf8 text.now)) out.old out.new written.new result }
 {
-    *written = 0;
-    match text_utf16(alloc, text) {
-        Ok(octets) => put_octets(&octets, out, written),
-        Err(error) => status_of(error),
-    }
+    texts::der_text_utf16(alloc, text, out, written)
 }

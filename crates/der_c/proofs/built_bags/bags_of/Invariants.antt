@@ -1,7 +1,0 @@
-use Rattle.std.specs.Prelude.{take}
-use Rattle.std.specs.List.{AllZip}
-use Rattle.der_c.specs.BuiltBags.{IsBagBy}
-use Rattle.der_c.proofs.built_bags.bags_of.Given as goal
-
-abbrev pub invariant-loop-index : goal.invariant-loop-index
-invariant-loop-index l = AllZip (IsBagBy l.input) (take l.index l.rows) l.bags.items

@@ -1,5 +1,0 @@
-use Rattle.der_c.proofs.GivenBags.{value_checked}
-use Rattle.der_c.proofs.built_bags.check_value.Goals as goal
-
-pub returns-in-Ok : goal.returns-in-Ok
-returns-in-Ok c = value_checked c.args.input.now c.args.row.now c.in-Ok.held c.in-Ok.ensures c.check_held.result c.check_held.ensures

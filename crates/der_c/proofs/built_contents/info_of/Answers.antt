@@ -1,7 +1,0 @@
-use Rattle.std.proofs.Common.{refl}
-use Rattle.bag_ranges.specs.RawContentInfos.{raw_content_info_value}
-use Rattle.der_c.proofs.BuiltContents.{data_again}
-use Rattle.der_c.proofs.built_contents.info_of.Goals as goal
-
-pub returns-then-is_oid_of : goal.returns-then-is_oid_of
-returns-then-is_oid_of c = data_again c.args.octets.now (raw_content_info_value c.in_ok-info.info) c.in_ok-info.ensures (c.if-is_oid_of.ensures.0 refl)

@@ -1,5 +1,0 @@
-use Rattle.der_c.proofs.SignerRows.{signers_refused}
-use Rattle.der_c.proofs.signers.der_signer_rows.Goals as goal
-
-pub returns-in-Err : goal.returns-in-Err
-returns-in-Err c = signers_refused c.args.input.now c.args.first c.args.out.now c.in-Err.refusal c.place_of.result c.status_of_refusal.result c.place_of.ensures c.status_of_refusal.ensures c.in-Err.ensures

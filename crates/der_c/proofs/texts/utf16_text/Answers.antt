@@ -1,6 +1,0 @@
-use Rattle.std.proofs.Common.{rules}
-use Rattle.std.proofs.lemmas.Str.{IsUtf8-string_bytes}
-use Rattle.der_c.proofs.texts.utf16_text.Goals as goal
-
-pub returns : goal.returns
-returns c = search (rules, IsUtf8-string_bytes)

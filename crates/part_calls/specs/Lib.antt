@@ -1,0 +1,5 @@
+pub mod Signers
+pub mod Certificates
+pub mod Lists
+pub mod Parts
+pub mod Macs

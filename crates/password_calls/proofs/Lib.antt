@@ -1,0 +1,4 @@
+pub mod PasswordRows
+pub mod BuiltParts
+pub mod BuiltTexts
+pub mod OtherParts

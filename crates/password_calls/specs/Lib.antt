@@ -1,0 +1,4 @@
+pub mod Passwords
+pub mod Built
+pub mod NotBuilt
+pub mod Others

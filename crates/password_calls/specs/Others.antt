@@ -1,0 +1,10 @@
+-- Algorithms that are given with their parameters as an element.
+use Rattle.std.specs.Prelude.{ℕ, List}
+use Rattle.call_values.specs.declared.ranges.Octets.{Octets}
+use Rattle.password_ranges.specs.Parameters.{AlgorithmValue}
+use Rattle.call_values.specs.Given.{IsOidOf, IsElementOf, IfGiven}
+
+-- an algorithm by its object identifier, with its parameters as an element, or without any
+pub record IsOtherOf (b : List ℕ) (oid : Octets) (flag : ℕ) (parameters : Octets) (w : AlgorithmValue) : Type 0 where
+  pub algorithm : IsOidOf b oid w.0
+  pub parameters_are : IfGiven flag (IsElementOf b parameters) w.1.0

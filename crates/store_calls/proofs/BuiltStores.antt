@@ -1,0 +1,80 @@
+-- What a file is written of, and why it isn't.
+use Rattle.std.specs.Prelude.{◌≡◌, ◌<◌, ◌^◌, ℕ, List, Option, None, Some}
+use Rattle.std.proofs.Common.{ap, arith, inl, inr, refl, subst, sym, Bor, ◌∙◌}
+use Rattle.std.specs.Option.{option_copied}
+use Rattle.asn1_core.specs.Asn1.{SEQUENCE}
+use Rattle.asn1_core.specs.Der.{IsElement, IsTagByte, Octets as OctetList, option_value, raw}
+use Rattle.asn1_core_element.specs.declared.error.Error.{Error}
+use Rattle.asn1_core_format.specs.Components.{AllIf}
+use Rattle.asn1_borrowed.specs.Written.{IsNotWritten}
+use Rattle.store_calls.specs.BuiltStores.{IsCountOf, IsMacOf, IsNoStore, IsStoreBy}
+use Rattle.call_values.specs.Given.{HasNone, IfGiven}
+use Rattle.password_calls.specs.Others.{IsOtherOf}
+use Rattle.call_values.specs.Read.{IsReadAs}
+use Rattle.call_values.specs.declared.not_built.NotBuilt.TheVariants.{Refused}
+use Rattle.store_calls.specs.declared.built_stores.StoreGiven.{StoreGiven}
+use Rattle.password_ranges.specs.Parameters.{AlgorithmValue}
+use Rattle.pkcs12_algs.specs.Algorithms.{from_raw}
+use Rattle.pkcs12_algs.specs.Digests.{digest_oids, mac_data, mac_data_value, pkcs12_digest_algorithm}
+use Rattle.pkcs12_algs.specs.declared.macs.MacData.{MacData}
+use Rattle.store_writers.specs.Written.{CONTENTS, store_value}
+use Rattle.x509_base.specs.Algorithms.{algorithm_identifier}
+use Rattle.x509_pkcs12.specs.Pfxs.{pfx}
+
+module _ (b : List ℕ) (row : StoreGiven) where
+  pub no_algorithm : HasNone (IsOtherOf b row.digest_algorithm row.has_digest_parameters row.digest_parameters) → HasNone (IsMacOf b row)
+  no_algorithm none v is = none is.algorithm.0 is.algorithm.1
+
+  -- what is given is well-formed
+  algorithm_normal : (w : AlgorithmValue) → algorithm_identifier.format.normal w ≡ w
+  algorithm_normal (oid, (None, u)) = refl
+  algorithm_normal (oid, (Some x, u)) = refl
+
+  other_formed : (w : AlgorithmValue) → IsOtherOf b row.digest_algorithm row.has_digest_parameters row.digest_parameters w → algorithm_identifier.format.IsWellFormed 64 w
+  other_formed (oid, (None, u)) is = (is.algorithm.1, (tt, tt))
+  other_formed (oid, (Some x, u)) is = (is.algorithm.1, (is.parameters_are.1.1, tt))
+
+  algorithm_formed : (w : AlgorithmValue) → algorithm_identifier.format.IsWellFormed 64 w → pkcs12_digest_algorithm.format.IsWellFormed 64 (from_raw digest_oids w)
+  algorithm_formed w formed =
+      let text = algorithm_identifier.format.text w in
+      let reads = subst (algorithm_identifier.format.Reads 64 text) (algorithm_normal w) (algorithm_identifier.law.text_reads 64 w formed) in
+      pkcs12_digest_algorithm.law.well_formed 64 text (from_raw digest_oids w) (w, reads, refl)
+
+  count_formed : (o : Option ℕ) → IsCountOf row.iterations o → AllIf (λ n. n < 2 ^ 32) o
+  count_formed None is = tt
+  count_formed (Some n) is = omega (arith, is.1.0, is.1.1)
+
+  mac_formed : (v : mac_data.Value) → IsMacOf b row v → (SEQUENCE mac_data).format.IsWellFormed 64 v
+  mac_formed v is =
+      let w = is.algorithm in
+      let algorithm = subst (pkcs12_digest_algorithm.format.IsWellFormed 64) (sym w.2) (algorithm_formed w.0 (other_formed w.0 w.1)) in
+      ((algorithm, (tt, tt)), (tt, (count_formed v.1.1.0 is.iterations, tt)))
+
+  mac_if_formed : (mac : Option mac_data.Value) → IfGiven row.has_mac (IsMacOf b row) mac → AllIf ((SEQUENCE mac_data).format.IsWellFormed 64) mac
+  mac_if_formed None is = tt
+  mac_if_formed (Some v) is = mac_formed v is.1
+
+  safe_element : (x : OctetList) → IsReadAs CONTENTS.format x → IsElement IsTagByte x
+  safe_element x (v, reads) =
+      let e = CONTENTS.law.element 64 x v reads in
+      record { tag = e.tag; contents = e.contents; is_tag = e.is_tag; is = e.is; allowed = e.is_tag }
+
+  formed : (x : OctetList) (mac : Option mac_data.Value) → IsStoreBy b row x mac → (pfx raw).IsWellFormed 64 (store_value x mac)
+  formed x mac is = (refl, (safe_element x is.safe_is.1, (mac_if_formed mac is.mac_is, tt)))
+
+  pub not_built : (x : OctetList) (mac : Option mac_data.Value) (e : Error) → IsStoreBy b row x mac → IsNotWritten (pfx raw) (store_value x mac) e → IsNoStore b row (Refused e)
+  not_built x mac e is (inl n) = absurd (n.1 (formed x mac is))
+  not_built x mac e is (inr (inl n)) = inl (n.1, (x, mac, is, n.2))
+  not_built x mac e is (inr (inr n)) = inr n
+
+-- a MAC by its parts
+pub same_mac : {A B C D : Type 0} {a e : A} {d f : B} {s t : C} (i : D) → a ≡ e → d ≡ f → s ≡ t → ◌≡◌ {A = (A × (B × Unit {0})) × (C × (D × Unit {0}))} ((a, (d, tt)), (s, (i, tt))) ((e, (f, tt)), (t, (i, tt)))
+same_mac i a d s = cc
+
+-- the MAC that is borrowed
+borrowed : (o : Option (Bor MacData)) → option_value (λ m. mac_data_value m.now) o ≡ option_value mac_data_value (option_copied o)
+borrowed None = refl
+borrowed (Some m) = refl
+
+pub borrowed_mac : (o : Option (Bor MacData)) (mac : Option MacData) → option_copied o ≡ mac → option_value (λ m. mac_data_value m.now) o ≡ option_value mac_data_value mac
+borrowed_mac o mac e = borrowed o ∙ ap (option_value mac_data_value) e

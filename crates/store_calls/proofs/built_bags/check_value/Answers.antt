@@ -1,0 +1,5 @@
+use Rattle.store_calls.proofs.GivenBags.{value_checked}
+use Rattle.store_calls.proofs.built_bags.check_value.Goals as goal
+
+pub returns-in-Ok : goal.returns-in-Ok
+returns-in-Ok c = value_checked c.args.input.now c.args.row.now c.in-Ok.held c.in-Ok.ensures c.check_held.result c.check_held.ensures

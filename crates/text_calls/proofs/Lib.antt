@@ -1,0 +1,2 @@
+pub mod OidTexts
+pub mod Utf16Made
