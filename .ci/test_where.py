@@ -35,14 +35,30 @@ pub fn two(half: u8) -> Two
 """
 DER_C = """//! For C.
 
-use low::two;
+use half_calls::halves;
 
 #[unsafe(no_mangle)]
 pub extern "C" fn der_two(half: u8) -> u32
     ensures { result ≡ 2 }
 {
+    halves::der_two(half)
+}
+"""
+CALLED = """//! Halves.
+
+use low::two;
+
+/// The number.
+pub fn der_two(half: u8) -> u32
+    ensures { result ≡ 2 }
+{
     two(half).half as u32
 }
+"""
+STATUS = """//! The status of a call.
+
+/// It is.
+pub const FINE: u32 = 0;
 """
 KINDS = """//! Kinds.
 
@@ -83,6 +99,7 @@ int main(void) {
 }
 """
 TREE = {
+    "crates.txt": "call_values:\nhalf_calls: low\nder_c staticlib: low call_values half_calls\n",
     "crates/x509_containers/src/lib.rt": "//! All.\n\nmod kinds;\n\npub use kinds::some::SomeKind;\npub use low::Two;\n"
                                          "pub use low::two;\n",
     "crates/x509_containers/src/kinds.rt": "//! Kinds.\n\npub mod some;\n",
@@ -91,6 +108,9 @@ TREE = {
     "crates/low/specs/Twos.antt": "-- Two ::= INTEGER\nabbrev pub two : Contents\ntwo = INTEGER\n",
     "crates/low/must-fail/two_is_three.edit": "file: src/lib.rt\nold:     Two { half }\nnew:     Two { half: 3 }\n",
     "crates/der_c/src/lib.rt": DER_C,
+    "crates/half_calls/src/halves.rt": CALLED,
+    "crates/half_calls/must-fail/two_is_one.edit": "file: src/halves.rt\nold: .half as\nnew: .half as u8 as\n",
+    "crates/call_values/src/status.rt": STATUS,
     "crates/example_low/src/main.rt": "//! Writes one.\n\nuse low::two;\n\nfn main() {\n    let it = written(two(1));\n"
                                       "    show(it);\n}\n",
     "crates/example_rows/stdin": "# twos\ntwo of 1 headers | 02 01 02 | normal 3 | = Two { half: 1 }\n",
@@ -193,8 +213,12 @@ class Small(unittest.TestCase):
     def test_a_kind_and_a_call_of_the_header(self):
         table, of = "crates/x509_containers/src/kinds/some.rt:10", f"crates/low/src/lib.rt:{LINE['Two']}"
         self.assertEqual(self.places("x509_containers::two", "definition"), [table, of])
-        self.assertEqual(self.places("der_twice", "definition"), ["c/der.h:10", "crates/der_c/src/lib.rt:6"])
-        self.assertEqual(self.places("der_twice", "clause"), ["crates/der_c/src/lib.rt:7"])
+        exported, called = "crates/der_c/src/lib.rt", "crates/half_calls/src/halves.rt"
+        self.assertEqual(self.places("der_twice", "definition"), ["c/der.h:10", f"{exported}:6", f"{called}:6"])
+        self.assertEqual(self.places("der_twice", "clause"), [f"{exported}:7", f"{called}:7"])
+        edits = ["crates/half_calls/must-fail/two_is_one.edit:2"]
+        self.assertEqual(self.places("der_two", "must-fail edits"), edits)
+        self.assertEqual(self.places("DER_FINE", "definition"), ["c/der.h:5", "crates/call_values/src/status.rt:4"])
         self.assertEqual(self.places("der_two", "tests"), ["c/tests/twice.c:4"])
 
 

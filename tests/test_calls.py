@@ -1,6 +1,7 @@
 """tools/calls over copies of a tree in which something is turned: a number, two fields, the type of a parameter, a call
-that is left out, in each of C, Python, Rust and what is proved, or in c/calls.txt. Each has to be told, with its file,
-its line and its name; --write makes right what is made, and keeps what is said in the header."""
+that is left out, in each of C, Python, Rust and what is proved, or in c/calls.txt, and what an exported function calls.
+Each has to be told, with its file, its line and its name; --write makes right what is made, and keeps what is said in
+the header."""
 import sys
 import tempfile
 import unittest
@@ -14,23 +15,26 @@ from loaded import script  # noqa: E402
 calls = script(built.TOP / "tools/calls")
 C, PYTHON, RUST, FILE = calls.HEADER, calls.PYTHON, calls.RUST, calls.FILE
 NAMES, HOLDERS, CHECK = "python/vuyhanip/der.py", "rust/src/passwords.rs", "rust/tests/check.rs"
-STATUS, BAGS, LISTS, MACS, LIB = (f"crates/der_c/src/{name}.rt" for name in ("status", "bags", "lists", "macs", "lib"))
-CERTIFICATES = "crates/der_c/src/certificates.rt"
-SIGNERS, PARTS, PARTS_IN_SPECS = "crates/der_c/src/signers.rt", *(path for path, *_ in calls.LISTED)
-RANGES_IN_SPECS = "crates/der_c/specs/Ranges.antt"
-PASSWORDS, PASSWORDS_IN_SPECS = "crates/der_c/src/passwords.rt", "crates/der_c/specs/Passwords.antt"
-BUILT, BUILT_BAGS, BUILT_CONTENTS, BUILT_STORES, BUILT_ATTRIBUTES, BUILT_SIGNED, BUILT_INDIRECT = (
-    f"crates/der_c/src/{name}.rt" for name in (
-        "built", "built_bags", "built_contents", "built_stores", "built_attributes", "built_signed", "built_indirect"))
-BUILT_RECIPIENT, BUILT_ENVELOPED = (f"crates/der_c/src/{name}.rt" for name in ("built_recipient", "built_enveloped"))
-ATTRIBUTES_IN_SPECS, SIGNED_IN_SPECS, INDIRECT_IN_SPECS, RECIPIENT_IN_SPECS, ENVELOPED_IN_SPECS = (
-    f"crates/der_c/specs/{name}.antt" for name in (
-        "BuiltAttributes", "BuiltSigned", "BuiltIndirect", "BuiltRecipient", "BuiltEnveloped"))
+TEXTS, LIB = calls.proved(built.TOP), f"{calls.LIBRARY}/src/lib.rt"
+PARTS, PARTS_IN_SPECS = (path for path, *_ in calls.LISTED)
+# What has the calls with their numbers and structs, in src/ and in specs/.
+(STATUS, BAGS, LISTS, MACS, SIGNERS, PASSWORDS, BUILT, BUILT_BAGS, BUILT_STORES, BUILT_ATTRIBUTES, BUILT_SIGNED,
+ BUILT_INDIRECT, BUILT_RECIPIENT, BUILT_ENVELOPED) = (
+    calls.path_of(TEXTS, f"{name}.rt") for name in (
+        "status", "bags", "lists", "macs", "signers", "passwords", "built", "built_bags", "built_stores",
+        "built_attributes", "built_signed", "built_indirect", "built_recipient", "built_enveloped"))
+(BAGS_IN_SPECS, LISTS_IN_SPECS, KINDS_IN_SPECS, PASSWORDS_IN_SPECS, ATTRIBUTES_IN_SPECS, SIGNED_IN_SPECS,
+ INDIRECT_IN_SPECS, RECIPIENT_IN_SPECS, ENVELOPED_IN_SPECS) = (
+    calls.path_of(TEXTS, f"{name}.antt") for name in (
+        "Bags", "Lists", "Kinds", "Passwords", "BuiltAttributes", "BuiltSigned", "BuiltIndirect", "BuiltRecipient",
+        "BuiltEnveloped"))
+# The functions that are exported.
+OF_KINDS, OF_PARTS, OF_PASSWORDS, OF_STORES, OF_MESSAGES = (
+    f"{calls.LIBRARY}/src/{name}.rt" for name in ("kinds", "parts", "passwords", "stores", "messages"))
 BUILT_IN_RUST, STORES_IN_RUST, SIGNED_IN_RUST, INDIRECT_IN_RUST, ENVELOPED_IN_RUST = (
     f"rust/src/{name}.rs" for name in ("build", "build_stores", "build_signed", "build_indirect", "build_enveloped"))
 # What tools/calls reads.
-READ = (FILE, C, PYTHON, NAMES, "rust/src/*.rs", CHECK, "crates/der_c/src/*.rt", "crates/der_c/specs/*.antt", PARTS,
-        PARTS_IN_SPECS, *calls.LEVELS)
+READ = (FILE, C, PYTHON, NAMES, "rust/src/*.rs", CHECK, "crates.txt", *TEXTS)
 RANGE_IN_C = """DER_CALL
 uint32_t der_mac_range(const uint8_t *input, size_t input_len, size_t *start, size_t *len);
 """
@@ -219,23 +223,37 @@ BY_HAND = {
     "Rust, a caller": (CHECK, IN_CHECK.format("u8"), IN_CHECK.format("u32"), "limit"),
     "proved, a status": (STATUS, "NO_ROOM: u32 = 9;", "NO_ROOM: u32 = 8;", "DER_NO_ROOM"),
     "proved, two fields": (
-        BAGS, "    kind: usize,\n    /// In how many bags it is.\n    level: usize,",
-        "    level: usize,\n    /// In how many bags it is.\n    kind: usize,", "level"),
-    "proved, the type of a field": (BAGS, "    value: Octets,", "    value: usize,", "value"),
+        BAGS, "    pub kind: usize,\n    /// In how many bags it is.\n    pub level: usize,",
+        "    pub level: usize,\n    /// In how many bags it is.\n    pub kind: usize,", "level"),
+    "proved, the type of a field": (BAGS, "    pub value: Octets,", "    pub value: usize,", "value"),
     "proved, a layout": (SIGNERS, "#[repr(C)]\n", "", "der_signer_parts", SIGNERS),
-    "proved, a type": (LIB, "der_kind_word(index: usize,", "der_kind_word(index: u32,", "index"),
-    "proved, a slice": (BAGS, "    input: &[u8],", "    input: &mut [u8],", "input"),
-    "proved, one struct": (CERTIFICATES, "    out: &mut Certificate,", "    out: &mut [Certificate],", "out"),
+    "proved, a type": (OF_KINDS, "der_kind_word(index: usize,", "der_kind_word(index: u32,", "index"),
+    "proved, a slice": (OF_STORES, "    input: &[u8],", "    input: &mut [u8],", "input"),
+    "proved, one struct": (OF_PARTS, "    out: &mut Certificate,", "    out: &mut [Certificate],", "out"),
     "proved, two parameters": (
-        LISTS, "    signed: usize,\n    index: usize,", "    index: usize,\n    signed: usize,", "index"),
-    "proved, a call": (MACS, 'pub extern "C" fn der_mac_range(', "fn range_of(", "der_mac_range", f"{LIB}:1"),
-    "proved, another call": (MACS, '"C" fn der_mac(', '"C" fn der_any_mac(', "der_any_mac"),
+        OF_PARTS, "    signed: usize,\n    index: usize,", "    index: usize,\n    signed: usize,", "index"),
+    "proved, a call": (OF_PARTS, 'pub extern "C" fn der_mac_range(', "fn range_of(", "der_mac_range", f"{LIB}:1"),
+    "proved, another call": (OF_PARTS, '"C" fn der_mac(', '"C" fn der_any_mac(', "der_any_mac"),
+    "proved, a call of another crate": (MACS, "pub fn der_mac(", 'pub extern "C" fn der_mac(', "der_mac"),
+    "proved, a call that isn't there": (
+        MACS, "pub fn der_mac_range(", "pub fn der_range_of(", "der_mac_range", OF_PARTS),
+    "proved, what is called": (OF_PARTS, "macs::der_mac_ber(alloc,", "macs::der_mac(alloc,", "der_mac_ber"),
+    "proved, what is passed": (OF_STORES, "written, bag, part)", "written, part, bag)", "der_build_bags"),
+    "proved, what is passed on lines": (
+        OF_MESSAGES, "        certificates,\n        crls,", "        crls,\n        certificates,", "der_build_signed",
+        OF_MESSAGES),
+    "proved, what isn't passed": (OF_KINDS, "input, out, written, place)", "input, out, written)", "der_from_ber"),
+    "proved, what a call does besides": (
+        OF_KINDS, "    kinds::der_kind_word(", "    *written = 0;\n    kinds::der_kind_word(", "der_kind_word"),
+    "proved, a call that is none": (
+        OF_KINDS, "kinds::der_kind_word(index, out, written)", "if index > 1 { 2 } else { 0 }", "der_kind_word",
+        OF_KINDS),
     "proved, a kind": (BAGS, "BagKind::Crl => 4,", "BagKind::Crl => 5,", "DER_BAG_CRL"),
-    "specs, a kind": ("crates/der_c/specs/Bags.antt", "kind_number Crl = 4", "kind_number Crl = 5", "DER_BAG_CRL"),
+    "specs, a kind": (BAGS_IN_SPECS, "kind_number Crl = 4", "kind_number Crl = 5", "DER_BAG_CRL"),
     "proved, a holder": (PASSWORDS, "1 => Some(Holder::Key)", "3 => Some(Holder::Key)", "DER_HOLDER_KEY"),
     "specs, a holder": (PASSWORDS_IN_SPECS, "number_of Key = 1", "number_of Key = 3", "DER_HOLDER_KEY"),
     "proved, a part": (LISTS, "16 => Some(", "19 => Some(", "DER_PART_RECIPIENT"),
-    "specs, a part": (RANGES_IN_SPECS, "number_of Recipients = 16", "number_of Recipients = 19", "DER_PART_RECIPIENT"),
+    "specs, a part": (LISTS_IN_SPECS, "number_of Recipients = 16", "number_of Recipients = 19", "DER_PART_RECIPIENT"),
     "proved, a password part": (BUILT, "const SALT: usize = 5;", "const SALT: usize = 6;", "DER_PASSWORD_SALT"),
     "proved, a bag part": (BUILT_BAGS, "const VALUE: usize = 3;", "const VALUE: usize = 4;", "DER_BAG_PART_VALUE"),
     "proved, a store part": (BUILT_STORES, "const SALT: usize = 5;", "const SALT: usize = 6;", "DER_STORE_PART_SALT"),
@@ -267,33 +285,33 @@ BY_HAND = {
         ENVELOPED_IN_SPECS, "number_of Wrong.Recipients = 5", "number_of Wrong.Recipients = 6",
         "DER_ENVELOPED_PART_RECIPIENTS"),
     "proved, a recipient that is read": (
-        BUILT_RECIPIENT, "    given: &RecipientGiven,", "    given: &mut RecipientGiven,", "given"),
+        OF_MESSAGES, "    given: &RecipientGiven,", "    given: &mut RecipientGiven,", "given"),
     "proved, enveloped data that is read": (
-        BUILT_ENVELOPED, "    given: &EnvelopedGiven,\n    recipients: &[Octets],\n    out",
+        OF_MESSAGES, "    given: &EnvelopedGiven,\n    recipients: &[Octets],\n    out",
         "    given: &RecipientGiven,\n    recipients: &[Octets],\n    out", "given"),
     "proved, recipients that are read": (
-        BUILT_ENVELOPED, "    recipients: &[Octets],\n    out", "    recipients: &[usize],\n    out", "recipients"),
+        OF_MESSAGES, "    recipients: &[Octets],\n    out", "    recipients: &[usize],\n    out", "recipients"),
     "proved, indirect data that are read": (
-        BUILT_INDIRECT, "    given: &Indirect,", "    given: &mut Indirect,", "given"),
+        OF_MESSAGES, "    given: &Indirect,", "    given: &mut Indirect,", "given"),
     "proved, attributes that are read": (
-        BUILT_ATTRIBUTES, "    given: &AttributesGiven,", "    given: &mut AttributesGiven,", "given"),
+        OF_MESSAGES, "    given: &AttributesGiven,", "    given: &mut AttributesGiven,", "given"),
     "proved, signers that are read": (
-        BUILT_SIGNED, "    signers: &[SignerGiven],\n    out", "    signers: &SignerGiven,\n    out", "signers"),
+        OF_MESSAGES, "    signers: &[SignerGiven],\n    out", "    signers: &SignerGiven,\n    out", "signers"),
     "proved, ranges that are read": (
-        BUILT_SIGNED, "    crls: &[Octets],\n    signers: &[SignerGiven],\n    out",
+        OF_MESSAGES, "    crls: &[Octets],\n    signers: &[SignerGiven],\n    out",
         "    crls: &[usize],\n    signers: &[SignerGiven],\n    out", "crls"),
     "proved, two lists": (
-        BUILT_SIGNED, "    certificates: &[Octets],\n    crls: &[Octets],\n    signers: &[SignerGiven],\n    out",
+        OF_MESSAGES, "    certificates: &[Octets],\n    crls: &[Octets],\n    signers: &[SignerGiven],\n    out",
         "    crls: &[Octets],\n    certificates: &[Octets],\n    signers: &[SignerGiven],\n    out", "certificates"),
-    "proved, a struct that is read": (BUILT, "    given: &Password,", "    given: &mut Password,", "given"),
-    "proved, structs that are read": (BUILT_BAGS, "    bags: &[BagGiven],", "    bags: &mut [BagGiven],", "bags"),
+    "proved, a struct that is read": (OF_PASSWORDS, "    given: &Password,", "    given: &mut Password,", "given"),
+    "proved, structs that are read": (OF_STORES, "    bags: &[BagGiven],", "    bags: &mut [BagGiven],", "bags"),
     "proved, one struct for several": (
-        BUILT_CONTENTS, "    contents: &[ContentGiven],", "    contents: &ContentGiven,", "contents"),
-    "proved, other structs": (BUILT_BAGS, "    bags: &[BagGiven],", "    bags: &[ContentGiven],", "bags"),
-    "proved, another struct": (BUILT_STORES, "    given: &StoreGiven,", "    given: &BagGiven,", "given"),
+        OF_STORES, "    contents: &[ContentGiven],", "    contents: &ContentGiven,", "contents"),
+    "proved, other structs": (OF_STORES, "    bags: &[BagGiven],", "    bags: &[ContentGiven],", "bags"),
+    "proved, another struct": (OF_STORES, "    given: &StoreGiven,", "    given: &BagGiven,", "given"),
     "proved, a number": (LISTS, "CERTIFICATES: usize = 1;", "CERTIFICATES: usize = 2;", "DER_PART_CERTIFICATE", LISTS),
     "specs, a number": (
-        RANGES_IN_SPECS, "\ncertificates = 1", "\ncertificates = 2", "DER_PART_CERTIFICATE", RANGES_IN_SPECS),
+        LISTS_IN_SPECS, "\ncertificates = 1", "\ncertificates = 2", "DER_PART_CERTIFICATE", LISTS_IN_SPECS),
     "proved, two parts": (
         PARTS, "StorePart::Key),\n            ContainerPart::Store(StorePart::EncryptedKey)",
         "StorePart::EncryptedKey),\n            ContainerPart::Store(StorePart::Key)", "DER_PART_STORE_ENCRYPTED_KEY"),
@@ -301,7 +319,7 @@ BY_HAND = {
         PARTS_IN_SPECS, "OfStore.Key ∷ Store OfStore.EncryptedKey", "OfStore.EncryptedKey ∷ Store OfStore.Key",
         "DER_PART_STORE_ENCRYPTED_KEY"),
     "proved, levels": (calls.LEVELS[1], "MAX_NESTING: u8 = 64;", "MAX_NESTING: u8 = 63;", "DER_MAX_NESTING"),
-    "specs, levels": ("crates/der_c/specs/Calls.antt", "min limit 64", "min limit 63", "DER_MAX_NESTING"),
+    "specs, levels": (KINDS_IN_SPECS, "min limit 64", "min limit 63", "DER_MAX_NESTING"),
 }
 # A text of c/calls.txt, what is in its place, and what is said.
 NO_CALLS = {

@@ -2,6 +2,7 @@
 certificates, object identifiers, counts, and libraries. Of the files none needs openssl."""
 import _ctypes
 import contextlib
+import contextvars
 import datetime
 import hashlib
 import io
@@ -236,6 +237,20 @@ class Counts(unittest.TestCase):
         self.assertEqual(vuyhanip.mac_verdict(store, "password").said, said)
         [it] = verifying.verify(store, verifying.Terms(password="password"))
         self.assertEqual(str(it.line("a: ")), f"a: MAC {said}")
+
+    def test_the_product_of_three_long_counts_is_cut(self):
+        """Those of scrypt, of which a file of six megabytes took 40 seconds."""
+        built.use_shared()
+        counts = 3 * [element(0x02, b"\x7f" + 2000 * b"\xff")]
+        derived = sequence(oid("1.3.6.1.4.1.11591.4.11"), sequence(octet_string(b"salt"), *counts))
+        scheme = sequence(oid("PBES2"), sequence(derived, sequence(oid("AES-256-CBC"))))
+        encrypted = sequence(integer(0), sequence(oid("data"), scheme, element(0x80, bytes(8))))
+        kept = sequence(content_info("encrypted data", encrypted))
+        store = sequence(integer(3), content_info("data", octet_string(kept)), mac_data(bytes(32), b"salt", 1))
+        for most in (2_000_000, 1 << 70):
+            room = contextvars.copy_context()
+            room.run(files.LIMITS.set, files.Limits(iterations=most))
+            self.assertTrue(most < room.run(files.iterations_of, store) < 1 << 220, most)
 
 
 class SigningCertificates(unittest.TestCase):

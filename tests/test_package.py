@@ -149,11 +149,13 @@ class Unproved(Packaging):
         script = (TOP / "package/unproved").read_text("utf-8")
         function = re.search(r"^calls\(\) \{\n.*?^\}\n", script, re.M | re.S)[0]
         made = ended("bash", "-c", f'{function}calls "$1"', "bash", TOP / "crates/der_c/src").stdout.decode().splitlines()
-        argument = r"(?:rt\.alloc\(\)|0|&\[\]|&mut \[\]|&mut 0|&(?:mut )?\w+::NO_[A-Z_]+)"
+        argument = r"(?:rt\.alloc\(\)|0|&\[\]|&mut \[\]|&mut 0|&(?:mut )?(?:\w+::){2}NO_[A-Z_]+)"
         for line in made:
             self.assertRegex(line, rf"^ *(\w+::)?\w+\( ?{argument}(, {argument})*,? ?\);$")
         names = re.findall(r"^uint32_t (der_\w+)\(", (TOP / "c/der.h").read_text("utf-8"), re.M)
         self.assertEqual(sorted(re.findall(r"(\w+)\(.*\);", "\n".join(made))), sorted(names))
+        for crate, module, name in set(re.findall(r"(\w+)::(\w+)::(NO_\w+)", "\n".join(made))):
+            self.assertIn(f"\npub const {name}: ", (TOP / f"crates/{crate}/src/{module}.rt").read_text("utf-8"))
 
     def test_a_folder_of_others(self):
         notes = self.write("folder/notes", "mine")

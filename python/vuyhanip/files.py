@@ -226,8 +226,10 @@ def _derivation(scheme: Element) -> int:
 
 
 def _number(parameters: Element, count: int = 1) -> int:
-    """The number after a salt; of scrypt (RFC 7914, 7.1) three, of which each makes the work longer."""
-    return math.prod(map(integer, parameters.first(count + 1)[1:]))
+    """The number after a salt; of scrypt (RFC 7914, 7.1) three, of which each makes the work longer. One past all limits
+    is the next after them, since products of long numbers take minutes."""
+    past = max(LIMITS.get().iterations, MOST_TOLD) + 1
+    return math.prod(min(integer(it), past) for it in parameters.first(count + 1)[1:])
 
 
 def iterations_in(data: bytes, strict: bool) -> int:
