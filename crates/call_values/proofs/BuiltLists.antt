@@ -4,7 +4,7 @@ use Rattle.std.specs.List.{AllByRecursion, AllZip}
 use Rattle.std.proofs.Common.{ap, arith, refl, subst, sym, ◌∙◌}
 use Rattle.std.proofs.lemmas.List.{get_or_default, map-append, take_more}
 use Rattle.call_values.specs.BuiltLists.{IsNoList, at}
-use Rattle.call_values.specs.Read.{IsUnread}
+use Rattle.call_values.specs.Read.{IsUnreadOf}
 use Rattle.call_values.specs.declared.not_built.NotBuilt.{NotBuilt}
 use Rattle.call_values.specs.declared.not_built.NotBuilt.TheVariants.{Part, Refused}
 
@@ -55,9 +55,12 @@ all_at P (x ∷ xs) zero d all l = all.0
 all_at P (x ∷ xs) (suc i) d all l = all_at P xs i d all.1 (omega (arith, l))
 
 -- the first row that gives nothing, by its index
-pub not_at : {X : Type 0} (Gives : X → Type 0) (rows : List X) (i : ℕ) (d : X) (w : NotBuilt) → i < length rows → AllByRecursion Gives (take i rows) → IsUnread (Gives (slice_index_or rows i d)) w → IsNoList Gives rows (at i w)
-not_at Gives rows i d (Part n) l before none = record { one = record { item = slice_index_or rows i d; inside = l; is = get_or_default rows i d (slice_index_or rows i d) l; none = none }; before = before }
-not_at Gives rows i d (Refused e) l before m = m
+pub not_at : {X : Type 0} (Gives : X → Type 0) (Wrong : X → ℕ → Type 0) (rows : List X) (i : ℕ) (d : X) (w : NotBuilt) → i < length rows → AllByRecursion Gives (take i rows) → IsUnreadOf (Wrong (slice_index_or rows i d)) (Gives (slice_index_or rows i d)) w → IsNoList Gives Wrong rows (at i w)
+not_at Gives Wrong rows i d (Part n) l before (wrong, none) =
+    let item = slice_index_or rows i d in
+    let is = get_or_default rows i d item l in
+    (record { one = record { item = item; inside = l; is = is; none = none }; before = before }, record { item = item; inside = l; is = is; wrong = wrong })
+not_at Gives Wrong rows i d (Refused e) l before m = m
 
 -- the item of the first list at the index of one of the second
 pub row_at : {A B : Type 0} (R : A → B → Type 0) (xs : List A) (ys : List B) (i : ℕ) (y : B) → AllZip R xs ys → i < length ys → y ≡ slice_index_or ys i y → (x : A) × (i < length xs) × (x ≡ slice_index_or xs i x) × R x y

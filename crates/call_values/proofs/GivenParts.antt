@@ -2,7 +2,7 @@
 use Rattle.std.specs.Prelude.{◌≡◌, ◌≢◌, ℕ, List, None, Some}
 use Rattle.std.proofs.Common.{sym, ◌∙◌}
 use Rattle.call_values.specs.Given.{HasNone, IfGiven, IsPartOf}
-use Rattle.call_values.specs.Read.{HasOne, IsUnread}
+use Rattle.call_values.specs.Read.{HasOne, IsUnread, IsUnreadOf}
 use Rattle.call_values.specs.declared.not_built.NotBuilt.{NotBuilt}
 use Rattle.call_values.specs.declared.not_built.NotBuilt.TheVariants.{Part, Refused}
 use Rattle.call_values.specs.declared.ranges.Octets.{Octets}
@@ -24,3 +24,21 @@ same_part b r x y p q = q.1 ∙ sym p.1
 pub if_some : {X : Type 0} (flag : ℕ) (P : X → Type 0) → flag ≢ 0 → HasOne (IfGiven flag P) → HasOne P
 if_some flag P some (None, is) = absurd (some is)
 if_some flag P some (Some x, is) = (x, is.1)
+
+-- what isn't there where it is given isn't there
+pub not_there : {X : Type 0} (flag : ℕ) (P : X → Type 0) → HasNone (IfGiven flag P) → HasNone P
+not_there flag P none x is = none (Some x) (none None, is)
+
+-- that something isn't read is said with the part's number or without it
+pub unread : (Wrong : ℕ → Type 0) (P : Type 0) (w : NotBuilt) → IsUnreadOf Wrong P w → IsUnread P w
+unread Wrong P (Part n) is = is.1
+unread Wrong P (Refused e) is = is
+
+pub of_any : (P : Type 0) (w : NotBuilt) → IsUnread P w → IsUnreadOf (λ _. Unit {0}) P w
+of_any P (Part n) none = (tt, none)
+of_any P (Refused e) m = m
+
+-- what is refused refuses what takes it, and is the part of it that is wrong
+pub part_of_it : (Wrong Other : ℕ → Type 0) (P Q : Type 0) (w : NotBuilt) → ((n : ℕ) → Wrong n → Other n) → (Q → P) → IsUnreadOf Wrong P w → IsUnreadOf Other Q w
+part_of_it Wrong Other P Q (Part n) to f is = (to n is.0, λ q. is.1 (f q))
+part_of_it Wrong Other P Q (Refused e) to f is = is

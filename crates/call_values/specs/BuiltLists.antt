@@ -1,5 +1,5 @@
 -- Lists that a call builds, and why it builds none.
-use Rattle.std.specs.Prelude.{◌≡◌, ◌⊎◌, ℕ, List}
+use Rattle.std.specs.Prelude.{◌≡◌, ◌⊎◌, ◌<◌, ℕ, List, length, slice_index_or}
 use Rattle.asn1_core_element.specs.declared.error.Error.TheVariants.{TooLong, Memory}
 use Rattle.attribute_writers.specs.Refusals.{IsFirstWithout}
 use Rattle.call_values.specs.declared.not_built.NotBuilt.{NotBuilt}
@@ -12,12 +12,19 @@ abbrev pub at : ℕ → NotBuilt → NoList
 at index (Part n) = Item index n
 at index (Refused e) = NotWritten e
 
--- an item gives nothing, the first with that index, or memory was refused
-abbrev pub IsNoList : {X : Type 0} → (X → Type 0) → List X → NoList → Type 0
-IsNoList Gives xs (Item index n) = IsFirstWithout Gives xs index
-IsNoList Gives xs (NotWritten e) = e ≡ Memory
+-- of the item with that index the part with the number n is wrong
+pub record IsWrongItem {X : Type 0} (Wrong : X → ℕ → Type 0) (xs : List X) (index n : ℕ) : Type 0 where
+  pub item : X
+  pub inside : index < length xs
+  pub is : item ≡ slice_index_or xs index item
+  pub wrong : Wrong item n
+
+-- an item gives nothing, the first with that index, since its part with that number is wrong, or memory was refused
+abbrev pub IsNoList : {X : Type 0} → (X → Type 0) → (X → ℕ → Type 0) → List X → NoList → Type 0
+IsNoList Gives Wrong xs (Item index n) = IsFirstWithout Gives xs index × IsWrongItem Wrong xs index n
+IsNoList Gives Wrong xs (NotWritten e) = e ≡ Memory
 
 -- or the list is too long
-abbrev pub IsNoText : {X : Type 0} → (X → Type 0) → Type 0 → List X → NoList → Type 0
-IsNoText Gives IsLong xs (Item index n) = IsFirstWithout Gives xs index
-IsNoText Gives IsLong xs (NotWritten e) = ((e ≡ TooLong) × IsLong) ⊎ (e ≡ Memory)
+abbrev pub IsNoText : {X : Type 0} → (X → Type 0) → (X → ℕ → Type 0) → Type 0 → List X → NoList → Type 0
+IsNoText Gives Wrong IsLong xs (Item index n) = IsFirstWithout Gives xs index × IsWrongItem Wrong xs index n
+IsNoText Gives Wrong IsLong xs (NotWritten e) = ((e ≡ TooLong) × IsLong) ⊎ (e ≡ Memory)

@@ -17,3 +17,12 @@ IsReadAs F x = HasOne (F.Reads 64 x)
 abbrev pub IsUnread : Type 0 → NotBuilt → Type 0
 IsUnread P (Part n) = P → ⊥
 IsUnread P (Refused e) = e ≡ Memory
+
+-- the same, where Wrong says which part's number it is
+abbrev pub IsUnreadOf : (ℕ → Type 0) → Type 0 → NotBuilt → Type 0
+IsUnreadOf Wrong P (Part n) = Wrong n × (P → ⊥)
+IsUnreadOf Wrong P (Refused e) = e ≡ Memory
+
+-- or that of this one
+abbrev pub IsUnreadAt : ℕ → Type 0 → NotBuilt → Type 0
+IsUnreadAt number = IsUnreadOf (λ n. n ≡ number)

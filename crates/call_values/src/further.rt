@@ -2,7 +2,7 @@
 
 ghost use Rattle.std.specs.Prelude.{MatchResult, map};
 ghost use Rattle.call_values.specs.Further.{AreFurther, IsSetOf};
-ghost use Rattle.call_values.specs.Read.{HasOne, IsUnread};
+ghost use Rattle.call_values.specs.Read.{HasOne, IsUnreadAt};
 ghost use Rattle.x509_base.specs.Names.{attribute_value};
 
 use crate::given::part_of;
@@ -22,7 +22,7 @@ fn set_of(
 ) -> Result<Vec<Attribute>, NotBuilt>
     ensures { MatchResult result
         (λ all. IsSetOf input.now part (map attribute_value all.items))
-        (λ wrong. IsUnread (HasOne (IsSetOf input.now part)) wrong) }
+        (λ wrong. IsUnreadAt number (HasOne (IsSetOf input.now part)) wrong) }
 {
     match part_of(input, part, number) {
         Ok(octets) => {
@@ -42,7 +42,7 @@ pub fn further_if(
 ) -> Result<Vec<Attribute>, NotBuilt>
     ensures { MatchResult result
         (λ all. AreFurther input.now flag part.0 (map attribute_value all.items))
-        (λ wrong. IsUnread (HasOne (AreFurther input.now flag part.0)) wrong) }
+        (λ wrong. IsUnreadAt part.1 (HasOne (AreFurther input.now flag part.0)) wrong) }
 {
     if flag == 0 {
         return Ok(Vec::new(alloc));

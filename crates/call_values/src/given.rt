@@ -11,7 +11,7 @@ use asn1_core_oid::is_oid;
 
 /// The octets of a range of the input, or the part's number where the range isn't in the input.
 pub fn part_of<'a>(input: &'a [u8], part: Octets, number: usize) -> Result<&'a [u8], usize>
-    ensures { MatchResult result (λ x. IsPartOf input.now part x.now) (λ _. HasNone (IsPartOf input.now part)) }
+    ensures { MatchResult result (λ x. IsPartOf input.now part x.now) (λ n. (n ≡ number) × HasNone (IsPartOf input.now part)) }
 {
     let Some(end) = part.start.checked_add(part.len) else {
         return Err(number);
@@ -24,7 +24,7 @@ pub fn part_of<'a>(input: &'a [u8], part: Octets, number: usize) -> Result<&'a [
 
 /// The contents octets of an object identifier.
 pub fn oid_of<'a>(input: &'a [u8], part: Octets, number: usize) -> Result<&'a [u8], usize>
-    ensures { MatchResult result (λ x. IsOidOf input.now part x.now) (λ _. HasNone (IsOidOf input.now part)) }
+    ensures { MatchResult result (λ x. IsOidOf input.now part x.now) (λ n. (n ≡ number) × HasNone (IsOidOf input.now part)) }
 {
     let octets = part_of(input, part, number)?;
     if is_oid(octets) {
@@ -36,7 +36,7 @@ pub fn oid_of<'a>(input: &'a [u8], part: Octets, number: usize) -> Result<&'a [u
 
 /// An element.
 pub fn element_of<'a>(input: &'a [u8], part: Octets, number: usize) -> Result<&'a [u8], usize>
-    ensures { MatchResult result (λ x. IsElementOf input.now part x.now) (λ _. HasNone (IsElementOf input.now part)) }
+    ensures { MatchResult result (λ x. IsElementOf input.now part x.now) (λ n. (n ≡ number) × HasNone (IsElementOf input.now part)) }
 {
     let octets = part_of(input, part, number)?;
     if ElementRef(octets).well_formed() {
@@ -48,7 +48,7 @@ pub fn element_of<'a>(input: &'a [u8], part: Octets, number: usize) -> Result<&'
 
 /// A number below 2^32.
 pub fn number_of(given: usize, number: usize) -> Result<u32, usize>
-    ensures { MatchResult result (λ n. IsNumberOf given n) (λ _. HasNone (IsNumberOf given)) }
+    ensures { MatchResult result (λ n. IsNumberOf given n) (λ n. (n ≡ number) × HasNone (IsNumberOf given)) }
 {
     if given > 0xFFFF_FFFF {
         return Err(number);
@@ -66,7 +66,7 @@ pub fn part_if<'a>(
 ) -> Result<Option<&'a [u8]>, usize>
     ensures { MatchResult result
         (λ o. IfGiven flag (IsPartOf input.now part) (option_value (λ x. x.now) o))
-        (λ _. HasNone (IfGiven flag (IsPartOf input.now part))) }
+        (λ n. (n ≡ number) × HasNone (IfGiven flag (IsPartOf input.now part))) }
 {
     if flag == 0 {
         return Ok(None);
@@ -84,7 +84,7 @@ pub fn oid_if<'a>(
 ) -> Result<Option<&'a [u8]>, usize>
     ensures { MatchResult result
         (λ o. IfGiven flag (IsOidOf input.now part) (option_value (λ x. x.now) o))
-        (λ _. HasNone (IfGiven flag (IsOidOf input.now part))) }
+        (λ n. (n ≡ number) × HasNone (IfGiven flag (IsOidOf input.now part))) }
 {
     if flag == 0 {
         return Ok(None);
@@ -102,7 +102,7 @@ pub fn element_if<'a>(
 ) -> Result<Option<&'a [u8]>, usize>
     ensures { MatchResult result
         (λ o. IfGiven flag (IsElementOf input.now part) (option_value (λ x. x.now) o))
-        (λ _. HasNone (IfGiven flag (IsElementOf input.now part))) }
+        (λ n. (n ≡ number) × HasNone (IfGiven flag (IsElementOf input.now part))) }
 {
     if flag == 0 {
         return Ok(None);
@@ -115,7 +115,7 @@ pub fn element_if<'a>(
 pub fn number_if(flag: usize, given: usize, number: usize) -> Result<Option<u32>, usize>
     ensures { MatchResult result
         (λ o. IfGiven flag (IsNumberOf given) (option_value (λ n. n) o))
-        (λ _. HasNone (IfGiven flag (IsNumberOf given))) }
+        (λ n. (n ≡ number) × HasNone (IfGiven flag (IsNumberOf given))) }
 {
     if flag == 0 {
         return Ok(None);

@@ -2,7 +2,7 @@
 
 ghost use Rattle.std.specs.Prelude.{MatchResult};
 ghost use Rattle.asn1_core.specs.Der.{IsValueOf};
-ghost use Rattle.call_values.specs.Read.{IsReadAs, IsUnread};
+ghost use Rattle.call_values.specs.Read.{IsReadAs, IsUnreadAt};
 
 use crate::not_built::NotBuilt;
 use asn1_core::{DerDeserialize, Error, from_bytes};
@@ -16,7 +16,7 @@ pub fn read_as<T: DerDeserialize>(
 ) -> Result<T, NotBuilt>
     ensures { MatchResult result
         (λ x. IsValueOf T.format 64 octets.now (T.value x))
-        (λ wrong. IsUnread (IsReadAs T.format octets.now) wrong) }
+        (λ wrong. IsUnreadAt number (IsReadAs T.format octets.now) wrong) }
 {
     match from_bytes::<T>(alloc, octets) {
         Ok(value) => Ok(value),
@@ -33,7 +33,7 @@ pub fn check_as<T: DerDeserialize>(
 ) -> Result<(), NotBuilt>
     ensures { MatchResult result
         (λ _. IsReadAs T.format octets.now)
-        (λ wrong. IsUnread (IsReadAs T.format octets.now) wrong) }
+        (λ wrong. IsUnreadAt number (IsReadAs T.format octets.now) wrong) }
 {
     let _value: T = read_as(alloc, octets, number)?;
     Ok(())

@@ -2,7 +2,8 @@
 use Rattle.std.specs.Prelude.{◌≡◌, ◌≢◌, ◌⊎◌, ℕ, List, Option, None, Some}
 use Rattle.std.proofs.Common.{ap, inl, inr, sym, ◌∙◌}
 use Rattle.asn1_choices.specs.Tables.{IsTable, Table}
-use Rattle.password_calls.specs.Built.{GivesNone, IsAlgorithmOf, IsDerivationOf, IsEncryptedOf, IsEncryptionOf, IsPbkdf2Of, IsPrfOf, IsSaltedOf, IsScheme, IsPbes2Of, IsVectorOf}
+use Rattle.password_calls.specs.Built.{GivesNone, IsAlgorithmOf, IsDerivationOf, IsEncryptedOf, IsEncryptionOf, IsPbkdf2Of, IsPrfOf, IsSaltedOf, IsPbes2Of, IsVectorOf}
+use Rattle.password_calls.specs.WrongParts.{IsScheme}
 use Rattle.call_values.specs.Given.{HasNone, IfGiven, IsNumberOf, IsOidOf, IsPartOf}
 use Rattle.password_calls.specs.Others.{IsOtherOf}
 use Rattle.password_calls.specs.declared.built.Scheme.TheVariants as Schemes

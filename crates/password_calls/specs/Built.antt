@@ -7,7 +7,7 @@ use Rattle.call_values.specs.Given.{HasNone, IfGiven, IsNumberOf, IsOidOf, IsPar
 use Rattle.password_calls.specs.Others.{IsOtherOf}
 use Rattle.password_calls.specs.Passwords.{number_of}
 use Rattle.call_values.specs.Statuses.{Reasons, Writes}
-use Rattle.password_calls.specs.declared.built.Scheme.{Scheme}
+use Rattle.password_calls.specs.WrongParts.{IsScheme, IsWrongAt}
 use Rattle.password_calls.specs.declared.built.Scheme.TheVariants.{Pbes1, Pkcs12, Pbes2, Other}
 use Rattle.password_calls.specs.declared.passwords.Holder.{Holder}
 use Rattle.password_calls.specs.declared.passwords.Holder.TheVariants.{Algorithm, Key, Contents}
@@ -21,13 +21,6 @@ use Rattle.password_writers.specs.Written.{IsWrittenAs, info_of, key_of}
 use Rattle.pkcs12_algs.specs.Oids.{pbes2_oid, pbkdf2_oid}
 use Rattle.x509_base.specs.Algorithms.{null}
 use Rattle.password_ranges.specs.Parameters.{AlgorithmValue}
-
--- what the flags say that the algorithm is: at most one of them isn't 0
-abbrev pub IsScheme : Password → Scheme → Type 0
-IsScheme row Pbes1 = (row.is_pbes1 ≢ 0) × (row.is_pkcs12 ≡ 0) × (row.is_pbes2 ≡ 0)
-IsScheme row Pkcs12 = (row.is_pbes1 ≡ 0) × (row.is_pkcs12 ≢ 0) × (row.is_pbes2 ≡ 0)
-IsScheme row Pbes2 = (row.is_pbes1 ≡ 0) × (row.is_pkcs12 ≡ 0) × (row.is_pbes2 ≢ 0)
-IsScheme row Other = (row.is_pbes1 ≡ 0) × (row.is_pkcs12 ≡ 0) × (row.is_pbes2 ≡ 0)
 
 -- an algorithm of that table, with a salt and a count
 pub record IsSaltedOf {K : Type 0} (T : Table K) (b : List ℕ) (row : Password) (v : with_salt.Value) : Type 0 where
@@ -107,9 +100,11 @@ without_text number b row = record {
   IsAbsent = ⊥;
 }
 
--- What der_build_parameters answers. The number of a part is there only where one can't be written; which it is isn't said.
+-- what der_build_parameters answers
 pub record BuildsParameters (number : ℕ) (b : List ℕ) (row : Password) (old new : List ℕ) (written part status : ℕ) : Type 0 where
   pub writes : Writes (λ text. (holder : Holder) × (number ≡ number_of holder) × HasBuilt holder b row text) (without_text number b row) old new written status
+  -- the part with that number can't be written
+  pub at : status ≡ INVALID → IsWrongAt b row part
   pub no_part : status ≢ INVALID → part ≡ 0
   -- no other refusal
   pub refused : (status ≢ MALFORMED) × (status ≢ MISSING) × (status ≢ TOO_DEEP)

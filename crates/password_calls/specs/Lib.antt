@@ -2,3 +2,4 @@ pub mod Passwords
 pub mod Built
 pub mod NotBuilt
 pub mod Others
+pub mod WrongParts

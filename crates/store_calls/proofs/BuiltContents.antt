@@ -10,7 +10,7 @@ use Rattle.asn1_borrowed.specs.Written.{IsNotWritten}
 use Rattle.bag_ranges.specs.RawContentInfos.{raw_content_info}
 use Rattle.call_values.proofs.BuiltLists.{zip_all, zip_left}
 use Rattle.call_values.proofs.GivenParts.{by_less, same_part}
-use Rattle.store_calls.specs.BuiltContents.{GivesContent, IsContentBy, IsContentOf, IsInfoOf, IsTooLong}
+use Rattle.store_calls.specs.BuiltContents.{GivesContent, IsContentBy, IsContentOf, IsInfoOf, IsTooLong, any_part}
 use Rattle.call_values.specs.Given.{IsPartOf}
 use Rattle.call_values.specs.BuiltLists.{IsNoText}
 use Rattle.call_values.specs.Read.{HasOne, IsUnread}
@@ -46,7 +46,7 @@ module _ (b : List ℕ) where
   pub all_give : (rows : List ContentGiven) (contents : List raw_content_info.Value) → AllZip (IsContentBy b) rows contents → AllByRecursion (GivesContent b) rows
   all_give = zip_left (IsContentBy b) (GivesContent b) (λ row v is. (v, is))
 
-  pub not_built : (rows : List ContentGiven) (contents : List raw_content_info.Value) (e : Error) → AllZip (IsContentBy b) rows contents → IsNotWritten CONTENTS.format contents e → IsNoText (GivesContent b) (IsTooLong b rows) rows (NotWritten e)
+  pub not_built : (rows : List ContentGiven) (contents : List raw_content_info.Value) (e : Error) → AllZip (IsContentBy b) rows contents → IsNotWritten CONTENTS.format contents e → IsNoText (GivesContent b) any_part (IsTooLong b rows) rows (NotWritten e)
   not_built rows contents e are (inl n) = absurd (n.1 (zip_all (IsContentBy b) (CONTENT.format.IsWellFormed 64) formed rows contents are))
   not_built rows contents e are (inr (inl n)) = inl (n.1, (contents, are, n.2))
   not_built rows contents e are (inr (inr n)) = inr n

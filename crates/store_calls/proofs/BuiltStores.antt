@@ -7,9 +7,9 @@ use Rattle.asn1_core.specs.Der.{IsElement, IsTagByte, Octets as OctetList, optio
 use Rattle.asn1_core_element.specs.declared.error.Error.{Error}
 use Rattle.asn1_core_format.specs.Components.{AllIf}
 use Rattle.asn1_borrowed.specs.Written.{IsNotWritten}
-use Rattle.store_calls.specs.BuiltStores.{IsCountOf, IsMacOf, IsNoStore, IsStoreBy}
-use Rattle.call_values.specs.Given.{HasNone, IfGiven}
-use Rattle.password_calls.specs.Others.{IsOtherOf}
+use Rattle.store_calls.specs.BuiltStores.{IsCountOf, IsMacOf, IsNoStore, IsStoreBy, IsWrongAt, digest, digest_algorithm, digest_parameters, iterations, salt}
+use Rattle.call_values.specs.Given.{HasNone, IfGiven, IsPartOf}
+use Rattle.password_calls.specs.Others.{IsOtherOf, IsWrongOther}
 use Rattle.call_values.specs.Read.{IsReadAs}
 use Rattle.call_values.specs.declared.not_built.NotBuilt.TheVariants.{Refused}
 use Rattle.store_calls.specs.declared.built_stores.StoreGiven.{StoreGiven}
@@ -22,8 +22,22 @@ use Rattle.x509_base.specs.Algorithms.{algorithm_identifier}
 use Rattle.x509_pkcs12.specs.Pfxs.{pfx}
 
 module _ (b : List ℕ) (row : StoreGiven) where
-  pub no_algorithm : HasNone (IsOtherOf b row.digest_algorithm row.has_digest_parameters row.digest_parameters) → HasNone (IsMacOf b row)
-  no_algorithm none v is = none is.algorithm.0 is.algorithm.1
+  -- the part that can't be written
+  at_algorithm : (n : ℕ) → IsWrongOther b row.digest_algorithm 2 row.digest_parameters 3 n → IsWrongAt b row n
+  at_algorithm n (inl e) = (digest_algorithm, e.1, e.0)
+  at_algorithm n (inr e) = (digest_parameters, e.1, e.0)
+
+  pub wrong_algorithm : (n : ℕ) → IsWrongOther b row.digest_algorithm 2 row.digest_parameters 3 n × HasNone (IsOtherOf b row.digest_algorithm row.has_digest_parameters row.digest_parameters) → IsWrongAt b row n × HasNone (IsMacOf b row)
+  wrong_algorithm n e = (at_algorithm n e.0, λ v is. e.1 is.algorithm.0 is.algorithm.1)
+
+  pub wrong_digest : (n : ℕ) → (n ≡ 4) × HasNone (IsPartOf b row.digest) → IsWrongAt b row n × HasNone (IsMacOf b row)
+  wrong_digest n e = ((digest, e.1, e.0), λ v is. e.1 v.0.1.0 is.digest)
+
+  pub wrong_salt : (n : ℕ) → (n ≡ 5) × HasNone (IsPartOf b row.salt) → IsWrongAt b row n × HasNone (IsMacOf b row)
+  wrong_salt n e = ((salt, e.1, e.0), λ v is. e.1 v.1.0 is.salt)
+
+  pub wrong_count : (n : ℕ) → (n ≡ 6) × HasNone (IsCountOf row.iterations) → IsWrongAt b row n × HasNone (IsMacOf b row)
+  wrong_count n e = ((iterations, e.1, e.0), λ v is. e.1 v.1.1.0 is.iterations)
 
   -- what is given is well-formed
   algorithm_normal : (w : AlgorithmValue) → algorithm_identifier.format.normal w ≡ w

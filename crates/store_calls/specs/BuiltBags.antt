@@ -10,8 +10,9 @@ use Rattle.bag_writers.specs.declared.bags.Bag.{Bag}
 use Rattle.bag_writers.specs.declared.held.Held.{Held}
 use Rattle.bag_writers.specs.declared.held.Held.TheVariants.{Key, ShroudedKey, Certificate, Crl, Secret, SafeContents, Other}
 use Rattle.store_calls.specs.Bags.{kind_number}
-use Rattle.call_values.specs.Further.{AreFurther}
-use Rattle.call_values.specs.Given.{IfGiven, IsElementOf, IsOidOf, IsPartOf}
+use Rattle.call_values.specs.BuiltLists.{IsWrongItem}
+use Rattle.call_values.specs.Further.{AreFurther, IsSetOf}
+use Rattle.call_values.specs.Given.{HasNone, IfGiven, IsElementOf, IsOidOf, IsPartOf}
 use Rattle.store_calls.specs.Levels.{HasLevels}
 use Rattle.call_values.specs.Read.{IsReadAs}
 use Rattle.call_values.specs.Statuses.{Reasons, Writes}
@@ -82,6 +83,12 @@ pub record IsHeldOf (b : List ℕ) (row : BagGiven) (held : Held) : Type 0 where
 abbrev pub IsNameOf : List ℕ → Octets → List ℕ → Type 0
 IsNameOf b r x = IsPartOf b r x × IsUtf16 x
 
+-- an element is read as the type of what a bag holds whose kind has that number
+pub record IsAsKind (number : ℕ) (x : List ℕ) : Type 0 where
+  pub shrouded_key : number ≡ kind_number Kinds.ShroudedKey → IsReadAs (SEQUENCE encrypted_key_bag).format x
+  pub secret : number ≡ kind_number Kinds.Secret → IsReadAs (SEQUENCE secret_bag).format x
+  pub safe_contents : number ≡ kind_number Kinds.SafeContents → HasLevels 64 x
+
 -- what a row gives
 pub record IsGivenBy (b : List ℕ) (row : BagGiven) (held : Held) (name key_id : Option OctetList) (further : List attribute.Value) : Type 0 where
   pub held_is : IsHeldOf b row held
@@ -101,6 +108,35 @@ pub record GivesBag (b : List ℕ) (row : BagGiven) : Type 0 where
   pub further : List attribute.Value
   pub given : IsGivenBy b row held name key_id further
 
+-- the parts of a der_bag_part
+pub data BagPart : Type 0 where
+  kind : BagPart
+  identifier : BagPart
+  value : BagPart
+  friendly_name : BagPart
+  local_key_id : BagPart
+  attributes : BagPart
+
+abbrev pub number_of_part : BagPart → ℕ
+number_of_part kind = 1
+number_of_part identifier = 2
+number_of_part value = 3
+number_of_part friendly_name = 4
+number_of_part local_key_id = 5
+number_of_part attributes = 6
+
+-- the part can't be written
+abbrev pub IsWrong : List ℕ → BagGiven → BagPart → Type 0
+IsWrong b row kind = (held : Held) → row.kind ≢ held_number held
+IsWrong b row identifier = HasNone (IsOtherId b row)
+IsWrong b row value = HasNone (λ x. IsElementOf b row.value x × IsAsKind row.kind x)
+IsWrong b row friendly_name = HasNone (IsNameOf b row.friendly_name)
+IsWrong b row local_key_id = HasNone (IsPartOf b row.local_key_id)
+IsWrong b row attributes = HasNone (IsSetOf b row.attributes)
+
+abbrev pub IsWrongAt : List ℕ → BagGiven → ℕ → Type 0
+IsWrongAt b row n = (part : BagPart) × IsWrong b row part × (n ≡ number_of_part part)
+
 -- the text is the encoding of a SafeContents of the bags that the rows give, and is read as it
 abbrev pub HasBuiltBags : List ℕ → List BagGiven → List ℕ → Type 0
 HasBuiltBags b rows text = (bags : List Bag) × AllZip (IsBagBy b) rows bags × IsSafeContentsOf bags text
@@ -119,11 +155,13 @@ without_bags b rows = record {
   IsAbsent = ⊥;
 }
 
--- What der_build_bags answers. The number of a part is there only where one can't be written; which it is isn't said.
+-- what der_build_bags answers
 pub record BuildsBags (b : List ℕ) (rows : List BagGiven) (old new : List ℕ) (written bag part status : ℕ) : Type 0 where
   pub writes : Writes (HasBuiltBags b rows) (without_bags b rows) old new written status
   -- the row with that index gives no bag, and those before it do
   pub at : status ≡ INVALID → IsFirstWithout (GivesBag b) rows bag
+  -- its part with that number can't be written
+  pub of : status ≡ INVALID → IsWrongItem (IsWrongAt b) rows bag part
   pub no_part : status ≢ INVALID → (bag ≡ 0) × (part ≡ 0)
   -- no other refusal
   pub refused : (status ≢ MALFORMED) × (status ≢ MISSING) × (status ≢ TOO_DEEP)

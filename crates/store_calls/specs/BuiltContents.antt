@@ -31,6 +31,10 @@ IsContentBy b row v = (x : List ℕ) × IsPartOf b row.octets x × IsContentOf r
 abbrev pub GivesContent : List ℕ → ContentGiven → Type 0
 GivesContent b row = HasOne (IsContentBy b row)
 
+-- a content has one part
+abbrev pub any_part : ContentGiven → ℕ → Type 0
+any_part row n = Unit {0}
+
 -- the text is the encoding of an AuthenticatedSafe of the contents that the rows give, and is read as it
 abbrev pub HasBuiltSafe : List ℕ → List ContentGiven → List ℕ → Type 0
 HasBuiltSafe b rows text = (contents : List raw_content_info.Value) × AllZip (IsContentBy b) rows contents × IsAuthenticatedSafeOf contents text

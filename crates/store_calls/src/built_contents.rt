@@ -2,7 +2,7 @@
 
 ghost use Rattle.std.specs.Prelude.{MatchResult, map};
 ghost use Rattle.std.specs.List.{AllZip};
-ghost use Rattle.store_calls.specs.BuiltContents.{BuildsSafe, GivesContent, HasBuiltSafe, IsContentBy, IsContentOf, IsDataOf, IsInfoOf, IsTooLong};
+ghost use Rattle.store_calls.specs.BuiltContents.{BuildsSafe, GivesContent, HasBuiltSafe, IsContentBy, IsContentOf, IsDataOf, IsInfoOf, IsTooLong, any_part};
 ghost use Rattle.call_values.specs.BuiltLists.{IsNoList, IsNoText};
 ghost use Rattle.call_values.specs.Read.{HasOne, IsUnread};
 ghost use Rattle.store_writers.specs.Written.{content_value};
@@ -92,7 +92,7 @@ fn all_contents<'a>(
 ) -> Result<Vec<Content<'a>>, NoList>
     ensures { MatchResult result
         (λ all. AllZip (IsContentBy input.now) rows.now (map content_value all.items))
-        (λ wrong. IsNoList (GivesContent input.now) rows.now wrong) }
+        (λ wrong. IsNoList (GivesContent input.now) any_part rows.now wrong) }
 {
     let mut all = Vec::new(alloc);
     for (index, row) in rows.iter().enumerate() {
@@ -107,7 +107,7 @@ fn all_contents<'a>(
 fn safe_text(alloc: Global, input: &[u8], rows: &[ContentGiven]) -> Result<Vec<u8>, NoList>
     ensures { MatchResult result
         (λ text. HasBuiltSafe input.now rows.now text.items)
-        (λ wrong. IsNoText (GivesContent input.now) (IsTooLong input.now rows.now) rows.now wrong) }
+        (λ wrong. IsNoText (GivesContent input.now) any_part (IsTooLong input.now rows.now) rows.now wrong) }
 {
     let contents = all_contents(alloc, input, rows)?;
     match write_authenticated_safe(alloc, contents) {

@@ -1,4 +1,4 @@
-//! The bags of a PKCS #12 store, for callers in C: found in an input, and built from parts.
+//! Key stores of PKCS #12 and their bags, for callers in C: found in an input, and built from parts.
 //! `der.h` declares the calls; the crate `der_c` exports them.
 #![tactic(auto)]
 

@@ -3,7 +3,7 @@
 ghost use Rattle.std.specs.Prelude.{MatchResult, map};
 ghost use Rattle.std.specs.List.{AllByRecursion};
 ghost use Rattle.store_calls.specs.Levels.{HasLevels, IsLevel};
-ghost use Rattle.call_values.specs.Read.{IsUnread};
+ghost use Rattle.call_values.specs.Read.{IsUnreadAt};
 ghost use Rattle.x509_pkcs12.specs.RawBags.{raw_safe_bag_value};
 
 use call_values::not_built::NotBuilt;
@@ -18,7 +18,7 @@ pub const LEVELS: u8 = 65;
 /// Whether octets are a `SafeContents`, with so many lists of bags in one another at most.
 #[cycle(levels)]
 pub fn check_levels(alloc: Global, octets: &[u8], levels: u8, number: usize) -> Result<(), NotBuilt>
-    ensures { MatchResult result (λ _. HasLevels levels octets.now) (λ wrong. IsUnread (HasLevels levels octets.now) wrong) }
+    ensures { MatchResult result (λ _. HasLevels levels octets.now) (λ wrong. IsUnreadAt number (HasLevels levels octets.now) wrong) }
 {
     if levels == 0 {
         return Err(NotBuilt::Part(number));
@@ -32,7 +32,7 @@ pub fn check_levels(alloc: Global, octets: &[u8], levels: u8, number: usize) -> 
 fn check_bags(alloc: Global, bags: &[RawSafeBag], below: u8, number: usize) -> Result<(), NotBuilt>
     ensures { MatchResult result
         (λ _. AllByRecursion (IsLevel (HasLevels below)) (map raw_safe_bag_value bags.now))
-        (λ wrong. IsUnread (AllByRecursion (IsLevel (HasLevels below)) (map raw_safe_bag_value bags.now)) wrong) }
+        (λ wrong. IsUnreadAt number (AllByRecursion (IsLevel (HasLevels below)) (map raw_safe_bag_value bags.now)) wrong) }
 {
     for bag in bags {
         check_bag(alloc, bag, below, number)?;
@@ -45,7 +45,7 @@ fn check_bags(alloc: Global, bags: &[RawSafeBag], below: u8, number: usize) -> R
 fn check_bag(alloc: Global, bag: &RawSafeBag, below: u8, number: usize) -> Result<(), NotBuilt>
     ensures { MatchResult result
         (λ _. IsLevel (HasLevels below) (raw_safe_bag_value bag.now))
-        (λ wrong. IsUnread (IsLevel (HasLevels below) (raw_safe_bag_value bag.now)) wrong) }
+        (λ wrong. IsUnreadAt number (IsLevel (HasLevels below) (raw_safe_bag_value bag.now)) wrong) }
 {
     if !is_oid_of(&bag.bag_id.0, octets_of_known(SAFE_CONTENTS_BAG)) {
         return Ok(());

@@ -9,7 +9,7 @@ pub returns-in-Err : goal.returns-in-Err
 returns-in-Err c =
     let before = all_there c.args.input.now (take c.loop-index.index c.args.parts.now) _ c.loop-index.invariant in
     none_at (λ part. HasOne (IsPartOf c.args.input.now part)) c.args.parts.now c.loop-index.index _ c.loop-index-test.true before
-    (λ one. c.in-Err.ensures one.0 one.1)
+    (λ one. c.in-Err.ensures.1 one.0 one.1)
 
 pub loop-index-preserved : goal.loop-index-preserved
 loop-index-preserved c =

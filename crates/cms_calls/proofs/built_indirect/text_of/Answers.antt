@@ -3,7 +3,7 @@ use Rattle.cms_calls.specs.declared.built_indirect.WrongIndirect.TheVariants.{Di
 use Rattle.cms_calls.proofs.built_indirect.text_of.Goals as goal
 
 pub returns-in-Err : goal.returns-in-Err
-returns-in-Err c = no_part c.args.input.now c.args.row.now Digest c.in-Err.ensures
+returns-in-Err c = no_part c.args.input.now c.args.row.now Digest c.in-Err.ensures.1
 
 pub returns-in-Err-write_indirect_data : goal.returns-in-Err-write_indirect_data
 returns-in-Err-write_indirect_data c =
