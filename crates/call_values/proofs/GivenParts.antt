@@ -25,20 +25,12 @@ pub if_some : {X : Type 0} (flag : ℕ) (P : X → Type 0) → flag ≢ 0 → Ha
 if_some flag P some (None, is) = absurd (some is)
 if_some flag P some (Some x, is) = (x, is.1)
 
--- what isn't there where it is given isn't there
-pub not_there : {X : Type 0} (flag : ℕ) (P : X → Type 0) → HasNone (IfGiven flag P) → HasNone P
-not_there flag P none x is = none (Some x) (none None, is)
-
--- that something isn't read is said with the part's number or without it
-pub unread : (Wrong : ℕ → Type 0) (P : Type 0) (w : NotBuilt) → IsUnreadOf Wrong P w → IsUnread P w
-unread Wrong P (Part n) is = is.1
-unread Wrong P (Refused e) is = is
-
+-- what isn't read, of any part
 pub of_any : (P : Type 0) (w : NotBuilt) → IsUnread P w → IsUnreadOf (λ _. Unit {0}) P w
 of_any P (Part n) none = (tt, none)
 of_any P (Refused e) m = m
 
--- what is refused refuses what takes it, and is the part of it that is wrong
-pub part_of_it : (Wrong Other : ℕ → Type 0) (P Q : Type 0) (w : NotBuilt) → ((n : ℕ) → Wrong n → Other n) → (Q → P) → IsUnreadOf Wrong P w → IsUnreadOf Other Q w
-part_of_it Wrong Other P Q (Part n) to f is = (to n is.0, λ q. is.1 (f q))
-part_of_it Wrong Other P Q (Refused e) to f is = is
+-- what is refused for a part refuses what takes it for that part
+pub by_part : (Wrong : ℕ → Type 0) (P Q : Type 0) (w : NotBuilt) → (Q → P) → IsUnreadOf Wrong P w → IsUnreadOf Wrong Q w
+by_part Wrong P Q (Part n) f is = (is.0, λ q. is.1 (f q))
+by_part Wrong P Q (Refused e) f m = m

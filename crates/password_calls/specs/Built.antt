@@ -7,7 +7,7 @@ use Rattle.call_values.specs.Given.{HasNone, IfGiven, IsNumberOf, IsOidOf, IsPar
 use Rattle.password_calls.specs.Others.{IsOtherOf}
 use Rattle.password_calls.specs.Passwords.{number_of}
 use Rattle.call_values.specs.Statuses.{Reasons, Writes}
-use Rattle.password_calls.specs.WrongParts.{IsScheme, IsWrongAt}
+use Rattle.password_calls.specs.WrongParts.{IsByIdentifier, IsScheme, IsWrongPart}
 use Rattle.password_calls.specs.declared.built.Scheme.TheVariants.{Pbes1, Pkcs12, Pbes2, Other}
 use Rattle.password_calls.specs.declared.passwords.Holder.{Holder}
 use Rattle.password_calls.specs.declared.passwords.Holder.TheVariants.{Algorithm, Key, Contents}
@@ -45,7 +45,7 @@ pub record IsPbkdf2Of (b : List ℕ) (row : Password) (p : salted_pbkdf2.Value) 
 -- PBKDF2 with a salt, or a function with its parameters as an element, which PBKDF2 has then
 abbrev pub IsDerivationOf : List ℕ → Password → DerivationValue → Type 0
 IsDerivationOf b row (inl v) = (row.is_pbkdf2 ≢ 0) × (row.has_salt ≢ 0) × (v.0 ≡ pbkdf2_oid) × IsPbkdf2Of b row v.1.0
-IsDerivationOf b row (inr w) = ((row.is_pbkdf2 ≡ 0) ⊎ ((row.has_salt ≡ 0) × (row.has_derivation_parameters ≢ 0))) × IsOtherOf b row.derivation row.has_derivation_parameters row.derivation_parameters w
+IsDerivationOf b row (inr w) = IsByIdentifier row × IsOtherOf b row.derivation row.has_derivation_parameters row.derivation_parameters w
 
 -- an encryption scheme with an initialization vector
 abbrev pub IsVectorOf : List ℕ → Password → with_vector.Value → Type 0
@@ -104,7 +104,7 @@ without_text number b row = record {
 pub record BuildsParameters (number : ℕ) (b : List ℕ) (row : Password) (old new : List ℕ) (written part status : ℕ) : Type 0 where
   pub writes : Writes (λ text. (holder : Holder) × (number ≡ number_of holder) × HasBuilt holder b row text) (without_text number b row) old new written status
   -- the part with that number can't be written
-  pub at : status ≡ INVALID → IsWrongAt b row part
+  pub at : status ≡ INVALID → (holder : Holder) × (number ≡ number_of holder) × IsWrongPart holder b row part
   pub no_part : status ≢ INVALID → part ≡ 0
   -- no other refusal
   pub refused : (status ≢ MALFORMED) × (status ≢ MISSING) × (status ≢ TOO_DEEP)

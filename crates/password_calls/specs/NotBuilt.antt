@@ -3,7 +3,7 @@ use Rattle.std.specs.Prelude.{◌≡◌, ◌⊎◌, ◌≤◌, ◌^◌, ℕ, Lis
 use Rattle.asn1_core_element.specs.declared.error.Error.{Error}
 use Rattle.asn1_core_element.specs.declared.error.Error.TheVariants.{TooLong, Memory}
 use Rattle.password_calls.specs.Built.{GivesNone, HasBuilt}
-use Rattle.password_calls.specs.WrongParts.{IsWrongAt}
+use Rattle.password_calls.specs.WrongParts.{IsWrongPart}
 use Rattle.call_values.specs.declared.not_built.NotBuilt.{NotBuilt}
 use Rattle.call_values.specs.declared.not_built.NotBuilt.TheVariants.{Part, Refused}
 use Rattle.password_calls.specs.declared.passwords.Holder.{Holder}
@@ -16,5 +16,5 @@ unless_refused (Err e) = Err (Refused e)
 
 -- the part with that number can't be written, the text is too long, or memory was refused
 abbrev pub IsNotBuilt : Holder → List ℕ → Password → NotBuilt → Type 0
-IsNotBuilt holder b row (Part n) = IsWrongAt b row n × GivesNone holder b row
+IsNotBuilt holder b row (Part n) = IsWrongPart holder b row n × GivesNone holder b row
 IsNotBuilt holder b row (Refused e) = ((e ≡ TooLong) × (text : List ℕ) × HasBuilt holder b row text × (2 ^ 64 ≤ length text)) ⊎ (e ≡ Memory)

@@ -1,5 +1,5 @@
 -- Algorithms that are given with their parameters as an element.
-use Rattle.std.specs.Prelude.{◌≡◌, ◌⊎◌, ℕ, List}
+use Rattle.std.specs.Prelude.{ℕ, List}
 use Rattle.call_values.specs.declared.ranges.Octets.{Octets}
 use Rattle.password_ranges.specs.Parameters.{AlgorithmValue}
 use Rattle.call_values.specs.Given.{HasNone, IfGiven, IsElementOf, IsOidOf}
@@ -9,6 +9,7 @@ pub record IsOtherOf (b : List ℕ) (oid : Octets) (flag : ℕ) (parameters : Oc
   pub algorithm : IsOidOf b oid w.0
   pub parameters_are : IfGiven flag (IsElementOf b parameters) w.1.0
 
--- the part with the number n can't be written: the algorithm, which has the number k, or its parameters, which have m
-abbrev pub IsWrongOther : List ℕ → Octets → ℕ → Octets → ℕ → ℕ → Type 0
-IsWrongOther b oid k parameters m n = ((n ≡ k) × HasNone (IsOidOf b oid)) ⊎ ((n ≡ m) × HasNone (IsElementOf b parameters))
+-- which of its parts can't be written: the algorithm, which has the number k, or its parameters, which have m
+pub data IsWrongOther (b : List ℕ) (oid : Octets) (k flag : ℕ) (parameters : Octets) (m : ℕ) : ℕ → Type 0 where
+  other_algorithm : HasNone (IsOidOf b oid) → IsWrongOther b oid k flag parameters m k
+  other_parameters : HasNone (IfGiven flag (IsElementOf b parameters)) → IsWrongOther b oid k flag parameters m m

@@ -3,7 +3,7 @@
 ghost use Rattle.std.specs.Prelude.{◌≡◌, Some, MatchOption, MatchResult};
 ghost use Rattle.asn1_core.specs.Der.{option_value};
 ghost use Rattle.password_calls.specs.Built.{BuildsParameters, GivesNone, HasBuilt, IsAlgorithmOf, IsDerivationOf, IsEncryptedOf, IsEncryptionOf, IsGivenFor, IsPbkdf2Of, IsSaltedOf, IsPbes2Of, IsVectorOf};
-ghost use Rattle.password_calls.specs.WrongParts.{IsScheme, IsWrongAt, IsWrongSalted};
+ghost use Rattle.password_calls.specs.WrongParts.{IsScheme, IsWrongAlgorithm, IsWrongDerivation, IsWrongEncryption, IsWrongPart, IsWrongPbes2, IsWrongPbkdf2, IsWrongSalted, IsWrongVector};
 ghost use Rattle.call_values.specs.Given.{HasNone};
 ghost use Rattle.password_calls.specs.NotBuilt.{IsNotBuilt, unless_refused};
 ghost use Rattle.password_writers.specs.Values.{algorithm_value, derivation_value, encryption_value, pbes2_value, pbkdf2_value, salted_value, vector_value};
@@ -109,7 +109,7 @@ fn salted_of<'a, K: OidTable>(input: &'a [u8], row: &Password) -> Result<Salted<
 fn pbkdf2_of<'a>(input: &'a [u8], row: &Password) -> Result<Pbkdf2<'a>, usize>
     ensures { MatchResult result
         (λ x. IsPbkdf2Of input.now row.now (pbkdf2_value x))
-        (λ n. IsWrongAt input.now row.now n × HasNone (IsPbkdf2Of input.now row.now)) }
+        (λ n. IsWrongPbkdf2 input.now row.now n × HasNone (IsPbkdf2Of input.now row.now)) }
 {
     let salt = part_of(input, row.salt, SALT)?;
     let iterations = number_of(row.iterations, ITERATIONS)?;
@@ -127,7 +127,7 @@ fn pbkdf2_of<'a>(input: &'a [u8], row: &Password) -> Result<Pbkdf2<'a>, usize>
 fn derivation_of<'a>(input: &'a [u8], row: &Password) -> Result<Derivation<'a>, usize>
     ensures { MatchResult result
         (λ x. IsDerivationOf input.now row.now (derivation_value x))
-        (λ n. IsWrongAt input.now row.now n × HasNone (IsDerivationOf input.now row.now)) }
+        (λ n. IsWrongDerivation input.now row.now n × HasNone (IsDerivationOf input.now row.now)) }
 {
     if row.is_pbkdf2 != 0 {
         if row.has_salt != 0 {
@@ -148,7 +148,7 @@ fn derivation_of<'a>(input: &'a [u8], row: &Password) -> Result<Derivation<'a>, 
 fn vector_of<'a>(input: &'a [u8], row: &Password) -> Result<WithVector<'a>, usize>
     ensures { MatchResult result
         (λ x. IsVectorOf input.now row.now (vector_value x))
-        (λ n. IsWrongAt input.now row.now n × HasNone (IsVectorOf input.now row.now)) }
+        (λ n. IsWrongVector input.now row.now n × HasNone (IsVectorOf input.now row.now)) }
 {
     let algorithm = oid_of(input, row.encryption, ENCRYPTION)?;
     let vector = part_of(input, row.initialization_vector, INITIALIZATION_VECTOR)?;
@@ -159,7 +159,7 @@ fn vector_of<'a>(input: &'a [u8], row: &Password) -> Result<WithVector<'a>, usiz
 fn encryption_of<'a>(input: &'a [u8], row: &Password) -> Result<Encryption<'a>, usize>
     ensures { MatchResult result
         (λ x. IsEncryptionOf input.now row.now (encryption_value x))
-        (λ n. IsWrongAt input.now row.now n × HasNone (IsEncryptionOf input.now row.now)) }
+        (λ n. IsWrongEncryption input.now row.now n × HasNone (IsEncryptionOf input.now row.now)) }
 {
     if row.has_initialization_vector != 0 {
         return Ok(Encryption::WithVector(vector_of(input, row)?));
@@ -176,7 +176,7 @@ fn encryption_of<'a>(input: &'a [u8], row: &Password) -> Result<Encryption<'a>, 
 fn pbes2_of<'a>(input: &'a [u8], row: &Password) -> Result<Pbes2<'a>, usize>
     ensures { MatchResult result
         (λ x. IsPbes2Of input.now row.now (pbes2_value x))
-        (λ n. IsWrongAt input.now row.now n × HasNone (IsPbes2Of input.now row.now)) }
+        (λ n. IsWrongPbes2 input.now row.now n × HasNone (IsPbes2Of input.now row.now)) }
 {
     let derivation = derivation_of(input, row)?;
     let encryption = encryption_of(input, row)?;
@@ -190,7 +190,7 @@ fn pbes2_of<'a>(input: &'a [u8], row: &Password) -> Result<Pbes2<'a>, usize>
 fn algorithm_of<'a>(input: &'a [u8], row: &Password) -> Result<Algorithm<'a>, usize>
     ensures { MatchResult result
         (λ x. IsAlgorithmOf input.now row.now (algorithm_value x))
-        (λ n. IsWrongAt input.now row.now n × HasNone (IsAlgorithmOf input.now row.now)) }
+        (λ n. IsWrongAlgorithm input.now row.now n × HasNone (IsAlgorithmOf input.now row.now)) }
 {
     match scheme_of(row) {
         Some(Scheme::Pbes1) => Ok(Algorithm::Salted(salted_of::<Pbes1Kind>(input, row)?)),
@@ -231,7 +231,7 @@ fn algorithm_text(alloc: Global, input: &[u8], row: &Password) -> Result<Vec<u8>
 fn encrypted_of_key<'a>(input: &'a [u8], row: &Password) -> Result<&'a [u8], usize>
     ensures { MatchResult result
         (λ x. IsEncryptedOf input.now row.now (Some x.now))
-        (λ n. IsWrongAt input.now row.now n × HasNone (λ x. IsEncryptedOf input.now row.now (Some x))) }
+        (λ n. (n ≡ 10) × HasNone (λ x. IsEncryptedOf input.now row.now (Some x))) }
 {
     if row.has_encrypted == 0 {
         return Err(ENCRYPTED);
@@ -242,7 +242,7 @@ fn encrypted_of_key<'a>(input: &'a [u8], row: &Password) -> Result<&'a [u8], usi
 fn key_given<'a>(input: &'a [u8], row: &Password) -> Result<EncryptedKey<'a>, usize>
     ensures { MatchResult result
         (λ x. IsGivenFor input.now row.now (algorithm_value x.algorithm) (Some x.encrypted.now))
-        (λ n. IsWrongAt input.now row.now n × GivesNone Holders.Key input.now row.now) }
+        (λ n. IsWrongPart Holders.Key input.now row.now n × GivesNone Holders.Key input.now row.now) }
 {
     let algorithm = algorithm_of(input, row)?;
     let encrypted = encrypted_of_key(input, row)?;
@@ -266,7 +266,7 @@ fn key_text(alloc: Global, input: &[u8], row: &Password) -> Result<Vec<u8>, NotB
 fn contents_given<'a>(input: &'a [u8], row: &Password) -> Result<EncryptedContents<'a>, usize>
     ensures { MatchResult result
         (λ x. IsGivenFor input.now row.now (algorithm_value x.algorithm) (option_value (λ o. o.now) x.encrypted))
-        (λ n. IsWrongAt input.now row.now n × GivesNone Holders.Contents input.now row.now) }
+        (λ n. IsWrongPart Holders.Contents input.now row.now n × GivesNone Holders.Contents input.now row.now) }
 {
     let algorithm = algorithm_of(input, row)?;
     let encrypted = part_if(input, row.has_encrypted, row.encrypted, ENCRYPTED)?;

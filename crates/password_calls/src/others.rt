@@ -18,7 +18,7 @@ pub fn other_of<'a>(
 ) -> Result<Other<'a>, usize>
     ensures { MatchResult result
         (λ x. IsOtherOf input.now algorithm.0 has_parameters parameters.0 (other_value x))
-        (λ n. IsWrongOther input.now algorithm.0 algorithm.1 parameters.0 parameters.1 n
+        (λ n. IsWrongOther input.now algorithm.0 algorithm.1 has_parameters parameters.0 parameters.1 n
         × HasNone (IsOtherOf input.now algorithm.0 has_parameters parameters.0)) }
 {
     let oid = oid_of(input, algorithm.0, algorithm.1)?;

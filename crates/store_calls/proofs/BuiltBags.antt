@@ -20,7 +20,7 @@ use Rattle.call_values.proofs.BuiltLists.{zip_all, zip_at, zip_left}
 use Rattle.call_values.proofs.FurtherRead.{all_formed}
 use Rattle.store_calls.proofs.GivenBags.{gives, same_kind}
 use Rattle.call_values.proofs.GivenParts.{same_part}
-use Rattle.store_calls.specs.BuiltBags.{AreTooLong, GivesBag, IsBagBy, IsHeldBy, IsHeldOf, IsIdOf, IsNameOf, IsWrongAt, held_octets}
+use Rattle.store_calls.specs.BuiltBags.{AreTooLong, GivesBag, IsBagBy, IsHeldBy, IsHeldOf, IsIdOf, IsNameOf, IsWrongBag, held_octets}
 use Rattle.call_values.specs.Further.{AreFurther}
 use Rattle.call_values.specs.Given.{IfGiven, IsElementOf, IsPartOf}
 use Rattle.store_calls.specs.GivenBags.{HasParts, IsChecked}
@@ -103,10 +103,10 @@ module _ (b : List ℕ) where
   all_can = zip_all (IsBagBy b) CanBeWritten can_be
 
   module _ (rows : List BagGiven) (bags : List Bag) (are : AllZip (IsBagBy b) rows bags) where
-    by_kind : (e : Error) → IsNotSafe bags e → (e ≡ Invalid) ⊎ ((e ≡ TooLong) ⊎ (e ≡ Memory)) → IsNoText (GivesBag b) (IsWrongAt b) (AreTooLong b rows) rows (NotWritten e)
+    by_kind : (e : Error) → IsNotSafe bags e → (e ≡ Invalid) ⊎ ((e ≡ TooLong) ⊎ (e ≡ Memory)) → IsNoText (GivesBag b) (IsWrongBag b) (AreTooLong b rows) rows (NotWritten e)
     by_kind e not (inl invalid) = absurd (not.none invalid (all_can rows bags are))
     by_kind e not (inr (inl long)) = inl (long, (bags, are, not.long long))
     by_kind e not (inr (inr memory)) = inr memory
 
-    pub not_built : (e : Error) → IsNotSafe bags e → IsNoText (GivesBag b) (IsWrongAt b) (AreTooLong b rows) rows (NotWritten e)
+    pub not_built : (e : Error) → IsNotSafe bags e → IsNoText (GivesBag b) (IsWrongBag b) (AreTooLong b rows) rows (NotWritten e)
     not_built e not = by_kind e not not.kind

@@ -1,5 +1,5 @@
 -- What a file is written of, and why it isn't.
-use Rattle.std.specs.Prelude.{◌≡◌, ◌<◌, ◌^◌, ℕ, List, Option, None, Some}
+use Rattle.std.specs.Prelude.{◌≡◌, ◌≢◌, ◌<◌, ◌^◌, ℕ, List, Option, None, Some}
 use Rattle.std.proofs.Common.{ap, arith, inl, inr, refl, subst, sym, Bor, ◌∙◌}
 use Rattle.std.specs.Option.{option_copied}
 use Rattle.asn1_core.specs.Asn1.{SEQUENCE}
@@ -7,11 +7,13 @@ use Rattle.asn1_core.specs.Der.{IsElement, IsTagByte, Octets as OctetList, optio
 use Rattle.asn1_core_element.specs.declared.error.Error.{Error}
 use Rattle.asn1_core_format.specs.Components.{AllIf}
 use Rattle.asn1_borrowed.specs.Written.{IsNotWritten}
-use Rattle.store_calls.specs.BuiltStores.{IsCountOf, IsMacOf, IsNoStore, IsStoreBy, IsWrongAt, digest, digest_algorithm, digest_parameters, iterations, salt}
+use Rattle.call_values.proofs.GivenParts.{if_some, same_part}
+use Rattle.store_calls.specs.BuiltStores.{IsCountOf, IsMacOf, IsNoStore, IsSafeOf, IsStoreBy, IsWrongMac, IsWrongStore, mac_algorithm, mac_digest, mac_iterations, mac_salt, store_mac, store_safe}
 use Rattle.call_values.specs.Given.{HasNone, IfGiven, IsPartOf}
 use Rattle.password_calls.specs.Others.{IsOtherOf, IsWrongOther}
-use Rattle.call_values.specs.Read.{IsReadAs}
-use Rattle.call_values.specs.declared.not_built.NotBuilt.TheVariants.{Refused}
+use Rattle.call_values.specs.Read.{HasOne, IsReadAs, IsUnreadAt, IsUnreadOf}
+use Rattle.call_values.specs.declared.not_built.NotBuilt.{NotBuilt}
+use Rattle.call_values.specs.declared.not_built.NotBuilt.TheVariants.{Part, Refused}
 use Rattle.store_calls.specs.declared.built_stores.StoreGiven.{StoreGiven}
 use Rattle.password_ranges.specs.Parameters.{AlgorithmValue}
 use Rattle.pkcs12_algs.specs.Algorithms.{from_raw}
@@ -23,21 +25,30 @@ use Rattle.x509_pkcs12.specs.Pfxs.{pfx}
 
 module _ (b : List ℕ) (row : StoreGiven) where
   -- the part that can't be written
-  at_algorithm : (n : ℕ) → IsWrongOther b row.digest_algorithm 2 row.digest_parameters 3 n → IsWrongAt b row n
-  at_algorithm n (inl e) = (digest_algorithm, e.1, e.0)
-  at_algorithm n (inr e) = (digest_parameters, e.1, e.0)
+  pub wrong_algorithm : (n : ℕ) → IsWrongOther b row.digest_algorithm 2 row.has_digest_parameters row.digest_parameters 3 n × HasNone (IsOtherOf b row.digest_algorithm row.has_digest_parameters row.digest_parameters) → IsWrongMac b row n × HasNone (IsMacOf b row)
+  wrong_algorithm n e = (mac_algorithm n e.0, λ v is. e.1 is.algorithm.0 is.algorithm.1)
 
-  pub wrong_algorithm : (n : ℕ) → IsWrongOther b row.digest_algorithm 2 row.digest_parameters 3 n × HasNone (IsOtherOf b row.digest_algorithm row.has_digest_parameters row.digest_parameters) → IsWrongAt b row n × HasNone (IsMacOf b row)
-  wrong_algorithm n e = (at_algorithm n e.0, λ v is. e.1 is.algorithm.0 is.algorithm.1)
+  pub wrong_digest : (n : ℕ) → (n ≡ 4) × HasNone (IsPartOf b row.digest) → IsWrongMac b row n × HasNone (IsMacOf b row)
+  wrong_digest n e = (subst (IsWrongMac b row) (sym e.0) (mac_digest e.1), λ v is. e.1 v.0.1.0 is.digest)
 
-  pub wrong_digest : (n : ℕ) → (n ≡ 4) × HasNone (IsPartOf b row.digest) → IsWrongAt b row n × HasNone (IsMacOf b row)
-  wrong_digest n e = ((digest, e.1, e.0), λ v is. e.1 v.0.1.0 is.digest)
+  pub wrong_salt : (n : ℕ) → (n ≡ 5) × HasNone (IsPartOf b row.salt) → IsWrongMac b row n × HasNone (IsMacOf b row)
+  wrong_salt n e = (subst (IsWrongMac b row) (sym e.0) (mac_salt e.1), λ v is. e.1 v.1.0 is.salt)
 
-  pub wrong_salt : (n : ℕ) → (n ≡ 5) × HasNone (IsPartOf b row.salt) → IsWrongAt b row n × HasNone (IsMacOf b row)
-  wrong_salt n e = ((salt, e.1, e.0), λ v is. e.1 v.1.0 is.salt)
+  pub wrong_count : (n : ℕ) → (n ≡ 6) × HasNone (IsCountOf row.iterations) → IsWrongMac b row n × HasNone (IsMacOf b row)
+  wrong_count n e = (subst (IsWrongMac b row) (sym e.0) (mac_iterations e.1), λ v is. e.1 v.1.1.0 is.iterations)
 
-  pub wrong_count : (n : ℕ) → (n ≡ 6) × HasNone (IsCountOf row.iterations) → IsWrongAt b row n × HasNone (IsMacOf b row)
-  wrong_count n e = ((iterations, e.1, e.0), λ v is. e.1 v.1.1.0 is.iterations)
+  pub wrong_mac : (n : ℕ) → row.has_mac ≢ 0 → IsWrongMac b row n × HasNone (IsMacOf b row) → IsUnreadOf (IsWrongStore b row) (HasOne (IfGiven row.has_mac (IsMacOf b row))) (Part n)
+  wrong_mac n flag e = (store_mac n flag e.0, λ has. let mac = if_some row.has_mac (IsMacOf b row) flag has in e.1 mac.0 mac.1)
+
+  pub wrong_range : (n : ℕ) → (n ≡ 1) × HasNone (IsPartOf b row.safe) → IsUnreadOf (IsWrongStore b row) (HasOne (IsSafeOf b row)) (Part n)
+  wrong_range n e = (subst (IsWrongStore b row) (sym e.0) (store_safe (λ x is. e.1 x is.0)), λ has. e.1 has.0 has.1.0)
+
+  safe_reads : (x : OctetList) → IsPartOf b row.safe x → (y : OctetList) → IsSafeOf b row y → IsReadAs CONTENTS.format x
+  safe_reads x at y is = subst (IsReadAs CONTENTS.format) (same_part b row.safe x y at is.0) is.1
+
+  pub wrong_safe : (x : OctetList) (w : NotBuilt) → IsPartOf b row.safe x → IsUnreadAt 1 (IsReadAs CONTENTS.format x) w → IsUnreadOf (IsWrongStore b row) (HasOne (IsSafeOf b row)) w
+  wrong_safe x (Part n) at e = (subst (IsWrongStore b row) (sym e.0) (store_safe (λ y is. e.1 (safe_reads x at y is))), λ has. e.1 (safe_reads x at has.0 has.1))
+  wrong_safe x (Refused e) at is = is
 
   -- what is given is well-formed
   algorithm_normal : (w : AlgorithmValue) → algorithm_identifier.format.normal w ≡ w

@@ -1,13 +1,13 @@
 -- Bags as they are given: what can't be written gives none.
 use Rattle.std.specs.Prelude.{◌≡◌, ◌≢◌, ℕ, List, [], Option, None, Some, Result, Ok, Err, MatchResult, ◌<◌}
-use Rattle.std.proofs.Common.{arith, inl, inr, refl, subst, sym, ◌∙◌}
+use Rattle.std.proofs.Common.{arith, refl, subst, sym, ◌∙◌}
 use Rattle.asn1_core.specs.Der.{Octets as OctetList}
 use Rattle.bag_writers.specs.declared.held.Held.{Held}
 use Rattle.bag_writers.specs.declared.held.Held.TheVariants.{Key, ShroudedKey, Certificate, Crl, Secret, SafeContents, Other}
-use Rattle.call_values.proofs.GivenParts.{if_some, not_there, part_of_it, same_part}
-use Rattle.store_calls.specs.BuiltBags.{GivesBag, IsAsItsKind, IsAsKind, IsHeldBy, IsHeldOf, IsIdOf, IsNameOf, IsWrongAt, attributes, friendly_name, held_number, held_octets, identifier, kind, local_key_id, value}
-use Rattle.call_values.specs.Further.{AreFurther, IsSetOf}
-use Rattle.call_values.specs.Given.{HasNone, IfGiven, IsElementOf, IsPartOf}
+use Rattle.call_values.proofs.GivenParts.{by_part, if_some, same_part}
+use Rattle.store_calls.specs.BuiltBags.{GivesBag, IsAsItsKind, IsAsKind, IsHeldBy, IsHeldOf, IsIdOf, IsNameOf, IsOtherId, IsWrongBag, bag_attributes, bag_friendly_name, bag_identifier, bag_kind, bag_local_key_id, bag_element, held_number, held_octets}
+use Rattle.call_values.specs.Further.{AreFurther}
+use Rattle.call_values.specs.Given.{HasNone, IfGiven, IsElementOf, IsOidOf, IsPartOf}
 use Rattle.store_calls.specs.GivenBags.{IsChecked, IsIdIf}
 use Rattle.call_values.specs.Read.{HasOne, IsUnreadAt, IsUnreadOf}
 use Rattle.call_values.specs.declared.not_built.NotBuilt.{NotBuilt}
@@ -59,17 +59,17 @@ module _ (b : List ℕ) (row : BagGiven) where
   no_kind more (SafeContents x) e = absurd (omega (arith, more, e))
   no_kind more (Other id x) e = absurd (omega (arith, more, e))
 
-  pub wrong_kind : 6 < row.kind → IsWrongAt b row 1 × HasNone (IsHeldBy b row)
-  wrong_kind more = ((kind, no_kind more, refl), λ held is. no_kind more held is.kind)
+  pub wrong_kind : 6 < row.kind → IsWrongBag b row 1 × HasNone (IsHeldBy b row)
+  wrong_kind more = (bag_kind (no_kind more), λ held is. no_kind more held is.kind)
 
-  no_id : HasNone (IsIdIf b row) → HasNone (IsHeldBy b row)
-  no_id none held is = let id = its_id held is.kind is.id in none id.0 id.1
+  pub no_oid : (n : ℕ) → row.kind ≡ 0 → (n ≡ 2) × HasNone (IsOidOf b row.identifier) → (n ≡ 2) × (row.kind ≡ 0) × HasNone (IsOtherId b row)
+  no_oid n is e = (e.0, is, λ id its. e.1 id its.0)
 
-  pub wrong_id : (n : ℕ) → (n ≡ 2) × HasNone (IsIdIf b row) → IsWrongAt b row n × HasNone (IsHeldBy b row)
-  wrong_id n e = ((identifier, λ id is. e.1 id (λ _. is), e.0), no_id e.1)
+  pub wrong_id : (n : ℕ) → (n ≡ 2) × (row.kind ≡ 0) × HasNone (IsOtherId b row) → IsWrongBag b row n × HasNone (IsHeldBy b row)
+  wrong_id n e = (subst (IsWrongBag b row) (sym e.0) (bag_identifier e.1 e.2), λ held is. let id = its_id held is.kind is.id in e.2 id.0 (id.1 e.1))
 
-  pub wrong_value : (n : ℕ) → (n ≡ 3) × HasNone (IsElementOf b row.value) → IsWrongAt b row n × HasNone (IsHeldBy b row)
-  wrong_value n e = ((value, λ x is. e.1 x is.0, e.0), λ held is. e.1 (held_octets held) is.value)
+  pub wrong_value : (n : ℕ) → (n ≡ 3) × HasNone (IsElementOf b row.value) → IsWrongBag b row n × HasNone (IsHeldBy b row)
+  wrong_value n e = (subst (IsWrongBag b row) (sym e.0) (bag_element (λ x is. e.1 x is.0)), λ held is. e.1 (held_octets held) is.value)
 
   -- of two that a row gives both read, or none
   pub same_kind : (held other : Held) → IsHeldBy b row held → IsHeldBy b row other → IsAsItsKind held → IsAsItsKind other
@@ -84,15 +84,15 @@ module _ (b : List ℕ) (row : BagGiven) where
       let octets : x ≡ held_octets held = same_part b row.value (held_octets held) x by.value.0 at.0 in
       none (from_number held (subst (λ n. IsAsKind n (held_octets held)) by.kind (subst (IsAsKind row.kind) octets read)))
 
-  value_unread : (held : Held) → IsHeldBy b row held → (w : NotBuilt) → IsUnreadAt 3 (IsAsItsKind held) w → IsUnreadOf (IsWrongAt b row) (HasOne (IsHeldOf b row)) w
-  value_unread held by (Part n) is = ((value, λ x its. unlike held by is.1 x its.0 its.1, is.0), λ its. is.1 (same_kind its.0 held its.1.by by its.1.read))
+  value_unread : (held : Held) → IsHeldBy b row held → (w : NotBuilt) → IsUnreadAt 3 (IsAsItsKind held) w → IsUnreadOf (IsWrongBag b row) (HasOne (IsHeldOf b row)) w
+  value_unread held by (Part n) is = (subst (IsWrongBag b row) (sym is.0) (bag_element (λ x its. unlike held by is.1 x its.0 its.1)), λ its. is.1 (same_kind its.0 held its.1.by by its.1.read))
   value_unread held by (Refused e) is = is
 
-  pub value_checked : {A : Type 0} (held : Held) → IsHeldBy b row held → (r : Result A NotBuilt) → MatchResult r (λ _. IsAsItsKind held) (λ w. IsUnreadAt 3 (IsAsItsKind held) w) → MatchResult r (λ _. HasOne (IsHeldOf b row)) (λ w. IsUnreadOf (IsWrongAt b row) (HasOne (IsHeldOf b row)) w)
+  pub value_checked : {A : Type 0} (held : Held) → IsHeldBy b row held → (r : Result A NotBuilt) → MatchResult r (λ _. IsAsItsKind held) (λ w. IsUnreadAt 3 (IsAsItsKind held) w) → MatchResult r (λ _. HasOne (IsHeldOf b row)) (λ w. IsUnreadOf (IsWrongBag b row) (HasOne (IsHeldOf b row)) w)
   value_checked held by (Ok y) read = (held, record { by = by; read = read })
   value_checked held by (Err w) none = value_unread held by w none
 
-  pub no_value : (n : ℕ) → IsWrongAt b row n × HasNone (IsHeldBy b row) → IsUnreadOf (IsWrongAt b row) (HasOne (IsHeldOf b row)) (Part n)
+  pub no_value : (n : ℕ) → IsWrongBag b row n × HasNone (IsHeldBy b row) → IsUnreadOf (IsWrongBag b row) (HasOne (IsHeldOf b row)) (Part n)
   no_value n e = (e.0, λ its. e.1 its.0 its.1.by)
 
   -- what was looked at gives a bag
@@ -122,41 +122,40 @@ module _ (b : List ℕ) (row : BagGiven) where
   name_read : (x : List ℕ) → IsPartOf b row.friendly_name x → (y : List ℕ) → IsNameOf b row.friendly_name y → IsUtf16 x
   name_read x at y is = subst IsUtf16 (same_part b row.friendly_name x y at is.0) is.1
 
-  name_unread : (x : List ℕ) → row.has_friendly_name ≢ 0 → IsPartOf b row.friendly_name x → (w : NotBuilt) → IsUnreadAt 4 (IsUtf16 x) w → IsUnreadOf (IsWrongAt b row) (HasOne (IfGiven row.has_friendly_name (IsNameOf b row.friendly_name))) w
-  name_unread x some at (Part n) h =
-      let none : HasNone (IsNameOf b row.friendly_name) = λ y is. h.1 (name_read x at y is) in
-      ((friendly_name, none, h.0), λ has. let its = if_some row.has_friendly_name (IsNameOf b row.friendly_name) some has in none its.0 its.1)
+  no_name_read : row.has_friendly_name ≢ 0 → HasNone (IsNameOf b row.friendly_name) → HasNone (IfGiven row.has_friendly_name (IsNameOf b row.friendly_name))
+  no_name_read some none o is = let its = if_some row.has_friendly_name (IsNameOf b row.friendly_name) some (o, is) in none its.0 its.1
+
+  name_refused : (n : ℕ) → n ≡ 4 → HasNone (IfGiven row.has_friendly_name (IsNameOf b row.friendly_name)) → IsUnreadOf (IsWrongBag b row) (HasOne (IfGiven row.has_friendly_name (IsNameOf b row.friendly_name))) (Part n)
+  name_refused n e none = (subst (IsWrongBag b row) (sym e) (bag_friendly_name none), λ has. none has.0 has.1)
+
+  name_unread : (x : List ℕ) → row.has_friendly_name ≢ 0 → IsPartOf b row.friendly_name x → (w : NotBuilt) → IsUnreadAt 4 (IsUtf16 x) w → IsUnreadOf (IsWrongBag b row) (HasOne (IfGiven row.has_friendly_name (IsNameOf b row.friendly_name))) w
+  name_unread x some at (Part n) h = name_refused n h.0 (no_name_read some (λ y is. h.1 (name_read x at y is)))
   name_unread x some at (Refused e) h = h
 
-  pub name_checked : {A : Type 0} (x : List ℕ) → row.has_friendly_name ≢ 0 → IsPartOf b row.friendly_name x → (res : Result A NotBuilt) → MatchResult res (λ _. IsUtf16 x) (λ w. IsUnreadAt 4 (IsUtf16 x) w) → MatchResult res (λ _. HasOne (IfGiven row.has_friendly_name (IsNameOf b row.friendly_name))) (λ w. IsUnreadOf (IsWrongAt b row) (HasOne (IfGiven row.has_friendly_name (IsNameOf b row.friendly_name))) w)
+  pub name_checked : {A : Type 0} (x : List ℕ) → row.has_friendly_name ≢ 0 → IsPartOf b row.friendly_name x → (res : Result A NotBuilt) → MatchResult res (λ _. IsUtf16 x) (λ w. IsUnreadAt 4 (IsUtf16 x) w) → MatchResult res (λ _. HasOne (IfGiven row.has_friendly_name (IsNameOf b row.friendly_name))) (λ w. IsUnreadOf (IsWrongBag b row) (HasOne (IfGiven row.has_friendly_name (IsNameOf b row.friendly_name))) w)
   name_checked x some at (Ok y) h = (Some x, (some, (at, h)))
   name_checked x some at (Err w) h = name_unread x some at w h
 
-  pub wrong_name : (n : ℕ) → row.has_friendly_name ≢ 0 → (n ≡ 4) × HasNone (IsPartOf b row.friendly_name) → IsUnreadOf (IsWrongAt b row) (HasOne (IfGiven row.has_friendly_name (IsNameOf b row.friendly_name))) (Part n)
-  wrong_name n some e =
-      let none : HasNone (IsNameOf b row.friendly_name) = λ y is. e.1 y is.0 in
-      ((friendly_name, none, e.0), λ has. let its = if_some row.has_friendly_name (IsNameOf b row.friendly_name) some has in none its.0 its.1)
+  pub wrong_name : (n : ℕ) → row.has_friendly_name ≢ 0 → (n ≡ 4) × HasNone (IsPartOf b row.friendly_name) → IsUnreadOf (IsWrongBag b row) (HasOne (IfGiven row.has_friendly_name (IsNameOf b row.friendly_name))) (Part n)
+  wrong_name n some e = name_refused n e.0 (no_name_read some (λ y is. e.1 y is.0))
 
-  pub wrong_key_id : (n : ℕ) → (n ≡ 5) × HasNone (IfGiven row.has_local_key_id (IsPartOf b row.local_key_id)) → IsUnreadOf (IsWrongAt b row) (HasOne (IfGiven row.has_local_key_id (IsPartOf b row.local_key_id))) (Part n)
-  wrong_key_id n e = ((local_key_id, not_there row.has_local_key_id (IsPartOf b row.local_key_id) e.1, e.0), λ has. e.1 has.0 has.1)
+  pub wrong_key_id : (n : ℕ) → (n ≡ 5) × HasNone (IfGiven row.has_local_key_id (IsPartOf b row.local_key_id)) → IsUnreadOf (IsWrongBag b row) (HasOne (IfGiven row.has_local_key_id (IsPartOf b row.local_key_id))) (Part n)
+  wrong_key_id n e = (subst (IsWrongBag b row) (sym e.0) (bag_local_key_id e.1), λ has. e.1 has.0 has.1)
 
   -- what refuses a part of a bag refuses the bag
-  pub held_unread : (w : NotBuilt) → IsUnreadOf (IsWrongAt b row) (HasOne (IsHeldOf b row)) w → IsUnreadOf (IsWrongAt b row) (GivesBag b row) w
-  held_unread w = part_of_it (IsWrongAt b row) (IsWrongAt b row) _ _ w (λ n is. is) (λ g. (g.held, g.given.held_is))
+  pub held_unread : (w : NotBuilt) → IsUnreadOf (IsWrongBag b row) (HasOne (IsHeldOf b row)) w → IsUnreadOf (IsWrongBag b row) (GivesBag b row) w
+  held_unread w = by_part (IsWrongBag b row) _ _ w (λ g. (g.held, g.given.held_is))
 
-  pub a_name_unread : (w : NotBuilt) → IsUnreadOf (IsWrongAt b row) (HasOne (IfGiven row.has_friendly_name (IsNameOf b row.friendly_name))) w → IsUnreadOf (IsWrongAt b row) (GivesBag b row) w
-  a_name_unread w = part_of_it (IsWrongAt b row) (IsWrongAt b row) _ _ w (λ n is. is) (λ g. (g.name, g.given.friendly_name))
+  pub a_name_unread : (w : NotBuilt) → IsUnreadOf (IsWrongBag b row) (HasOne (IfGiven row.has_friendly_name (IsNameOf b row.friendly_name))) w → IsUnreadOf (IsWrongBag b row) (GivesBag b row) w
+  a_name_unread w = by_part (IsWrongBag b row) _ _ w (λ g. (g.name, g.given.friendly_name))
 
-  pub key_id_unread : (w : NotBuilt) → IsUnreadOf (IsWrongAt b row) (HasOne (IfGiven row.has_local_key_id (IsPartOf b row.local_key_id))) w → IsUnreadOf (IsWrongAt b row) (GivesBag b row) w
-  key_id_unread w = part_of_it (IsWrongAt b row) (IsWrongAt b row) _ _ w (λ n is. is) (λ g. (g.key_id, g.given.local_key_id))
+  pub key_id_unread : (w : NotBuilt) → IsUnreadOf (IsWrongBag b row) (HasOne (IfGiven row.has_local_key_id (IsPartOf b row.local_key_id))) w → IsUnreadOf (IsWrongBag b row) (GivesBag b row) w
+  key_id_unread w = by_part (IsWrongBag b row) _ _ w (λ g. (g.key_id, g.given.local_key_id))
 
-  no_set : (HasOne (AreFurther b row.has_attributes row.attributes) → ⊥) → HasNone (IsSetOf b row.attributes)
-  no_set none all set = none (all, inr (λ off. none ([], inl (off, refl)), set))
-
-  further_unread : (w : NotBuilt) → IsUnreadAt 6 (HasOne (AreFurther b row.has_attributes row.attributes)) w → IsUnreadOf (IsWrongAt b row) (GivesBag b row) w
-  further_unread (Part n) e = ((attributes, no_set e.1, e.0), λ g. e.1 (g.further, g.given.attributes))
+  further_unread : (w : NotBuilt) → IsUnreadAt 6 (HasOne (AreFurther b row.has_attributes row.attributes)) w → IsUnreadOf (IsWrongBag b row) (GivesBag b row) w
+  further_unread (Part n) e = (subst (IsWrongBag b row) (sym e.0) (bag_attributes (λ all is. e.1 (all, is))), λ g. e.1 (g.further, g.given.attributes))
   further_unread (Refused e) is = is
 
-  pub set_checked : {A : Type 0} (set : A → List attribute.Value) → HasOne (IsHeldOf b row) → HasOne (IfGiven row.has_friendly_name (IsNameOf b row.friendly_name)) → HasOne (IfGiven row.has_local_key_id (IsPartOf b row.local_key_id)) → (r : Result A NotBuilt) → MatchResult r (λ x. AreFurther b row.has_attributes row.attributes (set x)) (λ w. IsUnreadAt 6 (HasOne (AreFurther b row.has_attributes row.attributes)) w) → MatchResult r (λ x. IsChecked b row (set x)) (λ w. IsUnreadOf (IsWrongAt b row) (GivesBag b row) w)
+  pub set_checked : {A : Type 0} (set : A → List attribute.Value) → HasOne (IsHeldOf b row) → HasOne (IfGiven row.has_friendly_name (IsNameOf b row.friendly_name)) → HasOne (IfGiven row.has_local_key_id (IsPartOf b row.local_key_id)) → (r : Result A NotBuilt) → MatchResult r (λ x. AreFurther b row.has_attributes row.attributes (set x)) (λ w. IsUnreadAt 6 (HasOne (AreFurther b row.has_attributes row.attributes)) w) → MatchResult r (λ x. IsChecked b row (set x)) (λ w. IsUnreadOf (IsWrongBag b row) (GivesBag b row) w)
   set_checked set held name key_id (Ok x) is = record { held = held; friendly_name = name; local_key_id = key_id; attributes = is }
   set_checked set held name key_id (Err w) is = further_unread w is

@@ -11,12 +11,13 @@ use Rattle.bag_writers.specs.declared.held.Held.{Held}
 use Rattle.bag_writers.specs.declared.held.Held.TheVariants.{Key, ShroudedKey, Certificate, Crl, Secret, SafeContents, Other}
 use Rattle.store_calls.specs.Bags.{kind_number}
 use Rattle.call_values.specs.BuiltLists.{IsWrongItem}
-use Rattle.call_values.specs.Further.{AreFurther, IsSetOf}
+use Rattle.call_values.specs.Further.{AreFurther}
 use Rattle.call_values.specs.Given.{HasNone, IfGiven, IsElementOf, IsOidOf, IsPartOf}
 use Rattle.store_calls.specs.Levels.{HasLevels}
 use Rattle.call_values.specs.Read.{IsReadAs}
 use Rattle.call_values.specs.Statuses.{Reasons, Writes}
 use Rattle.store_calls.specs.declared.built_bags.BagGiven.{BagGiven}
+use Rattle.store_calls.specs.declared.built_bags.TheConstants.{KIND, IDENTIFIER, VALUE, FRIENDLY_NAME, LOCAL_KEY_ID, ATTRIBUTES}
 use Rattle.call_values.specs.declared.ranges.Octets.{Octets}
 use Rattle.call_values.specs.declared.status.TheConstants.{INVALID, MALFORMED, MISSING, TOO_DEEP}
 use Rattle.pkcs12_bags.specs.BagParts.{encrypted_key_bag, secret_bag}
@@ -108,34 +109,14 @@ pub record GivesBag (b : List ℕ) (row : BagGiven) : Type 0 where
   pub further : List attribute.Value
   pub given : IsGivenBy b row held name key_id further
 
--- the parts of a der_bag_part
-pub data BagPart : Type 0 where
-  kind : BagPart
-  identifier : BagPart
-  value : BagPart
-  friendly_name : BagPart
-  local_key_id : BagPart
-  attributes : BagPart
-
-abbrev pub number_of_part : BagPart → ℕ
-number_of_part kind = 1
-number_of_part identifier = 2
-number_of_part value = 3
-number_of_part friendly_name = 4
-number_of_part local_key_id = 5
-number_of_part attributes = 6
-
--- the part can't be written
-abbrev pub IsWrong : List ℕ → BagGiven → BagPart → Type 0
-IsWrong b row kind = (held : Held) → row.kind ≢ held_number held
-IsWrong b row identifier = HasNone (IsOtherId b row)
-IsWrong b row value = HasNone (λ x. IsElementOf b row.value x × IsAsKind row.kind x)
-IsWrong b row friendly_name = HasNone (IsNameOf b row.friendly_name)
-IsWrong b row local_key_id = HasNone (IsPartOf b row.local_key_id)
-IsWrong b row attributes = HasNone (IsSetOf b row.attributes)
-
-abbrev pub IsWrongAt : List ℕ → BagGiven → ℕ → Type 0
-IsWrongAt b row n = (part : BagPart) × IsWrong b row part × (n ≡ number_of_part part)
+-- which part can't be written, by its number, a der_bag_part
+pub data IsWrongBag (b : List ℕ) (row : BagGiven) : ℕ → Type 0 where
+  bag_kind : ((held : Held) → row.kind ≢ held_number held) → IsWrongBag b row KIND
+  bag_identifier : row.kind ≡ kind_number Kinds.Other → HasNone (IsOtherId b row) → IsWrongBag b row IDENTIFIER
+  bag_element : HasNone (λ x. IsElementOf b row.value x × IsAsKind row.kind x) → IsWrongBag b row VALUE
+  bag_friendly_name : HasNone (IfGiven row.has_friendly_name (IsNameOf b row.friendly_name)) → IsWrongBag b row FRIENDLY_NAME
+  bag_local_key_id : HasNone (IfGiven row.has_local_key_id (IsPartOf b row.local_key_id)) → IsWrongBag b row LOCAL_KEY_ID
+  bag_attributes : HasNone (AreFurther b row.has_attributes row.attributes) → IsWrongBag b row ATTRIBUTES
 
 -- the text is the encoding of a SafeContents of the bags that the rows give, and is read as it
 abbrev pub HasBuiltBags : List ℕ → List BagGiven → List ℕ → Type 0
@@ -161,7 +142,7 @@ pub record BuildsBags (b : List ℕ) (rows : List BagGiven) (old new : List ℕ)
   -- the row with that index gives no bag, and those before it do
   pub at : status ≡ INVALID → IsFirstWithout (GivesBag b) rows bag
   -- its part with that number can't be written
-  pub of : status ≡ INVALID → IsWrongItem (IsWrongAt b) rows bag part
+  pub of : status ≡ INVALID → IsWrongItem (IsWrongBag b) rows bag part
   pub no_part : status ≢ INVALID → (bag ≡ 0) × (part ≡ 0)
   -- no other refusal
   pub refused : (status ≢ MALFORMED) × (status ≢ MISSING) × (status ≢ TOO_DEEP)

@@ -2,13 +2,14 @@
 use Rattle.std.specs.Prelude.{◌≡◌, ◌≢◌, ◌⊎◌, ◌≤◌, ◌^◌, ℕ, List, length, Option, None, Some}
 use Rattle.asn1_core.specs.Der.{Octets as OctetList, raw}
 use Rattle.asn1_core_element.specs.declared.error.Error.TheVariants.{TooLong, Memory}
-use Rattle.call_values.specs.Given.{HasNone, IfGiven, IsElementOf, IsNumberOf, IsOidOf, IsPartOf}
-use Rattle.password_calls.specs.Others.{IsOtherOf}
+use Rattle.call_values.specs.Given.{HasNone, IfGiven, IsNumberOf, IsPartOf}
+use Rattle.password_calls.specs.Others.{IsOtherOf, IsWrongOther}
 use Rattle.call_values.specs.Read.{IsReadAs}
 use Rattle.call_values.specs.Statuses.{Reasons, Writes}
 use Rattle.call_values.specs.declared.not_built.NotBuilt.{NotBuilt}
 use Rattle.call_values.specs.declared.not_built.NotBuilt.TheVariants.{Part, Refused}
 use Rattle.store_calls.specs.declared.built_stores.StoreGiven.{StoreGiven}
+use Rattle.store_calls.specs.declared.built_stores.TheConstants.{SAFE, DIGEST_ALGORITHM, DIGEST_PARAMETERS, DIGEST, SALT, ITERATIONS}
 use Rattle.call_values.specs.declared.status.TheConstants.{INVALID, MALFORMED, MISSING, TOO_DEEP}
 use Rattle.password_ranges.specs.Parameters.{AlgorithmValue}
 use Rattle.pkcs12_algs.specs.Algorithms.{from_raw}
@@ -51,38 +52,21 @@ HasBuiltStore b row text = (safe : OctetList) × (mac : Option mac_data.Value) �
 abbrev pub IsTooLong : List ℕ → StoreGiven → Type 0
 IsTooLong b row = (safe : OctetList) × (mac : Option mac_data.Value) × IsStoreBy b row safe mac × (2 ^ 64 ≤ length ((pfx raw).text (store_value safe mac)))
 
--- the parts of a der_store_part
-pub data StorePart : Type 0 where
-  safe : StorePart
-  digest_algorithm : StorePart
-  digest_parameters : StorePart
-  digest : StorePart
-  salt : StorePart
-  iterations : StorePart
+-- which part of the MAC can't be written, by its number, a der_store_part
+pub data IsWrongMac (b : List ℕ) (row : StoreGiven) : ℕ → Type 0 where
+  mac_algorithm : (n : ℕ) → IsWrongOther b row.digest_algorithm DIGEST_ALGORITHM row.has_digest_parameters row.digest_parameters DIGEST_PARAMETERS n → IsWrongMac b row n
+  mac_digest : HasNone (IsPartOf b row.digest) → IsWrongMac b row DIGEST
+  mac_salt : HasNone (IsPartOf b row.salt) → IsWrongMac b row SALT
+  mac_iterations : HasNone (IsCountOf row.iterations) → IsWrongMac b row ITERATIONS
 
-abbrev pub number_of_part : StorePart → ℕ
-number_of_part safe = 1
-number_of_part digest_algorithm = 2
-number_of_part digest_parameters = 3
-number_of_part digest = 4
-number_of_part salt = 5
-number_of_part iterations = 6
-
--- the part can't be written
-abbrev pub IsWrong : List ℕ → StoreGiven → StorePart → Type 0
-IsWrong b row safe = HasNone (IsSafeOf b row)
-IsWrong b row digest_algorithm = HasNone (IsOidOf b row.digest_algorithm)
-IsWrong b row digest_parameters = HasNone (IsElementOf b row.digest_parameters)
-IsWrong b row digest = HasNone (IsPartOf b row.digest)
-IsWrong b row salt = HasNone (IsPartOf b row.salt)
-IsWrong b row iterations = HasNone (IsCountOf row.iterations)
-
-abbrev pub IsWrongAt : List ℕ → StoreGiven → ℕ → Type 0
-IsWrongAt b row n = (part : StorePart) × IsWrong b row part × (n ≡ number_of_part part)
+-- which part of the file
+pub data IsWrongStore (b : List ℕ) (row : StoreGiven) : ℕ → Type 0 where
+  store_safe : HasNone (IsSafeOf b row) → IsWrongStore b row SAFE
+  store_mac : (n : ℕ) → row.has_mac ≢ 0 → IsWrongMac b row n → IsWrongStore b row n
 
 -- why no file is built
 abbrev pub IsNoStore : List ℕ → StoreGiven → NotBuilt → Type 0
-IsNoStore b row (Part n) = IsWrongAt b row n × GivesNoStore b row
+IsNoStore b row (Part n) = IsWrongStore b row n × GivesNoStore b row
 IsNoStore b row (Refused e) = ((e ≡ TooLong) × IsTooLong b row) ⊎ (e ≡ Memory)
 
 abbrev pub without_store : List ℕ → StoreGiven → Reasons
@@ -99,7 +83,7 @@ without_store b row = record {
 pub record BuildsStore (b : List ℕ) (row : StoreGiven) (old new : List ℕ) (written part status : ℕ) : Type 0 where
   pub writes : Writes (HasBuiltStore b row) (without_store b row) old new written status
   -- the part with that number can't be written
-  pub at : status ≡ INVALID → IsWrongAt b row part
+  pub at : status ≡ INVALID → IsWrongStore b row part
   pub no_part : status ≢ INVALID → part ≡ 0
   -- no other refusal
   pub refused : (status ≢ MALFORMED) × (status ≢ MISSING) × (status ≢ TOO_DEEP)

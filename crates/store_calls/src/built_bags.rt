@@ -2,7 +2,7 @@
 
 ghost use Rattle.std.specs.Prelude.{◌≡◌, ◌≤◌, ◌↔◌, IsTrue, MatchResult, map};
 ghost use Rattle.std.specs.List.{AllZip};
-ghost use Rattle.store_calls.specs.BuiltBags.{AreTooLong, BuildsBags, GivesBag, HasBuiltBags, IsAsItsKind, IsBagBy, IsHeldBy, IsHeldOf, IsNameOf, IsOfNoKind, IsWrongAt};
+ghost use Rattle.store_calls.specs.BuiltBags.{AreTooLong, BuildsBags, GivesBag, HasBuiltBags, IsAsItsKind, IsBagBy, IsHeldBy, IsHeldOf, IsNameOf, IsOfNoKind, IsWrongBag, IsOtherId};
 ghost use Rattle.call_values.specs.Given.{HasNone, IfGiven, IsPartOf};
 ghost use Rattle.store_calls.specs.GivenBags.{HasParts, IsChecked, IsHeldAs, IsIdIf};
 ghost use Rattle.call_values.specs.BuiltLists.{IsNoList, IsNoText};
@@ -76,7 +76,7 @@ fn is_of_no_kind(id: &[u8]) -> bool
 
 /// The object identifier of a bag of another kind, and nothing of one whose kind says it.
 fn identifier_if<'a>(input: &'a [u8], row: &BagGiven) -> Result<&'a [u8], usize>
-    ensures { MatchResult result (λ id. IsIdIf input.now row.now id.now) (λ n. (n ≡ 2) × HasNone (IsIdIf input.now row.now)) }
+    ensures { MatchResult result (λ id. IsIdIf input.now row.now id.now) (λ n. (n ≡ 2) × (row.now.kind ≡ 0) × HasNone (IsOtherId input.now row.now)) }
 {
     if row.kind != 0 {
         return Ok(&[]);
@@ -110,7 +110,7 @@ fn held_as<'a>(kind: usize, id: &'a [u8], octets: &'a [u8]) -> Held<'a>
 
 /// What a bag holds.
 fn held_of<'a>(input: &'a [u8], row: &BagGiven) -> Result<Held<'a>, usize>
-    ensures { MatchResult result (λ held. IsHeldBy input.now row.now held) (λ n. IsWrongAt input.now row.now n × HasNone (IsHeldBy input.now row.now)) }
+    ensures { MatchResult result (λ held. IsHeldBy input.now row.now held) (λ n. IsWrongBag input.now row.now n × HasNone (IsHeldBy input.now row.now)) }
 {
     if row.kind > 6 {
         return Err(KIND);
@@ -136,7 +136,7 @@ fn check_held(alloc: Global, held: &Held<'_>) -> Result<(), NotBuilt>
 fn check_value(alloc: Global, input: &[u8], row: &BagGiven) -> Result<(), NotBuilt>
     ensures { MatchResult result
         (λ _. HasOne (IsHeldOf input.now row.now))
-        (λ wrong. IsUnreadOf (IsWrongAt input.now row.now) (HasOne (IsHeldOf input.now row.now)) wrong) }
+        (λ wrong. IsUnreadOf (IsWrongBag input.now row.now) (HasOne (IsHeldOf input.now row.now)) wrong) }
 {
     match held_of(input, row) {
         Ok(held) => check_held(alloc, &held),
@@ -158,7 +158,7 @@ fn check_name(octets: &[u8]) -> Result<(), NotBuilt>
 fn check_name_if(input: &[u8], row: &BagGiven) -> Result<(), NotBuilt>
     ensures { MatchResult result
         (λ _. HasOne (IfGiven row.now.has_friendly_name (IsNameOf input.now row.now.friendly_name)))
-        (λ wrong. IsUnreadOf (IsWrongAt input.now row.now) (HasOne (IfGiven row.now.has_friendly_name (IsNameOf input.now row.now.friendly_name))) wrong) }
+        (λ wrong. IsUnreadOf (IsWrongBag input.now row.now) (HasOne (IfGiven row.now.has_friendly_name (IsNameOf input.now row.now.friendly_name))) wrong) }
 {
     if row.has_friendly_name == 0 {
         return Ok(());
@@ -173,7 +173,7 @@ fn check_name_if(input: &[u8], row: &BagGiven) -> Result<(), NotBuilt>
 fn check_key_id_if(input: &[u8], row: &BagGiven) -> Result<(), NotBuilt>
     ensures { MatchResult result
         (λ _. HasOne (IfGiven row.now.has_local_key_id (IsPartOf input.now row.now.local_key_id)))
-        (λ wrong. IsUnreadOf (IsWrongAt input.now row.now) (HasOne (IfGiven row.now.has_local_key_id (IsPartOf input.now row.now.local_key_id))) wrong) }
+        (λ wrong. IsUnreadOf (IsWrongBag input.now row.now) (HasOne (IfGiven row.now.has_local_key_id (IsPartOf input.now row.now.local_key_id))) wrong) }
 {
     match part_if(input, row.has_local_key_id, row.local_key_id, LOCAL_KEY_ID) {
         Ok(_octets) => Ok(()),
@@ -185,7 +185,7 @@ fn check_key_id_if(input: &[u8], row: &BagGiven) -> Result<(), NotBuilt>
 fn checked(alloc: Global, input: &[u8], row: &BagGiven) -> Result<Vec<Attribute>, NotBuilt>
     ensures { MatchResult result
         (λ set. IsChecked input.now row.now (map attribute_value set.items))
-        (λ wrong. IsUnreadOf (IsWrongAt input.now row.now) (GivesBag input.now row.now) wrong) }
+        (λ wrong. IsUnreadOf (IsWrongBag input.now row.now) (GivesBag input.now row.now) wrong) }
 {
     check_value(alloc, input, row)?;
     check_name_if(input, row)?;
@@ -206,7 +206,7 @@ fn all_checked(
 ) -> Result<Vec<Vec<Attribute>>, NoList>
     ensures { MatchResult result
         (λ sets. AllZip (IsChecked input.now) rows.now (map (λ set. map attribute_value set.items) sets.items))
-        (λ wrong. IsNoList (GivesBag input.now) (IsWrongAt input.now) rows.now wrong) }
+        (λ wrong. IsNoList (GivesBag input.now) (IsWrongBag input.now) rows.now wrong) }
 {
     let mut sets = Vec::new(alloc);
     for (index, row) in rows.iter().enumerate() {
@@ -254,7 +254,7 @@ fn bags_of<'a>(
     requires { AllZip (IsChecked input.now) rows.now (map (λ set. map attribute_value set.items) sets.now) }
     ensures { MatchResult result
         (λ bags. AllZip (IsBagBy input.now) rows.now bags.items)
-        (λ wrong. IsNoList (GivesBag input.now) (IsWrongAt input.now) rows.now wrong) }
+        (λ wrong. IsNoList (GivesBag input.now) (IsWrongBag input.now) rows.now wrong) }
 {
     let mut bags = Vec::new(alloc);
     for (index, row) in rows.iter().enumerate() {
@@ -269,7 +269,7 @@ fn bags_of<'a>(
 fn bags_text(alloc: Global, input: &[u8], rows: &[BagGiven]) -> Result<Vec<u8>, NoList>
     ensures { MatchResult result
         (λ text. HasBuiltBags input.now rows.now text.items)
-        (λ wrong. IsNoText (GivesBag input.now) (IsWrongAt input.now) (AreTooLong input.now rows.now) rows.now wrong) }
+        (λ wrong. IsNoText (GivesBag input.now) (IsWrongBag input.now) (AreTooLong input.now rows.now) rows.now wrong) }
 {
     let sets = all_checked(alloc, input, rows)?;
     let bags = bags_of(alloc, input, rows, sets.as_slice())?;

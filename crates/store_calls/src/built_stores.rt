@@ -3,7 +3,7 @@
 ghost use Rattle.std.specs.Prelude.{◌≡◌, MatchResult};
 ghost use Rattle.asn1_core.specs.Der.{IsOid, option_value};
 ghost use Rattle.asn1_core_element.specs.declared.error.Error.TheVariants.{Memory};
-ghost use Rattle.store_calls.specs.BuiltStores.{BuildsStore, HasBuiltStore, IsCountOf, IsMacOf, IsNoStore, IsSafeOf, IsWrongAt};
+ghost use Rattle.store_calls.specs.BuiltStores.{BuildsStore, HasBuiltStore, IsCountOf, IsMacOf, IsNoStore, IsSafeOf, IsWrongMac, IsWrongStore};
 ghost use Rattle.call_values.specs.Given.{HasNone, IfGiven};
 ghost use Rattle.store_calls.specs.MacParts.{mac_value};
 ghost use Rattle.call_values.specs.Read.{HasOne, IsUnreadOf};
@@ -91,7 +91,7 @@ fn count_of(given: usize) -> Result<Option<u32>, usize>
 fn mac_parts<'a>(input: &'a [u8], row: &StoreGiven) -> Result<MacParts<'a>, usize>
     ensures { MatchResult result
         (λ x. IsMacOf input.now row.now (mac_value x) × IsOid x.algorithm.algorithm.now)
-        (λ n. IsWrongAt input.now row.now n × HasNone (IsMacOf input.now row.now)) }
+        (λ n. IsWrongMac input.now row.now n × HasNone (IsMacOf input.now row.now)) }
 {
     let algorithm = other_of(
         input,
@@ -154,7 +154,7 @@ fn mac_of(alloc: Global, parts: &MacParts<'_>) -> Result<MacData, Error>
 fn mac_if(alloc: Global, input: &[u8], row: &StoreGiven) -> Result<Option<MacData>, NotBuilt>
     ensures { MatchResult result
         (λ o. IfGiven row.now.has_mac (IsMacOf input.now row.now) (option_value mac_data_value o))
-        (λ wrong. IsUnreadOf (IsWrongAt input.now row.now) (HasOne (IfGiven row.now.has_mac (IsMacOf input.now row.now))) wrong) }
+        (λ wrong. IsUnreadOf (IsWrongStore input.now row.now) (HasOne (IfGiven row.now.has_mac (IsMacOf input.now row.now))) wrong) }
 {
     if row.has_mac == 0 {
         return Ok(None);
@@ -172,7 +172,7 @@ fn mac_if(alloc: Global, input: &[u8], row: &StoreGiven) -> Result<Option<MacDat
 fn safe_of<'a>(alloc: Global, input: &'a [u8], row: &StoreGiven) -> Result<&'a [u8], NotBuilt>
     ensures { MatchResult result
         (λ x. IsSafeOf input.now row.now x.now)
-        (λ wrong. IsUnreadOf (IsWrongAt input.now row.now) (HasOne (IsSafeOf input.now row.now)) wrong) }
+        (λ wrong. IsUnreadOf (IsWrongStore input.now row.now) (HasOne (IsSafeOf input.now row.now)) wrong) }
 {
     match part_of(input, row.safe, SAFE) {
         Ok(octets) => {

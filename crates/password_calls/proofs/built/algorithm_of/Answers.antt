@@ -1,6 +1,5 @@
 use Rattle.std.proofs.Common.{rules}
-use Rattle.password_calls.proofs.BuiltParts.{no_pbes2}
-use Rattle.password_calls.proofs.WrongParts.{wrong_other, wrong_pbes1, wrong_pkcs12, wrong_scheme}
+use Rattle.password_calls.proofs.WrongParts.{wrong_other, wrong_pbes1, wrong_pbes2, wrong_pkcs12, wrong_scheme}
 use Rattle.password_calls.specs.WrongParts.{IsScheme}
 use Rattle.password_calls.specs.declared.built.Scheme.TheVariants as Schemes
 use Rattle.password_calls.proofs.built.algorithm_of.Goals as goal
@@ -20,7 +19,7 @@ returns-in_err-salted_of-in-Some-Pkcs12 c =
 pub returns-in_err-pbes2_of-in-Some-Pbes2 : goal.returns-in_err-pbes2_of-in-Some-Pbes2
 returns-in_err-pbes2_of-in-Some-Pbes2 c =
     let said : IsScheme c.args.row.now Schemes.Pbes2 = search rules in
-    let none = no_pbes2 c.args.input.now c.args.row.now said c.in_err-pbes2_of-in-Some-Pbes2.ensures.1 in
+    let both = wrong_pbes2 c.args.input.now c.args.row.now _ said c.in_err-pbes2_of-in-Some-Pbes2.ensures in
     search rules
 
 pub returns-in_err-other_of-in-Some-Other : goal.returns-in_err-other_of-in-Some-Other

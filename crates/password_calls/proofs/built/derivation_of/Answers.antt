@@ -1,13 +1,12 @@
 use Rattle.std.specs.Prelude.{◌≡◌, ◌≢◌, ◌⊎◌}
 use Rattle.std.proofs.Common.{inl, inr, rules}
-use Rattle.password_calls.proofs.BuiltParts.{no_pbkdf2}
-use Rattle.password_calls.proofs.WrongParts.{wrong_derivation, wrong_derivation_salt}
+use Rattle.password_calls.proofs.WrongParts.{wrong_derivation, wrong_derivation_salt, wrong_pbkdf2}
 use Rattle.password_calls.proofs.built.derivation_of.Goals as goal
 use Rattle.password_calls.proofs.built.derivation_of.Goals.{then-row-ne0+else-row-ne0-2+else-row-eq0, else-row-ne0}
 
 pub returns-in_err-pbkdf2_of : goal.returns-in_err-pbkdf2_of
 returns-in_err-pbkdf2_of c =
-    let none = no_pbkdf2 c.args.input.now c.args.row.now c.if-row-ne0.true c.if-row-ne0-2.true c.in_err-pbkdf2_of.ensures.1 in
+    let both = wrong_pbkdf2 c.args.input.now c.args.row.now _ c.if-row-ne0.true c.if-row-ne0-2.true c.in_err-pbkdf2_of.ensures in
     search rules
 
 pub returns-in_err-other_of : goal.returns-in_err-other_of
