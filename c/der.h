@@ -528,8 +528,8 @@ typedef enum der_password_part {
  * *part is 0. Proved is that what is written is normal, and reads as a value of that type, in which each part that is
  * written is in its place. So der_password_parameters gives each number and part that was written, as a range of equal
  * octets and with 1 as its flag, and the object identifiers and elements around them; of an element that was given
- * also what it finds in it. And that at DER_INVALID nothing can be built from what is given. Which part *part says is
- * tested. */
+ * also what it finds in it. And that at DER_INVALID nothing can be built from what is given, and that *part can't be
+ * written; which of several it is, is tested. */
 DER_CALL
 uint32_t der_build_parameters(size_t holder, const uint8_t *input, size_t input_len, const der_password_parts *given,
                               uint8_t *out, size_t out_len, size_t *written, size_t *part);
@@ -596,9 +596,9 @@ typedef enum der_bag_part {
  * Unless at DER_NORMAL out is as it was, unless at DER_NORMAL and DER_NO_ROOM *written is 0, and unless at DER_INVALID
  * *bag and *part are 0. Proved is that what is written is the encoding of a SafeContents whose bags are those that are
  * given, in their order, each with its object identifier, its element and its attributes, and reads as these alone. And
- * that at DER_INVALID the bag with that index can't be written, and those before it can. Which part *part says is
- * tested. Elements are written as they are given: if one isn't DER inside, the whole isn't, and the kinds
- * "safecontents" and "pfx" call it loose, or refuse it. */
+ * that at DER_INVALID the bag with that index can't be written, nor *part of it, and those before it can; which of
+ * several parts it is, is tested. Elements are written as they are given: if one isn't DER inside, the whole isn't, and
+ * the kinds "safecontents" and "pfx" call it loose, or refuse it. */
 DER_CALL
 uint32_t der_build_bags(const uint8_t *input, size_t input_len, const der_bag_given *bags, size_t bags_len,
                         uint8_t *out, size_t out_len, size_t *written, size_t *bag, size_t *part);
@@ -673,7 +673,8 @@ typedef enum der_store_part {
  * Unless at DER_NORMAL out is as it was, unless at DER_NORMAL and DER_NO_ROOM *written is 0, and unless at DER_INVALID
  * *part is 0. Proved is that what is written is the encoding of a PFX with these parts, safe as it is given, and reads
  * as these alone. So der_mac gives the octets of safe and the count, and der_part the object identifier, the digest and
- * the salt. And that at DER_INVALID nothing can be built from what is given. Which part *part says is tested. */
+ * the salt. And that at DER_INVALID nothing can be built from what is given, and that *part can't be written; which of
+ * several it is, is tested. */
 DER_CALL
 uint32_t der_build_store(const uint8_t *input, size_t input_len, const der_store_given *given, uint8_t *out,
                          size_t out_len, size_t *written, size_t *part);
