@@ -225,8 +225,8 @@ typedef struct der_signer_parts {
  * place of that part of that signer, and that the octets there are those of the part: steps over the headers lead there
  * from the input's first octet. Into the file's element, past its content type, into [0] and SignedData in it; past
  * version, digestAlgorithms, encapContentInfo, [0] and [1] if they are there, into signerInfos; past the signers before;
- * and in the signer past the components before the part. The content is found so in encapContentInfo, the certificate
- * in [0]: which of two with equal octets isn't proved. */
+ * and in the signer past the components before the part. The content is found so in encapContentInfo, and in [0] the
+ * certificate, which is the first that names the signer, also of two with equal octets. */
 DER_CALL
 uint32_t der_signer_rows(const uint8_t *input, size_t input_len, size_t first, der_signer_parts *out, size_t out_len,
                          size_t *count, size_t *place);

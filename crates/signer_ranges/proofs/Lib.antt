@@ -5,5 +5,4 @@ pub mod InRanges
 pub mod Between
 pub mod FoundParts
 pub mod Digests
-pub mod Certificates
 pub mod OneSigner

@@ -1,10 +1,11 @@
 -- The ranges of one signer, put together.
-use Rattle.std.specs.Prelude.{◌≡◌, ◌≢◌, ◌⊎◌, ◌≤◌, ◌<◌, ◌+◌, ◌-◌, ℕ, suc, List, [], ◌∷◌, ◌++◌, length, take, drop, get_or, slice_get, slice_range, Option, None, Some, IfSome}
+use Rattle.std.specs.Prelude.{◌≡◌, ◌≢◌, ◌⊎◌, ◌≤◌, ◌<◌, ◌+◌, ◌-◌, ℕ, zero, suc, List, [], ◌∷◌, ◌++◌, length, take, drop, get_or, slice_get, slice_range, Option, None, Some, IfSome}
+use Rattle.std.specs.List.{enumerate_from}
 use Rattle.std.specs.declared.ops.Range.{Range}
 use Rattle.std.proofs.Common.{sym, ap, ◌∙◌, subst, inl, inr, arith}
 use Rattle.std.proofs.lemmas.List.{drop_at, take_at}
-use Rattle.std.proofs.lemmas.Option.{slice_get-get_or, slice_get_within}
-use Rattle.asn1_core.specs.Der.{ElementOctets, Octets}
+use Rattle.std.proofs.lemmas.Option.{slice_get_within}
+use Rattle.asn1_core.specs.Der.{Octets}
 use Rattle.asn1_core_element.specs.declared.error.Error.{Error}
 use Rattle.asn1_core_element.specs.declared.error.Error.TheVariants.{Memory}
 use Rattle.asn1_core_format.specs.Whole.{IsValueOf}
@@ -13,7 +14,7 @@ use Rattle.asn1_located.specs.Routes.{◌▸◌}
 use Rattle.asn1_located.specs.WalkLaws.{fits, walk_lies_in}
 use Rattle.asn1_located.specs.declared.walks.Step.{Step}
 use Rattle.input_ranges.specs.Failures.{is_refusal, memory_fails, refusal_of}
-use Rattle.input_ranges.specs.Ranges.{IsAt, IsAtOrNone}
+use Rattle.input_ranges.specs.Ranges.{IsAt}
 use Rattle.input_ranges.specs.declared.ranges.Refusal.{Refusal}
 use Rattle.located_rows.proofs.RowLaws.{leads_after, range_is}
 use Rattle.located_rows.specs.Rows.{IsRangeOf}
@@ -24,13 +25,18 @@ use Rattle.signer_ranges.proofs.Between.{attributes_given, of_signer}
 use Rattle.signer_ranges.proofs.Digests.{digest_part}
 use Rattle.signer_ranges.proofs.Exact.{algorithm_exact, attributes_exact}
 use Rattle.signer_ranges.proofs.InRanges.{joined, octets_at, text_at}
-use Rattle.signer_ranges.specs.Pieces.{AreInRow, AreSignedFound, IsCertificateFound, IsDigest, IsDigestOrBroken, IsNoCertificateFound}
+use Rattle.signer_ranges.specs.Pieces.{AreSignedFound, IsCertificateFound, IsDigest, IsDigestOrBroken, IsNoCertificateFound}
 use Rattle.signer_ranges.specs.SignerRoutes.{ALGORITHM, certificate, digest_algorithm, digest_in, message_digest, signature, signature_algorithm, signed_attributes, signer}
 use Rattle.signer_ranges.specs.SignerRows.{AreCertificateRows, AreParts, AreSignerRows, HasNoSet, HasSet, IsContentFound}
-use Rattle.signer_ranges.specs.Signers.{AreAdjacent, ArePlacesOrNone, AreRangesOrNone, AreSignedOrNone, AreSignedPlaces, certificates_of, content_info_of, digest_algorithm_of, algorithm_text, FileValue, HasEmptySet, HasNoRange, IsCertificatePlace, IsRefusal, sid_of, signature_algorithm_of, signature_of, signed_file, signed_of, SignerValue, signers_of}
+use Rattle.signer_ranges.specs.Signers.{AreAdjacent, ArePlacesOrNone, AreRangesOrNone, AreSignedOrNone, AreSignedPlaces, certificates_of, content_info_of, digest_algorithm_of, algorithm_text, FileValue, HasEmptySet, HasNoRange, IsCertificateAt, IsCertificatePlace, IsRefusal, sid_of, signature_algorithm_of, signature_of, signed_file, signed_of, SignerValue, signers_of}
+use Rattle.x509_pkcs7.proofs.AllFirsts.{first_without_index}
+use Rattle.x509_pkcs7.specs.AllSigners.{IsSignersAt, Numbered}
 use Rattle.signer_ranges.specs.declared.parts.CertificateRow.{CertificateRow}
 use Rattle.signer_ranges.specs.declared.parts.SignerRow.{SignerRow}
 use Rattle.signer_ranges.specs.declared.ranges.SignedRanges.{SignedRanges}
+
+some_cut : {X : Type 0} {x y : X} → Some x ≡ Some y → x ≡ y
+some_cut e = cc
 
 -- octets to which steps lead are in the input there
 walk_at : (steps : List Step) (b : List ℕ) (n : ℕ) (y : List ℕ) (end : ℕ) → end ≡ n + length y → Walk steps 0 b n y → IsAt b y n end
@@ -42,6 +48,17 @@ walk_at steps b n y end e w =
       inside = omega (arith, e, fits s);
       ordered = omega (arith, e);
     }
+
+-- the index of the first of some items is where it is
+first_in : {X : Type 0} (P : ℕ × X → Type 0) (n : ℕ) (xs : List X) (c : ℕ × X) → IsFirst P (enumerate_from n xs) (Some c) → (j : ℕ) × (c.0 ≡ n + j) × (slice_get xs j ≡ Some c.1)
+first_in P n [] c f = absurd (let e : Some c ≡ None = f in cc)
+first_in P n (x ∷ xs) c (inl f) = let e : c ≡ (n, x) = some_cut f.1 in (0, ap (λ d. d.0) e ∙ omega arith, ap (λ d. Some d.1) (sym e))
+first_in P n (x ∷ xs) c (inr f) = let r = first_in P (n + 1) xs c f.1 in (suc r.0, omega (arith, r.1), r.2)
+
+slice_get_is : {X : Type 0} (xs : List X) (j : ℕ) (x : X) → slice_get xs j ≡ Some x → get_or xs j x ≡ x
+slice_get_is [] j x e = absurd (let n : None ≡ Some x = e in cc)
+slice_get_is (y ∷ ys) zero x e = some_cut e
+slice_get_is (y ∷ ys) (suc j) x e = slice_get_is ys j x e
 
 module _ (b : List ℕ) (v : FileValue) (is : IsValueOf signed_file 64 b v) (i : ℕ) (s : SignerValue) (is_signer : slice_get (signers_of v) i ≡ Some s) (row : SignerRow) (p : AreParts b v i s row) where
   digest_text : IsAt b (algorithm_text (digest_algorithm_of s)) row.digest_algorithm.start row.digest_algorithm.end
@@ -116,20 +133,24 @@ module _ (b : List ℕ) (v : FileValue) (is : IsValueOf signed_file 64 b v) (i :
       )
 
   module _ (rows : List CertificateRow) (known : AreCertificateRows b v rows) where
-    certificate_place : (r : Range ℕ) (octets : ElementOctets) → AreInRow b rows octets r → IsCertificatePlace b v r
-    certificate_place r octets f =
-        let there : slice_get (certificates_of v) f.index ≡ Some (get_or (certificates_of v) f.index []) = slice_get-get_or (certificates_of v) f.index [] (omega (arith, f.inside, known.count)) in
-        let at = known.each f.index f.inside (record { range = r }) (get_or (certificates_of v) f.index []) there in
-        (f.index, get_or (certificates_of v) f.index [], subst (λ (g : Range ℕ). IsRangeOf (certificate f.index) 64 b v (get_or (certificates_of v) f.index []) g.start g.end) (sym (f.same (record { range = r }))) at)
+    certificate_is : (id : signer_identifier.Value) (c : Numbered) → IsFirst (IsSignersAt id) (enumerate_from 0 (certificates_of v)) (Some c) → (row : CertificateRow) → slice_get rows c.0 ≡ Some row → IsRangeOf (certificate c.0) 64 b v c.1 row.range.start row.range.end
+    certificate_is id c first row e =
+        let f = first_in (IsSignersAt id) 0 (certificates_of v) c first in
+        let same : c.0 ≡ f.0 = omega (arith, f.1) in
+        let there : slice_get (certificates_of v) c.0 ≡ Some c.1 = subst (λ j. slice_get (certificates_of v) j ≡ Some c.1) (sym same) f.2 in
+        let at = known.each c.0 (slice_get_within rows c.0 row e) row c.1 there in
+        subst (λ (g : CertificateRow). IsRangeOf (certificate c.0) 64 b v c.1 g.range.start g.range.end) (slice_get_is rows c.0 row e) at
 
-    is_certificate : (octets : Option ElementOctets) (r : Option (Range ℕ)) → IsCertificateFound b rows octets r → IsAtOrNone b octets r × IfSome r (λ c. IsCertificatePlace b v c)
-    is_certificate None None f = (tt, tt)
-    is_certificate None (Some r) f = absurd f
-    is_certificate (Some octets) None f = absurd f
-    is_certificate (Some octets) (Some r) f = (f.at, certificate_place r octets f)
+    is_certificate : (id : signer_identifier.Value) (found : Option Numbered) → IsFirst (IsSignersAt id) (enumerate_from 0 (certificates_of v)) found → (r : Option (Range ℕ)) → IsCertificateFound rows found r → IsCertificateAt b v id r × IfSome r (λ g. IsCertificatePlace b v id g)
+    is_certificate id None first r f = let none : IsCertificateAt b v id None = (None, first_without_index (IsSigners id) 0 (certificates_of v) None first, tt) in subst (λ q. IsCertificateAt b v id q × IfSome q (λ g. IsCertificatePlace b v id g)) (sym f) (none, tt)
+    is_certificate id (Some c) first r f =
+        let at = certificate_is id c first f.0 f.1 in
+        let row = f.0 in
+        let is : IsCertificateAt b v id (Some row.range) = (Some c.1, first_without_index (IsSigners id) 0 (certificates_of v) (Some c) first, octets_at (certificate c.0) 64 b v c.1 row.range.start row.range.end at) in
+        subst (λ q. IsCertificateAt b v id q × IfSome q (λ g. IsCertificatePlace b v id g)) (sym f.2) (is, (c, first, at))
 
     -- all ranges
-    pub are_ranges : (digest : Option Octets) → IsDigest row (signed_of s) (content_info_of v).0 digest → (signed : Option SignedRanges) → AreSignedFound b (signed_of s) row.attributes digest signed → (content : Option (Range ℕ)) → IsContentFound b v content → (octets : Option ElementOctets) → IsFirst (IsSigners (sid_of s)) (certificates_of v) octets → (certificate : Option (Range ℕ)) → IsCertificateFound b rows octets certificate → AreRangesOrNone b v s (Some (record {
+    pub are_ranges : (digest : Option Octets) → IsDigest row (signed_of s) (content_info_of v).0 digest → (signed : Option SignedRanges) → AreSignedFound b (signed_of s) row.attributes digest signed → (content : Option (Range ℕ)) → IsContentFound b v content → (named : Option Numbered) → IsFirst (IsSignersAt (sid_of s)) (enumerate_from 0 (certificates_of v)) named → (certificate : Option (Range ℕ)) → IsCertificateFound rows named certificate → AreRangesOrNone b v s (Some (record {
       signed = signed;
       content = content;
       digest_algorithm = row.digest_algorithm;
@@ -144,9 +165,9 @@ module _ (b : List ℕ) (v : FileValue) (is : IsValueOf signed_file 64 b v) (i :
       signature = row.signature;
       certificate = certificate;
     }))
-    are_ranges digest d signed f content c octets first found at =
+    are_ranges digest d signed f content c named first found at =
         let all = are_signed digest d signed f in
-        let certified = is_certificate octets found at in (
+        let certified = is_certificate (sid_of s) named first found at in (
           record {
             signed = all.0;
             content = c.at;
@@ -154,7 +175,7 @@ module _ (b : List ℕ) (v : FileValue) (is : IsValueOf signed_file 64 b v) (i :
             signature_algorithm = signature_text;
             adjacent = all.1;
             signature = octets_at (signer i ▸ signature) 64 b v (signature_of s) row.signature.start row.signature.end p.signature_at;
-            certificate = (octets, first, certified.0);
+            certificate = certified.0;
           },
           record {
             value = s;
@@ -176,20 +197,12 @@ has_row b v rows known i s is long = omega (arith, slice_get_within (signers_of 
 pub parts_of : (b : List ℕ) (v : FileValue) (rows : List SignerRow) → AreSignerRows b v rows → (i : ℕ) (s : SignerValue) → slice_get (signers_of v) i ≡ Some s → (row : SignerRow) → row ≡ get_or rows i row → AreParts b v i s row
 parts_of b v rows known i s is row e = subst (AreParts b v i s) (sym e) (known.each i (omega (arith, slice_get_within (signers_of v) i s is, known.count)) row s is)
 
-first_in : {X : Type 0} (P : X → Type 0) (xs : List X) (x : X) → IsFirst P xs (Some x) → (j : ℕ) × (slice_get xs j ≡ Some x)
-first_in P [] x f = absurd (let e : Some x ≡ None = f in cc)
-first_in P (y ∷ ys) x (inl f) = (0, sym f.1)
-first_in P (y ∷ ys) x (inr f) = let r = first_in P ys x f.1 in (suc r.0, r.1)
-
--- a certificate that a signer names has a row with its octets
-pub has_certificate : (b : List ℕ) (v : FileValue) (rows : List CertificateRow) → AreCertificateRows b v rows → (id : signer_identifier.Value) (octets : Option ElementOctets) → IsFirst (IsSigners id) (certificates_of v) octets → IsNoCertificateFound b rows octets → ⊥
+-- a certificate that a signer names has a row
+pub has_certificate : (b : List ℕ) (v : FileValue) (rows : List CertificateRow) → AreCertificateRows b v rows → (id : signer_identifier.Value) (named : Option Numbered) → IsFirst (IsSignersAt id) (enumerate_from 0 (certificates_of v)) named → IsNoCertificateFound rows named → ⊥
 has_certificate b v rows known id None first none = none
-has_certificate b v rows known id (Some octets) first none =
-    let f = first_in (IsSigners id) (certificates_of v) octets first in
-    let inside : f.0 < length rows = omega (arith, slice_get_within (certificates_of v) f.0 octets f.1, known.count) in
-    let d : CertificateRow = record { range = record { start = 0; end = 0 } } in
-    let at = known.each f.0 inside d octets f.1 in
-    none f.0 (omega arith) inside d (octets_at (certificate f.0) 64 b v octets (get_or rows f.0 d).range.start (get_or rows f.0 d).range.end at)
+has_certificate b v rows known id (Some c) first long =
+    let f = first_in (IsSignersAt id) 0 (certificates_of v) c first in
+    omega (arith, slice_get_within (certificates_of v) f.0 c.1 f.2, known.count, f.1, long)
 
 pub refused : (b : List ℕ) (first most : ℕ) (e : Error) (r : Refusal) → e ≡ Memory → r ≡ refusal_of e → IsRefusal b (HasNoRange b first most) r
 refused b first most e r m g = is_refusal signed_file b (HasNoRange b first most) e r g (memory_fails (HasNoRange b first most) e m)

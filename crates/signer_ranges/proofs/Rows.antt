@@ -1,6 +1,7 @@
 -- The ranges of signers, along lists.
 use Rattle.std.specs.Prelude.{◌≡◌, ℕ, zero, suc, ◌+◌, ◌-◌, ◌<◌, ◌≤◌, List, [], ◌∷◌, ◌++◌, Option, Some, length, take, drop, get_or, map, slice_get}
 use Rattle.std.proofs.Common.{refl, sym, ap, subst, ◌∙◌, add-one, drop-cons, arith, length-append, length-take}
+use Rattle.std.specs.List.{enumerate_from}
 use Rattle.std.proofs.Math.ListN.{drop_of_length-le}
 use Rattle.std.proofs.lemmas.List.{append-nil, append_assoc, get_or-drop, get_or-map, get_or-take, take_all, length-drop, take-map, drop-map, length-map}
 use Rattle.std.proofs.lemmas.Option.{slice_get-get_or}
@@ -10,10 +11,10 @@ use Rattle.located_rows.specs.Rows.{AllAt}
 use Rattle.pkcs7_signed_crl.specs.Certificates.{certificate_choices_value}
 use Rattle.pkcs7_signed_crl.specs.declared.certificates.CertificateChoices.{CertificateChoices}
 use Rattle.pkcs7_signed_crl.specs.SignerParts.{signer_identifier}
-use Rattle.pkcs7_verifier.specs.Matches.{choice_octets, IsSigners, IsFirst}
+use Rattle.pkcs7_verifier.specs.Matches.{choice_octets, IsFirst}
 use Rattle.signer_ranges.specs.Signers.{SignerValue, FileValue, signers_of, ArePlacesOrNone, AreRangesOrNone, AreRangesOfAll, IsPartOf}
 use Rattle.signer_ranges.specs.declared.ranges.SignerRanges.{SignerRanges}
-use Rattle.x509_pkcs7.specs.AllSigners.{AreSigners}
+use Rattle.x509_pkcs7.specs.AllSigners.{AreSignersAt, IsSignersAt, Numbered}
 use Rattle.x509_pkcs7.specs.RawSigners.{raw_signer_info_value}
 use Rattle.x509_pkcs7.specs.declared.raw_signers.RawSignerInfo.{RawSignerInfo}
 
@@ -45,13 +46,13 @@ module _ {X : Type 0} (f : X → SignerValue) (xs : List X) (i : ℕ) (b : List 
   pub ranges_all : (found : List (Option SignerRanges)) → length xs ≤ i → ((rest : List (Option SignerRanges)) → AreRangesOfAll b v (map f (drop i xs)) rest → AreRangesOfAll b v (map f xs) (found ++ rest)) → AreRangesOfAll b v (map f xs) found
   ranges_all found h before = subst (AreRangesOfAll b v (map f xs)) (append-nil found) (before [] (subst (λ ys. AreRangesOfAll b v (map f ys) []) (sym (drop_of_length-le xs h)) refl))
 
-module _ {X Y : Type 0} (id : X → signer_identifier.Value) (g : Y → Option ElementOctets) (cs : List ElementOctets) where
+module _ {X Y : Type 0} (id : X → signer_identifier.Value) (g : Y → Option Numbered) (cs : List ElementOctets) where
   -- the certificate of the signer with an index
-  pub certificate_at : (xs : List X) (ys : List Y) (i : ℕ) (x : X) (y : Y) → AreSigners cs (map id xs) (map g ys) → i < length xs → x ≡ get_or xs i x → y ≡ get_or ys i y → IsFirst (IsSigners (id x)) cs (g y)
+  pub certificate_at : (xs : List X) (ys : List Y) (i : ℕ) (x : X) (y : Y) → AreSignersAt cs (map id xs) (map g ys) → i < length xs → x ≡ get_or xs i x → y ≡ get_or ys i y → IsFirst (IsSignersAt (id x)) (enumerate_from 0 cs) (g y)
   certificate_at [] ys i x y a h e k = absurd (omega (arith, h))
   certificate_at (c ∷ xs) [] i x y a h e k = absurd a
   certificate_at (c ∷ xs) (d ∷ ys) zero x y a h e k =
-      subst (λ z. IsFirst (IsSigners (id z)) cs (g y)) (sym e) (subst (λ z. IsFirst (IsSigners (id c)) cs (g z)) (sym k) a.0)
+      subst (λ z. IsFirst (IsSignersAt (id z)) (enumerate_from 0 cs) (g y)) (sym e) (subst (λ z. IsFirst (IsSignersAt (id c)) (enumerate_from 0 cs) (g z)) (sym k) a.0)
   certificate_at (c ∷ xs) (d ∷ ys) (suc i) x y a h e k = certificate_at xs ys i x y a.1 (omega (arith, h)) e k
 
 -- a list of two functions' values
@@ -60,10 +61,10 @@ map_twice f g [] = refl
 map_twice f g (x ∷ xs) = ap (λ ys. g (f x) ∷ ys) (map_twice f g xs)
 
 -- certificates of signed data, and those that are asked for
-pub certificates_are : (cs ds : List CertificateChoices) (xs ys : List signer_identifier.Value) (found : List (Option ElementOctets)) → ds ≡ cs → xs ≡ ys → AreSigners (map (λ c. choice_octets (certificate_choices_value c)) ds) xs found → AreSigners (map choice_octets (map certificate_choices_value cs)) ys found
+pub certificates_are : (cs ds : List CertificateChoices) (xs ys : List signer_identifier.Value) (found : List (Option Numbered)) → ds ≡ cs → xs ≡ ys → AreSignersAt (map (λ c. choice_octets (certificate_choices_value c)) ds) xs found → AreSignersAt (map choice_octets (map certificate_choices_value cs)) ys found
 certificates_are cs ds xs ys found e g a =
     let same : map (λ c. choice_octets (certificate_choices_value c)) ds ≡ map choice_octets (map certificate_choices_value cs) = ap (map (λ c. choice_octets (certificate_choices_value c))) e ∙ map_twice certificate_choices_value choice_octets cs in
-    subst (λ bs. AreSigners bs ys found) same (subst (λ ids. AreSigners (map (λ c. choice_octets (certificate_choices_value c)) ds) ids found) g a)
+    subst (λ bs. AreSignersAt bs ys found) same (subst (λ ids. AreSignersAt (map (λ c. choice_octets (certificate_choices_value c)) ds) ids found) g a)
 
 -- as many certificates as are read
 pub long_certificates : (cs ds : List CertificateChoices) → ds ≡ cs → length ds ≡ length (map choice_octets (map certificate_choices_value cs))
@@ -114,13 +115,13 @@ module _ (b : List ℕ) (v : FileValue) (first : ℕ) (xs : List RawSignerInfo) 
   pub all_ranged : (i : ℕ) (found : List (Option SignerRanges)) → length xs ≤ i → RangedSoFar b v first xs i found → AreRangesOfAll b v (map raw_signer_info_value xs) found × AllAt (λ j r. ArePlacesOrNone b v (first + j) r) found
   all_ranged i found h so_far = (ranges_all raw_signer_info_value xs i b v found h so_far.ranges, so_far.places)
 
-module _ {X Y : Type 0} (id : X → signer_identifier.Value) (g : Y → Option ElementOctets) (cs : List ElementOctets) where
+module _ {X Y : Type 0} (id : X → signer_identifier.Value) (g : Y → Option Numbered) (cs : List ElementOctets) where
   -- a certificate for each signer, or none
-  as_many : (xs : List X) (ys : List Y) → AreSigners cs (map id xs) (map g ys) → length ys ≡ length xs
+  as_many : (xs : List X) (ys : List Y) → AreSignersAt cs (map id xs) (map g ys) → length ys ≡ length xs
   as_many [] [] a = refl
   as_many [] (y ∷ ys) a = omega (arith, ap length a)
   as_many (x ∷ xs) [] a = absurd a
   as_many (x ∷ xs) (y ∷ ys) a = let e : length ys ≡ length xs = as_many xs ys a.1 in omega (arith, e)
 
-  pub none_lacking : (xs : List X) (ys : List Y) (i : ℕ) → AreSigners cs (map id xs) (map g ys) → i < length xs → length ys ≤ i → ⊥
+  pub none_lacking : (xs : List X) (ys : List Y) (i : ℕ) → AreSignersAt cs (map id xs) (map g ys) → i < length xs → length ys ≤ i → ⊥
   none_lacking xs ys i a h l = omega (arith, h, l, as_many xs ys a)

@@ -1,13 +1,13 @@
 -- What is known of a signer before its ranges are put together.
-use Rattle.std.specs.Prelude.{◌≡◌, ◌≢◌, ◌⊎◌, ◌≤◌, ◌<◌, ℕ, List, [], ◌∷◌, length, get_or, slice_get, slice_range, Option, None, Some}
+use Rattle.std.specs.Prelude.{◌≡◌, ◌≢◌, ◌⊎◌, ◌≤◌, ◌<◌, ℕ, List, [], ◌∷◌, length, slice_get, slice_range, Option, None, Some}
 use Rattle.std.specs.declared.ops.Range.{Range}
-use Rattle.asn1_core.specs.Der.{ElementOctets, Octets, OidOctets}
+use Rattle.asn1_core.specs.Der.{Octets, OidOctets}
 use Rattle.asn1_core_oid.specs.Known.{data_oid}
-use Rattle.input_ranges.specs.Ranges.{IsAt}
 use Rattle.located_rows.specs.Rows.{LeadsTo}
 use Rattle.pkcs7_attributes.specs.NamedAttributes.{message_digest_oid}
 use Rattle.x509_base.specs.AttributesByOid.{with_oid}
 use Rattle.x509_base.specs.Names.{attribute}
+use Rattle.x509_pkcs7.specs.AllSigners.{Numbered}
 use Rattle.signer_ranges.specs.SignerRoutes.{digest_in}
 use Rattle.signer_ranges.specs.Signers.{SignerValue, SignWrongly, signed_of, Signs}
 use Rattle.signer_ranges.specs.declared.parts.CertificateRow.{CertificateRow}
@@ -42,25 +42,12 @@ AreSignedFound b attrs place None (Some r) = ⊥
 AreSignedFound b attrs place (Some digest) None = ⊥
 AreSignedFound b attrs place (Some digest) (Some r) = (r.attributes ≡ place) × IsDigestFound b attrs place r.message_digest
 
--- the octets are in none of these ranges from one on
-abbrev pub AreNowhereFrom : List ℕ → List CertificateRow → List ℕ → ℕ → Type 0
-AreNowhereFrom b rows octets from = (j : ℕ) → from ≤ j → j < length rows → (d : CertificateRow) → IsAt b octets (get_or rows j d).range.start (get_or rows j d).range.end → ⊥
+-- the range of the certificate with that index, or none
+abbrev pub IsCertificateFound : List CertificateRow → Option Numbered → Option (Range ℕ) → Type 0
+IsCertificateFound rows None r = r ≡ None
+IsCertificateFound rows (Some c) r = (row : CertificateRow) × (slice_get rows c.0 ≡ Some row) × (r ≡ Some row.range)
 
--- the octets are in this range, which is one of these
-pub record AreInRow (b : List ℕ) (rows : List CertificateRow) (octets : List ℕ) (r : Range ℕ) : Type 0 where
-  pub index : ℕ
-  pub inside : index < length rows
-  pub same : (d : CertificateRow) → r ≡ (get_or rows index d).range
-  pub at : IsAt b octets r.start r.end
-
--- the certificate in its range, or none
-abbrev pub IsCertificateFound : List ℕ → List CertificateRow → Option ElementOctets → Option (Range ℕ) → Type 0
-IsCertificateFound b rows None None = Unit {0}
-IsCertificateFound b rows None (Some r) = ⊥
-IsCertificateFound b rows (Some octets) None = ⊥
-IsCertificateFound b rows (Some octets) (Some r) = AreInRow b rows octets r
-
--- there is a certificate, and it is in none of the ranges
-abbrev pub IsNoCertificateFound : List ℕ → List CertificateRow → Option ElementOctets → Type 0
-IsNoCertificateFound b rows None = ⊥
-IsNoCertificateFound b rows (Some octets) = AreNowhereFrom b rows octets 0
+-- there is a certificate, and no row with its index
+abbrev pub IsNoCertificateFound : List CertificateRow → Option Numbered → Type 0
+IsNoCertificateFound rows None = ⊥
+IsNoCertificateFound rows (Some c) = length rows ≤ c.0

@@ -1,5 +1,6 @@
 -- What a verification of a signer needs, as ranges of the file (RFC 5652, 5.3 to 5.6, 11.1 and 11.2).
 use Rattle.std.specs.Prelude.{◌≡◌, ◌≢◌, ◌⊎◌, ℕ, ◌+◌, List, [], ◌∷◌, ◌++◌, length, take, drop, map, slice_get, Option, None, Some, IfSome}
+use Rattle.std.specs.List.{enumerate_from}
 use Rattle.std.specs.declared.ops.Range.{Range}
 use Rattle.asn1_core.specs.Asn1.{SEQUENCE}
 use Rattle.asn1_core.specs.Der.{Format, object_identifier, octet_string, ElementOctets, Octets, OidOctets}
@@ -144,9 +145,9 @@ pub record AreSignedPlaces (b : List ℕ) (v : FileValue) (i : ℕ) (s : SignerV
 abbrev pub IsContentPlace : List ℕ → FileValue → Range ℕ → Type 0
 IsContentPlace b v r = (octets : Octets) × IsRangeOf content 64 b v octets r.start r.end
 
--- one of the certificates, in its place
-abbrev pub IsCertificatePlace : List ℕ → FileValue → Range ℕ → Type 0
-IsCertificatePlace b v r = (j : ℕ) × (octets : ElementOctets) × IsRangeOf (certificate j) 64 b v octets r.start r.end
+-- the first certificate that a signer names, in its place
+abbrev pub IsCertificatePlace : List ℕ → FileValue → signer_identifier.Value → Range ℕ → Type 0
+IsCertificatePlace b v id r = (c : ℕ × ElementOctets) × IsFirst (λ x. IsSigners id x.1) (enumerate_from 0 (certificates_of v)) (Some c) × IsRangeOf (certificate c.0) 64 b v c.1 r.start r.end
 
 -- each range of the signer with that index is the place of its part
 pub record ArePlacesOf (b : List ℕ) (v : FileValue) (i : ℕ) (r : SignerRanges) : Type 0 where
@@ -157,7 +158,7 @@ pub record ArePlacesOf (b : List ℕ) (v : FileValue) (i : ℕ) (r : SignerRange
   pub digest_algorithm_at : IsRangeOf (signer i ▸ digest_algorithm) 64 b v (digest_algorithm_of value) r.digest_algorithm.start r.digest_algorithm.end
   pub signature_algorithm_at : IsRangeOf (signer i ▸ signature_algorithm) 64 b v (signature_algorithm_of value) r.signature_algorithm.start r.signature_algorithm.end
   pub signature_at : IsRangeOf (signer i ▸ signature) 64 b v (signature_of value) r.signature.start r.signature.end
-  pub certificate_at : IfSome r.certificate (λ c. IsCertificatePlace b v c)
+  pub certificate_at : IfSome r.certificate (λ c. IsCertificatePlace b v (sid_of value) c)
 
 -- in the place of the signed attributes of the signer i is an empty set, if it has none and the content is id-data
 pub record IsEmptyPlace (b : List ℕ) (v : FileValue) (i : ℕ) : Type 0 where

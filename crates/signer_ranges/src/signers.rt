@@ -1,22 +1,22 @@
 //! The ranges of each signer's parts, from one reading of the file.
 
-ghost use Rattle.std.specs.Prelude.{◌≡◌, ◌≢◌, ◌↔◌, ◌≤◌, ◌<◌, ◌+◌, ◌^◌, [], IsTrue, Some, MatchOption, MatchResult, length, map, slice_get, take, drop};
+ghost use Rattle.std.specs.Prelude.{◌≡◌, ◌≢◌, ◌↔◌, ◌<◌, ◌+◌, ◌^◌, [], IsTrue, Some, MatchResult, length, map, slice_get, take, drop};
+ghost use Rattle.std.specs.List.{enumerate_from};
 ghost use Rattle.asn1_core.specs.Der.{object_identifier, octet_string, octets_of, option_value};
 ghost use Rattle.asn1_core_element.specs.declared.error.Error.TheVariants.{Memory};
 ghost use Rattle.asn1_core_format.specs.Whole.{IsValueOf};
-ghost use Rattle.input_ranges.specs.Ranges.{IsAt};
 ghost use Rattle.located_rows.specs.Rows.{AllAt};
 ghost use Rattle.pkcs7_attributes.specs.Attributes.{attributes_value};
 ghost use Rattle.pkcs7_attributes.specs.NamedAttributes.{content_type_oid, message_digest_oid};
 ghost use Rattle.pkcs7_signed_crl.specs.SignerParts.{signer_identifier_value};
-ghost use Rattle.pkcs7_verifier.specs.Matches.{IsSigners, IsFirst};
+ghost use Rattle.pkcs7_verifier.specs.Matches.{IsFirst};
 ghost use Rattle.signer_ranges.specs.Files.{file_value};
-ghost use Rattle.signer_ranges.specs.Pieces.{AreInRow, AreNowhereFrom, AreSignedFound, IsCertificateFound, IsDigestIndex, IsDigestOrBroken, IsNoCertificateFound};
+ghost use Rattle.signer_ranges.specs.Pieces.{AreSignedFound, IsCertificateFound, IsDigestIndex, IsDigestOrBroken, IsNoCertificateFound};
 ghost use Rattle.signer_ranges.specs.SignerRows.{IsContentFound, IsKnown};
 ghost use Rattle.signer_ranges.specs.Signers.{AreFound, ArePlacesOrNone, AreRangesOfAll, AreRangesOrNone, certificates_of, HasNoRange, IsPartOf, IsRefusal, OnlyOrNone, signed_file, signers_of, SignsOrNone};
 ghost use Rattle.x509_base.specs.AttributesByOid.{with_oid, IsOnlyOf};
 ghost use Rattle.x509_base.specs.Names.{attribute_value};
-ghost use Rattle.x509_pkcs7.specs.AllSigners.{AreSigners};
+ghost use Rattle.x509_pkcs7.specs.AllSigners.{AreSignersAt, IsSignersAt, numbered_of};
 ghost use Rattle.x509_pkcs7.specs.RawSigners.{raw_signer_info_value};
 
 use crate::parts::{
@@ -211,69 +211,18 @@ fn copied(range: &Option<Range<usize>>) -> Option<Range<usize>>
     }
 }
 
-/// Whether the octets are in that range.
-fn is_in(input: &[u8], range: &Range<usize>, octets: &[u8]) -> bool
-    ensures { IsTrue result ↔ IsAt input.now octets.now range.now.start range.now.end }
-{
-    if range.start > range.end || range.end > input.len() {
-        return false;
-    }
-    &input[range.start..range.end] == octets
-}
-
-/// The first of some ranges, from one on, that the octets are in.
-fn range_from_on(
-    input: &[u8],
-    rows: &[CertificateRow],
-    from: usize,
-    octets: &[u8],
-) -> Option<Range<usize>>
-    ensures { MatchOption result
-        (AreNowhereFrom input.now rows.now octets.now from)
-        (λ r. AreInRow input.now rows.now octets.now r) }
-{
-    let mut index = from;
-    while index < rows.len() {
-        let range = &rows[index].range;
-        if is_in(input, range, octets) {
-            return Some(range.start..range.end);
-        }
-        index += 1;
-    }
-    None
-}
-
-/// The range with an index, if the octets are in it, and else another that they are in: it isn't promised that the index
-/// of a signer's certificate has its octets.
-fn range_with(
-    input: &[u8],
-    rows: &[CertificateRow],
-    index: usize,
-    octets: &[u8],
-) -> Option<Range<usize>>
-    ensures { MatchOption result
-        (AreNowhereFrom input.now rows.now octets.now 0)
-        (λ r. AreInRow input.now rows.now octets.now r) }
-{
-    match range_from_on(input, rows, index, octets) {
-        Some(range) => Some(range),
-        None => range_from_on(input, rows, 0, octets),
-    }
-}
-
 /// Where a signer's certificate is.
 fn certificate_range(
-    input: &[u8],
     rows: &[CertificateRow],
     certificate: Option<SignerCertificate<'_>>,
 ) -> Result<Option<Range<usize>>, Error>
     ensures { MatchResult result
-        (λ r. IsCertificateFound input.now rows.now (option_value (λ f. f.element.now.0.items) certificate.entry) r)
-        (λ _. IsNoCertificateFound input.now rows.now (option_value (λ f. f.element.now.0.items) certificate.entry)) }
+        (λ r. IsCertificateFound rows.now (option_value numbered_of certificate.entry) r)
+        (λ _. IsNoCertificateFound rows.now (option_value numbered_of certificate.entry)) }
 {
     match certificate {
-        Some(found) => match range_with(input, rows, found.index, found.element.0.as_slice()) {
-            Some(range) => Ok(Some(range)),
+        Some(found) => match rows.get(found.index) {
+            Some(row) => Ok(Some(row.range.start..row.range.end)),
             None => Err(Error::Missing),
         },
         None => Ok(None),
@@ -301,7 +250,7 @@ fn ranges_of(
 ) -> Result<Option<SignerRanges>, Error>
     requires known { IsKnown known.now.input.now (file_value known.now.file.now) known.now.content known.now.certificates.items known.now.signers.items }
     requires signer { slice_get (signers_of (file_value known.now.file.now)) index ≡ Some (raw_signer_info_value signer.now) }
-    requires certificate { IsFirst (IsSigners (signer_identifier_value signer.now.sid)) (certificates_of (file_value known.now.file.now)) (option_value (λ f. f.element.now.0.items) certificate) }
+    requires certificate { IsFirst (IsSignersAt (signer_identifier_value signer.now.sid)) (enumerate_from 0 (certificates_of (file_value known.now.file.now))) (option_value numbered_of certificate) }
     ensures { MatchResult result
         (λ r. AreRangesOrNone known.now.input.now (file_value known.now.file.now) (raw_signer_info_value signer.now) r × ArePlacesOrNone known.now.input.now (file_value known.now.file.now) index r)
         (λ e. e ≡ Memory) }
@@ -315,7 +264,7 @@ fn ranges_of(
         None => return Ok(None),
     };
     let signed = signed_ranges(known.input, row, &signer.signed_attrs.0, digest);
-    let certificate = certificate_range(known.input, &known.certificates, certificate)?;
+    let certificate = certificate_range(&known.certificates, certificate)?;
     Ok(Some(SignerRanges {
         signed,
         content: copied(&known.content),
@@ -337,7 +286,7 @@ fn ranges_of_all(
     requires known { IsKnown known.now.input.now (file_value known.now.file.now) known.now.content known.now.certificates.items known.now.signers.items }
     requires fits { first + length signers.now < 2 ^ 64 }
     requires signers { AllAt (λ j x. slice_get (signers_of (file_value known.now.file.now)) (first + j) ≡ Some (raw_signer_info_value x)) signers.now }
-    requires certificates { AreSigners (certificates_of (file_value known.now.file.now)) (map (λ s. signer_identifier_value s.sid) signers.now) (map (λ f. option_value (λ e. e.element.now.0.items) f) certificates.now) }
+    requires certificates { AreSignersAt (certificates_of (file_value known.now.file.now)) (map (λ s. signer_identifier_value s.sid) signers.now) (map (λ f. option_value numbered_of f) certificates.now) }
     ensures { MatchResult result
         (λ found. AreRangesOfAll known.now.input.now (file_value known.now.file.now) (map raw_signer_info_value signers.now) found.items × AllAt (λ j r. ArePlacesOrNone known.now.input.now (file_value known.now.file.now) (first + j) r) found.items)
         (λ e. e ≡ Memory) }
@@ -390,7 +339,7 @@ fn certificates_of_all<'a>(
     signers: &[RawSignerInfo],
 ) -> Result<Vec<Option<SignerCertificate<'a>>>, Error>
     ensures { MatchResult result
-        (λ found. AreSigners (certificates_of (file_value file.now)) (map (λ s. signer_identifier_value s.sid) signers.now) (map (λ f. option_value (λ e. e.element.now.0.items) f) found.items))
+        (λ found. AreSignersAt (certificates_of (file_value file.now)) (map (λ s. signer_identifier_value s.sid) signers.now) (map (λ f. option_value numbered_of f) found.items))
         (λ e. e ≡ Memory) }
 {
     let names = names_of(alloc, signers)?;

@@ -3,6 +3,7 @@ use Rattle.std.specs.Prelude.{◌≡◌, ◌↔◌, ℕ, Bool, true, false, List
 use Rattle.std.proofs.Common.{inl, inr, Vec, Global}
 use Rattle.std.specs.BTreeMap.{BTreeMap, get_by}
 use Rattle.std.specs.Cmp.Lexicographic.{slice_cmp}
+use Rattle.std.specs.List.{enumerate_from}
 use Rattle.std.specs.Ordering.{nat_cmp}
 use Rattle.std.specs.Str.{bytes_eq}
 use denote.Ref.{Bor}
@@ -17,6 +18,7 @@ use Rattle.x509_base.specs.declared.digests.SubjectKeyIdentifier.{SubjectKeyIden
 use Rattle.x509_pkcs7.specs.declared.verifier.all_signers.KnownCertificate.{KnownCertificate}
 use Rattle.x509_pkcs7.specs.declared.verifier.all_signers.NamedBy.{NamedBy}
 use Rattle.x509_pkcs7.specs.declared.verifier.all_signers.NamedBy.TheVariants.{Issuer, Key}
+use Rattle.x509_pkcs7.specs.declared.verifier.all_signers.SignerCertificate.{SignerCertificate}
 
 -- for each signer, in their order, the first certificate that it names, or none: what `signer_certificate` returns for it
 abbrev pub AreSigners : List ElementOctets → List signer_identifier.Value → List (Option ElementOctets) → Type 0
@@ -24,15 +26,33 @@ AreSigners certificates [] found = found ≡ []
 AreSigners certificates (id ∷ ids) [] = ⊥
 AreSigners certificates (id ∷ ids) (first ∷ found) = IsFirst (IsSigners id) certificates first × AreSigners certificates ids found
 
--- what is known of a certificate: its octets, its parts, and the identifier of its key, if it has one that is read
+-- a certificate with its index
+abbrev pub Numbered : Type 0
+Numbered = ℕ × ElementOctets
+
+-- it is one that the signer names
+abbrev pub IsSignersAt : signer_identifier.Value → Numbered → Type 0
+IsSignersAt id certificate = IsSigners id certificate.1
+
+-- the same with the index of each first certificate, counted from 0
+abbrev pub AreSignersAt : List ElementOctets → List signer_identifier.Value → List (Option Numbered) → Type 0
+AreSignersAt certificates [] found = found ≡ []
+AreSignersAt certificates (id ∷ ids) [] = ⊥
+AreSignersAt certificates (id ∷ ids) (first ∷ found) = IsFirst (IsSignersAt id) (enumerate_from 0 certificates) first × AreSignersAt certificates ids found
+
+abbrev pub numbered_of : SignerCertificate → Numbered
+numbered_of c = (c.index, c.element.now.0.items)
+
+-- what is known of a certificate: its index and its octets, its parts, and the identifier of its key, if it has one that
+-- is read
 abbrev pub KnownValue : Type 0
-KnownValue = ElementOctets × (certificate_head.Value × Option Octets)
+KnownValue = Numbered × (certificate_head.Value × Option Octets)
 
 abbrev pub key_octets : Option SubjectKeyIdentifier → Option Octets
 key_octets key = option_value (λ k. k.0.0.items) key
 
 abbrev pub known_value : KnownCertificate → KnownValue
-known_value k = (k.element.now.0.items, (certificate_head_value k.head, key_octets k.key))
+known_value k = ((k.index, k.element.now.0.items), (certificate_head_value k.head, key_octets k.key))
 
 -- it has that issuer and that serial number, or that identifier of its key
 abbrev pub IsKnownAs : signer_identifier.Value → KnownValue → Type 0
@@ -44,18 +64,18 @@ abbrev pub IsKnownKey : certificate_head.Value → Option Octets → Type 0
 IsKnownKey v own = (key : Octets) → (own ≡ Some key) ↔ IsKeyIdOf (rest_of v) (Some key)
 
 -- what is known of that certificate says which signers name it
-pub record IsKnownOf (b : ElementOctets) (k : KnownValue) : Type 0 where
-  pub octets : k.0 ≡ b
-  pub named : (id : signer_identifier.Value) → IsKnownAs id k ↔ IsSigners id b
+pub record IsKnownOf (certificate : Numbered) (k : KnownValue) : Type 0 where
+  pub same : k.0 ≡ certificate
+  pub named : (id : signer_identifier.Value) → IsKnownAs id k ↔ IsSignersAt id certificate
 
 -- what is known of an element, or nothing where it isn't read as a certificate
-abbrev pub IsKnownOrNone : ElementOctets → Option KnownValue → Type 0
-IsKnownOrNone b None = (id : signer_identifier.Value) → IsSigners id b → ⊥
-IsKnownOrNone b (Some k) = IsKnownOf b k
+abbrev pub IsKnownOrNone : Numbered → Option KnownValue → Type 0
+IsKnownOrNone certificate None = (id : signer_identifier.Value) → IsSignersAt id certificate → ⊥
+IsKnownOrNone certificate (Some k) = IsKnownOf certificate k
 
 -- the first among what is known is the first among the certificates, whoever is the signer
-abbrev pub AreKnownOf : List ElementOctets → List KnownValue → Type 0
-AreKnownOf certificates known = (id : signer_identifier.Value) (found : Option KnownValue) → IsFirst (IsKnownAs id) known found → IsFirst (IsSigners id) certificates (option_value (λ k. k.0) found)
+abbrev pub AreKnownOf : List Numbered → List KnownValue → Type 0
+AreKnownOf certificates known = (id : signer_identifier.Value) (found : Option KnownValue) → IsFirst (IsKnownAs id) known found → IsFirst (IsSignersAt id) certificates (option_value (λ k. k.0) found)
 
 -- none or one
 abbrev pub listed : Option KnownValue → List KnownValue
@@ -63,8 +83,8 @@ listed None = []
 listed (Some k) = k ∷ []
 
 -- one more is known, or none where the element isn't read
-abbrev pub IsAppended : ElementOctets → List KnownValue → List KnownValue → Type 0
-IsAppended b old new = (more : Option KnownValue) × IsKnownOrNone b more × (new ≡ old ++ listed more)
+abbrev pub IsAppended : Numbered → List KnownValue → List KnownValue → Type 0
+IsAppended certificate old new = (more : Option KnownValue) × IsKnownOrNone certificate more × (new ≡ old ++ listed more)
 
 -- the encoding of an issuer, with the octets of a serial number after it
 abbrev pub name_octets : name.Value → Octets → Octets

@@ -2,7 +2,7 @@
 
 ghost use Rattle.std.specs.Prelude.{◌≡◌, ◌≢◌, ◌↔◌, ℕ, List, IsTrue, true, Some, MatchResult, map};
 ghost use Rattle.std.proofs.Common.{inl};
-ghost use Rattle.std.specs.List.{find};
+ghost use Rattle.std.specs.List.{enumerate_from, find};
 ghost use Rattle.std.specs.Str.{bytes_eq};
 ghost use Rattle.asn1_core.specs.Der.{ElementOctets, option_value};
 ghost use Rattle.asn1_core_element.specs.declared.error.Error.TheVariants.{Memory};
@@ -11,7 +11,7 @@ ghost use Rattle.pkcs7_signed_crl.specs.SignerParts.{certificate_serial_number_v
 ghost use Rattle.pkcs7_verifier.specs.Heads.{certificate_head_value};
 ghost use Rattle.pkcs7_verifier.specs.Matches.{IsNamedBy, IsSigners, choice_octets, IsFirst};
 ghost use Rattle.x509_base.specs.Names.{name_parts};
-ghost use Rattle.x509_pkcs7.specs.AllSigners.{AreSigners, key_octets, known_value, KnownValue, IsKnownAs, IsKnownKey, IsKnownOrNone, AreKnownOf, IsAppended, name_octets, octets_by, is_named, kept, known_at};
+ghost use Rattle.x509_pkcs7.specs.AllSigners.{AreSigners, AreSignersAt, Numbered, IsSignersAt, numbered_of, key_octets, known_value, KnownValue, IsKnownAs, IsKnownKey, IsKnownOrNone, AreKnownOf, IsAppended, name_octets, octets_by, is_named, kept, known_at};
 ghost use Rattle.x509_pkcs7.specs.declared.verifier.all_signers.NamedBy.TheVariants.{Issuer, Key};
 
 use asn1_core::prelude::*;
@@ -163,7 +163,7 @@ fn known<'a>(
     element: &'a Asn1RawDer,
 ) -> Result<Option<KnownCertificate<'a>>, Error>
     ensures { MatchResult result
-        (λ found. IsKnownOrNone element.now.0.items (option_value known_value found))
+        (λ found. IsKnownOrNone (index, element.now.0.items) (option_value known_value found))
         (λ e. e ≡ Memory) }
 {
     match from_bytes::<CertificateHead>(alloc, element.0.as_slice()) {
@@ -192,7 +192,7 @@ fn push_known<'a>(
     element: &'a Asn1RawDer,
 ) -> Result<(), Error>
     ensures { MatchResult result
-        (λ _. IsAppended element.now.0.items (map known_value found.old.items) (map known_value found.new.items))
+        (λ _. IsAppended (index, element.now.0.items) (map known_value found.old.items) (map known_value found.new.items))
         (λ e. e ≡ Memory) }
 {
     match known(alloc, index, element)? {
@@ -210,7 +210,7 @@ fn known_certificates<'a>(
     certificates: &'a [CertificateChoices],
 ) -> Result<Vec<KnownCertificate<'a>>, Error>
     ensures { MatchResult result
-        (λ known. AreKnownOf (map (λ c. choice_octets (certificate_choices_value c)) certificates.now) (map known_value known.items))
+        (λ known. AreKnownOf (enumerate_from 0 (map (λ c. choice_octets (certificate_choices_value c)) certificates.now)) (map known_value known.items))
         (λ e. e ≡ Memory) }
 {
     let mut found = Vec::new(alloc);
@@ -330,7 +330,7 @@ fn first_of<'b, 'a>(
     }
 }
 
-/// The element of the first that a signer names.
+/// The first that a signer names, with its index.
 fn first_element<'b, 'a>(
     alloc: Global,
     names: &KnownByName<'b, 'a>,
@@ -340,7 +340,7 @@ fn first_element<'b, 'a>(
     requires issuer { (q : List ℕ) → known_at names.now.by_issuer q ≡ find (is_named Issuer q) (map known_value known.now) }
     requires key { (q : List ℕ) → known_at names.now.by_key q ≡ find (is_named Key q) (map known_value known.now) }
     ensures { MatchResult result
-        (λ found. (certificates : List ElementOctets) → AreKnownOf certificates (map known_value known.now) → IsFirst (IsSigners (signer_identifier_value signer.now)) certificates (option_value (λ f. f.element.now.0.items) found))
+        (λ found. (certificates : List Numbered) → AreKnownOf certificates (map known_value known.now) → IsFirst (IsSignersAt (signer_identifier_value signer.now)) certificates (option_value numbered_of found))
         (λ e. e ≡ Memory) }
 {
     match first_of(alloc, names, known, signer)? {
@@ -359,7 +359,7 @@ fn first_elements<'a>(
     signers: &[&SignerIdentifier],
 ) -> Result<Vec<Option<SignerCertificate<'a>>>, Error>
     ensures { MatchResult result
-        (λ found. (certificates : List ElementOctets) → AreKnownOf certificates (map known_value known.now) → AreSigners certificates (map (λ s. signer_identifier_value s.now) signers.now) (map (λ f. option_value (λ e. e.element.now.0.items) f) found.items))
+        (λ found. (certificates : List ElementOctets) → AreKnownOf (enumerate_from 0 certificates) (map known_value known.now) → AreSignersAt certificates (map (λ s. signer_identifier_value s.now) signers.now) (map (λ f. option_value numbered_of f) found.items))
         (λ e. e ≡ Memory) }
 {
     let names = KnownByName {
@@ -377,22 +377,22 @@ fn first_elements<'a>(
 /// A certificate that a signer names.
 #[derive(Clone, Copy, Debug)]
 pub struct SignerCertificate<'a> {
-    /// Where it was found among the certificates, counted from 0. Of this nothing is proved: compare before use.
+    /// Which of the certificates it is, counted from 0.
     pub index: usize,
     pub element: &'a Asn1RawDer,
 }
 
 /// For each signer, in their order, the first of some certificates that it names, as `signer_certificate` returns it,
-/// or `None` where it names none of them. Reads each certificate once, for all signers, and passes over what isn't read
-/// as one; then looks each signer's up by its name, so that n certificates and as many signers take some n log n
-/// comparisons. Refuses by `Memory` only.
+/// with its index, or `None` where it names none of them. Reads each certificate once, for all signers, and passes over
+/// what isn't read as one; then looks each signer's up by its name, so that n certificates and as many signers take some
+/// n log n comparisons. Refuses by `Memory` only.
 pub fn signer_certificates_at<'a>(
     alloc: Global,
     certificates: &'a [CertificateChoices],
     signers: &[&SignerIdentifier],
 ) -> Result<Vec<Option<SignerCertificate<'a>>>, Error>
     ensures { MatchResult result
-        (λ found. AreSigners (map (λ c. choice_octets (certificate_choices_value c)) certificates.now) (map (λ s. signer_identifier_value s.now) signers.now) (map (λ f. option_value (λ e. e.element.now.0.items) f) found.items))
+        (λ found. AreSignersAt (map (λ c. choice_octets (certificate_choices_value c)) certificates.now) (map (λ s. signer_identifier_value s.now) signers.now) (map (λ f. option_value numbered_of f) found.items))
         (λ e. e ≡ Memory) }
 {
     let known = known_certificates(alloc, certificates)?;

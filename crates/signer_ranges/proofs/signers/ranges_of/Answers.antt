@@ -5,6 +5,7 @@ use Rattle.signer_ranges.specs.Files.{file_value}
 use Rattle.signer_ranges.specs.Pieces.{IsDigestOrBroken}
 use Rattle.signer_ranges.specs.SignerRows.{AreCertificateRows, AreSignerRows, IsContentFound}
 use Rattle.signer_ranges.specs.Signers.{sid_of}
+use Rattle.x509_pkcs7.specs.AllSigners.{numbered_of}
 use Rattle.x509_pkcs7.specs.RawSigners.{raw_signer_info_value}
 use Rattle.signer_ranges.proofs.signers.ranges_of.Goals as goal
 
@@ -24,7 +25,7 @@ returns-in_err-certificate c =
     let b = c.args.known.now.input.now in
     let v = file_value c.args.known.now.file.now in
     let rows = subst (AreCertificateRows b v) (sym c.deref-2.ensures.value) c.requires.known.certificates_at in
-    absurd (has_certificate b v c.deref-2.result.now rows (sid_of (raw_signer_info_value c.args.signer.now)) (option_value (λ f. f.element.now.0.items) c.args.certificate) c.requires.certificate c.in_err-certificate.ensures)
+    absurd (has_certificate b v c.deref-2.result.now rows (sid_of (raw_signer_info_value c.args.signer.now)) (option_value numbered_of c.args.certificate) c.requires.certificate c.in_err-certificate.ensures)
 
 pub returns : goal.returns
 returns c =
@@ -40,4 +41,4 @@ returns c =
     (subst (λ d. IsDigestOrBroken row s (octets_of c.args.known.now.file.now.signed_data.0.content_info.content_type.0) (option_value (λ o. option_value (λ t. t.0.items) o) d)) c.in-Some-2.is c.in_ok-digest.ensures)
     c.signed_ranges-signed.result c.signed_ranges-signed.ensures
     c.copied.result (subst (IsContentFound b v) (sym c.copied.ensures) c.requires.known.content_at)
-    (option_value (λ f. f.element.now.0.items) c.args.certificate) c.requires.certificate c.in_ok-certificate.certificate c.in_ok-certificate.ensures
+    (option_value numbered_of c.args.certificate) c.requires.certificate c.in_ok-certificate.certificate c.in_ok-certificate.ensures

@@ -3,16 +3,17 @@ use Rattle.pkcs7_signed_crl.specs.SignerParts.{signer_identifier_value}
 use Rattle.signer_ranges.proofs.Rows.{all_ranged, certificate_at, none_lacking, one_ranged}
 use Rattle.signer_ranges.specs.Files.{file_value}
 use Rattle.signer_ranges.specs.Signers.{certificates_of}
+use Rattle.x509_pkcs7.specs.AllSigners.{numbered_of}
 use Rattle.signer_ranges.proofs.signers.ranges_of_all.Goals as goal
 
 pub returns-in_default : goal.returns-in_default
 returns-in_default c =
-    absurd (none_lacking (λ s. signer_identifier_value s.sid) (λ f. option_value (λ e. e.element.now.0.items) f) (certificates_of (file_value c.args.known.now.file.now))
+    absurd (none_lacking (λ s. signer_identifier_value s.sid) (λ f. option_value numbered_of f) (certificates_of (file_value c.args.known.now.file.now))
     c.args.signers.now c.args.certificates.now c.loop-index.index c.requires.certificates c.loop-index-test.true c.in_default.ensures.lookup.3)
 
 pub ranges_of-requires-clause-certificate : goal.ranges_of-requires-clause-certificate
 ranges_of-requires-clause-certificate c =
-    certificate_at (λ s. signer_identifier_value s.sid) (λ f. option_value (λ e. e.element.now.0.items) f) (certificates_of (file_value c.args.known.now.file.now)) c.args.signers.now c.args.certificates.now c.loop-index.index c.index-signers-index.result c.in-Some.certificate.now
+    certificate_at (λ s. signer_identifier_value s.sid) (λ f. option_value numbered_of f) (certificates_of (file_value c.args.known.now.file.now)) c.args.signers.now c.args.certificates.now c.loop-index.index c.index-signers-index.result c.in-Some.certificate.now
     c.requires.certificates c.loop-index-test.true c.index-signers-index.is c.in-Some.ensures.lookup.1
 
 pub loop-index-preserved : goal.loop-index-preserved
