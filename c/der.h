@@ -627,9 +627,8 @@ typedef struct der_content_given {
  *  - DER_NO_MEMORY.
  * Unless at DER_NORMAL out is as it was, unless at DER_NORMAL and DER_NO_ROOM *written is 0, and unless at DER_INVALID
  * *content is 0. Proved is that what is written is the encoding of an AuthenticatedSafe whose contents are those that
- * are given, in their order, of data the OCTET STRING of its octets, and reads as these alone. And that at DER_INVALID
- * the content with that index can't be written, and those before it can. That a ContentInfo has the octets that are
- * given is tested. */
+ * are given, in their order, of data the OCTET STRING of its octets, and reads as these alone; a ContentInfo has the
+ * octets that are given. And that at DER_INVALID the content with that index can't be written, and those before it can. */
 DER_CALL
 uint32_t der_build_safe(const uint8_t *input, size_t input_len, const der_content_given *contents, size_t contents_len,
                         uint8_t *out, size_t out_len, size_t *written, size_t *content);

@@ -1,15 +1,16 @@
 """What a verification of signers needs, as der_signer_rows says it of signed data, is what tests/oracle/signed.py finds,
-range by range: of signers of versions 1 and 3, of changed files, of hundreds of signers, and with attributes that RFC
-5652 forbids; and in rooms for all, for fewer and for none, from several signers on."""
+range by range: of signers of versions 1 and 3, of changed files, of hundreds of signers, with each certificate twice, and
+with attributes that RFC 5652 forbids; and in rooms for all, for fewer and for none, from several signers on."""
 import random
 import unittest
 
 from support import inputs
 from support.containers import long_signers
+from support.elements import within
 from support.parts import certificate_places
 from support.rooms import SIGNER_ROW, InRooms, in_room, marked, octets_of
 from support.signed_attributes import of_another_content
-from support.statuses import BAD_ATTRIBUTES
+from support.statuses import BAD_ATTRIBUTES, NORMAL
 from oracle import answers
 from oracle.signed import NOTHING
 
@@ -27,6 +28,11 @@ def windows(count):
 
 def just_one_more(count):
     return [(0, count + 1)]
+
+
+def with_certificates_again(text):
+    """Signed data with all certificates once more after them."""
+    return within(text, [0, 1, 0, 0xA0], lambda certificates: 2 * certificates)
 
 
 class TestSignerRows(InRooms):
@@ -50,6 +56,17 @@ class TestSignerRows(InRooms):
                 found += self.same_signers(inputs.changed(chance, text), just_one_more)
         for form in ("status", "over_attributes", "has_content", "has_certificate"):
             self.at_least(sum(bool(getattr(row, form)) for row in found), LEAST, f"signers by {form}")
+
+    def test_of_equal_certificates_the_first_is_the_signers(self):
+        texts = [it for it in inputs.signed_data() if answers.signers(it)[0] == NORMAL and certificate_places(it)]
+        found = 0
+        for text in map(with_certificates_again, texts):
+            places = certificate_places(text)
+            for row in self.same_signers(text, just_one_more):
+                if row.has_certificate:
+                    self.same(row.certificate in places[: len(places) // 2], True, "the first of two", text)
+                    found += 1
+        self.at_least(found, 15, "signers with their certificate twice")
 
     def test_bad_attributes_are_told(self):
         files = inputs.bad_attributes(answers.is_over_attributes)

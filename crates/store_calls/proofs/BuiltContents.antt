@@ -1,9 +1,9 @@
 -- What contents are written of, and why they aren't.
-use Rattle.std.specs.Prelude.{◌≡◌, ℕ, List, Result, Ok, Err, MatchResult}
+use Rattle.std.specs.Prelude.{◌≡◌, ◌≢◌, ℕ, List, ◌++◌, None, Some, Result, Ok, Err, MatchResult}
 use Rattle.std.specs.List.{AllByRecursion, AllZip}
-use Rattle.std.proofs.Common.{inl, inr, refl, subst, sym}
-use Rattle.asn1_core.specs.Asn1.{OCTET_STRING}
-use Rattle.asn1_core.specs.Der.{IsElement, IsOid, IsTagByte, IsValueOf, Octets as OctetList, octet_string, oid_from_test}
+use Rattle.std.proofs.Common.{ap, ◌∙◌, inl, inr, refl, subst, sym}
+use Rattle.asn1_core.specs.Asn1.{ANY, EXPLICIT, OCTET_STRING}
+use Rattle.asn1_core.specs.Der.{element, ElementOctets, IsElement, IsOid, IsTagByte, IsValueOf, object_identifier, Octets as OctetList, octet_string, oid_from_test}
 use Rattle.asn1_core_element.specs.declared.error.Error.{Error}
 use Rattle.asn1_core_oid.specs.Known.{data_oid}
 use Rattle.asn1_borrowed.specs.Written.{IsNotWritten}
@@ -22,6 +22,20 @@ use Rattle.store_writers.specs.Written.{CONTENT, CONTENTS}
 -- a content that is data, whatever else it is read as
 pub data_again : (x : List ℕ) (v : raw_content_info.Value) → IsValueOf CONTENT.format 64 x v → v.0 ≡ data_oid → HasOne (IsInfoOf x) → ⊥
 data_again x v read same (w, is) = is.1 (subst (λ u. u.0 ≡ data_oid) (sym (read.only w is.0)) same)
+
+-- a ContentInfo has one encoding
+exact_content : (k : ℕ) (x : List ℕ) (c : ElementOctets) → (EXPLICIT 0 ANY).format.Reads k x c → x ≡ (EXPLICIT 0 ANY).format.text c
+exact_content k x c s = s.1 ∙ ap (element 0xA0) s.2.0
+
+exact_parts : (k : ℕ) (x : List ℕ) (v : raw_content_info.Value) → raw_content_info.format.Reads k x v → x ≡ raw_content_info.format.text v
+exact_parts k x (oid, (None, t)) s = s.2 ∙ ap (λ a. a ++ s.1) s.3.0 ∙ ap (λ r. object_identifier.text oid ++ r) s.4
+exact_parts k x (oid, (Some c, t)) s =
+    let content = s.4.2 ∙ ap (λ a. a ++ s.4.1) (exact_content k s.4.0 c s.4.3) ∙ ap (λ r. (EXPLICIT 0 ANY).format.text c ++ r) s.4.4 in
+    s.2 ∙ ap (λ a. a ++ s.1) s.3.0 ∙ ap (λ r. object_identifier.text oid ++ r) content
+
+-- a ContentInfo of another type than data
+pub info_read : (x : List ℕ) (v : raw_content_info.Value) → IsValueOf CONTENT.format 64 x v → v.0 ≢ data_oid → IsInfoOf x v
+info_read x v read other = (read.reads, other, read.reads.1 ∙ ap (element 0x30) (exact_parts 64 read.reads.0 v read.reads.2))
 
 module _ (b : List ℕ) where
   its_content : (row : ContentGiven) (x : List ℕ) → IsPartOf b row.octets x → HasOne (IsContentBy b row) → HasOne (IsContentOf row.is_data x)

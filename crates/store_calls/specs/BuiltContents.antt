@@ -17,9 +17,9 @@ use Rattle.store_writers.specs.Written.{CONTENT, CONTENTS, IsAuthenticatedSafeOf
 abbrev pub IsDataOf : List ℕ → raw_content_info.Value → Type 0
 IsDataOf x v = HasLevels 65 x × (v ≡ (data_oid, (Some (octet_string.text x), tt)))
 
--- a ContentInfo of another type
+-- a ContentInfo of another type, which is written as it is
 abbrev pub IsInfoOf : List ℕ → raw_content_info.Value → Type 0
-IsInfoOf x v = CONTENT.format.Reads 64 x v × (v.0 ≢ data_oid)
+IsInfoOf x v = CONTENT.format.Reads 64 x v × (v.0 ≢ data_oid) × (x ≡ CONTENT.format.text v)
 
 abbrev pub IsContentOf : ℕ → List ℕ → raw_content_info.Value → Type 0
 IsContentOf is_data x v = ((is_data ≢ 0) × IsDataOf x v) ⊎ ((is_data ≡ 0) × IsInfoOf x v)
