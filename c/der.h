@@ -804,7 +804,7 @@ typedef enum der_signed_part {
  * *index and *part are 0. Proved is that what is written is the encoding of signed data with these parts, its sets but
  * those of attributes in the order of DER and its versions as said, and reads as these alone, so that der_signer_rows
  * finds the signers with the octets that are given. And that at DER_INVALID the parts that are given can't be written,
- * as said above, and that *part and *index say one that can't; which part of a signer it is, is tested. */
+ * as said above, and that *part and *index say one that can't. */
 DER_CALL
 uint32_t der_build_signed(const uint8_t *input, size_t input_len, const der_signed_given *given,
                           const der_range *certificates, size_t certificates_len, const der_range *crls,

@@ -2,18 +2,20 @@
 use Rattle.std.specs.Prelude.{◌≡◌, ◌≢◌, ◌⊎◌, ◌<◌, ℕ, List, [], ◌∷◌, length, slice_index_or, take, Option, None, Some, Result, Ok, Err, MatchResult}
 use Rattle.std.specs.List.{AllByRecursion, AllZip}
 use Rattle.std.proofs.Common.{ap, inl, inr, refl, subst, sym, ◌∙◌}
+use Rattle.std.proofs.lemmas.List.{get_or_default}
 use Rattle.std.proofs.lemmas.Option.{none-some}
 use Rattle.asn1_core.specs.Asn1.{SEQUENCE}
 use Rattle.asn1_core.specs.Der.{IsElement, IsOid, IsTagByte, octet_string, option_value}
 use Rattle.asn1_core_element.specs.declared.error.Error.TheVariants.{Invalid, TooLong, Memory}
 use Rattle.asn1_core_format.specs.Components.{AllIf}
 use Rattle.asn1_core_oid.specs.Known.{data_oid}
-use Rattle.call_values.proofs.BuiltLists.{zip_left}
-use Rattle.call_values.proofs.GivenElements.{less, none_at, not_all, row_without, same_octets}
+use Rattle.call_values.proofs.BuiltLists.{row_at}
+use Rattle.call_values.proofs.GivenElements.{less, not_all, row_without, same_octets}
 use Rattle.call_values.proofs.GivenParts.{same_part}
-use Rattle.cms_calls.specs.BuiltSigned.{AreGivenBy, GivesNoSigned, GivesPart, GivesSigner, HasSignerParts, IsContentOf, IsIdentifierOf, IsInfoOf, IsNoSigned, IsSignerBy, IsWrong, Rows}
-use Rattle.call_values.specs.Given.{IsPartOf}
-use Rattle.cms_calls.specs.GivenSigned.{IsNoInfo, IsNoItem, IsNoSigner, IsPartAt, IsSignerAt, IsWhy, wrong_part}
+use Rattle.cms_calls.specs.BuiltSigned.{AreGivenBy, GivesNoSigned, GivesPart, GivesSignerPart, HasSignerPart, HasSignerParts, IsContentOf, IsIdentifierOf, IsInfoOf, IsNoSigned, IsSignerBy, IsWrong, Rows}
+use Rattle.attribute_writers.specs.Refusals.{IsWithout}
+use Rattle.call_values.specs.Given.{HasNone, IfGiven, IsPartOf}
+use Rattle.cms_calls.specs.GivenSigned.{IsNoInfo, IsNoItem, IsNoSigner as NoSignerIs, IsNoSignerIn, IsPartAt, IsUnreadIn, IsWhy, wrong_part}
 use Rattle.call_values.specs.Read.{HasOne}
 use Rattle.cms_calls.specs.declared.built_signed.NoSigned.{NoSigned}
 use Rattle.cms_calls.specs.declared.built_signed.NoSigned.TheVariants.{Part, NotWritten}
@@ -26,11 +28,11 @@ use Rattle.pkcs7_verifier.specs.Heads.{certificate_head}
 use Rattle.signed_writers.proofs.OneSigner.{one_signer}
 use Rattle.signed_writers.specs.Signed as Written
 use Rattle.signed_writers.specs.Signed.{CanBeWritten, GivenParts, IsChoice, IsConsistent, IsRevocation, IsSigned, type_of}
-use Rattle.signed_writers.specs.Signers.{AreAttributesIn, IsIdentifierIn, IsSignerIn, IsUnread}
+use Rattle.signed_writers.specs.Signers.{AreAttributesIn, IsIdentifierIn, IsNoSigner, IsReadAs, IsSignerIn, IsWrongPart}
 use Rattle.signed_writers.specs.Values.{content_octets}
 use Rattle.signed_writers.specs.declared.checks.NotSigned.{NotSigned}
 use Rattle.signed_writers.specs.declared.checks.SignedPart.{SignedPart}
-use Rattle.signed_writers.specs.declared.checks.SignedPart.TheVariants as Parts
+use Rattle.signed_writers.specs.declared.checks.SignedPart.TheVariants as Places
 use Rattle.signed_writers.specs.declared.content.Content.{Content}
 use Rattle.signed_writers.specs.declared.content.Content.TheVariants.{Octets as InOctets, Element}
 use Rattle.signed_writers.specs.declared.content.ContentInfo.{ContentInfo}
@@ -38,9 +40,14 @@ use Rattle.signed_writers.specs.declared.signers.Identifier.{Identifier}
 use Rattle.signed_writers.specs.declared.signers.Identifier.TheVariants.{Certificate, Key}
 use Rattle.signed_writers.specs.declared.signers.NotRead.{NotRead}
 use Rattle.signed_writers.specs.declared.signers.Signer.{Signer}
+use Rattle.signed_writers.specs.declared.signers.SignerPart.{SignerPart}
+use Rattle.signed_writers.specs.declared.signers.SignerPart.TheVariants as Parts
 use Rattle.signer_ranges.specs.SignerRoutes.{ALGORITHM, SignerValue}
 use Rattle.signer_ranges.specs.Signers.{digest_algorithm_of, sid_of, signature_algorithm_of, signed_of}
 use Rattle.x509_pkcs7.specs.RawAttributes.{unsigned_of}
+
+without_at : {X : Type 0} (P : X → Type 0) (xs : List X) (i : ℕ) (d : X) → i < length xs → (P (slice_index_or xs i d) → ⊥) → IsWithout P xs i
+without_at P xs i d l none = record { item = slice_index_or xs i d; inside = l; is = get_or_default xs i d (slice_index_or xs i d) l; none = none }
 
 module _ (b : List ℕ) where
   -- Of any parts that a row gives the same signer is read.
@@ -64,25 +71,57 @@ module _ (b : List ℕ) where
       unsigned = subst (λ o. AreAttributesIn o (unsigned_of s)) (same_octets b row.has_unsigned_attributes row.unsigned_attributes (option_value (λ o. o.now) x.unsigned_attributes) (option_value (λ o. o.now) y.unsigned_attributes) is.unsigned its.unsigned) h.unsigned;
     }
 
+    -- a part that a row gives is that of any octets that it gives
+    not_wrong : (x : Signer) → HasSignerParts b row x → (part : SignerPart) → HasSignerPart b part row → IsWrongPart x part → ⊥
+    not_wrong x is Parts.Identifier (y, its, (i, h)) n = n (i, same_name y x.identifier i its is.identifier h)
+    not_wrong x is Parts.DigestAlgorithm (y, at, h) n = n (subst (IsReadAs ALGORITHM.format) (same_part b row.digest_algorithm x.digest_algorithm.now y is.digest_algorithm at) h)
+    not_wrong x is Parts.SignedAttributes (o, at, h) n = n (subst (λ q. HasOne (AreAttributesIn q)) (same_octets b row.has_signed_attributes row.signed_attributes o (option_value (λ q. q.now) x.signed_attributes) at is.signed) h)
+    not_wrong x is Parts.SignatureAlgorithm (y, at, h) n = n (subst (IsReadAs ALGORITHM.format) (same_part b row.signature_algorithm x.signature_algorithm.now y is.signature_algorithm at) h)
+    not_wrong x is Parts.Signature g n = n
+    not_wrong x is Parts.UnsignedAttributes (o, at, h) n = n (subst (λ q. HasOne (AreAttributesIn q)) (same_octets b row.has_unsigned_attributes row.unsigned_attributes o (option_value (λ q. q.now) x.unsigned_attributes) at is.unsigned) h)
+
     -- the signer that is read of its parts
-    pub signer_read : {A : Type 0} (value : A → SignerValue) (x : Signer) → HasSignerParts b row x → (res : Result A NotRead) → MatchResult res (λ s. IsSignerIn x (value s)) (λ w. IsUnread (HasOne (IsSignerIn x)) w) → MatchResult res (λ s. IsSignerBy b row (value s)) (λ w. IsUnread (HasOne (IsSignerBy b row)) w)
+    pub signer_read : {A : Type 0} (value : A → SignerValue) (x : Signer) → HasSignerParts b row x → (res : Result A NotRead) → MatchResult res (λ s. IsSignerIn x (value s)) (λ w. IsNoSigner x w) → MatchResult res (λ s. IsSignerBy b row (value s)) (λ w. IsUnreadIn b row w)
     signer_read value x parts (Ok s) h = (x, parts, h)
-    signer_read value x parts (Err w) h = (h.0, λ m g. h.1 m (g.0, same_signer g.1.0 x g.0 g.1.1 parts g.1.2))
+    signer_read value x parts (Err w) h = (h.0, λ m g. not_wrong x parts w.part g (h.1 m))
+
+    -- a part whose range isn't in the input
+    absent : (part e : SignerPart) → e ≡ part → (HasSignerPart b part row → ⊥) → HasSignerPart b e row → ⊥
+    absent part e same none g = none (subst (λ p. HasSignerPart b p row) same g)
+
+    pub no_identifier : (e : SignerPart) → (e ≡ Parts.Identifier) × HasNone (IsIdentifierOf b row) → HasSignerPart b e row → ⊥
+    no_identifier e n = absent Parts.Identifier e n.0 (λ g. n.1 g.0 g.1)
+
+    pub no_digest_algorithm : (e : SignerPart) → (e ≡ Parts.DigestAlgorithm) × HasNone (IsPartOf b row.digest_algorithm) → HasSignerPart b e row → ⊥
+    no_digest_algorithm e n = absent Parts.DigestAlgorithm e n.0 (λ g. n.1 g.0 g.1)
+
+    pub no_signed_attributes : (e : SignerPart) → (e ≡ Parts.SignedAttributes) × HasNone (IfGiven row.has_signed_attributes (IsPartOf b row.signed_attributes)) → HasSignerPart b e row → ⊥
+    no_signed_attributes e n = absent Parts.SignedAttributes e n.0 (λ g. n.1 g.0 g.1)
+
+    pub no_signature_algorithm : (e : SignerPart) → (e ≡ Parts.SignatureAlgorithm) × HasNone (IsPartOf b row.signature_algorithm) → HasSignerPart b e row → ⊥
+    no_signature_algorithm e n = absent Parts.SignatureAlgorithm e n.0 (λ g. n.1 g.0 g.1)
+
+    pub no_signature : (e : SignerPart) → (e ≡ Parts.Signature) × HasNone (IsPartOf b row.signature) → HasSignerPart b e row → ⊥
+    no_signature e n = absent Parts.Signature e n.0 (λ g. n.1 g.0 g.1)
+
+    pub no_unsigned_attributes : (e : SignerPart) → (e ≡ Parts.UnsignedAttributes) × HasNone (IfGiven row.has_unsigned_attributes (IsPartOf b row.unsigned_attributes)) → HasSignerPart b e row → ⊥
+    no_unsigned_attributes e n = absent Parts.UnsignedAttributes e n.0 (λ g. n.1 g.0 g.1)
+
+    -- a signer has all parts
+    has_part : (x : Signer) → HasSignerParts b row x → (s : SignerValue) → IsSignerIn x s → (part : SignerPart) → HasSignerPart b part row
+    has_part x is s h Parts.Identifier = (x.identifier, is.identifier, (sid_of s, h.identifier))
+    has_part x is s h Parts.DigestAlgorithm = (x.digest_algorithm.now, is.digest_algorithm, (digest_algorithm_of s, h.digest_algorithm))
+    has_part x is s h Parts.SignedAttributes = (option_value (λ q. q.now) x.signed_attributes, is.signed, (signed_of s, h.signed))
+    has_part x is s h Parts.SignatureAlgorithm = (x.signature_algorithm.now, is.signature_algorithm, (signature_algorithm_of s, h.signature_algorithm))
+    has_part x is s h Parts.Signature = (x.signature.now, is.signature)
+    has_part x is s h Parts.UnsignedAttributes = (option_value (λ q. q.now) x.unsigned_attributes, is.unsigned, (unsigned_of s, h.unsigned))
 
     same_by : (s t : SignerValue) → IsSignerBy b row s → IsSignerBy b row t → t ≡ s
     same_by s t (x, parts, is) (y, more, its) = one_signer x t s (same_signer y x t more parts its) is
 
-  -- the rows before one that gives nothing
-  pub all_give : (rows : List SignerGiven) (signers : List SignerValue) → AllZip (IsSignerBy b) rows signers → AllByRecursion (λ row. HasOne (IsSignerBy b row)) rows
-  all_give = zip_left (IsSignerBy b) (λ row. HasOne (IsSignerBy b row)) (λ row s is. (s, is))
-
-  -- the first that gives nothing, and is told so
-  told_at : {X : Type 0} (Gives : X → Type 0) (Told : ℕ → WrongPart → Type 0) (rows : List X) (i : ℕ) (d : X) (wrong : WrongPart) → i < length rows → AllByRecursion Gives (take i rows) → (Gives (slice_index_or rows i d) → ⊥) → Told i wrong → IsNoItem Gives Told rows (Part wrong)
-  told_at Gives Told rows i d wrong l before none told = (i, told, none_at Gives rows i d l before none)
-
-  pub no_signer_at : (rows : List SignerGiven) (i : ℕ) (d : SignerGiven) (w : NotRead) (no : NoSigned) → i < length rows → AllByRecursion (λ row. HasOne (IsSignerBy b row)) (take i rows) → IsUnread (HasOne (IsSignerBy b (slice_index_or rows i d))) w → IsNoSigner i w no → IsNoItem (λ row. HasOne (IsSignerBy b row)) IsSignerAt rows no
-  no_signer_at rows i d w (Part wrong) l before unread is = told_at (λ row. HasOne (IsSignerBy b row)) IsSignerAt rows i d wrong l before (unread.1 is.0) (w.part, is.1)
-  no_signer_at rows i d w (NotWritten e) l before unread is = is
+  pub no_signer_at : (rows : List SignerGiven) (i : ℕ) (d : SignerGiven) (w : NotRead) (no : NoSigned) → i < length rows → IsUnreadIn b (slice_index_or rows i d) w → NoSignerIs i w no → IsNoSignerIn b rows no
+  no_signer_at rows i d w (Part wrong) l unread is = (i, w.part, is.1, without_at (HasSignerPart b w.part) rows i d l (unread.1 is.0))
+  no_signer_at rows i d w (NotWritten e) l unread is = is
 
   same_content : (row : SignedGiven) (o p : Option Content) → IsContentOf b row o → IsContentOf b row p → option_value content_octets o ≡ option_value content_octets p
   same_content row None None is its = refl
@@ -115,6 +154,15 @@ module _ (b : List ℕ) where
   is_alone (r ∷ rs) s i all signed e = absurd (let n : r ∷ rs ≡ [] = e in cc)
 
   module _ (rows : Rows) where
+    -- the parts of a signer that can be written
+    consistent_part : (given : GivenParts) → AreGivenBy b rows given → (part : SignerPart) (row : SignerGiven) → ((s : SignerValue) × IsSignerBy b row s × IsConsistent (type_of given) s) → GivesSignerPart b rows.info.content_type part row
+    consistent_part given are part row (s, by, consistent) = (
+      has_part row by.0 by.1 s by.2 part,
+      λ _ other its t at.
+          (let here : IsConsistent t s = subst (λ u. IsConsistent u s) (same_part b rows.info.content_type t (type_of given) at.0 are.info.content_type) consistent in
+          subst (IsConsistent t) (sym (same_by row s other by its)) here),
+    )
+
     -- a part that is wrong is of nothing that can be written
     none_given : (wrong : WrongPart) → IsWrong b rows wrong → GivesNoSigned b rows
     none_given Wrong.ContentType none given are can = none (type_of given) (are.info.content_type, can.content.0)
@@ -128,7 +176,7 @@ module _ (b : List ℕ) where
     none_given (Wrong.Certificate i) w given are can = not_all (IsPartOf b) IsChoice (GivesPart b IsChoice) (λ r g. g) rows.certificates given.certificates i w are.certificates can.certificates
     none_given (Wrong.Crl i) w given are can = not_all (IsPartOf b) IsRevocation (GivesPart b IsRevocation) (λ r g. g) rows.crls given.crls i w are.crls can.crls
     none_given (Wrong.Signer i part) w given are can =
-        not_all (IsSignerBy b) (IsConsistent (type_of given)) (GivesSigner b rows.info.content_type) (λ row g. (g.0, g.1, λ t at. subst (λ u. IsConsistent u g.0) (same_part b rows.info.content_type t (type_of given) at.0 are.info.content_type) g.2)) rows.signers given.signers i w are.signers can.signers
+        not_all (IsSignerBy b) (IsConsistent (type_of given)) (GivesSignerPart b rows.info.content_type part) (consistent_part given are part) rows.signers given.signers i w are.signers can.signers
 
     no_part : (wrong : WrongPart) → IsWrong b rows wrong → IsNoSigned b rows (Part wrong)
     no_part wrong is = (is, none_given wrong is)
@@ -141,16 +189,16 @@ module _ (b : List ℕ) where
     no_info wrong (inl n) = told wrong Wrong.ContentType n.0 (λ x o. n.1 x o.0)
     no_info wrong (inr n) = told wrong Wrong.Content n.0 (λ g. n.1 g.0 g.1)
 
-    pub no_certificates : (no : NoSigned) → IsNoItem (λ part. HasOne (IsPartOf b part)) (IsPartAt Parts.Certificate) rows.certificates no → IsNoSigned b rows no
+    pub no_certificates : (no : NoSigned) → IsNoItem (λ part. HasOne (IsPartOf b part)) (IsPartAt Places.Certificate) rows.certificates no → IsNoSigned b rows no
     no_certificates (Part wrong) (i, same, first) = told wrong (Wrong.Certificate i) same (less (λ part. HasOne (IsPartOf b part)) (GivesPart b IsChoice) rows.certificates i (λ part g. (g.0, g.1)) first.one)
     no_certificates (NotWritten e) memory = inr memory
 
-    pub no_crls : (no : NoSigned) → IsNoItem (λ part. HasOne (IsPartOf b part)) (IsPartAt Parts.RevocationList) rows.crls no → IsNoSigned b rows no
+    pub no_crls : (no : NoSigned) → IsNoItem (λ part. HasOne (IsPartOf b part)) (IsPartAt Places.RevocationList) rows.crls no → IsNoSigned b rows no
     no_crls (Part wrong) (i, same, first) = told wrong (Wrong.Crl i) same (less (λ part. HasOne (IsPartOf b part)) (GivesPart b IsRevocation) rows.crls i (λ part g. (g.0, g.1)) first.one)
     no_crls (NotWritten e) memory = inr memory
 
-    pub no_signers : (no : NoSigned) → IsNoItem (λ row. HasOne (IsSignerBy b row)) IsSignerAt rows.signers no → IsNoSigned b rows no
-    no_signers (Part wrong) (i, same, first) = told wrong (Wrong.Signer i same.0) same.1 (less (λ row. HasOne (IsSignerBy b row)) (GivesSigner b rows.info.content_type) rows.signers i (λ row g. (g.0, g.1)) first.one)
+    pub no_signers : (no : NoSigned) → IsNoSignerIn b rows.signers no → IsNoSigned b rows no
+    no_signers (Part wrong) (i, part, same, without) = told wrong (Wrong.Signer i part) same (less (HasSignerPart b part) (GivesSignerPart b rows.info.content_type part) rows.signers i (λ row g. g.0) without)
     no_signers (NotWritten e) memory = inr memory
 
     -- what is given isn't written
@@ -159,19 +207,19 @@ module _ (b : List ℕ) where
       type_is x at = same_part b rows.info.content_type (type_of given) x are.info.content_type at
 
       refused : (part : SignedPart) (i : ℕ) → Written.IsWrong given part i → IsWrong b rows (wrong_part part i)
-      refused Parts.ContentType i n = λ x o. n.1 (subst IsOid (type_is x o.0) o.1)
-      refused Parts.Content i n = λ g.
+      refused Places.ContentType i n = λ x o. n.1 (subst IsOid (type_is x o.0) o.1)
+      refused Places.Content i n = λ g.
           n.1 (
             subst (AllIf (IsElement IsTagByte)) (same_content rows.info g.0 given.info.content g.1 are.info.content) g.2,
             same_signed rows.info given.info g.0 rows.signers given.signers are.info g.1 are.signers g.3,
           )
-      refused Parts.Certificate i n = row_without (IsPartOf b) IsChoice (same_part b) rows.certificates given.certificates i are.certificates n.one
-      refused Parts.RevocationList i n = row_without (IsPartOf b) IsRevocation (same_part b) rows.crls given.crls i are.crls n.one
-      refused Parts.Signer i n =
-          less (λ row. (s : SignerValue) × IsSignerBy b row s × IsConsistent (type_of given) s) (GivesSigner b rows.info.content_type) rows.signers i
-          (λ row g. (g.0, g.1, g.2 (type_of given) (are.info.content_type, n.0)))
-          (row_without (IsSignerBy b) (IsConsistent (type_of given)) same_by rows.signers given.signers i are.signers n.1.one)
-      refused Parts.Whole i n = absurd n
+      refused Places.Certificate i n = row_without (IsPartOf b) IsChoice (same_part b) rows.certificates given.certificates i are.certificates n.one
+      refused Places.RevocationList i n = row_without (IsPartOf b) IsRevocation (same_part b) rows.crls given.crls i are.crls n.one
+      refused Places.Signer i n =
+          let w = n.1.one in
+          let row = row_at (IsSignerBy b) rows.signers given.signers i w.item are.signers w.inside w.is in
+          record { item = row.0; inside = row.1; is = row.2; none = λ g. w.none (g.1 refl w.item row.3 (type_of given) (are.info.content_type, n.0)) }
+      refused Places.Whole i n = absurd n
 
       by_kind : (w : NotSigned) → Written.IsNotSigned given w → (w.error ≢ TooLong) × (w.error ≢ Memory) → (w.error ≡ Invalid) ⊎ ((w.error ≡ TooLong) ⊎ (w.error ≡ Memory)) → IsWrong b rows (wrong_part w.part w.index)
       by_kind w not why (inl invalid) = refused w.part w.index (not.wrong invalid)

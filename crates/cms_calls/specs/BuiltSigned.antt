@@ -19,7 +19,8 @@ use Rattle.call_values.specs.declared.ranges.Octets.{Octets}
 use Rattle.call_values.specs.declared.status.TheConstants.{INVALID, MALFORMED, MISSING, TOO_DEEP}
 use Rattle.signed_writers.specs.Signed as Written
 use Rattle.signed_writers.specs.Signed.{CanBeWritten, GivenParts, IsChoice, IsConsistent, IsRevocation, IsSignedData}
-use Rattle.signed_writers.specs.Signers.{IsSignerIn}
+use Rattle.call_values.specs.Read.{HasOne}
+use Rattle.signed_writers.specs.Signers.{AreAttributesIn, IsIdentifierIn, IsReadAs, IsSignerIn}
 use Rattle.signed_writers.specs.Values.{content_octets}
 use Rattle.signed_writers.specs.declared.content.Content.{Content}
 use Rattle.signed_writers.specs.declared.content.Content.TheVariants.{Octets as InOctets, Element}
@@ -29,7 +30,7 @@ use Rattle.signed_writers.specs.declared.signers.Identifier.TheVariants.{Certifi
 use Rattle.signed_writers.specs.declared.signers.Signer.{Signer}
 use Rattle.signed_writers.specs.declared.signers.SignerPart.{SignerPart}
 use Rattle.signed_writers.specs.declared.signers.SignerPart.TheVariants.{Identifier, DigestAlgorithm, SignedAttributes, SignatureAlgorithm, Signature, UnsignedAttributes}
-use Rattle.signer_ranges.specs.SignerRoutes.{SignerValue}
+use Rattle.signer_ranges.specs.SignerRoutes.{ALGORITHM, SignerValue}
 
 -- the content, if it is in the file: octets, or an element
 abbrev pub IsContentOf : List ℕ → SignedGiven → Option Content → Type 0
@@ -100,9 +101,22 @@ GivesContent b rows =
     × AllIf (IsElement IsTagByte) (option_value content_octets o)
     × (rows.signers ≡ [] → (o ≡ None) × IsPartOf b rows.info.content_type data_oid)
 
--- a row gives a signer that can be written with content of the type that a range gives, if it gives one
-abbrev pub GivesSigner : List ℕ → Octets → SignerGiven → Type 0
-GivesSigner b type row = (s : SignerValue) × IsSignerBy b row s × ((t : List ℕ) → IsOidOf b type t → IsConsistent t s)
+-- a row gives attributes, or none where the flag is 0
+abbrev pub GivesAttributes : List ℕ → ℕ → Octets → Type 0
+GivesAttributes b flag r = (o : Option (List ℕ)) × IfGiven flag (IsPartOf b r) o × HasOne (AreAttributesIn o)
+
+-- a row gives that part of a signer
+abbrev pub HasSignerPart : List ℕ → SignerPart → SignerGiven → Type 0
+HasSignerPart b Identifier row = (x : Name) × IsIdentifierOf b row x × HasOne (IsIdentifierIn x)
+HasSignerPart b DigestAlgorithm row = GivesPart b (IsReadAs ALGORITHM.format) row.digest_algorithm
+HasSignerPart b SignedAttributes row = GivesAttributes b row.has_signed_attributes row.signed_attributes
+HasSignerPart b SignatureAlgorithm row = GivesPart b (IsReadAs ALGORITHM.format) row.signature_algorithm
+HasSignerPart b Signature row = HasOne (IsPartOf b row.signature)
+HasSignerPart b UnsignedAttributes row = GivesAttributes b row.has_unsigned_attributes row.unsigned_attributes
+
+-- the part can be written: of signed attributes, also with content of the type that a range gives, if it gives one
+abbrev pub GivesSignerPart : List ℕ → Octets → SignerPart → SignerGiven → Type 0
+GivesSignerPart b type part row = HasSignerPart b part row × (part ≡ SignedAttributes → (s : SignerValue) → IsSignerBy b row s → (t : List ℕ) → IsOidOf b type t → IsConsistent t s)
 
 -- the part that can't be written
 abbrev pub IsWrong : List ℕ → Rows → WrongPart → Type 0
@@ -110,7 +124,7 @@ IsWrong b rows ContentType = HasNone (IsOidOf b rows.info.content_type)
 IsWrong b rows Wrong.Content = GivesContent b rows → ⊥
 IsWrong b rows (Wrong.Certificate i) = IsWithout (GivesPart b IsChoice) rows.certificates i
 IsWrong b rows (Crl i) = IsWithout (GivesPart b IsRevocation) rows.crls i
-IsWrong b rows (Wrong.Signer i part) = IsWithout (GivesSigner b rows.info.content_type) rows.signers i
+IsWrong b rows (Wrong.Signer i part) = IsWithout (GivesSignerPart b rows.info.content_type part) rows.signers i
 
 -- why no signed data is built
 abbrev pub IsNoSigned : List ℕ → Rows → NoSigned → Type 0
@@ -154,7 +168,7 @@ without_signed b rows = record {
   IsAbsent = ⊥;
 }
 
--- What der_build_signed answers. Which part of a signer can't be written isn't said.
+-- what der_build_signed answers
 pub record BuildsSigned (b : List ℕ) (rows : Rows) (old new : List ℕ) (written index part status : ℕ) : Type 0 where
   pub writes : Writes (HasBuiltSigned b rows) (without_signed b rows) old new written status
   pub at : status ≡ INVALID → IsWrongAt b rows index part

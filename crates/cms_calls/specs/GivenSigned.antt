@@ -1,12 +1,13 @@
 -- Why signed data that is given isn't written.
 use Rattle.std.specs.Prelude.{◌≡◌, ◌≢◌, ◌⊎◌, ℕ, List}
 use Rattle.asn1_core_element.specs.declared.error.Error.TheVariants.{TooLong, Memory}
-use Rattle.attribute_writers.specs.Refusals.{IsFirstWithout}
-use Rattle.cms_calls.specs.BuiltSigned.{IsContentOf}
+use Rattle.attribute_writers.specs.Refusals.{IsFirstWithout, IsWithout}
+use Rattle.cms_calls.specs.BuiltSigned.{HasSignerPart, IsContentOf}
 use Rattle.call_values.specs.Given.{HasNone, IsPartOf}
 use Rattle.cms_calls.specs.declared.built_signed.NoSigned.{NoSigned}
 use Rattle.cms_calls.specs.declared.built_signed.NoSigned.TheVariants.{Part, NotWritten}
 use Rattle.cms_calls.specs.declared.built_signed.SignedGiven.{SignedGiven}
+use Rattle.cms_calls.specs.declared.built_signed.SignerGiven.{SignerGiven}
 use Rattle.cms_calls.specs.declared.built_signed.WrongPart.{WrongPart}
 use Rattle.cms_calls.specs.declared.built_signed.WrongPart.TheVariants as Wrong
 use Rattle.signed_writers.specs.declared.checks.NotSigned.{NotSigned}
@@ -37,8 +38,14 @@ wrong_part Whole index = Wrong.Content
 abbrev pub IsPartAt : SignedPart → ℕ → WrongPart → Type 0
 IsPartAt part index wrong = wrong ≡ wrong_part part index
 
-abbrev pub IsSignerAt : ℕ → WrongPart → Type 0
-IsSignerAt index wrong = (part : SignerPart) × (wrong ≡ Wrong.Signer index part)
+-- a row doesn't give a part of a signer, or memory was refused
+abbrev pub IsNoSignerIn : List ℕ → List SignerGiven → NoSigned → Type 0
+IsNoSignerIn b rows (Part wrong) = (index : ℕ) × (part : SignerPart) × (wrong ≡ Wrong.Signer index part) × IsWithout (HasSignerPart b part) rows index
+IsNoSignerIn b rows (NotWritten e) = e ≡ Memory
+
+-- why no signer is read of a row: it doesn't give that part, unless memory was refused
+abbrev pub IsUnreadIn : List ℕ → SignerGiven → NotRead → Type 0
+IsUnreadIn b row wrong = (wrong.error ≢ TooLong) × (wrong.error ≢ Memory → HasSignerPart b wrong.part row → ⊥)
 
 -- what is said of a signer with that index that isn't read
 abbrev pub IsNoSigner : ℕ → NotRead → NoSigned → Type 0

@@ -4,12 +4,12 @@ ghost use Rattle.std.specs.Prelude.{◌≡◌, MatchResult, map};
 ghost use Rattle.std.specs.List.{AllZip};
 ghost use Rattle.asn1_core.specs.Der.{option_value};
 ghost use Rattle.asn1_core_element.specs.declared.error.Error.TheVariants.{Memory};
-ghost use Rattle.cms_calls.specs.BuiltSigned.{BuildsSigned, HasBuiltSigned, HasSignerParts, IsContentOf, IsIdentifierOf, IsInfoOf, IsNoSigned, IsSignerBy, index_of, number_of, number_of_signer_part, rows_of};
+ghost use Rattle.cms_calls.specs.BuiltSigned.{BuildsSigned, HasBuiltSigned, HasSignerPart, HasSignerParts, IsContentOf, IsIdentifierOf, IsInfoOf, IsNoSigned, IsSignerBy, index_of, number_of, number_of_signer_part, rows_of};
 ghost use Rattle.call_values.specs.Given.{HasNone, IfGiven, IsPartOf};
-ghost use Rattle.cms_calls.specs.GivenSigned.{IsNoInfo, IsNoItem, IsNoSigner, IsPartAt, IsSignerAt, IsWhy, wrong_part};
+ghost use Rattle.cms_calls.specs.GivenSigned.{IsNoInfo, IsNoItem, IsNoSigner, IsNoSignerIn, IsPartAt, IsUnreadIn, IsWhy, wrong_part};
 ghost use Rattle.call_values.specs.Read.{HasOne};
 ghost use Rattle.cms_calls.specs.declared.built_signed.NoSigned.TheVariants.{NotWritten};
-ghost use Rattle.signed_writers.specs.Signers.{IsUnread};
+ghost use Rattle.signed_writers.specs.declared.signers.SignerPart.TheVariants as SignerParts;
 ghost use Rattle.x509_pkcs7.specs.RawSigners.{raw_signer_info_value};
 
 use asn1_borrowed::ElementRef;
@@ -204,7 +204,7 @@ fn elements_as<'a>(
 
 /// The octets of a part of a signer.
 fn signer_part<'a>(input: &'a [u8], part: Octets, of: SignerPart) -> Result<&'a [u8], SignerPart>
-    ensures { MatchResult result (λ x. IsPartOf input.now part x.now) (λ _. HasNone (IsPartOf input.now part)) }
+    ensures { MatchResult result (λ x. IsPartOf input.now part x.now) (λ e. (e ≡ of) × HasNone (IsPartOf input.now part)) }
 {
     match part_of(input, part, number_of_signer_part(of)) {
         Ok(octets) => Ok(octets),
@@ -222,7 +222,7 @@ fn signer_part_if<'a>(
 ) -> Result<Option<&'a [u8]>, SignerPart>
     ensures { MatchResult result
         (λ o. IfGiven flag (IsPartOf input.now part) (option_value (λ x. x.now) o))
-        (λ _. HasNone (IfGiven flag (IsPartOf input.now part))) }
+        (λ e. (e ≡ of) × HasNone (IfGiven flag (IsPartOf input.now part))) }
 {
     if flag == 0 {
         return Ok(None);
@@ -232,7 +232,7 @@ fn signer_part_if<'a>(
 
 /// What names a signer.
 fn identifier_of<'a>(input: &'a [u8], row: &SignerGiven) -> Result<Identifier<'a>, SignerPart>
-    ensures { MatchResult result (λ id. IsIdentifierOf input.now row.now id) (λ _. HasNone (IsIdentifierOf input.now row.now)) }
+    ensures { MatchResult result (λ id. IsIdentifierOf input.now row.now id) (λ e. (e ≡ SignerParts.Identifier) × HasNone (IsIdentifierOf input.now row.now)) }
 {
     if row.has_key_identifier == 0 {
         let octets = signer_part(input, row.certificate, SignerPart::Identifier)?;
@@ -244,8 +244,9 @@ fn identifier_of<'a>(input: &'a [u8], row: &SignerGiven) -> Result<Identifier<'a
 }
 
 /// The parts of a signer.
+#[tactic(auto, using(crate::proofs::BuiltSigned::no_identifier, crate::proofs::BuiltSigned::no_digest_algorithm, crate::proofs::BuiltSigned::no_signed_attributes, crate::proofs::BuiltSigned::no_signature_algorithm, crate::proofs::BuiltSigned::no_signature, crate::proofs::BuiltSigned::no_unsigned_attributes))]
 fn signer_parts<'a>(input: &'a [u8], row: &SignerGiven) -> Result<Signer<'a>, SignerPart>
-    ensures { MatchResult result (λ x. HasSignerParts input.now row.now x) (λ _. HasNone (HasSignerParts input.now row.now)) }
+    ensures { MatchResult result (λ x. HasSignerParts input.now row.now x) (λ part. HasSignerPart input.now part row.now → ⊥) }
 {
     let identifier = identifier_of(input, row)?;
     let digest_algorithm = signer_part(input, row.digest_algorithm, SignerPart::DigestAlgorithm)?;
@@ -281,7 +282,7 @@ fn signer_parts<'a>(input: &'a [u8], row: &SignerGiven) -> Result<Signer<'a>, Si
 fn signer_by(alloc: Global, input: &[u8], row: &SignerGiven) -> Result<RawSignerInfo, NotRead>
     ensures { MatchResult result
         (λ s. IsSignerBy input.now row.now (raw_signer_info_value s))
-        (λ wrong. IsUnread (HasOne (IsSignerBy input.now row.now)) wrong) }
+        (λ wrong. IsUnreadIn input.now row.now wrong) }
 {
     match signer_parts(input, row) {
         Ok(parts) => read_signer(alloc, &parts),
@@ -310,7 +311,7 @@ fn all_signers(
 ) -> Result<Vec<RawSignerInfo>, NoSigned>
     ensures { MatchResult result
         (λ all. AllZip (IsSignerBy input.now) rows.now (map raw_signer_info_value all.items))
-        (λ wrong. IsNoItem (λ row. HasOne (IsSignerBy input.now row)) IsSignerAt rows.now wrong) }
+        (λ wrong. IsNoSignerIn input.now rows.now wrong) }
 {
     let mut all = Vec::new(alloc);
     for (index, row) in rows.iter().enumerate() {

@@ -12,6 +12,8 @@ use Rattle.signed_writers.specs.declared.signers.Identifier.{Identifier}
 use Rattle.signed_writers.specs.declared.signers.Identifier.TheVariants.{Certificate, Key}
 use Rattle.signed_writers.specs.declared.signers.NotRead.{NotRead}
 use Rattle.signed_writers.specs.declared.signers.Signer.{Signer}
+use Rattle.signed_writers.specs.declared.signers.SignerPart.{SignerPart}
+use Rattle.signed_writers.specs.declared.signers.SignerPart.TheVariants as Parts
 use Rattle.signer_ranges.specs.SignerRoutes.{ALGORITHM, SignerValue}
 use Rattle.signer_ranges.specs.Signers.{digest_algorithm_of, sid_of, signature_algorithm_of, signature_of, signed_of}
 use Rattle.x509_base.specs.Names.{attribute}
@@ -28,6 +30,10 @@ IsReadAs F x = HasOne (F.Reads 64 x)
 -- it isn't too long, and P doesn't hold, unless memory was refused
 abbrev pub IsUnread : Type 0 → NotRead → Type 0
 IsUnread P e = (e.error ≢ TooLong) × (e.error ≢ Memory → P → ⊥)
+
+-- the same, and it is that part
+abbrev pub IsUnreadAs : Type 0 → SignerPart → NotRead → Type 0
+IsUnreadAs P part e = IsUnread P e × (e.part ≡ part)
 
 -- the issuer and the serial number of a certificate
 abbrev pub IsIssuerOf : certificate_head.Value → issuer_and_serial_number.Value → Type 0
@@ -53,3 +59,16 @@ pub record IsSignerIn (given : Signer) (s : SignerValue) : Type 0 where
   pub signature_algorithm : ALGORITHM.format.Reads 64 given.signature_algorithm.now (signature_algorithm_of s)
   pub signature : signature_of s ≡ given.signature.now
   pub unsigned : AreAttributesIn (option_value (λ o. o.now) given.unsigned_attributes) (unsigned_of s)
+
+-- the part isn't what it has to be. Any octets are a signature
+abbrev pub IsWrongPart : Signer → SignerPart → Type 0
+IsWrongPart given Parts.Identifier = HasOne (IsIdentifierIn given.identifier) → ⊥
+IsWrongPart given Parts.DigestAlgorithm = IsReadAs ALGORITHM.format given.digest_algorithm.now → ⊥
+IsWrongPart given Parts.SignedAttributes = HasOne (AreAttributesIn (option_value (λ o. o.now) given.signed_attributes)) → ⊥
+IsWrongPart given Parts.SignatureAlgorithm = IsReadAs ALGORITHM.format given.signature_algorithm.now → ⊥
+IsWrongPart given Parts.Signature = ⊥
+IsWrongPart given Parts.UnsignedAttributes = HasOne (AreAttributesIn (option_value (λ o. o.now) given.unsigned_attributes)) → ⊥
+
+-- why no signer is read: that part is wrong, unless memory was refused
+abbrev pub IsNoSigner : Signer → NotRead → Type 0
+IsNoSigner given e = (e.error ≢ TooLong) × (e.error ≢ Memory → IsWrongPart given e.part)

@@ -7,7 +7,8 @@ ghost use Rattle.asn1_core_element.specs.declared.error.Error.TheVariants.{Memor
 ghost use Rattle.asn1_core_format.specs.Whole.{IsValueOf};
 ghost use Rattle.pkcs7_signed_crl.specs.SignerParts.{issuer_and_serial_number_value, signer_identifier_value};
 ghost use Rattle.pkcs7_verifier.specs.Heads.{certificate_head_value};
-ghost use Rattle.signed_writers.specs.Signers.{AreAttributesIn, HasOne, IsIdentifierIn, IsIssuerOf, IsReadAs, IsSignerIn, IsUnread};
+ghost use Rattle.signed_writers.specs.Signers.{AreAttributesIn, HasOne, IsIdentifierIn, IsIssuerOf, IsNoSigner, IsReadAs, IsSignerIn, IsUnreadAs};
+ghost use Rattle.signed_writers.specs.declared.signers.SignerPart.TheVariants as Parts;
 ghost use Rattle.x509_base.specs.Names.{attribute_value};
 ghost use Rattle.x509_pkcs7.specs.RawSigners.{raw_signer_info_value};
 
@@ -74,7 +75,7 @@ fn read_part<T: DerDeserialize>(
     octets: &[u8],
     part: SignerPart,
 ) -> Result<T, NotRead>
-    ensures { MatchResult result (λ x. IsValueOf T.format 64 octets.now (T.value x)) (λ e. IsUnread (IsReadAs T.format octets.now) e) }
+    ensures { MatchResult result (λ x. IsValueOf T.format 64 octets.now (T.value x)) (λ e. IsUnreadAs (IsReadAs T.format octets.now) part e) }
 {
     match from_bytes(alloc, octets) {
         Ok(value) => Ok(value),
@@ -103,7 +104,7 @@ fn issuer_of(head: CertificateHead) -> IssuerAndSerialNumber
 
 /// A key identifier with these octets.
 fn key_identifier(alloc: Global, octets: &[u8]) -> Result<SignerIdentifier, NotRead>
-    ensures { MatchResult result (λ id. signer_identifier_value id ≡ inr octets.now) (λ e. e.error ≡ Memory) }
+    ensures { MatchResult result (λ id. signer_identifier_value id ≡ inr octets.now) (λ e. (e.error ≡ Memory) × (e.part ≡ Parts.Identifier)) }
 {
     match Vec::from_slice(alloc, octets) {
         Ok(octets) => Ok(SignerIdentifier::SubjectKeyIdentifier(ImplicitContextTag0(
@@ -120,7 +121,7 @@ fn key_identifier(alloc: Global, octets: &[u8]) -> Result<SignerIdentifier, NotR
 pub fn read_identifier(alloc: Global, given: &Identifier<'_>) -> Result<SignerIdentifier, NotRead>
     ensures { MatchResult result
         (λ id. IsIdentifierIn given.now (signer_identifier_value id))
-        (λ e. IsUnread (HasOne (IsIdentifierIn given.now)) e) }
+        (λ e. IsUnreadAs (HasOne (IsIdentifierIn given.now)) Parts.Identifier e) }
 {
     match given {
         Identifier::Certificate(octets) => {
@@ -147,7 +148,7 @@ pub fn read_attributes(
 ) -> Result<Vec<Attribute>, NotRead>
     ensures { MatchResult result
         (λ all. AreAttributesIn (option_value (λ o. o.now) octets.entry) (map attribute_value all.items))
-        (λ e. IsUnread (HasOne (AreAttributesIn (option_value (λ o. o.now) octets.entry))) e) }
+        (λ e. IsUnreadAs (HasOne (AreAttributesIn (option_value (λ o. o.now) octets.entry))) part e) }
 {
     let Some(octets) = octets else {
         return Ok(Vec::new(alloc));
@@ -180,7 +181,7 @@ fn signature_of(alloc: Global, octets: &[u8]) -> Result<SignatureValue, NotRead>
 pub fn read_signer(alloc: Global, given: &Signer<'_>) -> Result<RawSignerInfo, NotRead>
     ensures { MatchResult result
         (λ s. IsSignerIn given.now (raw_signer_info_value s))
-        (λ e. IsUnread (HasOne (IsSignerIn given.now)) e) }
+        (λ e. IsNoSigner given.now e) }
 {
     let sid = read_identifier(alloc, &given.identifier)?;
     let digest_algorithm = read_part(alloc, given.digest_algorithm, SignerPart::DigestAlgorithm)?;

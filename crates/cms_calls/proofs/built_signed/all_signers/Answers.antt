@@ -1,14 +1,11 @@
-use Rattle.std.specs.Prelude.{take}
 use Rattle.call_values.proofs.BuiltLists.{one_more_seen}
-use Rattle.cms_calls.proofs.BuiltSigned.{all_give, no_signer_at}
+use Rattle.cms_calls.proofs.BuiltSigned.{no_signer_at}
 use Rattle.cms_calls.specs.BuiltSigned.{IsSignerBy}
 use Rattle.x509_pkcs7.specs.RawSigners.{raw_signer_info_value}
 use Rattle.cms_calls.proofs.built_signed.all_signers.Goals as goal
 
 pub returns-in-Err : goal.returns-in-Err
-returns-in-Err c =
-    let before = all_give c.args.input.now (take c.loop-index.index c.args.rows.now) _ c.loop-index.invariant in
-    no_signer_at c.args.input.now c.args.rows.now c.loop-index.index _ c.in-Err.wrong c.no_signer.result c.loop-index-test.true before c.in-Err.ensures c.no_signer.ensures
+returns-in-Err c = no_signer_at c.args.input.now c.args.rows.now c.loop-index.index _ c.in-Err.wrong c.no_signer.result c.loop-index-test.true c.in-Err.ensures c.no_signer.ensures
 
 pub loop-index-preserved : goal.loop-index-preserved
 loop-index-preserved c =

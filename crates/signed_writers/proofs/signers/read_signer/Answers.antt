@@ -1,7 +1,10 @@
 use Rattle.std.proofs.Common.{rules}
 use Rattle.std.proofs.lemmas.Result.{err_from_is_err_and}
-use Rattle.signed_writers.proofs.ReadParts.{without_digest, without_signature, without_signed, without_unsigned}
+use Rattle.signed_writers.proofs.ReadParts.{without_identifier, without_digest, without_signature, without_signed, without_unsigned}
 use Rattle.signed_writers.proofs.signers.read_signer.Goals as goal
+
+pub returns-in_err-sid : goal.returns-in_err-sid
+returns-in_err-sid c = let r = without_identifier c.args.given.now c.in_err-sid.field-0.0 c.in_err-sid.ensures in search rules
 
 pub returns-in_err-digest_algorithm : goal.returns-in_err-digest_algorithm
 returns-in_err-digest_algorithm c = let r = without_digest c.args.given.now c.in_err-digest_algorithm.field-0.0 c.in_err-digest_algorithm.ensures in search rules
