@@ -226,7 +226,7 @@ typedef struct der_signer_parts {
  * from the input's first octet. Into the file's element, past its content type, into [0] and SignedData in it; past
  * version, digestAlgorithms, encapContentInfo, [0] and [1] if they are there, into signerInfos; past the signers before;
  * and in the signer past the components before the part. The content is found so in encapContentInfo, and in [0] the
- * certificate, which is the first that names the signer, also of two with equal octets. */
+ * certificate: the first that the signer names, also of two with equal octets. */
 DER_CALL
 uint32_t der_signer_rows(const uint8_t *input, size_t input_len, size_t first, der_signer_parts *out, size_t out_len,
                          size_t *count, size_t *place);
@@ -628,7 +628,8 @@ typedef struct der_content_given {
  * Unless at DER_NORMAL out is as it was, unless at DER_NORMAL and DER_NO_ROOM *written is 0, and unless at DER_INVALID
  * *content is 0. Proved is that what is written is the encoding of an AuthenticatedSafe whose contents are those that
  * are given, in their order, of data the OCTET STRING of its octets, and reads as these alone; a ContentInfo has the
- * octets that are given. And that at DER_INVALID the content with that index can't be written, and those before it can. */
+ * octets that are given. And that at DER_INVALID the content with that index can't be written, and those before it
+ * can. */
 DER_CALL
 uint32_t der_build_safe(const uint8_t *input, size_t input_len, const der_content_given *contents, size_t contents_len,
                         uint8_t *out, size_t out_len, size_t *written, size_t *content);

@@ -1,6 +1,6 @@
 """What a verification of signers needs, as der_signer_rows says it of signed data, is what tests/oracle/signed.py finds,
-range by range: of signers of versions 1 and 3, of changed files, of hundreds of signers, with each certificate twice, and
-with attributes that RFC 5652 forbids; and in rooms for all, for fewer and for none, from several signers on."""
+range by range: of signers of versions 1 and 3, of changed files, of hundreds of signers, with each certificate twice,
+and with attributes that RFC 5652 forbids; and in rooms for all, for fewer and for none, from several signers on."""
 import random
 import unittest
 
