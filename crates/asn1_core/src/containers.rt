@@ -50,6 +50,7 @@ impl<T: EqualByText> EqualByText for OctetStringAsn1Container<T> {
 }
 
 impl<T: TryClone + EqualByText> TryClone for OctetStringAsn1Container<T> {
+    #[inline(always)]
     fn try_clone(&self, alloc: Global) -> Result<Self, Error> {
         Ok(OctetStringAsn1Container(self.0.try_clone(alloc)?))
     }
@@ -69,6 +70,7 @@ impl<T: Viewed> Viewed for Optional<T> {
 }
 
 impl<T: TryClone> TryClone for Optional<T> {
+    #[inline(always)]
     fn try_clone(&self, alloc: Global) -> Result<Self, Error> {
         Ok(Optional(self.0.try_clone(alloc)?))
     }

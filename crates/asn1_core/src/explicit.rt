@@ -54,6 +54,7 @@ impl<T: EqualByText> EqualByText for ExplicitContextTag0<T> {
 }
 
 impl<T: TryClone + EqualByText> TryClone for ExplicitContextTag0<T> {
+    #[inline(always)]
     fn try_clone(&self, alloc: Global) -> Result<Self, Error> {
         Ok(ExplicitContextTag0(self.0.try_clone(alloc)?))
     }
@@ -97,6 +98,7 @@ impl<T: EqualByText> EqualByText for ExplicitContextTag1<T> {
 }
 
 impl<T: TryClone + EqualByText> TryClone for ExplicitContextTag1<T> {
+    #[inline(always)]
     fn try_clone(&self, alloc: Global) -> Result<Self, Error> {
         Ok(ExplicitContextTag1(self.0.try_clone(alloc)?))
     }
@@ -140,6 +142,7 @@ impl<T: EqualByText> EqualByText for ExplicitContextTag2<T> {
 }
 
 impl<T: TryClone + EqualByText> TryClone for ExplicitContextTag2<T> {
+    #[inline(always)]
     fn try_clone(&self, alloc: Global) -> Result<Self, Error> {
         Ok(ExplicitContextTag2(self.0.try_clone(alloc)?))
     }
@@ -189,6 +192,7 @@ impl<const N: u8, T: EqualByText> EqualByText for Explicit<N, T> {
 }
 
 impl<const N: u8, T: TryClone + EqualByText> TryClone for Explicit<N, T> {
+    #[inline(always)]
     fn try_clone(&self, alloc: Global) -> Result<Self, Error> {
         Ok(Explicit(self.0.try_clone(alloc)?))
     }

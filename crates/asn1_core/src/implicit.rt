@@ -53,6 +53,7 @@ impl<T: EqualByText + DerTagged> EqualByText for ImplicitContextTag0<T> {
 }
 
 impl<T: TryClone + EqualByText + DerTagged> TryClone for ImplicitContextTag0<T> {
+    #[inline(always)]
     fn try_clone(&self, alloc: Global) -> Result<Self, Error> {
         Ok(ImplicitContextTag0(self.0.try_clone(alloc)?))
     }
@@ -95,6 +96,7 @@ impl<T: EqualByText + DerTagged> EqualByText for ImplicitContextTag1<T> {
 }
 
 impl<T: TryClone + EqualByText + DerTagged> TryClone for ImplicitContextTag1<T> {
+    #[inline(always)]
     fn try_clone(&self, alloc: Global) -> Result<Self, Error> {
         Ok(ImplicitContextTag1(self.0.try_clone(alloc)?))
     }
@@ -144,6 +146,7 @@ impl<const N: u8, T: EqualByText + DerTagged> EqualByText for Implicit<N, T> {
 }
 
 impl<const N: u8, T: TryClone + EqualByText + DerTagged> TryClone for Implicit<N, T> {
+    #[inline(always)]
     fn try_clone(&self, alloc: Global) -> Result<Self, Error> {
         Ok(Implicit(self.0.try_clone(alloc)?))
     }

@@ -73,6 +73,7 @@ impl<T: EqualByText> EqualByText for Asn1SequenceOf<T> {
 }
 
 impl<T: TryClone + EqualByText> TryClone for Asn1SequenceOf<T> {
+    #[inline(always)]
     fn try_clone(&self, alloc: Global) -> Result<Self, Error> {
         Ok(Asn1SequenceOf(self.0.try_clone(alloc)?))
     }
@@ -133,6 +134,7 @@ impl<T: EqualByText> EqualByText for Asn1SetOf<T> {
 }
 
 impl<T: TryClone + EqualByText> TryClone for Asn1SetOf<T> {
+    #[inline(always)]
     fn try_clone(&self, alloc: Global) -> Result<Self, Error> {
         Ok(Asn1SetOf(self.0.try_clone(alloc)?))
     }

@@ -60,6 +60,7 @@ impl<T: Sequence> TaggedType for T {
         T::read_fields(alloc, r, nest)
     }
 
+    #[inline(always)]
     fn clone_value(&self, alloc: Global) -> Result<Self, Error> {
         self.clone_fields(alloc)
     }

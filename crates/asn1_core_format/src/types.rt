@@ -85,6 +85,7 @@ impl<T: Asn1Type> EqualByText for T {
 }
 
 impl<T: Asn1Type> TryClone for T {
+    #[inline(always)]
     fn try_clone(&self, alloc: Global) -> Result<Self, Error> {
         self.clone_value(alloc)
     }
@@ -165,6 +166,7 @@ impl<T: TaggedType> Asn1Type for T {
         tag == <T as TaggedType>::TAG
     }
 
+    #[inline(always)]
     fn clone_value(&self, alloc: Global) -> Result<Self, Error> {
         <T as TaggedType>::clone_value(self, alloc)
     }

@@ -87,6 +87,7 @@ impl<T: Viewed> Viewed for Option<T> {
 }
 
 impl<T: TryClone> TryClone for Option<T> {
+    #[inline(always)]
     fn try_clone(&self, alloc: Global) -> Result<Self, Error> {
         match self {
             Some(value) => Ok(Some(value.try_clone(alloc)?)),

@@ -126,6 +126,7 @@ impl Sequence for Pkcs12DigestAlgorithm {
         read_algorithm(alloc, r, nest)
     }
 
+    #[inline(always)]
     fn clone_fields(&self, alloc: Global) -> Result<Self, Error> {
         clone_algorithm(alloc, self)
     }
@@ -156,6 +157,7 @@ impl Sequence for Pkcs12DigestInfo {
         read_fields_of!(alloc, r, nest; Pkcs12DigestInfo { digest_algorithm, digest })
     }
 
+    #[inline(always)]
     fn clone_fields(&self, alloc: Global) -> Result<Self, Error> {
         clone_fields_of!(self, alloc; Pkcs12DigestInfo { digest_algorithm, digest })
     }

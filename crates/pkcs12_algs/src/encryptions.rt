@@ -78,6 +78,7 @@ impl Sequence for Pkcs12EncryptionAlgorithm {
         }
     }
 
+    #[inline(always)]
     fn clone_fields(&self, alloc: Global) -> Result<Self, Error> {
         match self {
             Self::Pbes1 { kind, params } => {

@@ -44,6 +44,7 @@ impl Sequence for MacData {
         read_fields_of!(alloc, r, nest; MacData { mac, salt, iterations OPTIONAL })
     }
 
+    #[inline(always)]
     fn clone_fields(&self, alloc: Global) -> Result<Self, Error> {
         clone_fields_of!(self, alloc; MacData { mac, salt, iterations OPTIONAL })
     }

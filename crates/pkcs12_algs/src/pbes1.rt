@@ -90,6 +90,7 @@ impl Viewed for Pbes1AlgorithmKind {
 }
 
 impl TryClone for Pbes1AlgorithmKind {
+    #[inline(always)]
     fn try_clone(&self, _alloc: Global) -> Result<Self, Error> {
         Ok(*self)
     }
@@ -118,6 +119,7 @@ impl Sequence for Pbes1Params {
         read_fields_of!(alloc, r, nest; Pbes1Params { salt, iterations })
     }
 
+    #[inline(always)]
     fn clone_fields(&self, alloc: Global) -> Result<Self, Error> {
         clone_fields_of!(self, alloc; Pbes1Params { salt, iterations })
     }

@@ -64,6 +64,7 @@ impl Sequence for Pbes2KeyDerivationFunc {
         }
     }
 
+    #[inline(always)]
     fn clone_fields(&self, alloc: Global) -> Result<Self, Error> {
         match self {
             Self::Pbkdf2(params) => Ok(Self::Pbkdf2(params.try_clone(alloc)?)),
@@ -152,6 +153,7 @@ impl Viewed for Pbes2AesCbcEncryption {
 }
 
 impl TryClone for Pbes2AesCbcEncryption {
+    #[inline(always)]
     fn try_clone(&self, _alloc: Global) -> Result<Self, Error> {
         Ok(*self)
     }
@@ -208,6 +210,7 @@ impl Sequence for Pbes2EncryptionScheme {
         }
     }
 
+    #[inline(always)]
     fn clone_fields(&self, alloc: Global) -> Result<Self, Error> {
         match self {
             Self::AesCbc { kind, iv } => Ok(Self::AesCbc {
@@ -244,6 +247,7 @@ impl Sequence for Pbes2Params {
         read_fields_of!(alloc, r, nest; Pbes2Params { key_derivation_func, encryption_scheme })
     }
 
+    #[inline(always)]
     fn clone_fields(&self, alloc: Global) -> Result<Self, Error> {
         clone_fields_of!(self, alloc; Pbes2Params { key_derivation_func, encryption_scheme })
     }

@@ -42,6 +42,7 @@ impl Asn1Type for Pbkdf2SaltSource {
         tag == 0x04 || tag == 0x30
     }
 
+    #[inline(always)]
     fn clone_value(&self, alloc: Global) -> Result<Self, Error> {
         match self {
             Self::Specified(salt) => Ok(Self::Specified(salt.try_clone(alloc)?)),
@@ -88,6 +89,7 @@ impl Sequence for Pbkdf2Params {
         pbkdf2_params!(read_fields_of(alloc, r, nest))
     }
 
+    #[inline(always)]
     fn clone_fields(&self, alloc: Global) -> Result<Self, Error> {
         pbkdf2_params!(clone_fields_of(self, alloc))
     }

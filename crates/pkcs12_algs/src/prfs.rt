@@ -138,6 +138,7 @@ impl Sequence for Pbkdf2Prf {
         read_algorithm(alloc, r, nest)
     }
 
+    #[inline(always)]
     fn clone_fields(&self, alloc: Global) -> Result<Self, Error> {
         clone_algorithm(alloc, self)
     }

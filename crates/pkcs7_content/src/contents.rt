@@ -108,6 +108,7 @@ impl EqualByText for ContentValue {
 }
 
 impl TryClone for ContentValue {
+    #[inline(always)]
     fn try_clone(&self, alloc: Global) -> Result<Self, Error> {
         match self {
             ContentValue::SpcIndirectDataContent(content) => {
@@ -269,6 +270,7 @@ impl TaggedType for EncapsulatedContentInfo {
         })
     }
 
+    #[inline(always)]
     fn clone_value(&self, alloc: Global) -> Result<Self, Error> {
         clone_of!(self, alloc; EncapsulatedContentInfo { content_type, content })
     }

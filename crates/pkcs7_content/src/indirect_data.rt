@@ -115,6 +115,7 @@ impl EqualByText for SpcAttributeAndOptionalValueValue {
 }
 
 impl TryClone for SpcAttributeAndOptionalValueValue {
+    #[inline(always)]
     fn try_clone(&self, alloc: Global) -> Result<Self, Error> {
         match self {
             SpcAttributeAndOptionalValueValue::SpcPeImageData(image) => Ok(
@@ -157,6 +158,7 @@ impl TaggedType for SpcAttributeAndOptionalValue {
         Ok(SpcAttributeAndOptionalValue { ty, value })
     }
 
+    #[inline(always)]
     fn clone_value(&self, alloc: Global) -> Result<Self, Error> {
         clone_of!(self, alloc; SpcAttributeAndOptionalValue { ty, value })
     }
@@ -187,6 +189,7 @@ impl Sequence for SpcIndirectDataContent {
         read_fields_of!(alloc, r, nest; SpcIndirectDataContent { spc_data, message_digest })
     }
 
+    #[inline(always)]
     fn clone_fields(&self, alloc: Global) -> Result<Self, Error> {
         clone_fields_of!(self, alloc; SpcIndirectDataContent { spc_data, message_digest })
     }

@@ -49,6 +49,7 @@ impl TaggedType for SpcPeImageFlags {
         Ok(SpcPeImageFlags(BitStringAsn1::read_contents(alloc, r, nest)?))
     }
 
+    #[inline(always)]
     fn clone_value(&self, alloc: Global) -> Result<Self, Error> {
         Ok(SpcPeImageFlags(self.0.try_clone(alloc)?))
     }
@@ -95,6 +96,7 @@ impl TaggedType for SpcPeImageData {
         }
     }
 
+    #[inline(always)]
     fn clone_value(&self, alloc: Global) -> Result<Self, Error> {
         clone_of!(self, alloc; SpcPeImageData { flags, file })
     }

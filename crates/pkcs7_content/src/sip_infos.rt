@@ -40,6 +40,7 @@ impl Sequence for SpcSipInfo {
         sip_info!(read_fields_of(alloc, r, nest))
     }
 
+    #[inline(always)]
     fn clone_fields(&self, alloc: Global) -> Result<Self, Error> {
         sip_info!(clone_fields_of(self, alloc))
     }

@@ -101,6 +101,7 @@ impl EqualByText for CmsVersion {
 }
 
 impl TryClone for CmsVersion {
+    #[inline(always)]
     fn try_clone(&self, _alloc: Global) -> Result<Self, Error> {
         Ok(*self)
     }

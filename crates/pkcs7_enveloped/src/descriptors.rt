@@ -27,6 +27,7 @@ impl Sequence for ProtectionDescriptor {
         read_fields_of!(alloc, r, nest; ProtectionDescriptor { descriptor_type, descriptor_value })
     }
 
+    #[inline(always)]
     fn clone_fields(&self, alloc: Global) -> Result<Self, Error> {
         clone_fields_of!(self, alloc; ProtectionDescriptor { descriptor_type, descriptor_value })
     }
@@ -55,6 +56,7 @@ impl Sequence for GeneralProtectionDescriptor {
         read_fields_of!(alloc, r, nest; GeneralProtectionDescriptor { descriptor_type, descriptors })
     }
 
+    #[inline(always)]
     fn clone_fields(&self, alloc: Global) -> Result<Self, Error> {
         clone_fields_of!(self, alloc; GeneralProtectionDescriptor { descriptor_type, descriptors })
     }

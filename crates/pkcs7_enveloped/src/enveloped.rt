@@ -60,6 +60,7 @@ impl Sequence for EncryptedContentInfo {
         })
     }
 
+    #[inline(always)]
     fn clone_fields(&self, alloc: Global) -> Result<Self, Error> {
         clone_fields_of!(self, alloc; EncryptedContentInfo {
             content_type, content_encryption_algorithm, encrypted_content
@@ -97,6 +98,7 @@ impl Sequence for OriginatorInfo {
         })
     }
 
+    #[inline(always)]
     fn clone_fields(&self, alloc: Global) -> Result<Self, Error> {
         clone_fields_of!(self, alloc; OriginatorInfo { certs, crls })
     }
@@ -172,6 +174,7 @@ impl<R: EqualByText> EqualByText for EnvelopedData<R> {
 }
 
 impl<R: TryClone + EqualByText> TryClone for EnvelopedData<R> {
+    #[inline(always)]
     fn try_clone(&self, alloc: Global) -> Result<Self, Error> {
         clone_of!(self, alloc; EnvelopedData {
             originator_info, recipient_infos, encrypted_content_info, unprotected_attrs;

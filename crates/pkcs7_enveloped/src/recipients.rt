@@ -35,6 +35,7 @@ impl Sequence for OtherKeyAttribute {
         read_fields_of!(alloc, r, nest; OtherKeyAttribute { key_attr_id, key_attr OPTIONAL })
     }
 
+    #[inline(always)]
     fn clone_fields(&self, alloc: Global) -> Result<Self, Error> {
         clone_fields_of!(self, alloc; OtherKeyAttribute { key_attr_id, key_attr OPTIONAL })
     }
@@ -72,6 +73,7 @@ impl Sequence for KekIdentifier {
         })
     }
 
+    #[inline(always)]
     fn clone_fields(&self, alloc: Global) -> Result<Self, Error> {
         clone_fields_of!(self, alloc; KekIdentifier { key_identifier, date, other })
     }
@@ -106,6 +108,7 @@ impl Sequence for KekRecipientInfo {
         })
     }
 
+    #[inline(always)]
     fn clone_fields(&self, alloc: Global) -> Result<Self, Error> {
         clone_fields_of!(self, alloc; KekRecipientInfo {
             version, kek_id, key_encryption_algorithm, encrypted_key
@@ -147,6 +150,7 @@ impl TaggedType for RecipientInfo {
         Ok(RecipientInfo::Kek(KekRecipientInfo::read_contents(alloc, r, nest)?))
     }
 
+    #[inline(always)]
     fn clone_value(&self, alloc: Global) -> Result<Self, Error> {
         match self {
             RecipientInfo::Kek(recipient) => Ok(RecipientInfo::Kek(recipient.try_clone(alloc)?)),

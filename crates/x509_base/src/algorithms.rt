@@ -64,6 +64,7 @@ impl Sequence for AlgorithmIdentifier {
         })
     }
 
+    #[inline(always)]
     fn clone_fields(&self, alloc: Global) -> Result<Self, Error> {
         clone_of!(self, alloc; Self { algorithm, parameters })
     }
@@ -113,6 +114,7 @@ impl Sequence for RawAlgorithmIdentifier {
         Ok(algorithm)
     }
 
+    #[inline(always)]
     fn clone_fields(&self, alloc: Global) -> Result<Self, Error> {
         clone_of!(self, alloc; RawAlgorithmIdentifier { parts })
     }

@@ -29,6 +29,7 @@ impl Sequence for DigestInfo {
         read_fields_of!(alloc, r, nest; DigestInfo { oid, digest })
     }
 
+    #[inline(always)]
     fn clone_fields(&self, alloc: Global) -> Result<Self, Error> {
         clone_fields_of!(self, alloc; DigestInfo { oid, digest })
     }
@@ -61,6 +62,7 @@ impl TaggedType for SubjectKeyIdentifier {
         Ok(SubjectKeyIdentifier(OctetStringAsn1::read_contents(alloc, r, nest)?))
     }
 
+    #[inline(always)]
     fn clone_value(&self, alloc: Global) -> Result<Self, Error> {
         Ok(SubjectKeyIdentifier(self.0.try_clone(alloc)?))
     }

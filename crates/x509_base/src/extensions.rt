@@ -26,6 +26,7 @@ impl Sequence for Extension {
         read_fields_of!(alloc, r, nest; Extension { extn_id, DefaultFalse(critical) DEFAULT, extn_value })
     }
 
+    #[inline(always)]
     fn clone_fields(&self, alloc: Global) -> Result<Self, Error> {
         clone_fields_of!(self, alloc; Extension { extn_id, DefaultFalse(critical) DEFAULT, extn_value })
     }
@@ -50,6 +51,7 @@ impl Sequence for Extensions {
         Ok(Extensions(ReadComponents::read_components(alloc, r, nest)?))
     }
 
+    #[inline(always)]
     fn clone_fields(&self, alloc: Global) -> Result<Self, Error> {
         Ok(Extensions(self.0.try_clone(alloc)?))
     }

@@ -25,6 +25,7 @@ impl Sequence for NameValue {
         read_fields_of!(alloc, r, nest; NameValue { ty, value })
     }
 
+    #[inline(always)]
     fn clone_fields(&self, alloc: Global) -> Result<Self, Error> {
         clone_fields_of!(self, alloc; NameValue { ty, value })
     }
@@ -49,6 +50,7 @@ impl Sequence for Name {
         Ok(Name(Asn1SequenceOf(ReadComponents::read_components(alloc, r, nest)?)))
     }
 
+    #[inline(always)]
     fn clone_fields(&self, alloc: Global) -> Result<Self, Error> {
         Ok(Name(self.0.try_clone(alloc)?))
     }
@@ -76,6 +78,7 @@ impl Sequence for Attribute {
         read_fields_of!(alloc, r, nest; Attribute { ty, value })
     }
 
+    #[inline(always)]
     fn clone_fields(&self, alloc: Global) -> Result<Self, Error> {
         clone_fields_of!(self, alloc; Attribute { ty, value })
     }

@@ -67,6 +67,7 @@ impl EqualByText for Time {
 }
 
 impl TryClone for Time {
+    #[inline(always)]
     fn try_clone(&self, alloc: Global) -> Result<Self, Error> {
         match self {
             Time::Utc(time) => Ok(Time::Utc(time.try_clone(alloc)?)),

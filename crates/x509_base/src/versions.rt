@@ -79,6 +79,7 @@ impl EqualByText for Version {
 }
 
 impl TryClone for Version {
+    #[inline(always)]
     fn try_clone(&self, _alloc: Global) -> Result<Self, Error> {
         Ok(*self)
     }

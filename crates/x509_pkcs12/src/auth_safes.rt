@@ -100,6 +100,7 @@ impl<R: AuthenticatedSafeDataRepr> EqualByText for AuthenticatedSafeContentInfo<
 }
 
 impl<R: AuthenticatedSafeDataRepr> TryClone for AuthenticatedSafeContentInfo<R> {
+    #[inline(always)]
     fn try_clone(&self, alloc: Global) -> Result<Self, Error> {
         match self {
             AuthenticatedSafeContentInfo::Data(repr) => {

@@ -163,6 +163,7 @@ impl Sequence for SafeContentsContentInfo {
         }
     }
 
+    #[inline(always)]
     fn clone_fields(&self, alloc: Global) -> Result<Self, Error> {
         match self {
             Self::Data(bags) => Ok(Self::Data(bags.try_clone(alloc)?)),

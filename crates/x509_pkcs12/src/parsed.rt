@@ -32,6 +32,7 @@ impl Sequence for ParsedAuthenticatedSafeDataRepr {
         Ok(ParsedAuthenticatedSafeDataRepr { contents })
     }
 
+    #[inline(always)]
     fn clone_fields(&self, alloc: Global) -> Result<Self, Error> {
         clone_of!(self, alloc; ParsedAuthenticatedSafeDataRepr { contents })
     }

@@ -70,6 +70,7 @@ impl<R: AuthenticatedSafeDataRepr> EqualByText for Pfx<R> {
 }
 
 impl<R: AuthenticatedSafeDataRepr> TryClone for Pfx<R> {
+    #[inline(always)]
     fn try_clone(&self, alloc: Global) -> Result<Self, Error> {
         clone_of!(self, alloc; Pfx { auth_safe, mac_data; version })
     }

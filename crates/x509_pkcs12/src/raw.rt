@@ -59,6 +59,7 @@ impl EqualByText for RawAuthenticatedSafeDataRepr {
 }
 
 impl TryClone for RawAuthenticatedSafeDataRepr {
+    #[inline(always)]
     fn try_clone(&self, alloc: Global) -> Result<Self, Error> {
         clone_of!(self, alloc; RawAuthenticatedSafeDataRepr { raw })
     }

@@ -96,6 +96,7 @@ impl Sequence for RawSafeBag {
         read_fields_of!(alloc, r, nest; RawSafeBag { bag_id, bag_value, bag_attributes OPTIONAL })
     }
 
+    #[inline(always)]
     fn clone_fields(&self, alloc: Global) -> Result<Self, Error> {
         clone_fields_of!(self, alloc; RawSafeBag { bag_id, bag_value, bag_attributes OPTIONAL })
     }
@@ -140,6 +141,7 @@ impl EqualByText for RawSafeContents {
 }
 
 impl TryClone for RawSafeContents {
+    #[inline(always)]
     fn try_clone(&self, alloc: Global) -> Result<Self, Error> {
         Ok(RawSafeContents(self.0.try_clone(alloc)?))
     }

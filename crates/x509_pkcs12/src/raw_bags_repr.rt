@@ -40,6 +40,7 @@ impl Sequence for RawBagsAuthenticatedSafeDataRepr {
         Ok(RawBagsAuthenticatedSafeDataRepr { contents })
     }
 
+    #[inline(always)]
     fn clone_fields(&self, alloc: Global) -> Result<Self, Error> {
         clone_of!(self, alloc; RawBagsAuthenticatedSafeDataRepr { contents })
     }

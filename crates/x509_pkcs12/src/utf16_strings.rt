@@ -105,6 +105,7 @@ impl TaggedType for Utf16String {
         read_leaf_contents(alloc, r, nest, 0x1E)
     }
 
+    #[inline(always)]
     fn clone_value(&self, alloc: Global) -> Result<Self, Error> {
         Ok(Utf16String {
             octets: Vec::from_slice(alloc, self.as_bytes())?,

@@ -38,6 +38,7 @@ impl TaggedType for CTLEntryAttribute {
         Ok(CTLEntryAttribute { oid, value })
     }
 
+    #[inline(always)]
     fn clone_value(&self, alloc: Global) -> Result<Self, Error> {
         clone_of!(self, alloc; CTLEntryAttribute { oid, value })
     }

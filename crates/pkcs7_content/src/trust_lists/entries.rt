@@ -28,6 +28,7 @@ impl Sequence for CTLEntry {
         read_fields_of!(alloc, r, nest; CTLEntry { cert_fingerprint, attributes })
     }
 
+    #[inline(always)]
     fn clone_fields(&self, alloc: Global) -> Result<Self, Error> {
         clone_fields_of!(self, alloc; CTLEntry { cert_fingerprint, attributes })
     }
@@ -73,6 +74,7 @@ impl Sequence for Ctl {
         ctl!(read_fields_of(alloc, r, nest))
     }
 
+    #[inline(always)]
     fn clone_fields(&self, alloc: Global) -> Result<Self, Error> {
         ctl!(clone_fields_of(self, alloc))
     }

@@ -25,6 +25,7 @@ impl Sequence for RootProgramChainPolicy {
         read_fields_of!(alloc, r, nest; RootProgramChainPolicy { oid })
     }
 
+    #[inline(always)]
     fn clone_fields(&self, alloc: Global) -> Result<Self, Error> {
         clone_fields_of!(self, alloc; RootProgramChainPolicy { oid })
     }
@@ -52,6 +53,7 @@ impl Sequence for PolicyQualifier {
         read_fields_of!(alloc, r, nest; PolicyQualifier { oid, bits })
     }
 
+    #[inline(always)]
     fn clone_fields(&self, alloc: Global) -> Result<Self, Error> {
         clone_fields_of!(self, alloc; PolicyQualifier { oid, bits })
     }
@@ -79,6 +81,7 @@ impl Sequence for CertPolicy {
         read_fields_of!(alloc, r, nest; CertPolicy { oid, qualifier })
     }
 
+    #[inline(always)]
     fn clone_fields(&self, alloc: Global) -> Result<Self, Error> {
         clone_fields_of!(self, alloc; CertPolicy { oid, qualifier })
     }

@@ -213,6 +213,7 @@ impl EqualByText for CTLEntryAttributeValues {
 }
 
 impl TryClone for CTLEntryAttributeValues {
+    #[inline(always)]
     fn try_clone(&self, alloc: Global) -> Result<Self, Error> {
         match self.borrowed() {
             Borrowed::Octets(number, values) => {

@@ -39,6 +39,7 @@ impl Asn1Type for SpcString {
         tag == 0x80 || tag == 0x81
     }
 
+    #[inline(always)]
     fn clone_value(&self, alloc: Global) -> Result<Self, Error> {
         match self {
             SpcString::Unicode(text) => Ok(SpcString::Unicode(text.try_clone(alloc)?)),
@@ -70,6 +71,7 @@ impl Asn1Type for Url {
         tag == 0x80
     }
 
+    #[inline(always)]
     fn clone_value(&self, alloc: Global) -> Result<Self, Error> {
         Ok(Url(self.0.try_clone(alloc)?))
     }
@@ -98,6 +100,7 @@ impl Asn1Type for Moniker {
         tag == 0xA1
     }
 
+    #[inline(always)]
     fn clone_value(&self, alloc: Global) -> Result<Self, Error> {
         Ok(Moniker(self.0.try_clone(alloc)?))
     }
@@ -126,6 +129,7 @@ impl Asn1Type for File {
         tag == 0xA2
     }
 
+    #[inline(always)]
     fn clone_value(&self, alloc: Global) -> Result<Self, Error> {
         Ok(File(self.0.try_clone(alloc)?))
     }
@@ -167,6 +171,7 @@ impl Asn1Type for SpcLink {
         tag == 0x80 || tag == 0xA1 || tag == 0xA2
     }
 
+    #[inline(always)]
     fn clone_value(&self, alloc: Global) -> Result<Self, Error> {
         match self {
             SpcLink::Url(url) => Ok(SpcLink::Url(url.try_clone(alloc)?)),

@@ -47,6 +47,7 @@ impl TaggedType for SpcUuid {
         Ok(SpcUuid(OctetStringAsn1::read_contents(alloc, r, nest)?))
     }
 
+    #[inline(always)]
     fn clone_value(&self, alloc: Global) -> Result<Self, Error> {
         Ok(SpcUuid(self.0.try_clone(alloc)?))
     }
@@ -91,6 +92,7 @@ impl Sequence for SpcSerializedObject {
         read_fields_of!(alloc, r, nest; SpcSerializedObject { class_id, serialized_data })
     }
 
+    #[inline(always)]
     fn clone_fields(&self, alloc: Global) -> Result<Self, Error> {
         clone_fields_of!(self, alloc; SpcSerializedObject { class_id, serialized_data })
     }

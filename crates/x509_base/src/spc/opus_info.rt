@@ -27,6 +27,7 @@ impl Sequence for SpcSpOpusInfo {
         read_fields_of!(alloc, r, nest; SpcSpOpusInfo { program_name OPTIONAL, more_info OPTIONAL })
     }
 
+    #[inline(always)]
     fn clone_fields(&self, alloc: Global) -> Result<Self, Error> {
         clone_fields_of!(self, alloc; SpcSpOpusInfo { program_name OPTIONAL, more_info OPTIONAL })
     }
