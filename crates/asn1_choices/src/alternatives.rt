@@ -128,7 +128,7 @@ impl<N: Named, R: WriteComponents, C: WriteChoice> WriteChoice for Either<Altern
 
     fn put_choice<W: Writer>(&self, w: &mut W) -> Result<(), WriteError> {
         match self {
-            Either::First(alternative) => Part(
+            Either::First(alternative) => Required(
                 KnownOid(N::octets()),
                 &alternative.components,
             ).put_components(w),
@@ -182,7 +182,7 @@ impl<R: WriteComponents> WriteChoice for AnyOid<R> {
     }
 
     fn put_choice<W: Writer>(&self, w: &mut W) -> Result<(), WriteError> {
-        Part(OidRef(&self.0), &self.1).put_components(w)
+        Required(OidRef(&self.0), &self.1).put_components(w)
     }
 
     fn choice_well_formed_at(&self, limit: u8) -> bool {
@@ -214,7 +214,7 @@ impl<R: WriteComponents> WriteChoice for AnyOidRef<'_, R> {
     }
 
     fn put_choice<W: Writer>(&self, w: &mut W) -> Result<(), WriteError> {
-        Part(OidRef(self.0), &self.1).put_components(w)
+        Required(OidRef(self.0), &self.1).put_components(w)
     }
 
     fn choice_well_formed_at(&self, limit: u8) -> bool {

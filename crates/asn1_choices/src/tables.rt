@@ -48,7 +48,7 @@ impl<K: OidTable, R: WriteComponents, C: WriteChoice> WriteChoice for Among<K, R
 
     fn put_choice<W: Writer>(&self, w: &mut W) -> Result<(), WriteError> {
         match self {
-            Among::Alternative(kind, components) => Part(
+            Among::Alternative(kind, components) => Required(
                 KnownOid(kind.octets()),
                 components,
             ).put_components(w),

@@ -37,7 +37,7 @@ pub use Rattle.asn1_core_format.specs.Laws.{NextIs, begins_next, element_some, n
 pub use Rattle.asn1_core_format.specs.Leaf.{IsLawfulSpelling, Spelling, verbatim, leaf}
 pub use Rattle.asn1_core_format.specs.LeafLaws.{lawful_leaf}
 pub use Rattle.asn1_core_format.specs.LevelLaws.{IsStep, lawful_less, lawful_levels, unroll_formed, unroll_text}
-pub use Rattle.asn1_core_format.specs.Levels.{Grammar, Still, always, by_levels, less, levels, no_grammar}
+pub use Rattle.asn1_core_format.specs.Levels.{Grammar, LevelInvariant, always, by_levels, less, levels, no_grammar}
 pub use Rattle.asn1_core_format.specs.Loosened.{IsLoosening, Loosening, lawful_loosened, lawful_loosened_components, loosened}
 pub use Rattle.asn1_core_format.specs.Mapped.{lawful_mapped, mapped}
 pub use Rattle.asn1_core_format.specs.Same.{all_same, least_same, texts_same}

@@ -13,7 +13,7 @@ macro_rules! body_of {
         $crate::prelude::OmittedRef(&$value.$field, $crate::body_of!($value; $($($rest)*)?))
     };
     ($value:ident; $field:ident $(, $($rest:tt)*)?) => {
-        $crate::prelude::Part($crate::prelude::Ref(&$value.$field), $crate::body_of!($value; $($($rest)*)?))
+        $crate::prelude::Required($crate::prelude::Ref(&$value.$field), $crate::body_of!($value; $($($rest)*)?))
     };
     ($value:ident; $part:ident($field:ident) DEFAULT $(, $($rest:tt)*)?) => {
         $crate::prelude::Omitted($part($value.$field), $crate::body_of!($value; $($($rest)*)?))
@@ -28,7 +28,7 @@ macro_rules! body_of {
         $crate::prelude::Omitted($part, $crate::body_of!($value; $($($rest)*)?))
     };
     ($value:ident; ($part:expr) $(, $($rest:tt)*)?) => {
-        $crate::prelude::Part($part, $crate::body_of!($value; $($($rest)*)?))
+        $crate::prelude::Required($part, $crate::body_of!($value; $($($rest)*)?))
     };
 }
 
@@ -45,7 +45,7 @@ macro_rules! fields_of {
         $crate::prelude::Omitted($field, $crate::fields_of!($($($rest)*)?))
     };
     ($field:ident $(, $($rest:tt)*)?) => {
-        $crate::prelude::Part($field, $crate::fields_of!($($($rest)*)?))
+        $crate::prelude::Required($field, $crate::fields_of!($($($rest)*)?))
     };
     ($part:ident($field:ident) DEFAULT $(, $($rest:tt)*)?) => {
         $crate::prelude::Omitted($part($field), $crate::fields_of!($($($rest)*)?))
@@ -57,7 +57,7 @@ macro_rules! fields_of {
         $crate::prelude::Omitted($part, $crate::fields_of!($($($rest)*)?))
     };
     (($part:pat) $(, $($rest:tt)*)?) => {
-        $crate::prelude::Part($part, $crate::fields_of!($($($rest)*)?))
+        $crate::prelude::Required($part, $crate::fields_of!($($($rest)*)?))
     };
 }
 
@@ -91,17 +91,17 @@ macro_rules! clone_of {
     };
 }
 
-/// Hands the components of a SEQUENCE to a task, as the body of `Sequence::with_components`: `with_components_of!(self, task; Stamp { id, data, count
-/// OPTIONAL })`. A field that is a part in a type of its own is in that type's parentheses, as `DefaultFalse(critical)
-/// DEFAULT`.
+/// Hands the components of a SEQUENCE to a visitor, as the body of `Sequence::with_components`:
+/// `with_components_of!(self, visitor; Stamp { id, data, count OPTIONAL })`. A field that is a part in a type of its
+/// own is in that type's parentheses, as `DefaultFalse(critical) DEFAULT`.
 ///
 /// `with_components_of`, `read_fields_of` and `clone_fields_of` take the same list, so a table can give it to all three: `macro_rules! stamp {
 /// ($by:ident($($by_what:ident),*)) => { $by!($($by_what),*; Stamp { id, data, count OPTIONAL }) }; }`, with bodies such
-/// as `stamp!(with_components_of(self, task))`.
+/// as `stamp!(with_components_of(self, visitor))`.
 #[macro_export]
 macro_rules! with_components_of {
-    ($value:ident, $task:ident; $type:ident { $($parts:tt)* }) => {
-        $task.run(&$crate::body_of!($value; $($parts)*))
+    ($value:ident, $visitor:ident; $type:ident { $($parts:tt)* }) => {
+        $visitor.visit(&$crate::body_of!($value; $($parts)*))
     };
 }
 
@@ -129,7 +129,7 @@ macro_rules! types_of {
         $crate::prelude::Omitted<_, $crate::types_of!($($($rest)*)?)>
     };
     ($field:ident $(, $($rest:tt)*)?) => {
-        $crate::prelude::Part<_, $crate::types_of!($($($rest)*)?)>
+        $crate::prelude::Required<_, $crate::types_of!($($($rest)*)?)>
     };
 }
 

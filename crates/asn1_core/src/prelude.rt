@@ -10,11 +10,11 @@ pub use crate::{
 };
 pub use asn1_core_element::{Error, Reader};
 pub use asn1_core_format::{
-    Alone, Alternatives, Asn1Type, DefaultType, DerDeserialize, DerSerialize, DerTagged, Either,
-    End, EqualByText, HasDefault, Leaf, MAX_NESTING, Maybe, MaybeRef, Omitted, OmittedRef, Part,
-    ReadComponents, Ref, Sequence, TaggedType, Task, TryClone, Viewed, WriteComponents,
-    is_left_out, put_both, put_within, read_inside, read_leaf, read_leaf_contents, read_retagged,
-    read_within,
+    Alone, Alternatives, Asn1Type, ComponentVisitor, DefaultType, DerDeserialize, DerSerialize,
+    DerTagged, Either, End, EqualByText, HasDefault, Leaf, MAX_NESTING, Maybe, MaybeRef, Omitted,
+    OmittedRef, ReadComponents, Ref, Required, Sequence, TaggedType, TryClone, Viewed,
+    WriteComponents, is_left_out, put_both, put_within, read_inside, read_leaf, read_leaf_contents,
+    read_retagged, read_within,
 };
 pub use asn1_core_oid::ObjectIdentifier;
 pub use asn1_core_writers::{WriteError, Writer, put_element, put_unsigned};

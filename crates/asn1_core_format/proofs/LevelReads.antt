@@ -7,7 +7,7 @@ use Rattle.asn1_core_element.specs.declared.error.Error.{Error}
 use Rattle.asn1_core_element.specs.declared.error.Error.TheVariants.{TooDeep}
 use Rattle.asn1_core_format.specs.Format.{Format, HasRead, HasRefused, Gives}
 use Rattle.asn1_core_format.specs.Components.{within, HasReadComponents, HasRefusedComponents, GivesComponents}
-use Rattle.asn1_core_format.specs.Levels.{less, Still, levels}
+use Rattle.asn1_core_format.specs.Levels.{less, LevelInvariant, levels}
 use Rattle.asn1_core_format.specs.LevelLaws.{IsStep, unroll, unroll_least}
 use Rattle.asn1_core_format.specs.Mapped.{mapped}
 
@@ -20,7 +20,7 @@ none_left F e p = record {
   at_most = omega arith;
 }
 
-module _ {I : Type 0} {V : I → Type 0} (s : (i : I) → Still (V i)) (step : ((i : I) → Format (V i)) → (i : I) → Format (V i)) (p : IsStep s step) (i : I) (k : ℕ) where
+module _ {I : Type 0} {V : I → Type 0} (s : (i : I) → LevelInvariant (V i)) (step : ((i : I) → Format (V i)) → (i : I) → Format (V i)) (p : IsStep s step) (i : I) (k : ℕ) where
   pub has_read_level : {old new : Position} {v : V i} → HasRead (step (λ j. less (levels s step j)) i) k old new v → HasRead (levels s step i) k old new v
   has_read_level {old} {new} {v} t = record {
     taken = t.taken;

@@ -4,10 +4,10 @@ use Rattle.std.proofs.Common.{refl, sym, ◌∙◌, subst, arith}
 use Rattle.asn1_core_element.specs.Element.{IsElement}
 use Rattle.asn1_core_format.specs.Format.{Format, IsLawful}
 use Rattle.asn1_core_format.specs.Laws.{begins_alone}
-use Rattle.asn1_core_format.specs.Levels.{less, Grammar, no_grammar, at_level, Still, by_levels, always, unrolled, levels}
+use Rattle.asn1_core_format.specs.Levels.{less, Grammar, no_grammar, at_level, LevelInvariant, by_levels, always, unrolled, levels}
 
 -- Types outside, made of the types inside. All laws but `lawful` hold by computation.
-pub record IsStep {I : Type 0} {V : I → Type 0} (s : (i : I) → Still (V i)) (step : ((i : I) → Format (V i)) → (i : I) → Format (V i)) : Type 1 where
+pub record IsStep {I : Type 0} {V : I → Type 0} (s : (i : I) → LevelInvariant (V i)) (step : ((i : I) → Format (V i)) → (i : I) → Format (V i)) : Type 1 where
   pub lawful : (F : (i : I) → Format (V i)) → ((i : I) → IsLawful (F i)) → (i : I) → IsLawful (step F i)
   -- what is outside has the same encoding and normal value, and the same tags
   pub text : (g : ℕ → (i : I) → Grammar (V i)) (i : I) (v : V i) → (step (λ j. by_levels (s j) (λ k. g k j)) i).text v ≡ (s i).text v
@@ -46,7 +46,7 @@ up_to_grows R g h x y z (suc k) (suc j) = up_to_grows R g h x y z k j
 map_tags : (S T : ℕ → Type 0) (b : List ℕ) → ((t : ℕ) → S t → T t) → IsElement S b → IsElement T b
 map_tags S T b f e = record { tag = e.tag; contents = e.contents; is_tag = e.is_tag; is = e.is; allowed = f e.tag e.allowed }
 
-module _ {V : Type 0} (s : Still V) where
+module _ {V : Type 0} (s : LevelInvariant V) where
   lawful_none : IsLawful (always s no_grammar)
   lawful_none = record {
     components = record {
@@ -78,7 +78,7 @@ module _ {V : Type 0} (s : Still V) where
     element = λ k. (l k).element k;
   }
 
-module _ {I : Type 0} {V : I → Type 0} (s : (i : I) → Still (V i)) (step : ((i : I) → Format (V i)) → (i : I) → Format (V i)) (p : IsStep s step) where
+module _ {I : Type 0} {V : I → Type 0} (s : (i : I) → LevelInvariant (V i)) (step : ((i : I) → Format (V i)) → (i : I) → Format (V i)) (p : IsStep s step) where
   one_level : (k : ℕ) (g : (i : I) → Grammar (V i)) (i : I) → IsLawful (step (λ j. always (s j) (g j)) i) → IsLawful (always (s i) (at_level k (step (λ j. always (s j) (g j)) i)))
   one_level k g i f =
       let F : Format (V i) = step (λ j. always (s j) (g j)) i in

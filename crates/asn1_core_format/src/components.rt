@@ -75,11 +75,11 @@ impl ReadComponents for End {
     ghost lawful = { λ _. lawful_nothing };
 }
 
-/// A part, and what follows it.
+/// A part that is always there, and what follows it.
 #[derive(Drop)]
-pub struct Part<A, R>(pub A, pub R);
+pub struct Required<A, R>(pub A, pub R);
 
-impl<A: DerSerialize, R: WriteComponents> WriteComponents for Part<A, R> {
+impl<A: DerSerialize, R: WriteComponents> WriteComponents for Required<A, R> {
     ghost Value = { A.Value × R.Value };
 
     ghost value = { λ p. (A.value p.0, R.value p.1) };
@@ -95,14 +95,14 @@ impl<A: DerSerialize, R: WriteComponents> WriteComponents for Part<A, R> {
     }
 }
 
-impl<A: DerDeserialize, R: ReadComponents> ReadComponents for Part<A, R> {
+impl<A: DerDeserialize, R: ReadComponents> ReadComponents for Required<A, R> {
     ghost distinct = { R.distinct };
 
     #[inline(always)]
     fn read_components(alloc: Global, r: &mut Reader<'_>, nest: u8) -> Result<Self, Error> {
         let first = A::read(alloc, r, nest)?;
         let rest = R::read_components(alloc, r, nest)?;
-        Ok(Part(first, rest))
+        Ok(Required(first, rest))
     }
 
     ghost lawful = { λ c. lawful_part A.DerSerialize.format R.WriteComponents.format A.lawful (R.lawful c) };

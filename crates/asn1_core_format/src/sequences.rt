@@ -7,8 +7,8 @@ ghost use Rattle.asn1_core_format.specs.Components.{GivesComponents};
 ghost use Rattle.asn1_core_format.specs.TaggedLaws.{within_tagged};
 ghost use Rattle.asn1_core_format.specs.Views.{SeesEqual, Clones};
 
-use crate::tasks::{PutWithin, Task, Test};
 use crate::types::TaggedType;
+use crate::visitors::{ComponentVisitor, PutWithin, Test};
 use asn1_core_element::{Error, Reader};
 use asn1_core_writers::{WriteError, Writer};
 use std::alloc::Global;
@@ -21,10 +21,10 @@ pub trait Sequence: PartialEq + Drop {
 
     ghost value: { Self → asn1.Value };
 
-    /// Hands the components to a task, in order.
-    fn with_components<U: Task>(&self, task: &mut U) -> U::Out
-        requires { U.may task.old }
-        ensures { U.does task.old task.new (asn1.format.text (value self.now)) (λ k. asn1.format.IsWellFormed k (value self.now)) result };
+    /// Hands the components to a visitor, in order.
+    fn with_components<U: ComponentVisitor>(&self, visitor: &mut U) -> U::Out
+        requires { U.MayVisit visitor.old }
+        ensures { U.Visits visitor.old visitor.new (asn1.format.text (value self.now)) (λ k. asn1.format.IsWellFormed k (value self.now)) result };
 
     /// Reads the components, to the end of the open contents.
     fn read_fields(alloc: Global, r: &mut Reader<'_>, nest: u8) -> Result<Self, Error>

@@ -7,7 +7,7 @@ ghost use Rattle.asn1_core_format.specs.Omitted.{is_default_with, omitted_if_dis
 ghost use Rattle.asn1_core_format.specs.Components.{GivesComponents, within};
 ghost use Rattle.asn1_core_format.specs.ComponentLaws.{lawful_part, optional_if_distinct};
 
-use crate::components::{HasDefault, Maybe, Omitted, Part, WriteComponents, next_is};
+use crate::components::{HasDefault, Maybe, Omitted, Required, WriteComponents, next_is};
 use crate::recursive::read_components_by;
 use crate::traits::DerDeserialize;
 use asn1_core_element::element::open_element;
@@ -72,7 +72,7 @@ impl<S: WriteComponents + Drop> ReadComponentsWith<S> for Tail<S> {
 }
 
 impl<A: DerDeserialize, S: WriteComponents, R: ReadComponentsWith<S>> ReadComponentsWith<S>
-    for Part<A, R> {
+    for Required<A, R> {
     ghost distinct = { R.distinct };
 
     fn read_components_with<F: Fn(&mut Reader<'_>) -> Result<S, Error>>(
@@ -83,7 +83,7 @@ impl<A: DerDeserialize, S: WriteComponents, R: ReadComponentsWith<S>> ReadCompon
     ) -> Result<Self, Error> {
         let first = A::read(alloc, r, nest)?;
         let rest = R::read_components_with(alloc, r, nest, by)?;
-        Ok(Part(first, rest))
+        Ok(Required(first, rest))
     }
 
     ghost keeps_laws = { λ c s. lawful_part A.DerSerialize.format R.WriteComponents.format A.lawful (R.keeps_laws c s) };

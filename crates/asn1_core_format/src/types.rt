@@ -15,9 +15,9 @@ ghost use Rattle.asn1_core_format.specs.Views.{SeesEqual, Clones};
 
 use crate::components::{HasDefault, WriteComponents};
 use crate::tagged::DerTagged;
-use crate::tasks::{Put, Task, Test};
 use crate::traits::{DerDeserialize, DerSerialize};
 use crate::views::{EqualByText, TryClone};
+use crate::visitors::{ComponentVisitor, Put, Test};
 use asn1_core_element::element::open_element;
 use asn1_core_element::{Error, Reader};
 use asn1_core_writers::{WriteError, Writer};
@@ -30,10 +30,10 @@ pub trait Asn1Type: PartialEq + Drop {
 
     ghost value: { Self → asn1.Value };
 
-    /// Hands what is written in its place to a task.
-    fn with_encoded<U: Task>(&self, task: &mut U) -> U::Out
-        requires { U.may task.old }
-        ensures { U.does task.old task.new (asn1.format.text (value self.now)) (λ k. asn1.format.IsWellFormed k (value self.now)) result };
+    /// Hands what is written in its place to a visitor.
+    fn with_encoded<U: ComponentVisitor>(&self, visitor: &mut U) -> U::Out
+        requires { U.MayVisit visitor.old }
+        ensures { U.Visits visitor.old visitor.new (asn1.format.text (value self.now)) (λ k. asn1.format.IsWellFormed k (value self.now)) result };
 
     /// Reads a value from the front of what is left, as `DerDeserialize::read` does.
     fn read_encoded(alloc: Global, r: &mut Reader<'_>, nest: u8) -> Result<Self, Error>
@@ -127,9 +127,9 @@ pub trait TaggedType: PartialEq + Drop {
 
 /// A value under its own tag.
 #[derive(Drop)]
-struct Own<R>(R);
+struct UnderOwnTag<R>(R);
 
-impl<T: TaggedType> WriteComponents for Own<&T> {
+impl<T: TaggedType> WriteComponents for UnderOwnTag<&T> {
     ghost Value = { T.TaggedType.asn1.Value };
 
     ghost value = { λ x. T.TaggedType.value x.0.now };
@@ -150,8 +150,8 @@ impl<T: TaggedType> Asn1Type for T {
 
     ghost value = { T.TaggedType.value };
 
-    fn with_encoded<U: Task>(&self, task: &mut U) -> U::Out {
-        task.run(&Own(self))
+    fn with_encoded<U: ComponentVisitor>(&self, visitor: &mut U) -> U::Out {
+        visitor.visit(&UnderOwnTag(self))
     }
 
     #[inline(always)]

@@ -31,7 +31,7 @@ fn with_value<T: DerSerialize + Drop>(alloc: Global, oid: &[u8], value: T) -> Re
 {
     to_vec(
         alloc,
-        &Body(Part(KnownOid(oid), Part(SetOfOne(value), End))),
+        &Body(Required(KnownOid(oid), Required(SetOfOne(value), End))),
     )
 }
 

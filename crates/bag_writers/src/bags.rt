@@ -29,18 +29,18 @@ pub(crate) struct Attributed<'a> {
 }
 
 /// The parts of a bag.
-type Parts<'a> = Part<
+type Parts<'a> = Required<
     KnownOid<'a>,
-    Part<ExplicitContextTag0<Held<'a>>, MaybeRef<'a, Asn1SetOf<Asn1RawDer>, End>>,
+    Required<ExplicitContextTag0<Held<'a>>, MaybeRef<'a, Asn1SetOf<Asn1RawDer>, End>>,
 >;
 
 impl Attributed<'_> {
     fn parts(&self) -> Parts<'_>
         ensures { ⟦<Parts<'static> as WriteComponents>⟧.value result ≡ attributed_value self.now }
     {
-        Part(
+        Required(
             KnownOid(self.held.id()),
-            Part(
+            Required(
                 ExplicitContextTag0(self.held),
                 MaybeRef(&self.attributes, End),
             ),

@@ -38,14 +38,14 @@ pub enum Held<'a> {
 }
 
 /// The parts of a `CertBag` or `CRLBag` with an X.509 one (RFC 7292, 4.2.3 and 4.2.4).
-type X509Parts<'a> = Part<KnownOid<'a>, Part<ExplicitContextTag0<OctetsRef<'a>>, End>>;
+type X509Parts<'a> = Required<KnownOid<'a>, Required<ExplicitContextTag0<OctetsRef<'a>>, End>>;
 
 fn x509_parts<'a>(number: usize, octets: &'a [u8]) -> X509Parts<'a>
     ensures { ⟦<X509Parts<'static> as WriteComponents>⟧.value result ≡ (oid number, (octets.now, tt)) }
 {
-    Part(
+    Required(
         KnownOid(octets_of_known(number)),
-        Part(ExplicitContextTag0(OctetsRef(octets)), End),
+        Required(ExplicitContextTag0(OctetsRef(octets)), End),
     )
 }
 

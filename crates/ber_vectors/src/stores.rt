@@ -3,7 +3,7 @@
 use asn1_core::prelude::*;
 use asn1_core::{from_bytes, to_vec};
 use ber_der::to_der;
-use pkcs12_ber::{BerPfx, Place, ber_mac_range, read_ber_pfx};
+use pkcs12_ber::{BerPfx, BufferOffset, ber_mac_range, read_ber_pfx};
 use std::alloc::Global;
 use std::test::Fail;
 use vector_checks::checks::expect;
@@ -96,8 +96,16 @@ fn has_text<T: DerSerialize>(alloc: Global, value: &T, text: &[u8]) -> Result<()
 #[test]
 fn places_say_in_which_bytes(rt: HostRuntime) -> Result<(), Fail> {
     for (file, error, place) in [
-        (b"\x30\x80\x00".as_slice(), Error::Malformed, Place::File(2)),
-        (b"\x05\x00".as_slice(), Error::Invalid, Place::FileDer(0)),
+        (
+            b"\x30\x80\x00".as_slice(),
+            Error::Malformed,
+            BufferOffset::File(2),
+        ),
+        (
+            b"\x05\x00".as_slice(),
+            Error::Invalid,
+            BufferOffset::FileDer(0),
+        ),
     ] {
         let refused = read_ber_pfx::<RawAuthenticatedSafeDataRepr>(rt.alloc(), file).err();
         expect(refused == Some((error, place)), "another place")?;

@@ -20,8 +20,8 @@ impl Sequence for SubjectPublicKeyInfo {
 
     ghost value = { key_value };
 
-    fn with_components<U: Task>(&self, task: &mut U) -> U::Out {
-        with_components_of!(self, task; SubjectPublicKeyInfo { algorithm, subject_public_key })
+    fn with_components<U: ComponentVisitor>(&self, visitor: &mut U) -> U::Out {
+        with_components_of!(self, visitor; SubjectPublicKeyInfo { algorithm, subject_public_key })
     }
 
     fn read_fields(alloc: Global, r: &mut Reader<'_>, nest: u8) -> Result<Self, Error> {

@@ -4,7 +4,7 @@ use asn1_core::{
     Asn1SequenceOf, Error, ExplicitContextTag0, FixedVersion, from_bytes_located,
     from_bytes_located_limited,
 };
-use asn1_core_format::Less;
+use asn1_core_format::OneLevelDown;
 use std::alloc::Global;
 use std::test::Fail;
 
@@ -89,7 +89,7 @@ fn refusals_have_places(rt: HostRuntime) -> Result<(), Fail> {
 /// An item that is one level too deep: the place is where it begins.
 #[test]
 fn levels_have_places(rt: HostRuntime) -> Result<(), Fail> {
-    type Deep = Asn1SequenceOf<Less<FixedVersion<3>>>;
+    type Deep = Asn1SequenceOf<OneLevelDown<FixedVersion<3>>>;
     let input = b"\x30\x03\x02\x01\x03";
     for (limit, refused) in [(0, Some((Error::TooDeep, 2))), (1, None)] {
         let outcome = from_bytes_located_limited::<Deep>(rt.alloc(), limit, input);

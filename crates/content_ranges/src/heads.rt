@@ -20,8 +20,8 @@ impl Sequence for AnySubject {
 
     ghost value = { any_subject_value };
 
-    fn with_components<U: Task>(&self, task: &mut U) -> U::Out {
-        with_components_of!(self, task; AnySubject { ty, value OPTIONAL })
+    fn with_components<U: ComponentVisitor>(&self, visitor: &mut U) -> U::Out {
+        with_components_of!(self, visitor; AnySubject { ty, value OPTIONAL })
     }
 
     fn read_fields(alloc: Global, r: &mut Reader<'_>, nest: u8) -> Result<Self, Error> {
@@ -47,8 +47,8 @@ impl Sequence for IndirectHead {
 
     ghost value = { indirect_head_value };
 
-    fn with_components<U: Task>(&self, task: &mut U) -> U::Out {
-        with_components_of!(self, task; IndirectHead { data, message_digest })
+    fn with_components<U: ComponentVisitor>(&self, visitor: &mut U) -> U::Out {
+        with_components_of!(self, visitor; IndirectHead { data, message_digest })
     }
 
     fn read_fields(alloc: Global, r: &mut Reader<'_>, nest: u8) -> Result<Self, Error> {
@@ -75,8 +75,8 @@ impl Sequence for ImageHead {
 
     ghost value = { image_head_value };
 
-    fn with_components<U: Task>(&self, task: &mut U) -> U::Out {
-        with_components_of!(self, task; ImageHead { flags OPTIONAL, file OPTIONAL })
+    fn with_components<U: ComponentVisitor>(&self, visitor: &mut U) -> U::Out {
+        with_components_of!(self, visitor; ImageHead { flags OPTIONAL, file OPTIONAL })
     }
 
     fn read_fields(alloc: Global, r: &mut Reader<'_>, nest: u8) -> Result<Self, Error> {

@@ -19,8 +19,8 @@ impl Sequence for TrustedSubject {
 
     ghost value = { trusted_subject_value };
 
-    fn with_components<U: Task>(&self, task: &mut U) -> U::Out {
-        with_components_of!(self, task; TrustedSubject { identifier, attributes OPTIONAL })
+    fn with_components<U: ComponentVisitor>(&self, visitor: &mut U) -> U::Out {
+        with_components_of!(self, visitor; TrustedSubject { identifier, attributes OPTIONAL })
     }
 
     fn read_fields(alloc: Global, r: &mut Reader<'_>, nest: u8) -> Result<Self, Error> {
@@ -67,8 +67,8 @@ impl Sequence for TrustListHead {
 
     ghost value = { trust_list_head_value };
 
-    fn with_components<U: Task>(&self, task: &mut U) -> U::Out {
-        list_of!(with_components_of(self, task))
+    fn with_components<U: ComponentVisitor>(&self, visitor: &mut U) -> U::Out {
+        list_of!(with_components_of(self, visitor))
     }
 
     fn read_fields(alloc: Global, r: &mut Reader<'_>, nest: u8) -> Result<Self, Error> {

@@ -37,7 +37,7 @@ impl fmt::Display for Cause {
 
 /// An element that isn't canonical: where it begins, and why. What is absent is said of the element that lacks it.
 #[derive(Clone, Copy)]
-pub struct Place {
+pub struct LooseElement {
     pub offset: usize,
     pub cause: Cause,
 }
@@ -123,7 +123,7 @@ struct Comparison {
     replaced: Option<usize>,
     /// Whether a difference was found that has none of the causes, after which no more is compared.
     is_lost: bool,
-    places: Vec<Place>,
+    places: Vec<LooseElement>,
 }
 
 impl Comparison {
@@ -140,7 +140,7 @@ impl Comparison {
     /// Notes an element that isn't canonical.
     fn note(&mut self, offset: usize, cause: Cause) -> Result<(), AllocError> {
         self.is_lost = matches!(cause, Cause::Other);
-        self.places.push(Place { offset, cause })?;
+        self.places.push(LooseElement { offset, cause })?;
         Ok(())
     }
 
@@ -219,7 +219,7 @@ pub fn loose_places(
     alloc: Global,
     input: &[u8],
     encoding: &[u8],
-) -> Result<Vec<Place>, AllocError> {
+) -> Result<Vec<LooseElement>, AllocError> {
     let written = lines_of(alloc, encoding)?;
     let mut comparison = Comparison::new(alloc);
     let mut walk = Walk::new(alloc, input, Opening::EACH_WHOLE);

@@ -12,7 +12,7 @@ mod values;
 mod verdict;
 
 use ber_lines::lines::Opening;
-use loose::{Place, loose_places};
+use loose::{LooseElement, loose_places};
 use names::{Names, Table};
 use std::alloc::{AllocError, Global};
 use std::env;
@@ -82,7 +82,7 @@ fn read_words(words: &[String]) -> Option<Asked<'_>> {
 }
 
 /// What isn't canonical in a loose input.
-fn places_of(alloc: Global, kind: Kind, input: &[u8]) -> Result<Vec<Place>, AllocError> {
+fn places_of(alloc: Global, kind: Kind, input: &[u8]) -> Result<Vec<LooseElement>, AllocError> {
     let mut encoding = Vec::new(alloc);
     match rewrite(alloc, kind, input, &mut encoding) {
         Ok(()) => loose_places(alloc, input, encoding.as_slice()),

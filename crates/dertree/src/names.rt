@@ -31,7 +31,7 @@ fn spells(text: &str, octets: &[u8]) -> bool {
 
 /// A row of the table: an element that the contents of a type may have.
 #[derive(Clone, Copy)]
-struct Row {
+struct Component {
     /// Whether it may be left out, or another row may be there instead.
     may_be_left_out: bool,
     /// What it adds to the name of what holds it.
@@ -44,8 +44,8 @@ struct Row {
     identifier: Option<&'static str>,
 }
 
-impl Row {
-    fn new(line: &'static str) -> Row {
+impl Component {
+    fn new(line: &'static str) -> Component {
         let (line, may_be_left_out) = match line.strip_prefix('?') {
             Some(rest) => (rest, true),
             None => (line, false),
@@ -58,7 +58,7 @@ impl Row {
             Some(word) => word.strip_prefix('='),
             None => None,
         };
-        Row {
+        Component {
             may_be_left_out,
             name,
             tag,
@@ -165,12 +165,12 @@ impl<'a> Frame<'a> {
     }
 
     /// The row that an element with a tag fits, and how many are before it.
-    fn fitting(self, tag: u8) -> Option<(usize, Row)> {
+    fn fitting(self, tag: u8) -> Option<(usize, Component)> {
         for (index, line) in self.rows.split('\n').enumerate() {
             if index < self.passed {
                 continue;
             }
-            let row = Row::new(line);
+            let row = Component::new(line);
             if row.fits(tag, self.identifier) {
                 return Some((index, row));
             }

@@ -1,6 +1,6 @@
 //! A tree, written line by line.
 
-use crate::loose::Place;
+use crate::loose::LooseElement;
 use crate::names::Names;
 use crate::values::{octets_text, value_text};
 use crate::verdict::Verdict;
@@ -92,7 +92,7 @@ fn write_mark<W: Write>(w: &mut W, mark: &Mark, relation: &str, path: &[Step]) -
 pub struct Notes<'a> {
     pub mark: Option<Mark>,
     /// The elements that aren't canonical, in their order.
-    pub places: Vec<Place>,
+    pub places: Vec<LooseElement>,
     pub names: Option<Names<'a>>,
 }
 

@@ -280,7 +280,7 @@ fn is_kept<T: DerDeserialize + EqualByText + TryClone + Debug>(
 }
 
 /// Asks what a row says of its input as the type.
-pub fn is_so<T: DerDeserialize + EqualByText + TryClone + Debug>(
+pub fn check_row<T: DerDeserialize + EqualByText + TryClone + Debug>(
     alloc: Global,
     row: &Row,
 ) -> Result<(), Fail> {
@@ -308,11 +308,11 @@ pub fn is_so<T: DerDeserialize + EqualByText + TryClone + Debug>(
 
 /// Asks besides that the value of an accepted input is written in each way, and of a short one that it is sent into sinks
 /// that fail.
-pub fn is_so_in_each_way<T: DerDeserialize + EqualByText + TryClone + Debug>(
+pub fn check_in_each_way<T: DerDeserialize + EqualByText + TryClone + Debug>(
     alloc: Global,
     row: &Row,
 ) -> Result<(), Fail> {
-    is_so::<T>(alloc, row)?;
+    check_row::<T>(alloc, row)?;
     let Ok(value) = from_bytes::<T>(alloc, &row.input) else {
         return Ok(());
     };
@@ -329,11 +329,11 @@ pub fn is_so_in_each_way<T: DerDeserialize + EqualByText + TryClone + Debug>(
 const OTHER_TAG: u8 = 0x9E;
 
 /// Asks what a row says of its input as a type with a tag of its own.
-pub fn is_so_under_tags<T: DerTagged + EqualByText + TryClone + Debug>(
+pub fn check_under_tags<T: DerTagged + EqualByText + TryClone + Debug>(
     alloc: Global,
     row: &Row,
 ) -> Result<(), Fail> {
-    is_so::<T>(alloc, row)?;
+    check_row::<T>(alloc, row)?;
     is_kept_under_tags::<T>(alloc, row)
 }
 

@@ -29,7 +29,7 @@ fn all_rows_hold(rt: &HostRuntime) -> Result<(), Fail> {
             continue;
         }
         seen.extend(rows::kind_of(line.as_str()))?;
-        if holds(rt, rows::holds(alloc, line.as_str())) {
+        if holds(rt, rows::check_line(alloc, line.as_str())) {
             held = held.saturating_add(1);
         } else {
             println!(rt; "doesn't hold: {line}")?;

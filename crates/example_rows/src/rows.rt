@@ -93,32 +93,32 @@ pub fn kind_of(line: &str) -> Option<(Kind, Said)> {
 }
 
 /// Asks what a row says of the type that a word names.
-fn is_so(alloc: Global, word: &str, row: &Row) -> Result<(), Fail> {
+fn check_row(alloc: Global, word: &str, row: &Row) -> Result<(), Fail> {
     let Some(kind) = Kind::from_word(word) else {
-        return subjects::is_so(alloc, word, row);
+        return subjects::check_row(alloc, word, row);
     };
     match row.levels {
         Some(levels) => is_said_by_kind_within(alloc, kind, levels, row)?,
         None => is_said_by_kind(alloc, kind, row)?,
     }
-    kinds::is_so(alloc, kind, row)
+    kinds::check_row(alloc, kind, row)
 }
 
 /// Asks what a row says. Its first column is the word of a type, with ` of N headers` or ` within N levels` after it.
-pub fn holds(alloc: Global, line: &str) -> Result<(), Fail> {
+pub fn check_line(alloc: Global, line: &str) -> Result<(), Fail> {
     let columns: Vec<&str> = line.split(" | ").collect(alloc)?;
     let subject = columns.first().ok_or("no column")?;
     let words: Vec<&str> = subject.split(' ').collect(alloc)?;
     match words.as_slice() {
-        [word] => is_so(alloc, word, &row_of(alloc, &columns, None, None)?),
+        [word] => check_row(alloc, word, &row_of(alloc, &columns, None, None)?),
         [word, "of", count, "headers"] => {
             let headers = usize::from_str_radix(count, 10)?;
-            is_so(alloc, word, &row_of(alloc, &columns, Some(headers), None)?)
+            check_row(alloc, word, &row_of(alloc, &columns, Some(headers), None)?)
         }
         [word, "within", count, "levels"] => {
             let levels = u8::from_str_radix(count, 10)?;
             let row = row_of(alloc, &columns, None, Some(levels))?;
-            is_so(alloc, word, &row)
+            check_row(alloc, word, &row)
         }
         _ => Err(Fail::new("a type, of so many headers or within so many levels")),
     }

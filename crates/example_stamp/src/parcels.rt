@@ -28,8 +28,8 @@ impl Sequence for Parcel {
 
     ghost value = { parcel_value };
 
-    fn with_components<U: Task>(&self, task: &mut U) -> U::Out {
-        parcel!(with_components_of(self, task))
+    fn with_components<U: ComponentVisitor>(&self, visitor: &mut U) -> U::Out {
+        parcel!(with_components_of(self, visitor))
     }
 
     fn read_fields(alloc: Global, r: &mut Reader<'_>, nest: u8) -> Result<Self, Error> {

@@ -64,8 +64,8 @@ impl Sequence for Holder {
 
     ghost value = { holder_value };
 
-    fn with_components<U: Task>(&self, task: &mut U) -> U::Out {
-        task.run(&Chosen(self.choice()))
+    fn with_components<U: ComponentVisitor>(&self, visitor: &mut U) -> U::Out {
+        visitor.visit(&Chosen(self.choice()))
     }
 
     fn read_fields(alloc: Global, r: &mut Reader<'_>, nest: u8) -> Result<Self, Error> {
@@ -106,8 +106,8 @@ impl Sequence for Ticket {
 
     ghost value = { ticket_value };
 
-    fn with_components<U: Task>(&self, task: &mut U) -> U::Out {
-        with_components_of!(self, task; Ticket { serial, note OPTIONAL, holder })
+    fn with_components<U: ComponentVisitor>(&self, visitor: &mut U) -> U::Out {
+        with_components_of!(self, visitor; Ticket { serial, note OPTIONAL, holder })
     }
 
     fn read_fields(alloc: Global, r: &mut Reader<'_>, nest: u8) -> Result<Self, Error> {

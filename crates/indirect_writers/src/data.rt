@@ -90,25 +90,25 @@ pub struct IndirectData<'a> {
     pub digest: &'a [u8],
 }
 
-type Subject<'a> = Body<Part<KnownOid<'a>, Maybe<ElementRef<'a>, End>>>;
+type Subject<'a> = Body<Required<KnownOid<'a>, Maybe<ElementRef<'a>, End>>>;
 
-type Digest<'a> = Body<Part<Ref<&'a AlgorithmIdentifier>, Part<OctetsRef<'a>, End>>>;
+type Digest<'a> = Body<Required<Ref<&'a AlgorithmIdentifier>, Required<OctetsRef<'a>, End>>>;
 
-type IndirectParts<'a> = Part<Subject<'a>, Part<Digest<'a>, End>>;
+type IndirectParts<'a> = Required<Subject<'a>, Required<Digest<'a>, End>>;
 
 impl IndirectData<'_> {
     fn parts(&self) -> IndirectParts<'_>
         ensures { ⟦<IndirectParts<'static> as WriteComponents>⟧.value result ≡ indirect_value self.now }
     {
-        let subject = Body(Part(
+        let subject = Body(Required(
             KnownOid(self.attribute_type),
             Maybe(element_if(self.attribute_value), End),
         ));
-        let digest = Body(Part(
+        let digest = Body(Required(
             Ref(self.digest_algorithm),
-            Part(OctetsRef(self.digest), End),
+            Required(OctetsRef(self.digest), End),
         ));
-        Part(subject, Part(digest, End))
+        Required(subject, Required(digest, End))
     }
 }
 

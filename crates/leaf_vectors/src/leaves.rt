@@ -1,7 +1,7 @@
 //! Leaves by themselves, and under an implicit tag.
 
 use asn1_core::{DerDeserialize, EqualByText, Error, Implicit, TryClone, from_bytes};
-use asn1_other_leaves::{
+use asn1_module_leaves::{
     BooleanAsn1, EnumeratedAsn1, KeptAsn1, NullAsn1, NumericStringAsn1, PrintableStringAsn1,
     TeletexStringAsn1, UniversalStringAsn1, VisibleStringAsn1,
 };

@@ -1,15 +1,15 @@
 -- The types of Forms, made of forms.asn1; not to be edited.
 use Rattle.asn1_core.specs.Asn1.{Asn1, CHOICE, Contents, IMPLICIT, INTEGER_BELOW, SEQUENCE, contents, end, ◌then◌, ◌OPTIONAL◌}
 use Rattle.std.proofs.lemmas.Bool.Decides.{Decides-eqb}
-use Rattle.asn1_other_leaves.specs.Asn1.{ENUMERATED_of}
-use Rattle.asn1_other_leaves.specs.Enumerations.{IsOneOf}
+use Rattle.asn1_module_leaves.specs.Asn1.{ENUMERATED_of}
+use Rattle.asn1_module_leaves.specs.Enumerations.{IsOneOf}
 use Rattle.std.specs.Prelude.{List, ℕ, ◌^◌, [], ◌∷◌}
 use Rattle.asn1_core.specs.Der.{SeesEqual, option_equal, option_value, same_first, same_second, two_equal, with_end}
 use Rattle.asn1_leaves.specs.Asn1.{UTF8_STRING}
-use Rattle.asn1_other_leaves.specs.Differ.{differ}
+use Rattle.asn1_module_leaves.specs.Differ.{differ}
 use Rattle.std.proofs.Common.{inl, inr, refl, rules}
 use Rattle.asn1_leaves_strings.specs.Octets.{octets_of_utf8}
-use Rattle.asn1_other_leaves.specs.OtherEqual.{utf8_equal}
+use Rattle.asn1_module_leaves.specs.LeavesEqual.{utf8_equal}
 use Rattle.made_forms.specs.declared.forms.Sender.{Sender}
 use Rattle.made_forms.specs.declared.forms.Sender.TheVariants as SenderIs
 use Rattle.made_forms.specs.contracts.forms.SenderPartialEq.TheImpl as SenderEq

@@ -5,11 +5,11 @@ ghost use Rattle.made_forms.specs.Forms.{state, state_value, state_equal, state_
 ghost use Rattle.made_forms.specs.Forms.{head, head_value, head_equal};
 ghost use Rattle.made_forms.specs.Forms.{message, message_value, message_equal};
 ghost use Rattle.std.proofs.Common.{ℕ, refl};
-ghost use Rattle.asn1_other_leaves.specs.Enumerations.{numbers_in};
+ghost use Rattle.asn1_module_leaves.specs.Enumerations.{numbers_in};
 
 use asn1_core::prelude::*;
 use asn1_leaves::Utf8StringAsn1;
-use asn1_other_leaves::{Enumerated, Under, enumerated_from_contents};
+use asn1_module_leaves::{Enumerated, Under, enumerated_from_contents};
 use std::alloc::Global;
 
 /// `Sender ::= CHOICE { name [0] UTF8String, number [1] INTEGER (0..255) }`
@@ -26,10 +26,10 @@ impl Asn1Type for Sender {
 
     ghost value = { sender_value };
 
-    fn with_encoded<U: Task>(&self, task: &mut U) -> U::Out {
+    fn with_encoded<U: ComponentVisitor>(&self, visitor: &mut U) -> U::Out {
         match self {
-            Sender::Name(x) => task.run(&Under::<0x80, _>(x)),
-            Sender::Number(x) => task.run(&Under::<0x81, _>(x)),
+            Sender::Name(x) => visitor.visit(&Under::<0x80, _>(x)),
+            Sender::Number(x) => visitor.visit(&Under::<0x81, _>(x)),
         }
     }
 
@@ -151,8 +151,8 @@ impl Sequence for Head {
 
     ghost value = { head_value };
 
-    fn with_components<U: Task>(&self, task: &mut U) -> U::Out {
-        with_components_of!(self, task; Head { sender, state })
+    fn with_components<U: ComponentVisitor>(&self, visitor: &mut U) -> U::Out {
+        with_components_of!(self, visitor; Head { sender, state })
     }
 
     fn read_fields(alloc: Global, r: &mut Reader<'_>, nest: u8) -> Result<Self, Error> {
@@ -178,8 +178,8 @@ impl Sequence for Message {
 
     ghost value = { message_value };
 
-    fn with_components<U: Task>(&self, task: &mut U) -> U::Out {
-        with_components_of!(self, task; Message { head, text OPTIONAL })
+    fn with_components<U: ComponentVisitor>(&self, visitor: &mut U) -> U::Out {
+        with_components_of!(self, visitor; Message { head, text OPTIONAL })
     }
 
     fn read_fields(alloc: Global, r: &mut Reader<'_>, nest: u8) -> Result<Self, Error> {

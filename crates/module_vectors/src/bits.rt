@@ -110,7 +110,7 @@ fn reasons(alloc: Global, input: &[u8]) -> Result<String, Fail> {
 }
 
 /// Asks that the bits of the value that are 1 are those whose names the row shows.
-pub fn are_so(alloc: Global, word: &str, row: &Row) -> Result<(), Fail> {
+pub fn check_row(alloc: Global, word: &str, row: &Row) -> Result<(), Fail> {
     let named = match word {
         "rfc3161::PkiFailureInfo" => failures(alloc, &row.input)?,
         "rfc5280::KeyUsage" => usages(alloc, &row.input)?,

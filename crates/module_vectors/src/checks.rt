@@ -84,7 +84,7 @@ fn is_refused(why: &str, outcome: Option<Error>) -> Result<(), Fail> {
 }
 
 /// Asks what a row says of its input as the type.
-pub fn is_so<T: DerDeserialize + EqualByText + TryClone + Debug>(
+pub fn check_row<T: DerDeserialize + EqualByText + TryClone + Debug>(
     alloc: Global,
     row: &Row,
 ) -> Result<(), Fail> {

@@ -26,7 +26,7 @@ fn all_rows_hold(rt: &HostRuntime) -> Result<(), Fail> {
         if line.is_empty() || line.starts_with('#') {
             continue;
         }
-        if holds(rt, rows::holds(alloc, line.as_str())) {
+        if holds(rt, rows::check_line(alloc, line.as_str())) {
             held = held.saturating_add(1);
         } else {
             println!(rt; "doesn't hold: {line}")?;

@@ -34,7 +34,7 @@ fn texts(alloc: Global, column: &str) -> Result<Vec<String>, Fail> {
 }
 
 /// Asks what a row says: a type, an input, `normal` or `refused: WHY`, and what is shown of the value.
-pub fn holds(alloc: Global, line: &str) -> Result<(), Fail> {
+pub fn check_line(alloc: Global, line: &str) -> Result<(), Fail> {
     let columns: Vec<&str> = line.split(" | ").collect(alloc)?;
     let (word, input, said, shown) = match columns.as_slice() {
         [word, input, said] => (*word, *input, *said, ""),
@@ -47,7 +47,7 @@ pub fn holds(alloc: Global, line: &str) -> Result<(), Fail> {
         shown: texts(alloc, shown)?,
     };
     if let Some(word) = word.strip_prefix("bits of ") {
-        return bits::are_so(alloc, word, &row);
+        return bits::check_row(alloc, word, &row);
     }
-    types::is_so(alloc, word, &row)
+    types::check_row(alloc, word, &row)
 }

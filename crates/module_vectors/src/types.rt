@@ -1,6 +1,6 @@
 //! The types of the crates that are made of ASN.1 modules, by the words of rows.
 
-use crate::checks::is_so as at;
+use crate::checks::check_row as at;
 use crate::rows::Row;
 use std::alloc::Global;
 use std::test::Fail;
@@ -174,11 +174,11 @@ fn forms(alloc: Global, word: &str, row: &Row) -> Option<Result<(), Fail>> {
 }
 
 /// What comes of a row, if the word names a type of one group.
-type IsSo = fn(Global, &str, &Row) -> Option<Result<(), Fail>>;
+type CheckRow = fn(Global, &str, &Row) -> Option<Result<(), Fail>>;
 
 /// Asks what a row says of the type that the word names.
-pub fn is_so(alloc: Global, word: &str, row: &Row) -> Result<(), Fail> {
-    let groups: [IsSo; 8] = [
+pub fn check_row(alloc: Global, word: &str, row: &Row) -> Result<(), Fail> {
+    let groups: [CheckRow; 8] = [
         certificates,
         names,
         policies,
@@ -188,8 +188,8 @@ pub fn is_so(alloc: Global, word: &str, row: &Row) -> Result<(), Fail> {
         responses,
         forms,
     ];
-    for is_so in groups {
-        if let Some(outcome) = is_so(alloc, word, row) {
+    for check_row in groups {
+        if let Some(outcome) = check_row(alloc, word, row) {
             return outcome;
         }
     }

@@ -1,10 +1,10 @@
 -- A row of a table.
 use Rattle.std.proofs.Common.{◌≡◌, ◌↔◌, ℕ, ◌+◌, ◌<◌, List, ◌∷◌, length, get_or, map, drop, ⊎_elim, inl, inr, refl, sym, ap, subst}
 use Rattle.std.proofs.lemmas.List.{drop_more}
-use Rattle.oid_names.specs.declared.tables.Row.{Row}
+use Rattle.oid_names.specs.declared.tables.NamedOid.{NamedOid}
 use Rattle.oid_names.specs.Tables.{row_value, IsNamed}
 
-module _ (rows : List Row) (i : ℕ) (d : Row) (octets : List ℕ) (fits : i < length rows) where
+module _ (rows : List NamedOid) (i : ℕ) (d : NamedOid) (octets : List ℕ) (fits : i < length rows) where
   rest_is : map row_value (drop i rows) ≡ row_value (get_or rows i d) ∷ map row_value (drop (i + 1) rows)
   rest_is = ap (map row_value) (drop_more rows i d fits)
 

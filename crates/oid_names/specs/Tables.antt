@@ -1,9 +1,9 @@
 -- Tables of the names of object identifiers.
 use Rattle.std.specs.Prelude.{◌≡◌, ◌⊎◌, ℕ, List, [], ◌∷◌}
-use Rattle.oid_names.specs.declared.tables.Row.{Row}
+use Rattle.oid_names.specs.declared.tables.NamedOid.{NamedOid}
 
 -- the contents octets and the name of a row
-abbrev pub row_value : Row → List ℕ × List ℕ
+abbrev pub row_value : NamedOid → List ℕ × List ℕ
 row_value row = (row.octets.now, row.name.now)
 
 -- a row has these octets and this name

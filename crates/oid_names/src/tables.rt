@@ -5,7 +5,7 @@ ghost use Rattle.oid_names.specs.Tables.{row_value, IsNamed};
 
 /// An object identifier, as its contents octets, and its name.
 #[derive(Clone, Copy)]
-pub struct Row {
+pub struct NamedOid {
     pub octets: &'static [u8],
     pub name: &'static str,
 }
@@ -17,7 +17,7 @@ fn is_same(one: &[u8], other: &[u8]) -> bool
 }
 
 /// The name of the first row with these octets.
-pub fn name_in(rows: &[Row], octets: &[u8]) -> Option<&'static str>
+pub fn name_in(rows: &[NamedOid], octets: &[u8]) -> Option<&'static str>
     ensures { MatchOption result
         ((name : List ℕ) → ¬ (IsNamed (map row_value rows.now) octets.now name))
         (λ name. IsNamed (map row_value rows.now) octets.now name.now) }

@@ -56,9 +56,9 @@ impl<R: DerSerialize> DerSerialize for Envelope<R> {
 
 impl<R: DerDeserialize> DerDeserialize for Envelope<R> {
     fn read(alloc: Global, r: &mut Reader<'_>, nest: u8) -> Result<Self, Error> {
-        let Part(_, Part(enveloped_data, End)) = read_within::<Part<OnlyOid<EnvelopedDataType>, _>>(
-            alloc, r, nest, 0x30,
-        )?;
+        let Required(_, Required(enveloped_data, End)) = read_within::<
+            Required<OnlyOid<EnvelopedDataType>, _>,
+        >(alloc, r, nest, 0x30)?;
         Ok(Envelope { enveloped_data })
     }
 

@@ -1,7 +1,7 @@
 -- The values of what parameters, and those that hold an algorithm, are read as.
 use Rattle.asn1_core.specs.Der.{octets_of, option_value}
 use Rattle.asn1_core_format.specs.declared.components.End.{End}
-use Rattle.asn1_core_format.specs.declared.components.Part.{Part}
+use Rattle.asn1_core_format.specs.declared.components.Required.{Required}
 use Rattle.password_ranges.specs.Heads.{encrypted_content_head, pbes2_head, pbkdf2_head}
 use Rattle.password_ranges.specs.declared.heads.Body.{Body}
 use Rattle.password_ranges.specs.declared.heads.EncryptedContentHead.{EncryptedContentHead}
@@ -10,7 +10,7 @@ use Rattle.pkcs12_algs.specs.Pbkdf2.{pbkdf2_salt_source_value}
 use Rattle.x509_base.specs.AlgorithmParts.{algorithm_identifier_value}
 use Rattle.x509_base.specs.declared.algorithms.AlgorithmIdentifier.{AlgorithmIdentifier}
 
-abbrev pub pbes2_value : Body (Part AlgorithmIdentifier (Part AlgorithmIdentifier End)) → pbes2_head.Value
+abbrev pub pbes2_value : Body (Required AlgorithmIdentifier (Required AlgorithmIdentifier End)) → pbes2_head.Value
 pbes2_value x = (algorithm_identifier_value x.0.0, (algorithm_identifier_value x.0.1.0, tt))
 
 abbrev pub pbkdf2_value : Pbkdf2Head → pbkdf2_head.Value

@@ -47,7 +47,7 @@ impl<R: WriteComponents> DerSerialize for Body<R> {
     }
 }
 
-impl<A: DerDeserialize, B: DerDeserialize> DerDeserialize for Body<Part<A, Part<B, End>>> {
+impl<A: DerDeserialize, B: DerDeserialize> DerDeserialize for Body<Required<A, Required<B, End>>> {
     fn read(alloc: Global, r: &mut Reader<'_>, nest: u8) -> Result<Self, Error> {
         Ok(Body(read_within(alloc, r, nest, 0x30)?))
     }
@@ -61,11 +61,11 @@ impl<A: DerDeserialize, B: DerDeserialize> DerDeserialize for Body<Part<A, Part<
 
 /// `PBES2-params ::= SEQUENCE { keyDerivationFunc AlgorithmIdentifier {{PBES2-KDFs}}, encryptionScheme
 /// AlgorithmIdentifier {{PBES2-Encs}} }` (RFC 8018, appendix A.4)
-pub(crate) type Pbes2Head = Body<Part<AlgorithmIdentifier, Part<AlgorithmIdentifier, End>>>;
+pub(crate) type Pbes2Head = Body<Required<AlgorithmIdentifier, Required<AlgorithmIdentifier, End>>>;
 
-type Pbkdf2Components = Part<
+type Pbkdf2Components = Required<
     Pbkdf2SaltSource,
-    Part<u32, Maybe<u32, Maybe<AlgorithmIdentifier, End>>>,
+    Required<u32, Maybe<u32, Maybe<AlgorithmIdentifier, End>>>,
 >;
 
 /// `PBKDF2-params ::= SEQUENCE { salt CHOICE { specified OCTET STRING, otherSource AlgorithmIdentifier }, iterationCount
@@ -103,11 +103,13 @@ impl DerDeserialize for Pbkdf2Head {
 
 /// `EncryptedPrivateKeyInfo ::= SEQUENCE { encryptionAlgorithm AlgorithmIdentifier, encryptedData OCTET STRING }`
 /// (RFC 5958, 3)
-pub(crate) type EncryptedKeyHead = Body<Part<AlgorithmIdentifier, Part<OctetStringAsn1, End>>>;
+pub(crate) type EncryptedKeyHead = Body<
+    Required<AlgorithmIdentifier, Required<OctetStringAsn1, End>>,
+>;
 
-type EncryptedComponents = Part<
+type EncryptedComponents = Required<
     ObjectIdentifierAsn1,
-    Part<AlgorithmIdentifier, Maybe<ImplicitContextTag0<OctetStringAsn1>, End>>,
+    Required<AlgorithmIdentifier, Maybe<ImplicitContextTag0<OctetStringAsn1>, End>>,
 >;
 
 /// `EncryptedContentInfo ::= SEQUENCE { contentType ContentType, contentEncryptionAlgorithm AlgorithmIdentifier,
@@ -144,10 +146,12 @@ impl DerDeserialize for EncryptedContentHead {
 }
 
 /// `EncryptedData ::= SEQUENCE { version Version (0), encryptedContentInfo EncryptedContentInfo }` (RFC 2315, 13)
-pub(crate) type EncryptedDataHead = Body<Part<FixedVersion<0>, Part<EncryptedContentHead, End>>>;
+pub(crate) type EncryptedDataHead = Body<
+    Required<FixedVersion<0>, Required<EncryptedContentHead, End>>,
+>;
 
 /// `ContentInfo ::= SEQUENCE { contentType ContentType, content [0] EXPLICIT EncryptedData }` (RFC 2315, 7), of
 /// `encryptedData`
 pub(crate) type EncryptedInfoHead = Body<
-    Part<OnlyOid<EncryptedDataType>, Part<ExplicitContextTag0<EncryptedDataHead>, End>>,
+    Required<OnlyOid<EncryptedDataType>, Required<ExplicitContextTag0<EncryptedDataHead>, End>>,
 >;

@@ -37,10 +37,10 @@ impl DerSerialize for Other<'_> {
         match self.parameters {
             Some(element) => put_within(
                 0x30,
-                &Part(KnownOid(self.algorithm), Part(ElementRef(element), End)),
+                &Required(KnownOid(self.algorithm), Required(ElementRef(element), End)),
                 w,
             ),
-            None => put_within(0x30, &Part(KnownOid(self.algorithm), End), w),
+            None => put_within(0x30, &Required(KnownOid(self.algorithm), End), w),
         }
     }
 
@@ -72,10 +72,10 @@ impl DerSerialize for Salted<'_> {
     ghost format = { (SEQUENCE with_salt).format };
 
     fn put<W: Writer>(&self, w: &mut W) -> Result<(), WriteError> {
-        let parameters = Body(Part(OctetsRef(self.salt), Part(self.iterations, End)));
+        let parameters = Body(Required(OctetsRef(self.salt), Required(self.iterations, End)));
         put_within(
             0x30,
-            &Part(KnownOid(self.algorithm), Part(parameters, End)),
+            &Required(KnownOid(self.algorithm), Required(parameters, End)),
             w,
         )
     }
@@ -101,7 +101,7 @@ pub struct Pbkdf2<'a> {
 }
 
 /// The parts of PBKDF2's parameters.
-type Pbkdf2Parts<'a> = Part<OctetsRef<'a>, Part<u32, Maybe<u32, Maybe<Other<'a>, End>>>>;
+type Pbkdf2Parts<'a> = Required<OctetsRef<'a>, Required<u32, Maybe<u32, Maybe<Other<'a>, End>>>>;
 
 impl<'a> Pbkdf2<'a> {
     fn prf_with_null(&self) -> Option<Other<'a>>
@@ -119,9 +119,9 @@ impl<'a> Pbkdf2<'a> {
     fn parts(&self) -> Pbkdf2Parts<'a>
         ensures { ⟦<Pbkdf2Parts<'static> as WriteComponents>⟧.value result ≡ pbkdf2_value self.now }
     {
-        Part(
+        Required(
             OctetsRef(self.salt),
-            Part(
+            Required(
                 self.iterations,
                 Maybe(self.key_length, Maybe(self.prf_with_null(), End)),
             ),
@@ -155,13 +155,13 @@ pub enum Derivation<'a> {
 }
 
 /// An algorithm with parameters of a type.
-type WithParameters<'a, P> = Part<KnownOid<'a>, Part<P, End>>;
+type WithParameters<'a, P> = Required<KnownOid<'a>, Required<P, End>>;
 
 /// PBKDF2 with its parameters.
 fn with_pbkdf2<'a>(parameters: &Pbkdf2<'a>) -> WithParameters<'a, Pbkdf2<'a>>
     ensures { ⟦<WithParameters<'static, Pbkdf2<'static>> as WriteComponents>⟧.value result ≡ (pbkdf2_oid, (pbkdf2_value parameters.now, tt)) }
 {
-    Part(KnownOid(&PBKDF2), Part(*parameters, End))
+    Required(KnownOid(&PBKDF2), Required(*parameters, End))
 }
 
 impl DerSerialize for Derivation<'_> {
@@ -208,7 +208,10 @@ impl DerSerialize for WithVector<'_> {
     fn put<W: Writer>(&self, w: &mut W) -> Result<(), WriteError> {
         put_within(
             0x30,
-            &Part(KnownOid(self.algorithm), Part(OctetsRef(self.vector), End)),
+            &Required(
+                KnownOid(self.algorithm),
+                Required(OctetsRef(self.vector), End),
+            ),
             w,
         )
     }
@@ -258,14 +261,14 @@ pub struct Pbes2<'a> {
 }
 
 /// The parts of PBES2's parameters.
-type Parameters<'a> = Body<Part<Derivation<'a>, Part<Encryption<'a>, End>>>;
+type Parameters<'a> = Body<Required<Derivation<'a>, Required<Encryption<'a>, End>>>;
 
 impl<'a> Pbes2<'a> {
     fn parts(&self) -> WithParameters<'a, Parameters<'a>>
         ensures { ⟦<WithParameters<'static, Parameters<'static>> as WriteComponents>⟧.value result ≡ pbes2_value self.now }
     {
-        let parameters = Body(Part(self.derivation, Part(self.encryption, End)));
-        Part(KnownOid(&PBES2), Part(parameters, End))
+        let parameters = Body(Required(self.derivation, Required(self.encryption, End)));
+        Required(KnownOid(&PBES2), Required(parameters, End))
     }
 }
 

@@ -28,7 +28,7 @@ impl DerSerialize for EncryptedKey<'_> {
     fn put<W: Writer>(&self, w: &mut W) -> Result<(), WriteError> {
         put_within(
             0x30,
-            &Part(self.algorithm, Part(OctetsRef(self.encrypted), End)),
+            &Required(self.algorithm, Required(OctetsRef(self.encrypted), End)),
             w,
         )
     }
@@ -47,12 +47,15 @@ pub struct EncryptedContents<'a> {
 }
 
 type EncryptedContent<'a> = Body<
-    Part<KnownOid<'a>, Part<Algorithm<'a>, Maybe<ImplicitTag0OctetsRef<'a>, End>>>,
+    Required<KnownOid<'a>, Required<Algorithm<'a>, Maybe<ImplicitTag0OctetsRef<'a>, End>>>,
 >;
 
-type Parts<'a> = Part<
+type Parts<'a> = Required<
     KnownOid<'a>,
-    Part<ExplicitContextTag0<Body<Part<FixedVersion<0>, Part<EncryptedContent<'a>, End>>>>, End>,
+    Required<
+        ExplicitContextTag0<Body<Required<FixedVersion<0>, Required<EncryptedContent<'a>, End>>>>,
+        End,
+    >,
 >;
 
 impl<'a> EncryptedContents<'a> {
@@ -63,11 +66,14 @@ impl<'a> EncryptedContents<'a> {
             Some(octets) => Some(ImplicitTag0OctetsRef(octets)),
             None => None,
         };
-        let content = Body(Part(KnownOid(&DATA), Part(self.algorithm, Maybe(encrypted, End))));
-        let data = Body(Part(FixedVersion::<0>, Part(content, End)));
-        Part(
+        let content = Body(Required(
+            KnownOid(&DATA),
+            Required(self.algorithm, Maybe(encrypted, End)),
+        ));
+        let data = Body(Required(FixedVersion::<0>, Required(content, End)));
+        Required(
             KnownOid(&ENCRYPTED_DATA),
-            Part(ExplicitContextTag0(data), End),
+            Required(ExplicitContextTag0(data), End),
         )
     }
 }

@@ -5,7 +5,7 @@ use Rattle.std.proofs.Common.{ap, inl, inr, rules}
 use Rattle.std.proofs.lemmas.Bool.Decides.{Decides-eqb}
 use Rattle.x509_base.specs.Algorithms.{algorithm_identifier}
 use Rattle.x509_base.specs.AlgorithmParts.{raw_algorithm_identifier_equal}
-use Rattle.pkcs12_algs.specs.Algorithms.{KnownOrRaw}
+use Rattle.pkcs12_algs.specs.Algorithms.{ListedOrRaw}
 use Rattle.pkcs12_algs.specs.Digests.{digest_oids, pkcs12_digest_algorithm_value, pkcs12_digest_info_value, mac_data_value}
 use Rattle.pkcs12_algs.specs.Pbkdf2.{prf_oids, pbkdf2_prf_value, pbkdf2_salt_source_value, pbkdf2_params_value}
 use Rattle.pkcs12_algs.specs.Pbes2.{pbes2_key_derivation_func_value, pbes2_encryption_scheme_value, pbes2_params_value}
@@ -28,18 +28,18 @@ use Rattle.pkcs12_algs.specs.contracts.pbes1.Pbes1ParamsPartialEq.TheImpl as Par
 use Rattle.pkcs12_algs.specs.declared.encryptions.Pkcs12EncryptionAlgorithm.TheVariants.{Pbes1, Pbes2, Unknown}
 
 -- a known object identifier without the proof that it is known
-plain : (oids : List (List ℕ)) → KnownOrRaw oids → List ℕ ⊎ algorithm_identifier.Value
+plain : (oids : List (List ℕ)) → ListedOrRaw oids → List ℕ ⊎ algorithm_identifier.Value
 plain oids (inl a) = inl a.0
 plain oids (inr v) = inr v
 
-plain_same : (oids : List (List ℕ)) (x y : KnownOrRaw oids) → plain oids x ≡ plain oids y → x ≡ y
+plain_same : (oids : List (List ℕ)) (x y : ListedOrRaw oids) → plain oids x ≡ plain oids y → x ≡ y
 unfolding plain
 plain_same oids (inl a) (inl b) e = let h : a.0 ≡ b.0 = cc in ap inl (one_listed oids a b h)
 plain_same oids (inl a) (inr w) e = cc
 plain_same oids (inr v) (inl b) e = cc
 plain_same oids (inr v) (inr w) e = let h : v ≡ w = cc in ap inr h
 
-same_plain : (oids : List (List ℕ)) {x y : KnownOrRaw oids} {p : Bool} → (p ≡ true) ↔ (plain oids x ≡ plain oids y) → (p ≡ true) ↔ (x ≡ y)
+same_plain : (oids : List (List ℕ)) {x y : ListedOrRaw oids} {p : Bool} → (p ≡ true) ↔ (plain oids x ≡ plain oids y) → (p ≡ true) ↔ (x ≡ y)
 same_plain oids {x} {y} f = (λ e. plain_same oids x y (f.0 e), λ e. f.1 (ap (plain oids) e))
 
 digest_plain : SeesEqual Digest.ghosts.eq (λ x. plain digest_oids (pkcs12_digest_algorithm_value x))

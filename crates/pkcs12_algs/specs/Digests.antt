@@ -9,7 +9,7 @@ use Rattle.asn1_core.specs.Asn1.{Contents, contents, ◌then◌, ◌OPTIONAL◌,
 use Rattle.asn1_core.specs.Der.{option_value}
 use Rattle.std.proofs.Common.{inr, refl}
 use Rattle.x509_base.specs.AlgorithmParts.{raw_algorithm_identifier_value}
-use Rattle.pkcs12_algs.specs.Algorithms.{known_or_raw, from_oid}
+use Rattle.pkcs12_algs.specs.Algorithms.{listed_or_raw, from_oid}
 use Rattle.pkcs12_algs.specs.Oids.{sha1_oid, sha224_oid, sha256_oid, sha384_oid, sha512_oid}
 use Rattle.pkcs12_algs.specs.declared.digests.Pkcs12DigestAlgorithm.{Pkcs12DigestAlgorithm}
 use Rattle.pkcs12_algs.specs.declared.digests.Pkcs12DigestAlgorithm.TheVariants.{Sha1, Sha224, Sha256, Sha384, Sha512, Unknown}
@@ -28,7 +28,7 @@ abbrev pub digest_oids : List (List ℕ)
 digest_oids = map digest_oid (Sha1 ∷ Sha224 ∷ Sha256 ∷ Sha384 ∷ Sha512 ∷ [])
 
 abbrev pub pkcs12_digest_algorithm : Contents
-pkcs12_digest_algorithm = known_or_raw digest_oids
+pkcs12_digest_algorithm = listed_or_raw digest_oids
 
 abbrev pub pkcs12_digest_algorithm_value : Pkcs12DigestAlgorithm → pkcs12_digest_algorithm.Value
 pkcs12_digest_algorithm_value (Unknown a) = inr (raw_algorithm_identifier_value a)

@@ -13,7 +13,7 @@ use Rattle.asn1_core.specs.Der.{option_value}
 use Rattle.std.proofs.Common.{inl, inr, refl}
 use Rattle.x509_base.specs.AlgorithmParts.{raw_algorithm_identifier_value}
 use Rattle.x509_base.specs.OtherAlgorithms.{raw_algorithm_identifier}
-use Rattle.pkcs12_algs.specs.Algorithms.{known_or_raw, from_oid}
+use Rattle.pkcs12_algs.specs.Algorithms.{listed_or_raw, from_oid}
 use Rattle.pkcs12_algs.specs.Oids.{hmac_with_sha1_oid, hmac_with_sha224_oid, hmac_with_sha256_oid, hmac_with_sha384_oid, hmac_with_sha512_oid}
 use Rattle.pkcs12_algs.specs.declared.pbkdf2.Pbkdf2Params.{Pbkdf2Params}
 use Rattle.pkcs12_algs.specs.declared.pbkdf2.Pbkdf2SaltSource.{Pbkdf2SaltSource}
@@ -34,7 +34,7 @@ abbrev pub prf_oids : List (List ℕ)
 prf_oids = map prf_oid (HmacWithSha1 ∷ HmacWithSha224 ∷ HmacWithSha256 ∷ HmacWithSha384 ∷ HmacWithSha512 ∷ [])
 
 abbrev pub pbkdf2_prf : Contents
-pbkdf2_prf = known_or_raw prf_oids
+pbkdf2_prf = listed_or_raw prf_oids
 
 abbrev pub pbkdf2_prf_value : Pbkdf2Prf → pbkdf2_prf.Value
 pbkdf2_prf_value (Unknown a) = inr (raw_algorithm_identifier_value a)

@@ -5,7 +5,7 @@ ghost use Rattle.std.proofs.Common.{inr};
 ghost use Rattle.asn1_core_element.specs.declared.error.Error.TheVariants.{Memory};
 ghost use Rattle.asn1_core.specs.Der.{Clones, GivesComponents};
 ghost use Rattle.x509_base.specs.AlgorithmParts.{raw_algorithm_identifier_value};
-ghost use Rattle.pkcs12_algs.specs.Algorithms.{KnownOrRaw, known_or_raw, from_raw, into_raw, IsKnown};
+ghost use Rattle.pkcs12_algs.specs.Algorithms.{ListedOrRaw, listed_or_raw, from_raw, into_raw, IsKnown};
 ghost use Rattle.pkcs12_algs.specs.Tables.{is_listed, are_oids};
 
 use crate::oids::known_oid;
@@ -20,7 +20,7 @@ pub(crate) trait Algorithm: Drop {
     /// The contents octets of the known object identifiers.
     ghost OIDS: { List (List ℕ) };
 
-    ghost value: { Self → KnownOrRaw OIDS };
+    ghost value: { Self → ListedOrRaw OIDS };
 
     /// The contents octets of a known object identifier, or the algorithm identifier with another.
     fn parts(&self) -> Result<&'static [u8], &RawAlgorithmIdentifier>
@@ -80,7 +80,7 @@ pub(crate) fn read_algorithm<T: Algorithm>(
     nest: u8,
 ) -> Result<T, Error>
     requires { r.old.refused ≡ false }
-    ensures { GivesComponents T.value (known_or_raw T.OIDS).format nest r.old r.new result }
+    ensures { GivesComponents T.value (listed_or_raw T.OIDS).format nest r.old r.new result }
 {
     let raw = RawAlgorithmIdentifier::read_fields(alloc, r, nest)?;
     Ok(algorithm_from_raw(raw))
@@ -91,11 +91,11 @@ pub(crate) fn read_algorithm<T: Algorithm>(
 pub(crate) struct AlgorithmRef<'a, T>(pub &'a T);
 
 impl<T: Algorithm> WriteComponents for AlgorithmRef<'_, T> {
-    ghost Value = { KnownOrRaw T.OIDS };
+    ghost Value = { ListedOrRaw T.OIDS };
 
     ghost value = { λ x. T.value x.0.now };
 
-    ghost format = { (known_or_raw T.OIDS).format };
+    ghost format = { (listed_or_raw T.OIDS).format };
 
     fn put_components<W: Writer>(&self, w: &mut W) -> Result<(), WriteError> {
         match self.0.parts() {

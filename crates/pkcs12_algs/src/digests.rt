@@ -118,8 +118,8 @@ impl Sequence for Pkcs12DigestAlgorithm {
 
     ghost value = { pkcs12_digest_algorithm_value };
 
-    fn with_components<U: Task>(&self, task: &mut U) -> U::Out {
-        task.run(&AlgorithmRef(self))
+    fn with_components<U: ComponentVisitor>(&self, visitor: &mut U) -> U::Out {
+        visitor.visit(&AlgorithmRef(self))
     }
 
     fn read_fields(alloc: Global, r: &mut Reader<'_>, nest: u8) -> Result<Self, Error> {
@@ -149,8 +149,8 @@ impl Sequence for Pkcs12DigestInfo {
 
     ghost value = { pkcs12_digest_info_value };
 
-    fn with_components<U: Task>(&self, task: &mut U) -> U::Out {
-        with_components_of!(self, task; Pkcs12DigestInfo { digest_algorithm, digest })
+    fn with_components<U: ComponentVisitor>(&self, visitor: &mut U) -> U::Out {
+        with_components_of!(self, visitor; Pkcs12DigestInfo { digest_algorithm, digest })
     }
 
     fn read_fields(alloc: Global, r: &mut Reader<'_>, nest: u8) -> Result<Self, Error> {

@@ -62,8 +62,8 @@ impl Sequence for Pkcs12EncryptionAlgorithm {
 
     ghost value = { pkcs12_encryption_algorithm_value };
 
-    fn with_components<U: Task>(&self, task: &mut U) -> U::Out {
-        task.run(&Chosen(self.choice()))
+    fn with_components<U: ComponentVisitor>(&self, visitor: &mut U) -> U::Out {
+        visitor.visit(&Chosen(self.choice()))
     }
 
     fn read_fields(alloc: Global, r: &mut Reader<'_>, nest: u8) -> Result<Self, Error> {

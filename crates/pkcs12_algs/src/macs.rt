@@ -36,8 +36,8 @@ impl Sequence for MacData {
 
     ghost value = { mac_data_value };
 
-    fn with_components<U: Task>(&self, task: &mut U) -> U::Out {
-        with_components_of!(self, task; MacData { mac, salt, iterations OPTIONAL })
+    fn with_components<U: ComponentVisitor>(&self, visitor: &mut U) -> U::Out {
+        with_components_of!(self, visitor; MacData { mac, salt, iterations OPTIONAL })
     }
 
     fn read_fields(alloc: Global, r: &mut Reader<'_>, nest: u8) -> Result<Self, Error> {

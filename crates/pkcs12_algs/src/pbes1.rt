@@ -111,8 +111,8 @@ impl Sequence for Pbes1Params {
 
     ghost value = { pbes1_params_value };
 
-    fn with_components<U: Task>(&self, task: &mut U) -> U::Out {
-        with_components_of!(self, task; Pbes1Params { salt, iterations })
+    fn with_components<U: ComponentVisitor>(&self, visitor: &mut U) -> U::Out {
+        with_components_of!(self, visitor; Pbes1Params { salt, iterations })
     }
 
     fn read_fields(alloc: Global, r: &mut Reader<'_>, nest: u8) -> Result<Self, Error> {

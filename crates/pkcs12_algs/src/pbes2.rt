@@ -52,8 +52,8 @@ impl Sequence for Pbes2KeyDerivationFunc {
 
     ghost value = { pbes2_key_derivation_func_value };
 
-    fn with_components<U: Task>(&self, task: &mut U) -> U::Out {
-        task.run(&Chosen(self.choice()))
+    fn with_components<U: ComponentVisitor>(&self, visitor: &mut U) -> U::Out {
+        visitor.visit(&Chosen(self.choice()))
     }
 
     fn read_fields(alloc: Global, r: &mut Reader<'_>, nest: u8) -> Result<Self, Error> {
@@ -198,8 +198,8 @@ impl Sequence for Pbes2EncryptionScheme {
 
     ghost value = { pbes2_encryption_scheme_value };
 
-    fn with_components<U: Task>(&self, task: &mut U) -> U::Out {
-        task.run(&Chosen(self.choice()))
+    fn with_components<U: ComponentVisitor>(&self, visitor: &mut U) -> U::Out {
+        visitor.visit(&Chosen(self.choice()))
     }
 
     fn read_fields(alloc: Global, r: &mut Reader<'_>, nest: u8) -> Result<Self, Error> {
@@ -239,8 +239,8 @@ impl Sequence for Pbes2Params {
 
     ghost value = { pbes2_params_value };
 
-    fn with_components<U: Task>(&self, task: &mut U) -> U::Out {
-        with_components_of!(self, task; Pbes2Params { key_derivation_func, encryption_scheme })
+    fn with_components<U: ComponentVisitor>(&self, visitor: &mut U) -> U::Out {
+        with_components_of!(self, visitor; Pbes2Params { key_derivation_func, encryption_scheme })
     }
 
     fn read_fields(alloc: Global, r: &mut Reader<'_>, nest: u8) -> Result<Self, Error> {

@@ -24,10 +24,10 @@ impl Asn1Type for Pbkdf2SaltSource {
 
     ghost value = { pbkdf2_salt_source_value };
 
-    fn with_encoded<U: Task>(&self, task: &mut U) -> U::Out {
+    fn with_encoded<U: ComponentVisitor>(&self, visitor: &mut U) -> U::Out {
         match self {
-            Self::Specified(salt) => task.run_on(salt),
-            Self::OtherSource(raw) => task.run_on(raw),
+            Self::Specified(salt) => visitor.visit_value(salt),
+            Self::OtherSource(raw) => visitor.visit_value(raw),
         }
     }
 
@@ -81,8 +81,8 @@ impl Sequence for Pbkdf2Params {
 
     ghost value = { pbkdf2_params_value };
 
-    fn with_components<U: Task>(&self, task: &mut U) -> U::Out {
-        pbkdf2_params!(with_components_of(self, task))
+    fn with_components<U: ComponentVisitor>(&self, visitor: &mut U) -> U::Out {
+        pbkdf2_params!(with_components_of(self, visitor))
     }
 
     fn read_fields(alloc: Global, r: &mut Reader<'_>, nest: u8) -> Result<Self, Error> {

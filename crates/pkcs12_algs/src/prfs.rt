@@ -130,8 +130,8 @@ impl Sequence for Pbkdf2Prf {
 
     ghost value = { pbkdf2_prf_value };
 
-    fn with_components<U: Task>(&self, task: &mut U) -> U::Out {
-        task.run(&AlgorithmRef(self))
+    fn with_components<U: ComponentVisitor>(&self, visitor: &mut U) -> U::Out {
+        visitor.visit(&AlgorithmRef(self))
     }
 
     fn read_fields(alloc: Global, r: &mut Reader<'_>, nest: u8) -> Result<Self, Error> {

@@ -3,7 +3,7 @@ use Rattle.std.specs.Prelude.{◌≡◌, ◌↔◌, ℕ, List, map}
 use Rattle.std.proofs.Common.{Vec, Global, sym, ap, ◌∙◌, subst, inl, rules}
 use Rattle.asn1_core.specs.Der.{less, unroll_text, unroll_formed}
 use Rattle.pkcs12_bags.specs.Attributes.{attributes_value}
-use Rattle.pkcs12_bags.specs.Bags.{Bag, bag_out, bag_into, bags_with, still, step, safe_contents}
+use Rattle.pkcs12_bags.specs.Bags.{Bag, bag_out, bag_into, bags_with, level_invariant, step, safe_contents}
 use Rattle.pkcs12_bags.specs.BagsLaws.{out_into, bags_step}
 use Rattle.pkcs12_bags.specs.BagValues.{with_attributes, bag_value, kind_fold, kind_value, contents_value}
 use Rattle.pkcs12_bags.specs.declared.safe_bags.bags.SafeBag.{SafeBag}
@@ -35,11 +35,11 @@ pub value_rolled : (bs : Vec SafeBag Global) → contents_value (C.roll-SafeCont
 value_rolled bs = search (rules, the_lemmas)
 
 pub contents_text : (c : C.SafeContents) → (bags_with (less safe_contents)).text (map bag_value (C.out-SafeContents c).0.items) ≡ safe_contents.text (contents_value c)
-contents_text c = unroll_text {I = Unit {0}} {V = λ _. List Bag} still step bags_step tt (map bag_value (C.out-SafeContents c).0.items) ∙ ap safe_contents.text (sym (value_contents c))
+contents_text c = unroll_text {I = Unit {0}} {V = λ _. List Bag} level_invariant step bags_step tt (map bag_value (C.out-SafeContents c).0.items) ∙ ap safe_contents.text (sym (value_contents c))
 
 pub contents_formed : (c : C.SafeContents) (k : ℕ) {P : Type 0} → P ↔ (bags_with (less safe_contents)).IsWellFormed k (map bag_value (C.out-SafeContents c).0.items) → P ↔ safe_contents.IsWellFormed k (contents_value c)
 contents_formed c k e =
-    let u = unroll_formed {I = Unit {0}} {V = λ _. List Bag} still step bags_step k tt (contents_value c) in
+    let u = unroll_formed {I = Unit {0}} {V = λ _. List Bag} level_invariant step bags_step k tt (contents_value c) in
     let v = value_contents c in
     (λ p. u.1 (subst ((bags_with (less safe_contents)).IsWellFormed k) (sym v) (e.0 p)), λ h. e.1 (subst ((bags_with (less safe_contents)).IsWellFormed k) v (u.0 h)))
 

@@ -1,6 +1,6 @@
 -- SafeContents ::= SEQUENCE OF SafeBag, where a bag of kind SafeContents holds further bags, one level down.
 use Rattle.std.specs.Prelude.{◌≡◌, ◌⊎◌, ℕ, ◌+◌, List, [], ◌∷◌, ◌++◌, map}
-use Rattle.asn1_core.specs.Der.{no_tag, one_tag, Format, sequence, sequence_of, element, Choice, known, Still, no_grammar, always, less, levels, least_all, mapped}
+use Rattle.asn1_core.specs.Der.{no_tag, one_tag, Format, sequence, sequence_of, element, Choice, known, LevelInvariant, no_grammar, always, less, levels, least_all, mapped}
 use Rattle.std.specs.List.{flat_map}
 use Rattle.std.proofs.Common.{inl, inr}
 use Rattle.pkcs12_bags.specs.Attributes.{AttributesValue, attributes}
@@ -85,8 +85,8 @@ abbrev mutual
   bags_normal (more_bags b bs) = more_bags (bag_normal b) (bags_normal bs)
 
 -- what is the same at all levels, and what bags are outside, given what they are inside
-abbrev pub still : (i : Unit {0}) → Still (List Bag)
-still i = record {
+abbrev pub level_invariant : (i : Unit {0}) → LevelInvariant (List Bag)
+level_invariant i = record {
   text = λ bs. element 0x30 (flat_map bag_text bs);
   normal = map bag_normal;
   IsTag = λ t. t ≡ 0x30;
@@ -98,7 +98,7 @@ abbrev pub step : ((i : Unit {0}) → Format (List Bag)) → (i : Unit {0}) → 
 step F i = bags_with (F i)
 
 abbrev pub safe_contents : Format (List Bag)
-safe_contents = levels {I = Unit {0}} {V = λ _. List Bag} still step tt
+safe_contents = levels {I = Unit {0}} {V = λ _. List Bag} level_invariant step tt
 
 abbrev pub safe_bag : Format Bag
 safe_bag = bag_with (less safe_contents)

@@ -7,7 +7,7 @@ use Rattle.pkcs12_bags.specs.Attributes.{attributes}
 use Rattle.pkcs12_bags.specs.Oids.{oid}
 use Rattle.pkcs12_bags.specs.declared.parts.oids.TheConstants.{SAFE_CONTENTS_BAG}
 use Rattle.pkcs12_bags.specs.PlainBags.{bag_alternative, plain_bags, lawful_bag_alternative}
-use Rattle.pkcs12_bags.specs.Bags.{BagComponents, bag_choice, bag_components, Bag, holder, plain, Bags, no_bags, more_bags, list_bags, bags_of, bag_out, bag_into, bag_with, step_text, step_least, bag_text, bags_text, bag_normal, bags_normal, bag_least, bags_least, still, step, safe_contents, safe_bag}
+use Rattle.pkcs12_bags.specs.Bags.{BagComponents, bag_choice, bag_components, Bag, holder, plain, Bags, no_bags, more_bags, list_bags, bags_of, bag_out, bag_into, bag_with, step_text, step_least, bag_text, bags_text, bag_normal, bags_normal, bag_least, bags_least, level_invariant, step, safe_contents, safe_bag}
 
 pub lawful_bag_choice : {V : Type 0} (F : Format V) → IsLawful F → IsLawfulChoice (bag_choice F)
 lawful_bag_choice F f = lawful_known (oid SAFE_CONTENTS_BAG) (bag_alternative F) plain_bags.choice (lawful_bag_alternative F f) plain_bags.law
@@ -48,19 +48,19 @@ bags_normal_is no_bags = refl
 bags_normal_is (more_bags b bs) = ap (more_bags (bag_normal b)) (bags_normal_is bs)
 
 module _ (g : ℕ → Grammar (List Bag)) where
-  text_is : (b : Bag) → (bag_with (by_levels (still tt) g)).text b ≡ bag_text b
+  text_is : (b : Bag) → (bag_with (by_levels (level_invariant tt) g)).text b ≡ bag_text b
   text_is (holder bs n) = ap (λ t. step_text (inl (element 0x30 t, n))) (bags_text_is bs)
   text_is (plain p) = refl
 
-  normal_is : (b : Bag) → (bag_with (by_levels (still tt) g)).normal b ≡ bag_normal b
+  normal_is : (b : Bag) → (bag_with (by_levels (level_invariant tt) g)).normal b ≡ bag_normal b
   normal_is (holder bs n) = ap (λ cs. holder cs (attributes.format.normal n)) (bags_normal_is bs)
   normal_is (plain p) = refl
 
-  least_is : (b : Bag) → (bag_with (by_levels (still tt) g)).least b ≡ bag_least b
+  least_is : (b : Bag) → (bag_with (by_levels (level_invariant tt) g)).least b ≡ bag_least b
   least_is (holder bs n) = ap (λ m. step_least (inl (1 + m, n))) (bags_least_is bs)
   least_is (plain p) = refl
 
-pub bags_step : IsStep {I = Unit {0}} {V = λ _. List Bag} still step
+pub bags_step : IsStep {I = Unit {0}} {V = λ _. List Bag} level_invariant step
 bags_step = record {
   lawful = λ F f i. lawful_within (each (bag_with (F i))) (lawful_each (bag_with (F i)) (lawful_bag_with (F i) (f i))) 0x30 (omega arith);
   text = λ g i bs. ap (element 0x30) (texts_same _ _ (text_is (λ k. g k i)) bs);
@@ -72,7 +72,7 @@ bags_step = record {
 }
 
 pub lawful_safe_contents : IsLawful safe_contents
-lawful_safe_contents = lawful_levels {I = Unit {0}} {V = λ _. List Bag} still step bags_step tt
+lawful_safe_contents = lawful_levels {I = Unit {0}} {V = λ _. List Bag} level_invariant step bags_step tt
 
 pub lawful_safe_bag : IsLawful safe_bag
 lawful_safe_bag = lawful_bag_with (less safe_contents) (lawful_less safe_contents lawful_safe_contents)

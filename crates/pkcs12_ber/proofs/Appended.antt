@@ -5,7 +5,7 @@ use Rattle.std.proofs.lemmas.List.{append_assoc, append-nil, length-map, get_or-
 use Rattle.asn1_core.specs.Der.{Octets}
 use Rattle.x509_pkcs12.specs.AuthSafes.{AuthSafeValue}
 use Rattle.pkcs12_ber.specs.Places.{InData}
-use Rattle.pkcs12_ber.specs.declared.reading.Place.TheVariants.{Data}
+use Rattle.pkcs12_ber.specs.declared.reading.BufferOffset.TheVariants.{Data}
 use Rattle.pkcs12_ber.specs.InDer.{info, IsInfoInDer, AreInDer, HasAppended, HaveNoDer}
 
 abbrev Info : Type 0

@@ -13,8 +13,8 @@ use Rattle.pkcs12_ber.specs.Files.{ReadsInDer, HasNoReading, HasNoContents}
 use Rattle.pkcs12_ber.specs.InDer.{info, safe, IsInfoInDer, IsSafeInDer, HasNoSafe, HasAppended, HaveNoDer}
 use Rattle.pkcs12_ber.specs.Pfxs.{ber_pfx}
 use Rattle.pkcs12_ber.specs.Places.{InAuthSafe, InData, InOctets}
-use Rattle.pkcs12_ber.specs.declared.reading.Place.{Place}
-use Rattle.pkcs12_ber.specs.declared.reading.Place.TheVariants.{File, AuthSafe, Data, FileDer, AuthSafeDer, Contents}
+use Rattle.pkcs12_ber.specs.declared.reading.BufferOffset.{BufferOffset}
+use Rattle.pkcs12_ber.specs.declared.reading.BufferOffset.TheVariants.{File, AuthSafe, Data, FileDer, AuthSafeDer, Contents}
 use Rattle.pkcs12_ber.proofs.Appended.{one_appended}
 use Rattle.pkcs12_ber.proofs.Safes.{one_safe}
 
@@ -29,10 +29,10 @@ written c d o old new (Ok x) i p h = one_appended c d old new (subst (λ a. IsIn
 written c d o old new (Err e) i p h = λ m. absurd (m h)
 
 -- places in data, and in the contents of the octets that a MAC covers
-pub in_data : {a : AuthSafeValue Octets} {o : List ℕ} (place : Place) → a ≡ inl o → InOctets o place → InAuthSafe a place
+pub in_data : {a : AuthSafeValue Octets} {o : List ℕ} (place : BufferOffset) → a ≡ inl o → InOctets o place → InAuthSafe a place
 in_data {a} {o} place e p = subst (λ x. InAuthSafe x place) (sym e) p
 
-pub in_octets : (octets outer : List ℕ) (contents : List (AuthSafeValue Octets)) → IsBer 64 Whole octets outer → safe.Reads 64 outer contents → (place : Place) → InData contents place → InOctets octets place
+pub in_octets : (octets outer : List ℕ) (contents : List (AuthSafeValue Octets)) → IsBer 64 Whole octets outer → safe.Reads 64 outer contents → (place : BufferOffset) → InData contents place → InOctets octets place
 in_octets octets outer contents is reads (Data index at) p = (outer, contents, is, reads, p)
 in_octets octets outer contents is reads (File at) p = absurd p
 in_octets octets outer contents is reads (AuthSafe at) p = absurd p

@@ -6,7 +6,7 @@ ghost use Rattle.pkcs12_ber.specs.ContentInfosEqual.{content_info_equal};
 
 use asn1_choices::{Alternative, AnyOid, AnyOidRef, Chosen, WriteChoice};
 use asn1_core::prelude::*;
-use pkcs12_bags::parts::oids::{Known, PKCS7_DATA};
+use pkcs12_bags::parts::oids::{OidNumber, PKCS7_DATA};
 use std::alloc::Global;
 use x509_pkcs12::content_infos::{AnyContent, AnyContentRef, any_content, content_of};
 
@@ -24,12 +24,12 @@ pub enum BerContentInfo {
 }
 
 type Choice = Either<
-    Alternative<Known<PKCS7_DATA>, Alone<ExplicitContextTag0<OctetStringAsn1>>>,
+    Alternative<OidNumber<PKCS7_DATA>, Alone<ExplicitContextTag0<OctetStringAsn1>>>,
     AnyOid<AnyContent>,
 >;
 
 type ChoiceRef<'a> = Either<
-    Alternative<Known<PKCS7_DATA>, Alone<ExplicitContextTag0<Ref<&'a OctetStringAsn1>>>>,
+    Alternative<OidNumber<PKCS7_DATA>, Alone<ExplicitContextTag0<Ref<&'a OctetStringAsn1>>>>,
     AnyOidRef<'a, AnyContentRef<'a>>,
 >;
 
@@ -55,8 +55,8 @@ impl Sequence for BerContentInfo {
 
     ghost value = { content_info_value };
 
-    fn with_components<U: Task>(&self, task: &mut U) -> U::Out {
-        task.run(&Chosen(self.choice()))
+    fn with_components<U: ComponentVisitor>(&self, visitor: &mut U) -> U::Out {
+        visitor.visit(&Chosen(self.choice()))
     }
 
     fn read_fields(alloc: Global, r: &mut Reader<'_>, nest: u8) -> Result<Self, Error> {

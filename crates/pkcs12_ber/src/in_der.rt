@@ -7,10 +7,10 @@ ghost use Rattle.asn1_core_element.specs.declared.error.Error.TheVariants.{Memor
 ghost use Rattle.pkcs12_ber.specs.ContentInfos.{content_info_value};
 ghost use Rattle.pkcs12_ber.specs.InDer.{info, IsInfoInDer, IsSafeInDer, HasNoSafe, HasAppended, HaveNoDer};
 ghost use Rattle.pkcs12_ber.specs.Places.{InData, InOctets};
-ghost use Rattle.pkcs12_ber.specs.declared.reading.Place.TheVariants.{Data};
+ghost use Rattle.pkcs12_ber.specs.declared.reading.BufferOffset.TheVariants.{Data};
 
 use crate::content_infos::BerContentInfo;
-use crate::reading::Place;
+use crate::reading::BufferOffset;
 use asn1_core::from_bytes_located;
 use asn1_core::prelude::*;
 use asn1_core_writers::Forward;
@@ -58,7 +58,7 @@ fn append_in_der(
 }
 
 /// The encodings of all contents, with the DER of their data.
-fn all_in_der(alloc: Global, contents: &[BerContentInfo]) -> Result<Vec<u8>, (Error, Place)>
+fn all_in_der(alloc: Global, contents: &[BerContentInfo]) -> Result<Vec<u8>, (Error, BufferOffset)>
     ensures { MatchResult result
         (λ out. HasAppended (map content_info_value contents.now) [] out.items)
         (λ e. e.0 ≢ Memory → HaveNoDer (map content_info_value contents.now) × InData (map content_info_value contents.now) e.1) }
@@ -67,7 +67,7 @@ fn all_in_der(alloc: Global, contents: &[BerContentInfo]) -> Result<Vec<u8>, (Er
     for (index, content) in contents.iter().enumerate() {
         match append_in_der(alloc, content, &mut out) {
             Ok(()) => {}
-            Err((error, at)) => return Err((error, Place::Data(index, at))),
+            Err((error, at)) => return Err((error, BufferOffset::Data(index, at))),
         }
     }
     Ok(out)
@@ -86,20 +86,20 @@ fn sequence(alloc: Global, contents: &[u8]) -> Result<Vec<u8>, Error>
 
 /// An `AuthenticatedSafe` in BER, in DER with DER in all its data.
 #[tactic(auto, using(crate::proofs::Safes::no_outer, crate::proofs::Safes::no_contents, crate::proofs::Safes::no_ders, crate::proofs::Safes::safe_is))]
-pub(crate) fn safe_in_der(alloc: Global, octets: &[u8]) -> Result<Vec<u8>, (Error, Place)>
+pub(crate) fn safe_in_der(alloc: Global, octets: &[u8]) -> Result<Vec<u8>, (Error, BufferOffset)>
     ensures { MatchResult result (λ der. IsSafeInDer octets.now der.items) (λ e. e.0 ≢ Memory → HasNoSafe octets.now × InOctets octets.now e.1) }
 {
     let outer = match to_der_located(alloc, octets) {
         Ok(outer) => outer,
-        Err((error, at)) => return Err((error, Place::AuthSafe(at))),
+        Err((error, at)) => return Err((error, BufferOffset::AuthSafe(at))),
     };
     let safe: Asn1SequenceOf<BerContentInfo> = match from_bytes_located(alloc, outer.as_slice()) {
         Ok(safe) => safe,
-        Err((error, at)) => return Err((error, Place::AuthSafeDer(at))),
+        Err((error, at)) => return Err((error, BufferOffset::AuthSafeDer(at))),
     };
     let contents = all_in_der(alloc, safe.0.as_slice())?;
     match sequence(alloc, contents.as_slice()) {
         Ok(der) => Ok(der),
-        Err(error) => Err((error, Place::Contents(0))),
+        Err(error) => Err((error, BufferOffset::Contents(0))),
     }
 }

@@ -13,4 +13,4 @@ pub use content_infos::BerContentInfo;
 pub use laws::{a_file_has_one_reading, der_files_read_as_pfx};
 pub use mac_ranges::ber_mac_range;
 pub use pfxs::BerPfx;
-pub use reading::{Place, read_ber_pfx};
+pub use reading::{BufferOffset, read_ber_pfx};

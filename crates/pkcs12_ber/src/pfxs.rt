@@ -50,14 +50,14 @@ impl Sequence for BerPfx {
 
     ghost value = { ber_pfx_value };
 
-    fn with_components<U: Task>(&self, task: &mut U) -> U::Out {
-        task.run(&body_of!(self; (Version(self.version)), auth_safe, mac_data OPTIONAL))
+    fn with_components<U: ComponentVisitor>(&self, visitor: &mut U) -> U::Out {
+        visitor.visit(&body_of!(self; (Version(self.version)), auth_safe, mac_data OPTIONAL))
     }
 
     fn read_fields(alloc: Global, r: &mut Reader<'_>, nest: u8) -> Result<Self, Error> {
-        let fields_of!((FixedVersion), auth_safe, mac_data OPTIONAL): Part<
+        let fields_of!((FixedVersion), auth_safe, mac_data OPTIONAL): Required<
             FixedVersion<3>,
-            Part<BerContentInfo, Maybe<MacData, End>>,
+            Required<BerContentInfo, Maybe<MacData, End>>,
         > = ReadComponents::read_components(alloc, r, nest)?;
         Ok(BerPfx {
             version: 3,

@@ -25,7 +25,7 @@ use x509_pkcs12::{AuthenticatedSafeContentInfo, AuthenticatedSafeDataRepr, Pfx};
 /// memory it is how far the reading came. Proved of any other refusal is that there are these bytes, and that the offset is
 /// at most their length (`LiesIn`).
 #[derive(Clone, Copy, Debug, PartialEq, Eq)]
-pub enum Place {
+pub enum BufferOffset {
     /// In the file.
     File(usize),
     /// In the octets that the MAC covers, which `BerPfx::mac_octets` gives: no BER.
@@ -41,17 +41,17 @@ pub enum Place {
 }
 
 /// A file, with the octets that the MAC covers.
-fn read_octets(alloc: Global, file: &[u8]) -> Result<BerPfx, (Error, Place)>
+fn read_octets(alloc: Global, file: &[u8]) -> Result<BerPfx, (Error, BufferOffset)>
     ensures { MatchResult result (λ p. IsBerValueOf ⟦<BerPfx as DerSerialize>⟧.format file.now (ber_pfx_value p))
         (λ e. HasNoBerValue ⟦<BerPfx as DerSerialize>⟧.format file.now e.0 × InFile file.now e.1) }
 {
     let der = match to_der_located(alloc, file) {
         Ok(der) => der,
-        Err((error, at)) => return Err((error, Place::File(at))),
+        Err((error, at)) => return Err((error, BufferOffset::File(at))),
     };
     let pfx = match from_bytes_located(alloc, der.as_slice()) {
         Ok(pfx) => pfx,
-        Err((error, at)) => return Err((error, Place::FileDer(at))),
+        Err((error, at)) => return Err((error, BufferOffset::FileDer(at))),
     };
     Ok(pfx)
 }
@@ -60,7 +60,7 @@ fn read_octets(alloc: Global, file: &[u8]) -> Result<BerPfx, (Error, Place)>
 fn read_contents<R: AuthenticatedSafeDataRepr>(
     alloc: Global,
     content: &BerContentInfo,
-) -> Result<AuthenticatedSafeContentInfo<R>, (Error, Place)>
+) -> Result<AuthenticatedSafeContentInfo<R>, (Error, BufferOffset)>
     ensures { MatchResult result
         (λ a. DataReadsAs (ReadsInDer R.format) (content_info_value content.now) (⟦<AuthenticatedSafeContentInfo<R> as DerSerialize>⟧.value a))
         (λ e. e.0 ≢ Memory → HasNoContents R.format (content_info_value content.now) × InAuthSafe (content_info_value content.now) e.1) }
@@ -70,7 +70,7 @@ fn read_contents<R: AuthenticatedSafeDataRepr>(
             let der = safe_in_der(alloc, octets.0.as_slice())?;
             let contents: R = match from_bytes_located(alloc, der.as_slice()) {
                 Ok(contents) => contents,
-                Err((error, at)) => return Err((error, Place::Contents(at))),
+                Err((error, at)) => return Err((error, BufferOffset::Contents(at))),
             };
             Ok(AuthenticatedSafeContentInfo::Data(contents.into_repr()))
         }
@@ -79,7 +79,7 @@ fn read_contents<R: AuthenticatedSafeDataRepr>(
             content,
         } => match copy_other(alloc, content_type, content) {
             Ok(other) => Ok(other),
-            Err(error) => Err((error, Place::AuthSafe(0))),
+            Err(error) => Err((error, BufferOffset::AuthSafe(0))),
         },
     }
 }
@@ -115,7 +115,7 @@ fn copy_other<R: AuthenticatedSafeDataRepr>(
 pub fn read_ber_pfx<R: AuthenticatedSafeDataRepr>(
     alloc: Global,
     file: &[u8],
-) -> Result<(BerPfx, Pfx<R>), (Error, Place)>
+) -> Result<(BerPfx, Pfx<R>), (Error, BufferOffset)>
     ensures { MatchResult result
         (λ p. IsBerFile R.format file.now (ber_pfx_value p.0) (⟦<Pfx<R> as DerSerialize>⟧.value p.1))
         (λ e. e.0 ≢ Memory → HasNoReading R.format file.now × LiesIn file.now e.1) }
@@ -124,7 +124,7 @@ pub fn read_ber_pfx<R: AuthenticatedSafeDataRepr>(
     let auth_safe = read_contents(alloc, &octets.auth_safe)?;
     let mac_data = match octets.mac_data.try_clone(alloc) {
         Ok(mac_data) => mac_data,
-        Err(error) => return Err((error, Place::File(file.len()))),
+        Err(error) => return Err((error, BufferOffset::File(file.len()))),
     };
     let version = octets.version;
     Ok((

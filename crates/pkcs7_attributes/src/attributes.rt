@@ -26,8 +26,8 @@ impl Asn1Type for Attributes {
 
     ghost value = { attributes_value };
 
-    fn with_encoded<U: Task>(&self, task: &mut U) -> U::Out {
-        task.run_within::<0xA0, _>(&self.0.0)
+    fn with_encoded<U: ComponentVisitor>(&self, visitor: &mut U) -> U::Out {
+        visitor.visit_within::<0xA0, _>(&self.0.0)
     }
 
     fn read_encoded(alloc: Global, r: &mut Reader<'_>, nest: u8) -> Result<Self, Error> {

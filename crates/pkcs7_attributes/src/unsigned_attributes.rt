@@ -16,8 +16,8 @@ impl Asn1Type for RawUnsignedAttributes {
 
     ghost value = { raw_unsigned_attributes_value };
 
-    fn with_encoded<U: Task>(&self, task: &mut U) -> U::Out {
-        task.run_within::<0xA1, _>(&self.0)
+    fn with_encoded<U: ComponentVisitor>(&self, visitor: &mut U) -> U::Out {
+        visitor.visit_within::<0xA1, _>(&self.0)
     }
 
     fn read_encoded(alloc: Global, r: &mut Reader<'_>, nest: u8) -> Result<Self, Error> {

@@ -146,7 +146,7 @@ impl AnyDefinedBy for Content {
     ) -> Result<Self, Error> {
         match Kind::with_oid(oid) {
             Kind::IndirectData => {
-                let Part(ExplicitContextTag0(content), End) = Part::<
+                let Required(ExplicitContextTag0(content), End) = Required::<
                     ExplicitContextTag0<SpcIndirectDataContent>,
                     End,
                 >::read_components(alloc, r, nest)?;
@@ -154,7 +154,7 @@ impl AnyDefinedBy for Content {
                 Ok(Content(Some(ExplicitContextTag0(value))))
             }
             Kind::TrustList => {
-                let Part(ExplicitContextTag0(list), End) = Part::<
+                let Required(ExplicitContextTag0(list), End) = Required::<
                     ExplicitContextTag0<Ctl>,
                     End,
                 >::read_components(alloc, r, nest)?;
@@ -255,7 +255,7 @@ impl TaggedType for EncapsulatedContentInfo {
 
     fn put_tagged<W: Writer>(&self, tag: u8, w: &mut W) -> Result<(), WriteError> {
         let content = MaybeRef(&self.content, End);
-        put_within(tag, &Part(Ref(&self.content_type), content), w)
+        put_within(tag, &Required(Ref(&self.content_type), content), w)
     }
 
     fn is_well_formed_at(&self, limit: u8) -> bool {

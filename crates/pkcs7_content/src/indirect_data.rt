@@ -146,7 +146,7 @@ impl TaggedType for SpcAttributeAndOptionalValue {
     const TAG: u8 = 0x30;
 
     fn put_tagged<W: Writer>(&self, tag: u8, w: &mut W) -> Result<(), WriteError> {
-        put_within(tag, &Part(Ref(&self.ty), Alone(Ref(&self.value))), w)
+        put_within(tag, &Required(Ref(&self.ty), Alone(Ref(&self.value))), w)
     }
 
     fn is_well_formed_at(&self, limit: u8) -> bool {
@@ -181,8 +181,8 @@ impl Sequence for SpcIndirectDataContent {
 
     ghost value = { spc_indirect_data_content_value };
 
-    fn with_components<U: Task>(&self, task: &mut U) -> U::Out {
-        with_components_of!(self, task; SpcIndirectDataContent { spc_data, message_digest })
+    fn with_components<U: ComponentVisitor>(&self, visitor: &mut U) -> U::Out {
+        with_components_of!(self, visitor; SpcIndirectDataContent { spc_data, message_digest })
     }
 
     fn read_fields(alloc: Global, r: &mut Reader<'_>, nest: u8) -> Result<Self, Error> {

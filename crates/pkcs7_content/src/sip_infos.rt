@@ -32,8 +32,8 @@ impl Sequence for SpcSipInfo {
 
     ghost value = { spc_sip_info_value };
 
-    fn with_components<U: Task>(&self, task: &mut U) -> U::Out {
-        sip_info!(with_components_of(self, task))
+    fn with_components<U: ComponentVisitor>(&self, visitor: &mut U) -> U::Out {
+        sip_info!(with_components_of(self, visitor))
     }
 
     fn read_fields(alloc: Global, r: &mut Reader<'_>, nest: u8) -> Result<Self, Error> {

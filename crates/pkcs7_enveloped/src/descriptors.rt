@@ -19,8 +19,8 @@ impl Sequence for ProtectionDescriptor {
 
     ghost value = { protection_descriptor_value };
 
-    fn with_components<U: Task>(&self, task: &mut U) -> U::Out {
-        with_components_of!(self, task; ProtectionDescriptor { descriptor_type, descriptor_value })
+    fn with_components<U: ComponentVisitor>(&self, visitor: &mut U) -> U::Out {
+        with_components_of!(self, visitor; ProtectionDescriptor { descriptor_type, descriptor_value })
     }
 
     fn read_fields(alloc: Global, r: &mut Reader<'_>, nest: u8) -> Result<Self, Error> {
@@ -48,8 +48,8 @@ impl Sequence for GeneralProtectionDescriptor {
 
     ghost value = { general_protection_descriptor_value };
 
-    fn with_components<U: Task>(&self, task: &mut U) -> U::Out {
-        with_components_of!(self, task; GeneralProtectionDescriptor { descriptor_type, descriptors })
+    fn with_components<U: ComponentVisitor>(&self, visitor: &mut U) -> U::Out {
+        with_components_of!(self, visitor; GeneralProtectionDescriptor { descriptor_type, descriptors })
     }
 
     fn read_fields(alloc: Global, r: &mut Reader<'_>, nest: u8) -> Result<Self, Error> {

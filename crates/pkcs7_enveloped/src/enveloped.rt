@@ -43,10 +43,10 @@ impl Sequence for EncryptedContentInfo {
 
     ghost value = { encrypted_content_info_value };
 
-    fn with_components<U: Task>(&self, task: &mut U) -> U::Out {
+    fn with_components<U: ComponentVisitor>(&self, visitor: &mut U) -> U::Out {
         let content = MaybeRef(&self.encrypted_content.0, End);
-        let encryption = Part(Ref(&self.content_encryption_algorithm), content);
-        task.run(&Part(Ref(&self.content_type), encryption))
+        let encryption = Required(Ref(&self.content_encryption_algorithm), content);
+        visitor.visit(&Required(Ref(&self.content_type), encryption))
     }
 
     fn read_fields(alloc: Global, r: &mut Reader<'_>, nest: u8) -> Result<Self, Error> {
@@ -83,8 +83,8 @@ impl Sequence for OriginatorInfo {
 
     ghost value = { originator_info_value };
 
-    fn with_components<U: Task>(&self, task: &mut U) -> U::Out {
-        task.run(&MaybeRef(&self.certs.0, MaybeRef(&self.crls.0, End)))
+    fn with_components<U: ComponentVisitor>(&self, visitor: &mut U) -> U::Out {
+        visitor.visit(&MaybeRef(&self.certs.0, MaybeRef(&self.crls.0, End)))
     }
 
     fn read_fields(alloc: Global, r: &mut Reader<'_>, nest: u8) -> Result<Self, Error> {
@@ -127,18 +127,18 @@ impl<R: DerSerialize> DerSerialize for EnvelopedData<R> {
 
     fn put<W: Writer>(&self, w: &mut W) -> Result<(), WriteError> {
         let attributes = MaybeRef(&self.unprotected_attrs.0, End);
-        let content = Part(Ref(&self.encrypted_content_info), attributes);
-        let recipients = Part(Ref(&self.recipient_infos), content);
+        let content = Required(Ref(&self.encrypted_content_info), attributes);
+        let recipients = Required(Ref(&self.recipient_infos), content);
         let originator = MaybeRef(&self.originator_info.0, recipients);
-        put_within(0x30, &Part(Ref(&self.version), originator), w)
+        put_within(0x30, &Required(Ref(&self.version), originator), w)
     }
 
     fn well_formed_at(&self, limit: u8) -> bool {
         let attributes = MaybeRef(&self.unprotected_attrs.0, End);
-        let content = Part(Ref(&self.encrypted_content_info), attributes);
-        let recipients = Part(Ref(&self.recipient_infos), content);
+        let content = Required(Ref(&self.encrypted_content_info), attributes);
+        let recipients = Required(Ref(&self.recipient_infos), content);
         let originator = MaybeRef(&self.originator_info.0, recipients);
-        Part(Ref(&self.version), originator).components_well_formed_at(limit)
+        Required(Ref(&self.version), originator).components_well_formed_at(limit)
     }
 }
 

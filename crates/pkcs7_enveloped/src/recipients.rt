@@ -27,8 +27,8 @@ impl Sequence for OtherKeyAttribute {
 
     ghost value = { other_key_attribute_value };
 
-    fn with_components<U: Task>(&self, task: &mut U) -> U::Out {
-        with_components_of!(self, task; OtherKeyAttribute { key_attr_id, key_attr OPTIONAL })
+    fn with_components<U: ComponentVisitor>(&self, visitor: &mut U) -> U::Out {
+        with_components_of!(self, visitor; OtherKeyAttribute { key_attr_id, key_attr OPTIONAL })
     }
 
     fn read_fields(alloc: Global, r: &mut Reader<'_>, nest: u8) -> Result<Self, Error> {
@@ -57,9 +57,9 @@ impl Sequence for KekIdentifier {
 
     ghost value = { kek_identifier_value };
 
-    fn with_components<U: Task>(&self, task: &mut U) -> U::Out {
+    fn with_components<U: ComponentVisitor>(&self, visitor: &mut U) -> U::Out {
         let optional = MaybeRef(&self.date.0, MaybeRef(&self.other.0, End));
-        task.run(&Part(Ref(&self.key_identifier), optional))
+        visitor.visit(&Required(Ref(&self.key_identifier), optional))
     }
 
     fn read_fields(alloc: Global, r: &mut Reader<'_>, nest: u8) -> Result<Self, Error> {
@@ -96,8 +96,8 @@ impl Sequence for KekRecipientInfo {
 
     ghost value = { kek_recipient_info_value };
 
-    fn with_components<U: Task>(&self, task: &mut U) -> U::Out {
-        with_components_of!(self, task; KekRecipientInfo {
+    fn with_components<U: ComponentVisitor>(&self, visitor: &mut U) -> U::Out {
+        with_components_of!(self, visitor; KekRecipientInfo {
             version, kek_id, key_encryption_algorithm, encrypted_key
         })
     }

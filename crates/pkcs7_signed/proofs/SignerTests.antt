@@ -3,7 +3,7 @@ use Rattle.std.proofs.Common.{◌≡◌, ◌↔◌, ℕ, zero, suc, IsTrue, fals
 use Rattle.asn1_core.specs.Der.{Format, nothing, set_of, less, set_or_none, unroll_formed}
 use Rattle.pkcs7_signed.specs.Parts.{SignerParts, signer_end, after_signer, signer_parts, SignedParts, signed_end, after_signed, signed_parts}
 use Rattle.pkcs7_signed.specs.Components.{SignerComponents, signer_components, UnsignedValues, IsOfKind, values_components}
-use Rattle.pkcs7_signed.specs.Signers.{Value, signers, attributes, certificates, still, step, signer, attribute, certificate, signed_data, signer_infos, unsigned_attributes, values}
+use Rattle.pkcs7_signed.specs.Signers.{Value, signers, attributes, certificates, level_invariant, step, signer, attribute, pkcs7_certificate, signed_data, signer_infos, unsigned_attributes, values}
 use Rattle.pkcs7_signed.specs.SignerLaws.{signer_step}
 use Rattle.pkcs7_signed.specs.SignerLevels.{parts_of_signer, attributes_in, parts_of_signed, out_signer, value_signed}
 use Rattle.pkcs7_signed.specs.SignerValues.{signer_value, signers_value, signed_value}
@@ -36,7 +36,7 @@ module _ {R : Type 0} (F : Format R) (k : ℕ) where
 module _ (k : ℕ) (x : SignerInfo) {h : SignerParts (Unit {0})} (e : h ≡ parts_of_signer x tt) where
   signer_is : ((signer_parts nothing).IsWellFormed k h × unsigned_attributes.IsWellFormed k (attributes_in x)) ↔ signer.IsWellFormed k (signer_value x)
   signer_is =
-      let u = unroll_formed {I = Unit {0}} {V = λ _. Value signers} still step signer_step k tt (signer_value x) in
+      let u = unroll_formed {I = Unit {0}} {V = λ _. Value signers} level_invariant step signer_step k tt (signer_value x) in
       let r : SignerComponents (Value attributes) = parts_of_signer x (attributes_in x, tt) in
       let s : ((signer_parts nothing).IsWellFormed k (parts_of_signer x tt) × (set_or_none 0xA1 attribute).IsWellFormed k (attributes_in x, tt)) ↔ (signer_components attribute).IsWellFormed k r = signer_split (set_or_none 0xA1 attribute) k r in (
         λ w. u.1 (subst ((signer_components attribute).IsWellFormed k) (sym (out_signer x)) (s.0 (subst ((signer_parts nothing).IsWellFormed k) e w.0, (w.1, tt)))),
@@ -77,7 +77,7 @@ module _ {A : Type 0} (put : A → Values) (P : A → Type 0) where
   alternative_formed : ((a b : A) → put a ≡ put b → a ≡ b) → (a : A) → P a ↔ ((b : A) × (put b ≡ put a) × P b)
   alternative_formed one a = (λ h. (a, refl, h), λ h. subst P (one h.0 a h.1) h.2)
 
-pub of_kind : (k : ℕ) (i : Kind) (v : Values) → IsOfKind i v → values.IsWellFormed k v ↔ (values_components certificate (less signer) i).IsWellFormed k v
+pub of_kind : (k : ℕ) (i : Kind) (v : Values) → IsOfKind i v → values.IsWellFormed k v ↔ (values_components pkcs7_certificate (less signer) i).IsWellFormed k v
 of_kind k MsCounterSign (inl v) f = alternative_formed (λ u. inl u) _ (λ a b e. cc) v
 of_kind k CounterSign (inr (inl v)) f = alternative_formed (λ u. inr (inl u)) _ (λ a b e. cc) v
 of_kind k Foreign (inr (inr v)) f = alternative_formed (λ u. inr (inr u)) _ (λ a b e. cc) v
@@ -88,7 +88,7 @@ of_kind k CounterSign (inr (inr v)) f = absurd f
 of_kind k Foreign (inl v) f = absurd f
 of_kind k Foreign (inr (inl v)) f = absurd f
 
-pub not_of_kind : (k : ℕ) (i : Kind) (v : Values) → (IsOfKind i v → ⊥) → (values_components certificate (less signer) i).IsWellFormed k v → ⊥
+pub not_of_kind : (k : ℕ) (i : Kind) (v : Values) → (IsOfKind i v → ⊥) → (values_components pkcs7_certificate (less signer) i).IsWellFormed k v → ⊥
 not_of_kind k MsCounterSign (inl v) n h = n tt
 not_of_kind k MsCounterSign (inr v) n h = (let e = h.1 in cc)
 not_of_kind k CounterSign (inr (inl v)) n h = n tt

@@ -30,11 +30,11 @@ SignedComponents S = SignedParts (List S)
 abbrev pub signed_components : {S : Type 0} → Format S → Format (SignedComponents S)
 signed_components F = needs_level (sequence (signed_parts (set_of F)))
 
-abbrev pub CertificateComponents : Type 0 → Type 0
-CertificateComponents S = OidOctets × SignedComponents S
+abbrev pub Pkcs7CertificateComponents : Type 0 → Type 0
+Pkcs7CertificateComponents S = OidOctets × SignedComponents S
 
-abbrev pub certificate_components : {S : Type 0} → Format S → Format (CertificateComponents S)
-certificate_components F = sequence (part (only_oid signed_data_oid) (explicit 0 (signed_components F)))
+abbrev pub pkcs7_certificate_components : {S : Type 0} → Format S → Format (Pkcs7CertificateComponents S)
+pkcs7_certificate_components F = sequence (part (only_oid signed_data_oid) (explicit 0 (signed_components F)))
 
 -- what an attribute's object identifier says
 abbrev pub kind_of : List ℕ → Kind
@@ -63,8 +63,8 @@ module _ {C S : Type 0} (F : Format C) (G : Format S) where
   abbrev pub attribute_values : Format (UnsignedValues C S)
   attribute_values = only_written (either (set_of F) (either (set_of G) (set_of raw)))
 
-  abbrev pub certificates_alternative : Format (UnsignedValues C S)
-  certificates_alternative = alternative attribute_values (by_itself (λ v. inl v)) (set_of F)
+  abbrev pub pkcs7_certificates_alternative : Format (UnsignedValues C S)
+  pkcs7_certificates_alternative = alternative attribute_values (by_itself (λ v. inl v)) (set_of F)
 
   abbrev pub signers_alternative : Format (UnsignedValues C S)
   signers_alternative = alternative attribute_values (by_itself (λ v. inr (inl v))) (set_of G)
@@ -75,9 +75,9 @@ module _ {C S : Type 0} (F : Format C) (G : Format S) where
   abbrev pub values_components : Kind → Format (UnsignedValues C S)
   values_components i = record {
     text = attribute_values.text;
-    IsWellFormed = λ k v. by_kind i (certificates_alternative.IsWellFormed k v) (signers_alternative.IsWellFormed k v) (elements_alternative.IsWellFormed k v);
-    Reads = λ k b v. by_kind i (certificates_alternative.Reads k b v) (signers_alternative.Reads k b v) (elements_alternative.Reads k b v);
-    IsNormal = λ k b. by_kind i (certificates_alternative.IsNormal k b) (signers_alternative.IsNormal k b) (elements_alternative.IsNormal k b);
+    IsWellFormed = λ k v. by_kind i (pkcs7_certificates_alternative.IsWellFormed k v) (signers_alternative.IsWellFormed k v) (elements_alternative.IsWellFormed k v);
+    Reads = λ k b v. by_kind i (pkcs7_certificates_alternative.Reads k b v) (signers_alternative.Reads k b v) (elements_alternative.Reads k b v);
+    IsNormal = λ k b. by_kind i (pkcs7_certificates_alternative.IsNormal k b) (signers_alternative.IsNormal k b) (elements_alternative.IsNormal k b);
     normal = attribute_values.normal;
     IsTag = (set_of raw).IsTag;
     first = (set_of raw).first;
@@ -100,8 +100,8 @@ lawful_signer_components F f = lawful_sequence (lawful_signer_parts (lawful_set_
 pub lawful_signed_components : {S : Type 0} (F : Format S) → IsLawful F → IsLawful (signed_components F)
 lawful_signed_components F f = lawful_needs_level (sequence (signed_parts (set_of F))) (lawful_sequence (lawful_signed_parts (lawful_set F f).components refl refl))
 
-pub lawful_certificate_components : {S : Type 0} (F : Format S) → IsLawful F → IsLawful (certificate_components F)
-lawful_certificate_components F f = lawful_sequence (followed_by (lawful_only_oid signed_data_oid) (lawful_explicit (omega arith) (lawful_signed_components F f)).components)
+pub lawful_pkcs7_certificate_components : {S : Type 0} (F : Format S) → IsLawful F → IsLawful (pkcs7_certificate_components F)
+lawful_pkcs7_certificate_components F f = lawful_sequence (followed_by (lawful_only_oid signed_data_oid) (lawful_explicit (omega arith) (lawful_signed_components F f)).components)
 
 module _ {C S : Type 0} (F : Format C) (G : Format S) (f : IsLawful F) (g : IsLawful G) where
   lawful_values : (i : Kind) → IsLawfulComponents (values_components F G i)

@@ -11,10 +11,10 @@ use Rattle.pkcs7_attributes.specs.AttributesEqual.{attributes_equal as signed_at
 use Rattle.pkcs7_signed_crl.specs.PartsEqual.{digest_algorithm_identifiers_equal, certificate_set_equal, revocation_info_choices_equal, signer_identifier_equal}
 use Rattle.pkcs7_signed.specs.Heads.{elements}
 use Rattle.pkcs7_signed.specs.Components.{UnsignedValues}
-use Rattle.pkcs7_signed.specs.Signers.{Value, signers, certificates, signer_out, signer_into, certificate_out, certificate_into, attribute_out, attribute_into}
-use Rattle.pkcs7_signed.specs.SignerLaws.{signer_there, certificate_there, attribute_there}
+use Rattle.pkcs7_signed.specs.Signers.{Value, signers, certificates, signer_out, signer_into, pkcs7_certificate_out, pkcs7_certificate_into, attribute_out, attribute_into}
+use Rattle.pkcs7_signed.specs.SignerLaws.{signer_there, pkcs7_certificate_there, attribute_there}
 use Rattle.pkcs7_signed.specs.SignerLevels.{value_signers, value_attributes, value_signed}
-use Rattle.pkcs7_signed.specs.SignerValues.{values_value, certificate_value, signed_value, signer_value, signers_value, attribute_value, attributes_value}
+use Rattle.pkcs7_signed.specs.SignerValues.{values_value, pkcs7_certificate_value, signed_value, signer_value, signers_value, attribute_value, attributes_value}
 use Rattle.pkcs7_signed.specs.declared.signers.Pkcs7Certificate.{Pkcs7Certificate, Pkcs7Certificate', out-Pkcs7Certificate}
 use Rattle.pkcs7_signed.specs.declared.signers.SignedData.{SignedData, SignedData', out-SignedData}
 use Rattle.pkcs7_signed.specs.declared.signers.SignerInfo.{SignerInfo, SignerInfo', out-SignerInfo}
@@ -66,7 +66,7 @@ list_told eq value e a ys = subst (λ zs. (pointwise eq zs ys ≡ true) ↔ (map
 
 -- what an attribute holds
 abbrev alternative_of : UnsignedAttributeValue-F UnsignedAttributeValue Pkcs7Certificate SignedData SignerInfo SignersInfos UnsignedAttribute UnsignedAttributes → UnsignedValues (Value certificates) (Value signers)
-alternative_of (UnsignedAttributeValue-F.MsCounterSign s) = inl (map certificate_value s.0.items)
+alternative_of (UnsignedAttributeValue-F.MsCounterSign s) = inl (map pkcs7_certificate_value s.0.items)
 alternative_of (UnsignedAttributeValue-F.CounterSign s) = inr (inl (map signer_value s.0.items))
 alternative_of (UnsignedAttributeValue-F.Unknown s) = inr (inr (elements s.0))
 
@@ -86,16 +86,16 @@ mutual
 
   pub values_equal : SeesEqual Values.ghosts.eq values_value
   values_equal (MsCounterSign' s k) (MsCounterSign' t l) =
-      told (Values.Laws.is _ _) (value_alternative _) (value_alternative _) (same_first (list_told Certificate.ghosts.eq certificate_value (items_shown-the_row-Pkcs7Certificate-0 s k) (all_certificates k) _))
+      told (Values.Laws.is _ _) (value_alternative _) (value_alternative _) (same_first (list_told Certificate.ghosts.eq pkcs7_certificate_value (items_shown-the_row-Pkcs7Certificate-0 s k) (all_pkcs7_certificates k) _))
   values_equal (CounterSign' s k) (CounterSign' t l) =
       told (Values.Laws.is _ _) (value_alternative _) (value_alternative _) (same_second (same_first (list_told Signer.ghosts.eq signer_value (items_shown-the_row-SignerInfo-1 s k) (all_signers k) _)))
   values_equal (Unknown s) (Unknown t) = told (Values.Laws.is _ _) (value_alternative _) (value_alternative _) (same_second (same_second (list_equal _ _ raw_equal s.0.items t.0.items)))
   values_equal v w = told (Values.Laws.is _ _) (value_alternative _) (value_alternative _) (λ e. cc, λ e. cc)
 
-  pub certificate_equal : SeesEqual Certificate.ghosts.eq certificate_value
-  certificate_equal (Pkcs7Certificate' o s) (Pkcs7Certificate' p t) =
+  pub pkcs7_certificate_equal : SeesEqual Certificate.ghosts.eq pkcs7_certificate_value
+  pkcs7_certificate_equal (Pkcs7Certificate' o s) (Pkcs7Certificate' p t) =
       told (Certificate.Laws.is _ _) (search (rules, the_lemmas)) (search (rules, the_lemmas))
-      (of_rows certificate_out certificate_into certificate_there (two_equal (equal_octets o.0 p.0) (signed_equal s t)))
+      (of_rows pkcs7_certificate_out pkcs7_certificate_into pkcs7_certificate_there (two_equal (equal_octets o.0 p.0) (signed_equal s t)))
 
   pub signed_equal : SeesEqual Signed.ghosts.eq signed_value
   signed_equal (SignedData' v d i c l s) (SignedData' w e j b m t) =
@@ -115,9 +115,9 @@ mutual
   pub attributes_equal : SeesEqual Attributes.ghosts.eq attributes_value
   attributes_equal (UnsignedAttributes' s k) y = told (Attributes.Laws.is _ _) (value_attributes _) (value_attributes _) (list_told Attribute.ghosts.eq attribute_value (items_shown-the_row-UnsignedAttribute-2 s k) (all_attributes k) _)
 
-  all_certificates : {n : _} (k : Row_of-Pkcs7Certificate n) → AllByRecursion (Tells Certificate.ghosts.eq certificate_value) (items-the_row-Pkcs7Certificate n k)
-  all_certificates end_of-Pkcs7Certificate = tt
-  all_certificates (more_of-Pkcs7Certificate x k) = (certificate_equal x, all_certificates k)
+  all_pkcs7_certificates : {n : _} (k : Row_of-Pkcs7Certificate n) → AllByRecursion (Tells Certificate.ghosts.eq pkcs7_certificate_value) (items-the_row-Pkcs7Certificate n k)
+  all_pkcs7_certificates end_of-Pkcs7Certificate = tt
+  all_pkcs7_certificates (more_of-Pkcs7Certificate x k) = (pkcs7_certificate_equal x, all_pkcs7_certificates k)
 
   all_signers : {n : _} (k : Row_of-SignerInfo n) → AllByRecursion (Tells Signer.ghosts.eq signer_value) (items-the_row-SignerInfo n k)
   all_signers end_of-SignerInfo = tt

@@ -5,8 +5,8 @@ use Rattle.asn1_core.specs.Der.{Format, IsLawful, sequence, part, nothing, expli
 use Rattle.pkcs7_signed.specs.Forest.{Forest, none, nodes_forest, forest_nodes, fold_node, same_all, same_node, nil_same, same_list, texts_fold, least_fold}
 use Rattle.pkcs7_signed.specs.Oids.{signed_data_oid}
 use Rattle.pkcs7_signed.specs.Parts.{signer_end, after_signer, signer_parts, signed_end, after_signed, signed_parts, ending}
-use Rattle.pkcs7_signed.specs.Components.{SignerComponents, signer_components, CertificateComponents, certificate_components, AttributeComponents, attribute_components, lawful_signer_components, lawful_signed_components, lawful_certificate_components, lawful_attribute_components}
-use Rattle.pkcs7_signed.specs.Signers.{Sort, signers, attributes, certificates, nothing_inside, Alternative, Plain, holds, Trees, Value, list, trees, signer_out, signer_into, certificate_out, certificate_into, attribute_out, attribute_into, certificate_with, attribute_with, signer_with, text_of, least_of, normal_in_attribute, normal_of, still, step, signer, attribute, certificate, signed_data, signer_infos, unsigned_attributes}
+use Rattle.pkcs7_signed.specs.Components.{SignerComponents, signer_components, Pkcs7CertificateComponents, pkcs7_certificate_components, AttributeComponents, attribute_components, lawful_signer_components, lawful_signed_components, lawful_pkcs7_certificate_components, lawful_attribute_components}
+use Rattle.pkcs7_signed.specs.Signers.{Sort, signers, attributes, certificates, nothing_inside, Alternative, Plain, holds, Trees, Value, list, trees, signer_out, signer_into, pkcs7_certificate_out, pkcs7_certificate_into, attribute_out, attribute_into, pkcs7_certificate_with, attribute_with, signer_with, text_of, least_of, normal_in_attribute, normal_of, level_invariant, step, signer, attribute, pkcs7_certificate, signed_data, signer_infos, unsigned_attributes}
 use Rattle.pkcs7_signed.specs.declared.signers.Kind.TheVariants.{MsCounterSign, CounterSign, Foreign}
 
 none_inside : (f : Trees nothing_inside) → none ≡ f
@@ -25,11 +25,11 @@ signer_there r = ap (λ vs. signer_end r (vs, tt)) (lists attributes (after_sign
 signer_back : (v : Value signers) → signer_into (signer_out v) ≡ v
 signer_back v = ap (λ f. (tt, v.1, f)) (forests attributes v.2)
 
-pub certificate_there : (r : CertificateComponents (Value signers)) → certificate_out (certificate_into r) ≡ r
-certificate_there r = ap (λ vs. (r.0, signed_end r.1 vs)) (lists signers (after_signed r.1))
+pub pkcs7_certificate_there : (r : Pkcs7CertificateComponents (Value signers)) → pkcs7_certificate_out (pkcs7_certificate_into r) ≡ r
+pkcs7_certificate_there r = ap (λ vs. (r.0, signed_end r.1 vs)) (lists signers (after_signed r.1))
 
-certificate_back : (v : Value certificates) → certificate_into (certificate_out v) ≡ v
-certificate_back v = ap (λ f. (tt, v.1, f)) (forests signers v.2)
+pkcs7_certificate_back : (v : Value certificates) → pkcs7_certificate_into (pkcs7_certificate_out v) ≡ v
+pkcs7_certificate_back v = ap (λ f. (tt, v.1, f)) (forests signers v.2)
 
 pub attribute_there : (r : AttributeComponents (Value certificates) (Value signers)) → attribute_out (attribute_into r) ≡ r
 attribute_there (o, inl vs) = ap (λ us. (o, inl us)) (lists certificates vs)
@@ -42,59 +42,59 @@ attribute_back (CounterSign, o, f) = ap (λ g. (CounterSign, o, g)) (forests sig
 attribute_back (Foreign, p, f) = ap (λ g. (Foreign, p, g)) (none_inside f)
 
 module _ (F : Format (Value signers)) (f : IsLawful F) where
-  pub lawful_certificate_with : IsLawful (certificate_with F)
-  lawful_certificate_with = lawful_mapped certificate_out certificate_into certificate_there certificate_back (certificate_components F) (lawful_certificate_components F f)
+  pub lawful_pkcs7_certificate_with : IsLawful (pkcs7_certificate_with F)
+  lawful_pkcs7_certificate_with = lawful_mapped pkcs7_certificate_out pkcs7_certificate_into pkcs7_certificate_there pkcs7_certificate_back (pkcs7_certificate_components F) (lawful_pkcs7_certificate_components F f)
 
   pub lawful_attribute_with : IsLawful (attribute_with F)
-  lawful_attribute_with = lawful_mapped attribute_out attribute_into attribute_there attribute_back (attribute_components (certificate_with F) F) (lawful_attribute_components (certificate_with F) F lawful_certificate_with f)
+  lawful_attribute_with = lawful_mapped attribute_out attribute_into attribute_there attribute_back (attribute_components (pkcs7_certificate_with F) F) (lawful_attribute_components (pkcs7_certificate_with F) F lawful_pkcs7_certificate_with f)
 
   pub lawful_signer_with : IsLawful (signer_with F)
   lawful_signer_with = lawful_mapped signer_out signer_into signer_there signer_back (signer_components (attribute_with F)) (lawful_signer_components (attribute_with F) lawful_attribute_with)
 
 -- what is the same at all levels
 module _ (g : ℕ → Grammar (Value signers)) where
-  certificate_text : (v : Value certificates) → (certificate_with (by_levels (still tt) g)).text v ≡ fold_node Alternative Plain holds text_of certificates v
-  certificate_text v =
+  pkcs7_certificate_text : (v : Value certificates) → (pkcs7_certificate_with (by_levels (level_invariant tt) g)).text v ≡ fold_node Alternative Plain holds text_of certificates v
+  pkcs7_certificate_text v =
       ap (λ t. (sequence (part (only_oid signed_data_oid) (explicit 0 (sequence (signed_parts (ending (element 0x31 t) 0)))))).text (v.1.0, signed_end v.1.1 tt))
-      (texts_fold Alternative Plain holds text_of (still tt).text (λ _. refl) v.2)
+      (texts_fold Alternative Plain holds text_of (level_invariant tt).text (λ _. refl) v.2)
 
-  attribute_text : (v : Value attributes) → (attribute_with (by_levels (still tt) g)).text v ≡ fold_node Alternative Plain holds text_of attributes v
-  attribute_text (MsCounterSign, o, f) = ap (λ t. element 0x30 (element 0x06 o ++ element 0x31 t)) (texts_fold Alternative Plain holds text_of _ certificate_text f)
-  attribute_text (CounterSign, o, f) = ap (λ t. element 0x30 (element 0x06 o ++ element 0x31 t)) (texts_fold Alternative Plain holds text_of (still tt).text (λ _. refl) f)
+  attribute_text : (v : Value attributes) → (attribute_with (by_levels (level_invariant tt) g)).text v ≡ fold_node Alternative Plain holds text_of attributes v
+  attribute_text (MsCounterSign, o, f) = ap (λ t. element 0x30 (element 0x06 o ++ element 0x31 t)) (texts_fold Alternative Plain holds text_of _ pkcs7_certificate_text f)
+  attribute_text (CounterSign, o, f) = ap (λ t. element 0x30 (element 0x06 o ++ element 0x31 t)) (texts_fold Alternative Plain holds text_of (level_invariant tt).text (λ _. refl) f)
   attribute_text (Foreign, p, f) = refl
 
-  signer_text : (v : Value signers) → (signer_with (by_levels (still tt) g)).text v ≡ (still tt).text v
+  signer_text : (v : Value signers) → (signer_with (by_levels (level_invariant tt) g)).text v ≡ (level_invariant tt).text v
   signer_text v =
       ap₂ (λ o t. (sequence (signer_parts (ending (text_unless o (element 0xA1 t) ++ []) 0))).text (signer_end v.1 tt))
       (nil_same Alternative Plain holds text_of v.2) (texts_fold Alternative Plain holds text_of _ attribute_text v.2)
 
-  certificate_least : (v : Value certificates) → (certificate_with (by_levels (still tt) g)).least v ≡ fold_node Alternative Plain holds least_of certificates v
-  certificate_least v =
+  pkcs7_certificate_least : (v : Value certificates) → (pkcs7_certificate_with (by_levels (level_invariant tt) g)).least v ≡ fold_node Alternative Plain holds least_of certificates v
+  pkcs7_certificate_least v =
       ap (λ n. (sequence (part (only_oid signed_data_oid) (explicit 0 (sequence (signed_parts (ending [] (1 + n))))))).least (v.1.0, signed_end v.1.1 tt))
-      (least_fold Alternative Plain holds least_of (still tt).least (λ _. refl) v.2)
+      (least_fold Alternative Plain holds least_of (level_invariant tt).least (λ _. refl) v.2)
 
-  attribute_least : (v : Value attributes) → (attribute_with (by_levels (still tt) g)).least v ≡ fold_node Alternative Plain holds least_of attributes v
-  attribute_least (MsCounterSign, o, f) = ap (λ n. 1 + (1 + (1 + n))) (least_fold Alternative Plain holds least_of _ certificate_least f)
-  attribute_least (CounterSign, o, f) = ap (λ n. 1 + (1 + (1 + n))) (least_fold Alternative Plain holds least_of (still tt).least (λ _. refl) f)
+  attribute_least : (v : Value attributes) → (attribute_with (by_levels (level_invariant tt) g)).least v ≡ fold_node Alternative Plain holds least_of attributes v
+  attribute_least (MsCounterSign, o, f) = ap (λ n. 1 + (1 + (1 + n))) (least_fold Alternative Plain holds least_of _ pkcs7_certificate_least f)
+  attribute_least (CounterSign, o, f) = ap (λ n. 1 + (1 + (1 + n))) (least_fold Alternative Plain holds least_of (level_invariant tt).least (λ _. refl) f)
   attribute_least (Foreign, p, f) = refl
 
-  signer_least : (v : Value signers) → (signer_with (by_levels (still tt) g)).least v ≡ (still tt).least v
+  signer_least : (v : Value signers) → (signer_with (by_levels (level_invariant tt) g)).least v ≡ (level_invariant tt).least v
   signer_least v =
       ap₂ (λ o n. (sequence (signer_parts (ending [] (least_unless o (1 + n) + 0)))).least (signer_end v.1 tt))
       (nil_same Alternative Plain holds least_of v.2) (least_fold Alternative Plain holds least_of _ attribute_least v.2)
 
-  certificate_normal : (v : Value certificates) → (certificate_with (by_levels (still tt) g)).normal v ≡ same_node Alternative Plain holds normal_of certificates v
-  certificate_normal v = ap (λ f. (tt, (v.1.0, (signed_parts nothing).normal v.1.1), f)) (same_list Alternative Plain holds normal_of (still tt).normal (λ _. refl) v.2)
+  pkcs7_certificate_normal : (v : Value certificates) → (pkcs7_certificate_with (by_levels (level_invariant tt) g)).normal v ≡ same_node Alternative Plain holds normal_of certificates v
+  pkcs7_certificate_normal v = ap (λ f. (tt, (v.1.0, (signed_parts nothing).normal v.1.1), f)) (same_list Alternative Plain holds normal_of (level_invariant tt).normal (λ _. refl) v.2)
 
-  attribute_normal : (v : Value attributes) → (attribute_with (by_levels (still tt) g)).normal v ≡ same_node Alternative Plain holds normal_of attributes v
-  attribute_normal (MsCounterSign, o, f) = ap (λ h. (MsCounterSign, o, h)) (same_list Alternative Plain holds normal_of _ certificate_normal f)
-  attribute_normal (CounterSign, o, f) = ap (λ h. (CounterSign, o, h)) (same_list Alternative Plain holds normal_of (still tt).normal (λ _. refl) f)
+  attribute_normal : (v : Value attributes) → (attribute_with (by_levels (level_invariant tt) g)).normal v ≡ same_node Alternative Plain holds normal_of attributes v
+  attribute_normal (MsCounterSign, o, f) = ap (λ h. (MsCounterSign, o, h)) (same_list Alternative Plain holds normal_of _ pkcs7_certificate_normal f)
+  attribute_normal (CounterSign, o, f) = ap (λ h. (CounterSign, o, h)) (same_list Alternative Plain holds normal_of (level_invariant tt).normal (λ _. refl) f)
   attribute_normal (Foreign, p, f) = ap (λ h. (Foreign, normal_in_attribute Foreign p, h)) (none_inside (same_all Alternative Plain holds normal_of f))
 
-  signer_normal : (v : Value signers) → (signer_with (by_levels (still tt) g)).normal v ≡ (still tt).normal v
+  signer_normal : (v : Value signers) → (signer_with (by_levels (level_invariant tt) g)).normal v ≡ (level_invariant tt).normal v
   signer_normal v = ap (λ f. (tt, (signer_parts nothing).normal v.1, f)) (same_list Alternative Plain holds normal_of _ attribute_normal v.2)
 
-pub signer_step : IsStep {I = Unit {0}} {V = λ _. Value signers} still step
+pub signer_step : IsStep {I = Unit {0}} {V = λ _. Value signers} level_invariant step
 signer_step = record {
   lawful = λ F f i. lawful_signer_with (F i) (f i);
   text = λ g i. signer_text (λ k. g k i);
@@ -106,7 +106,7 @@ signer_step = record {
 }
 
 pub lawful_signer : IsLawful signer
-lawful_signer = lawful_levels {I = Unit {0}} {V = λ _. Value signers} still step signer_step tt
+lawful_signer = lawful_levels {I = Unit {0}} {V = λ _. Value signers} level_invariant step signer_step tt
 
 lawful_less_signer : IsLawful (less signer)
 lawful_less_signer = lawful_less signer lawful_signer
@@ -114,8 +114,8 @@ lawful_less_signer = lawful_less signer lawful_signer
 pub lawful_attribute : IsLawful attribute
 lawful_attribute = lawful_attribute_with (less signer) lawful_less_signer
 
-pub lawful_certificate : IsLawful certificate
-lawful_certificate = lawful_certificate_with (less signer) lawful_less_signer
+pub lawful_pkcs7_certificate : IsLawful pkcs7_certificate
+lawful_pkcs7_certificate = lawful_pkcs7_certificate_with (less signer) lawful_less_signer
 
 pub lawful_signed_data : IsLawful signed_data
 lawful_signed_data = lawful_signed_components (less signer) lawful_less_signer

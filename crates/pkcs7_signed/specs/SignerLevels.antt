@@ -7,9 +7,9 @@ use Rattle.asn1_core.specs.declared.raw.Asn1RawDer.{Asn1RawDer}
 use Rattle.pkcs7_signed.specs.Heads.{elements, signer_parts_value, signed_parts_value, signer_head_text, signed_head_text}
 use Rattle.pkcs7_signed.specs.Parts.{SignerParts, signer_parts, SignedParts, signed_parts, ending}
 use Rattle.pkcs7_signed.specs.Components.{signer_components}
-use Rattle.pkcs7_signed.specs.Signers.{Value, signers, attributes, signer_out, signer_into, certificate_out, certificate_into, attribute_out, attribute_into, still, step, signer, attribute, signed_data, signer_infos, unsigned_attributes}
-use Rattle.pkcs7_signed.specs.SignerLaws.{signer_there, certificate_there, attribute_there, signer_step}
-use Rattle.pkcs7_signed.specs.SignerValues.{values_value, certificate_value, signed_value, signer_value, signers_value, attribute_value, attributes_value}
+use Rattle.pkcs7_signed.specs.Signers.{Value, signers, attributes, signer_out, signer_into, pkcs7_certificate_out, pkcs7_certificate_into, attribute_out, attribute_into, level_invariant, step, signer, attribute, signed_data, signer_infos, unsigned_attributes}
+use Rattle.pkcs7_signed.specs.SignerLaws.{signer_there, pkcs7_certificate_there, attribute_there, signer_step}
+use Rattle.pkcs7_signed.specs.SignerValues.{values_value, pkcs7_certificate_value, signed_value, signer_value, signers_value, attribute_value, attributes_value}
 use Rattle.pkcs7_signed.specs.declared.signers.Pkcs7Certificate.{Pkcs7Certificate, out-Pkcs7Certificate}
 use Rattle.pkcs7_signed.specs.declared.signers.SignedData.{SignedData, out-SignedData}
 use Rattle.pkcs7_signed.specs.declared.signers.SignerInfo.{SignerInfo, out-SignerInfo}
@@ -19,7 +19,7 @@ use Rattle.pkcs7_signed.specs.declared.signers.UnsignedAttributes.{UnsignedAttri
 use Rattle.pkcs7_signed.specs.declared.signers.UnsignedAttributeValue.{MsCounterSign, CounterSign, Unknown}
 use Rattle.pkcs7_signed.specs.declared.signers.UnsignedAttributeValue.TheFolds.{the_lemmas}
 
-pub value_ms_counter_sign : (s : Asn1SetOf Pkcs7Certificate) → values_value (MsCounterSign s) ≡ inl (map certificate_value s.0.items)
+pub value_ms_counter_sign : (s : Asn1SetOf Pkcs7Certificate) → values_value (MsCounterSign s) ≡ inl (map pkcs7_certificate_value s.0.items)
 value_ms_counter_sign s = search (rules, the_lemmas)
 
 pub value_counter_sign : (s : Asn1SetOf SignerInfo) → values_value (CounterSign s) ≡ inr (inl (map signer_value s.0.items))
@@ -34,8 +34,8 @@ value_signers x = search (rules, the_lemmas)
 pub value_attributes : (x : UnsignedAttributes) → attributes_value x ≡ map attribute_value (out-UnsignedAttributes x).0.items
 value_attributes x = search (rules, the_lemmas)
 
-value_certificate : (x : Pkcs7Certificate) → certificate_value x ≡ certificate_into (octets_of (out-Pkcs7Certificate x).oid.0, signed_value (out-Pkcs7Certificate x).signed_data.0)
-value_certificate x = search (rules, the_lemmas)
+value_pkcs7_certificate : (x : Pkcs7Certificate) → pkcs7_certificate_value x ≡ pkcs7_certificate_into (octets_of (out-Pkcs7Certificate x).oid.0, signed_value (out-Pkcs7Certificate x).signed_data.0)
+value_pkcs7_certificate x = search (rules, the_lemmas)
 
 value_attribute : (x : UnsignedAttribute) → attribute_value x ≡ attribute_into (octets_of (out-UnsignedAttribute x).ty.0, values_value (out-UnsignedAttribute x).value)
 value_attribute x = search (rules, the_lemmas)
@@ -61,8 +61,8 @@ pub value_signed : (x : SignedData) → signed_value x ≡ parts_of_signed x (si
 value_signed x = search (rules, the_lemmas)
 
 -- as bodies (rows)
-pub out_certificate : (x : Pkcs7Certificate) → certificate_out (certificate_value x) ≡ (octets_of (out-Pkcs7Certificate x).oid.0, signed_value (out-Pkcs7Certificate x).signed_data.0)
-out_certificate x = ap certificate_out (value_certificate x) ∙ certificate_there _
+pub out_pkcs7_certificate : (x : Pkcs7Certificate) → pkcs7_certificate_out (pkcs7_certificate_value x) ≡ (octets_of (out-Pkcs7Certificate x).oid.0, signed_value (out-Pkcs7Certificate x).signed_data.0)
+out_pkcs7_certificate x = ap pkcs7_certificate_out (value_pkcs7_certificate x) ∙ pkcs7_certificate_there _
 
 pub out_attribute : (x : UnsignedAttribute) → attribute_out (attribute_value x) ≡ (octets_of (out-UnsignedAttribute x).ty.0, values_value (out-UnsignedAttribute x).value)
 out_attribute x = ap attribute_out (value_attribute x) ∙ attribute_there _
@@ -72,7 +72,7 @@ out_signer x = ap signer_out (value_signer x) ∙ signer_there _
 
 -- the encoding of a signer: without attributes, and with some
 text_signer : (x : SignerInfo) → (signer_components attribute).text (parts_of_signer x (attributes_in x, tt)) ≡ signer.text (signer_value x)
-text_signer x = ap (signer_components attribute).text (sym (out_signer x)) ∙ unroll_text {I = Unit {0}} {V = λ _. Value signers} still step signer_step tt (signer_value x)
+text_signer x = ap (signer_components attribute).text (sym (out_signer x)) ∙ unroll_text {I = Unit {0}} {V = λ _. Value signers} level_invariant step signer_step tt (signer_value x)
 
 module _ (x : SignerInfo) {h : SignerParts (Unit {0})} (e : h ≡ parts_of_signer x tt) where
   pub short_text : attributes_in x ≡ [] → element 0x30 ((signer_parts nothing).text h) ≡ signer.text (signer_value x)

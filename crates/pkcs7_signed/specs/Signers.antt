@@ -2,10 +2,10 @@
 -- signed data, which take a level themselves.
 use Rattle.std.specs.Prelude.{◌≡◌, ℕ, List, [], map}
 use Rattle.std.proofs.Common.{inl, inr}
-use Rattle.asn1_core.specs.Der.{no_tag, one_tag, Format, nothing, raw, OidOctets, ElementOctets, set_of, implicit_set, Still, no_grammar, always, less, levels, mapped}
+use Rattle.asn1_core.specs.Der.{no_tag, one_tag, Format, nothing, raw, OidOctets, ElementOctets, set_of, implicit_set, LevelInvariant, no_grammar, always, less, levels, mapped}
 use Rattle.pkcs7_signed.specs.Forest.{Forest, none, Node, nodes, forest, fold_node, same_node}
 use Rattle.pkcs7_signed.specs.Parts.{SignerParts, signer_end, after_signer, signer_parts, SignedParts, signed_end, after_signed, signed_parts}
-use Rattle.pkcs7_signed.specs.Components.{SignerComponents, signer_components, SignedComponents, signed_components, CertificateComponents, certificate_components, UnsignedValues, attribute_values, AttributeComponents, attribute_components}
+use Rattle.pkcs7_signed.specs.Components.{SignerComponents, signer_components, SignedComponents, signed_components, Pkcs7CertificateComponents, pkcs7_certificate_components, UnsignedValues, attribute_values, AttributeComponents, attribute_components}
 use Rattle.pkcs7_signed.specs.declared.signers.Kind.{Kind}
 use Rattle.pkcs7_signed.specs.declared.signers.Kind.TheVariants.{MsCounterSign, CounterSign, Foreign}
 
@@ -62,11 +62,11 @@ signer_out v = signer_end v.1 (list v.2, tt)
 abbrev pub signer_into : SignerComponents (Value attributes) → Value signers
 signer_into r = (tt, signer_end r tt, trees (after_signer r).0)
 
-abbrev pub certificate_out : Value certificates → CertificateComponents (Value signers)
-certificate_out v = (v.1.0, signed_end v.1.1 (list v.2))
+abbrev pub pkcs7_certificate_out : Value certificates → Pkcs7CertificateComponents (Value signers)
+pkcs7_certificate_out v = (v.1.0, signed_end v.1.1 (list v.2))
 
-abbrev pub certificate_into : CertificateComponents (Value signers) → Value certificates
-certificate_into r = (tt, (r.0, signed_end r.1 tt), trees (after_signed r.1))
+abbrev pub pkcs7_certificate_into : Pkcs7CertificateComponents (Value signers) → Value certificates
+pkcs7_certificate_into r = (tt, (r.0, signed_end r.1 tt), trees (after_signed r.1))
 
 abbrev pub attribute_out : Value attributes → AttributeComponents (Value certificates) (Value signers)
 attribute_out (MsCounterSign, o, f) = (o, inl (list f))
@@ -79,11 +79,11 @@ attribute_into (o, inr (inl vs)) = (CounterSign, o, trees vs)
 attribute_into (o, inr (inr xs)) = (Foreign, (o, xs), none)
 
 -- the formats, over that of a signer a level down
-abbrev pub certificate_with : Format (Value signers) → Format (Value certificates)
-certificate_with F = mapped certificate_out certificate_into (certificate_components F)
+abbrev pub pkcs7_certificate_with : Format (Value signers) → Format (Value certificates)
+pkcs7_certificate_with F = mapped pkcs7_certificate_out pkcs7_certificate_into (pkcs7_certificate_components F)
 
 abbrev pub attribute_with : Format (Value signers) → Format (Value attributes)
-attribute_with F = mapped attribute_out attribute_into (attribute_components (certificate_with F) F)
+attribute_with F = mapped attribute_out attribute_into (attribute_components (pkcs7_certificate_with F) F)
 
 abbrev pub signer_with : Format (Value signers) → Format (Value signers)
 signer_with F = mapped signer_out signer_into (signer_components (attribute_with F))
@@ -103,13 +103,13 @@ attribute_of Foreign p ts = (p.0, inr (inr p.1))
 abbrev pub text_of : (i : Sort) (a : Alternative i) → Plain i a → List (List ℕ) → List ℕ
 text_of signers a p ts = (signer_components as_text).text (signer_end p (ts, tt))
 text_of attributes a p ts = (attribute_components as_text as_text).text (attribute_of a p ts)
-text_of certificates a p ts = (certificate_components as_text).text (p.0, signed_end p.1 ts)
+text_of certificates a p ts = (pkcs7_certificate_components as_text).text (p.0, signed_end p.1 ts)
 text_of nothing_inside a p ts = []
 
 abbrev pub least_of : (i : Sort) (a : Alternative i) → Plain i a → List ℕ → ℕ
 least_of signers a p ns = (signer_components as_count).least (signer_end p (ns, tt))
 least_of attributes a p ns = (attribute_components as_count as_count).least (attribute_of a p ns)
-least_of certificates a p ns = (certificate_components as_count).least (p.0, signed_end p.1 ns)
+least_of certificates a p ns = (pkcs7_certificate_components as_count).least (p.0, signed_end p.1 ns)
 least_of nothing_inside a p ns = 0
 
 abbrev pub normal_in_attribute : (i : Kind) → InAttribute i → InAttribute i
@@ -123,8 +123,8 @@ normal_of attributes a p = normal_in_attribute a p
 normal_of certificates a p = (p.0, (signed_parts nothing).normal p.1)
 normal_of nothing_inside a p = p
 
-abbrev pub still : (i : Unit {0}) → Still (Value signers)
-still i = record {
+abbrev pub level_invariant : (i : Unit {0}) → LevelInvariant (Value signers)
+level_invariant i = record {
   text = fold_node Alternative Plain holds text_of signers;
   normal = same_node Alternative Plain holds normal_of signers;
   IsTag = λ t. t ≡ 0x30;
@@ -136,13 +136,13 @@ abbrev pub step : ((i : Unit {0}) → Format (Value signers)) → (i : Unit {0})
 step F i = signer_with (F i)
 
 abbrev pub signer : Format (Value signers)
-signer = levels {I = Unit {0}} {V = λ _. Value signers} still step tt
+signer = levels {I = Unit {0}} {V = λ _. Value signers} level_invariant step tt
 
 abbrev pub attribute : Format (Value attributes)
 attribute = attribute_with (less signer)
 
-abbrev pub certificate : Format (Value certificates)
-certificate = certificate_with (less signer)
+abbrev pub pkcs7_certificate : Format (Value certificates)
+pkcs7_certificate = pkcs7_certificate_with (less signer)
 
 abbrev pub SignedValue : Type 0
 SignedValue = SignedComponents (Value signers)
@@ -160,4 +160,4 @@ unsigned_attributes = implicit_set 1 attribute
 
 -- what an attribute holds, which only writes
 abbrev pub values : Format (UnsignedValues (Value certificates) (Value signers))
-values = attribute_values certificate (less signer)
+values = attribute_values pkcs7_certificate (less signer)

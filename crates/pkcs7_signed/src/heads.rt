@@ -32,29 +32,29 @@ impl DerSerialize for SignerHead<'_> {
     ghost format = { only_written (signer_parts nothing) };
 
     fn put<W: Writer>(&self, w: &mut W) -> Result<(), WriteError> {
-        let signature = Part(
+        let signature = Required(
             Ref(self.signature_algorithm),
-            Part(Ref(self.signature), End),
+            Required(Ref(self.signature), End),
         );
         let signed = OmittedRef(self.signed_attrs, signature);
-        Part(
+        Required(
             self.version,
-            Part(Ref(self.sid), Part(Ref(self.digest_algorithm), signed)),
+            Required(Ref(self.sid), Required(Ref(self.digest_algorithm), signed)),
         )
         .put_components(w)
     }
 
     fn well_formed_at(&self, limit: u8) -> bool {
-        let signature = Part(
+        let signature = Required(
             Ref(self.signature_algorithm),
-            Part(Ref(self.signature), End),
+            Required(Ref(self.signature), End),
         );
         let signed = OmittedRef(self.signed_attrs, signature);
         match self.version {
             CmsVersion::V1 => {
-                Part(
+                Required(
                     Ref(self.sid),
-                    Part(Ref(self.digest_algorithm), signed),
+                    Required(Ref(self.digest_algorithm), signed),
                 ).components_well_formed_at(limit)
             }
             _ => false,
@@ -81,16 +81,17 @@ impl DerSerialize for SignedHead<'_> {
 
     fn put<W: Writer>(&self, w: &mut W) -> Result<(), WriteError> {
         let certificates = OmittedRef(self.certificates, MaybeRef(self.crls, End));
-        let content = Part(Ref(self.content_info), certificates);
-        Part(self.version, Part(Ref(self.digest_algorithms), content)).put_components(w)
+        let content = Required(Ref(self.content_info), certificates);
+        Required(self.version, Required(Ref(self.digest_algorithms), content)).put_components(w)
     }
 
     fn well_formed_at(&self, limit: u8) -> bool {
         let certificates = OmittedRef(self.certificates, MaybeRef(self.crls, End));
-        let content = Part(Ref(self.content_info), certificates);
-        Part(self.version, Part(Ref(self.digest_algorithms), content)).components_well_formed_at(
-            limit,
-        )
+        let content = Required(Ref(self.content_info), certificates);
+        Required(
+            self.version,
+            Required(Ref(self.digest_algorithms), content),
+        ).components_well_formed_at(limit)
     }
 }
 
@@ -103,5 +104,5 @@ pub(crate) fn put_two<A: DerSerialize, B: DerSerialize, W: Writer>(
     requires { W.MayTake w.old }
     ensures { W.Takes (element 0x30 (A.format.text (A.value first.now) ++ B.format.text (B.value second.now))) w.old w.new result }
 {
-    put_within(0x30, &Part(Ref(first), Alone(Ref(second))), w)
+    put_within(0x30, &Required(Ref(first), Alone(Ref(second))), w)
 }

@@ -19,8 +19,8 @@ impl Sequence for DigestAlgorithmIdentifier {
 
     ghost value = { λ x. algorithm_identifier_value x.0 };
 
-    fn with_components<U: Task>(&self, task: &mut U) -> U::Out {
-        self.0.with_components(task)
+    fn with_components<U: ComponentVisitor>(&self, visitor: &mut U) -> U::Out {
+        self.0.with_components(visitor)
     }
 
     fn read_fields(alloc: Global, r: &mut Reader<'_>, nest: u8) -> Result<Self, Error> {
@@ -77,8 +77,8 @@ impl Sequence for SignatureAlgorithmIdentifier {
 
     ghost value = { λ x. algorithm_identifier_value x.0 };
 
-    fn with_components<U: Task>(&self, task: &mut U) -> U::Out {
-        self.0.with_components(task)
+    fn with_components<U: ComponentVisitor>(&self, visitor: &mut U) -> U::Out {
+        self.0.with_components(visitor)
     }
 
     fn read_fields(alloc: Global, r: &mut Reader<'_>, nest: u8) -> Result<Self, Error> {

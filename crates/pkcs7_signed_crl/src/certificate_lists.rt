@@ -93,8 +93,8 @@ impl Sequence for TbsCertList {
 
     ghost value = { tbs_cert_list_value };
 
-    fn with_components<U: Task>(&self, task: &mut U) -> U::Out {
-        task.run(&body_of!(self;
+    fn with_components<U: ComponentVisitor>(&self, visitor: &mut U) -> U::Out {
+        visitor.visit(&body_of!(self;
             (as_v2(self.version)) OPTIONAL, signature, issuer, this_update, next_update OPTIONAL,
             revoked_certificates OPTIONAL, (tagged(&self.crl_extension.0)) OPTIONAL
         ))
@@ -145,8 +145,8 @@ impl Sequence for CertificateList {
 
     ghost value = { certificate_list_value };
 
-    fn with_components<U: Task>(&self, task: &mut U) -> U::Out {
-        with_components_of!(self, task; CertificateList {
+    fn with_components<U: ComponentVisitor>(&self, visitor: &mut U) -> U::Out {
+        with_components_of!(self, visitor; CertificateList {
             tbs_cert_list, signature_algorithm, signature_value
         })
     }

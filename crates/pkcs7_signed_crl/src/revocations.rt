@@ -22,12 +22,14 @@ impl Sequence for OtherRevocationInfoFormat {
 
     ghost value = { other_revocation_info_format_value };
 
-    fn with_components<U: Task>(&self, task: &mut U) -> U::Out {
-        task.run(&body_of!(self; other_rev_info_format, (Null)))
+    fn with_components<U: ComponentVisitor>(&self, visitor: &mut U) -> U::Out {
+        visitor.visit(&body_of!(self; other_rev_info_format, (Null)))
     }
 
     fn read_fields(alloc: Global, r: &mut Reader<'_>, nest: u8) -> Result<Self, Error> {
-        let Part(format, Part(Null, End)) = ReadComponents::read_components(alloc, r, nest)?;
+        let Required(format, Required(Null, End)) = ReadComponents::read_components(
+            alloc, r, nest,
+        )?;
         Ok(OtherRevocationInfoFormat {
             other_rev_info_format: format,
             other_rev_info: (),
@@ -56,10 +58,10 @@ impl Asn1Type for RevocationInfoChoice {
 
     ghost value = { revocation_info_choice_value };
 
-    fn with_encoded<U: Task>(&self, task: &mut U) -> U::Out {
+    fn with_encoded<U: ComponentVisitor>(&self, visitor: &mut U) -> U::Out {
         match self {
-            Self::Crl(list) => task.run_on(list),
-            Self::Other(other) => task.run_on(other),
+            Self::Crl(list) => visitor.visit_value(list),
+            Self::Other(other) => visitor.visit_value(other),
         }
     }
 

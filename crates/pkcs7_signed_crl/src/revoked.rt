@@ -22,8 +22,8 @@ impl Sequence for RevokedCertificate {
 
     ghost value = { revoked_certificate_value };
 
-    fn with_components<U: Task>(&self, task: &mut U) -> U::Out {
-        with_components_of!(self, task; RevokedCertificate {
+    fn with_components<U: ComponentVisitor>(&self, visitor: &mut U) -> U::Out {
+        with_components_of!(self, visitor; RevokedCertificate {
             user_certificate, revocation_data, crl_entry_extensions OPTIONAL
         })
     }
@@ -52,8 +52,8 @@ impl Sequence for RevokedCertificates {
 
     ghost value = { revoked_certificates_value };
 
-    fn with_components<U: Task>(&self, task: &mut U) -> U::Out {
-        task.run(&self.0.0)
+    fn with_components<U: ComponentVisitor>(&self, visitor: &mut U) -> U::Out {
+        visitor.visit(&self.0.0)
     }
 
     fn read_fields(alloc: Global, r: &mut Reader<'_>, nest: u8) -> Result<Self, Error> {

@@ -56,8 +56,8 @@ impl Sequence for IssuerAndSerialNumber {
 
     ghost value = { issuer_and_serial_number_value };
 
-    fn with_components<U: Task>(&self, task: &mut U) -> U::Out {
-        with_components_of!(self, task; IssuerAndSerialNumber { issuer, serial_number })
+    fn with_components<U: ComponentVisitor>(&self, visitor: &mut U) -> U::Out {
+        with_components_of!(self, visitor; IssuerAndSerialNumber { issuer, serial_number })
     }
 
     fn read_fields(alloc: Global, r: &mut Reader<'_>, nest: u8) -> Result<Self, Error> {
@@ -84,10 +84,10 @@ impl Asn1Type for SignerIdentifier {
 
     ghost value = { signer_identifier_value };
 
-    fn with_encoded<U: Task>(&self, task: &mut U) -> U::Out {
+    fn with_encoded<U: ComponentVisitor>(&self, visitor: &mut U) -> U::Out {
         match self {
-            Self::IssuerAndSerialNumber(certificate) => task.run_on(certificate),
-            Self::SubjectKeyIdentifier(key) => task.run_on(key),
+            Self::IssuerAndSerialNumber(certificate) => visitor.visit_value(certificate),
+            Self::SubjectKeyIdentifier(key) => visitor.visit_value(key),
         }
     }
 

@@ -52,11 +52,14 @@ pub struct TbsCertificateHead {
 
 type HeadComponents = Maybe<
     ExplicitContextTag0<Version>,
-    Part<
+    Required<
         CertificateSerialNumber,
-        Part<
+        Required<
             AlgorithmIdentifier,
-            Part<Name, Part<Asn1RawDer, Part<Name, Part<Asn1RawDer, Vec<Asn1RawDer>>>>>,
+            Required<
+                Name,
+                Required<Asn1RawDer, Required<Name, Required<Asn1RawDer, Vec<Asn1RawDer>>>>,
+            >,
         >,
     >,
 >;
@@ -66,18 +69,19 @@ impl Sequence for TbsCertificateHead {
 
     ghost value = { tbs_certificate_head_value };
 
-    fn with_components<U: Task>(&self, task: &mut U) -> U::Out {
-        let key = Part(Ref(&self.subject_public_key_info), &self.rest);
-        let validity = Part(Ref(&self.validity), Part(Ref(&self.subject), key));
-        let signature = Part(Ref(&self.signature), Part(Ref(&self.issuer), validity));
-        let serial_number = Part(Ref(&self.serial_number), signature);
-        task.run(&Maybe(tagged(self.version), serial_number))
+    fn with_components<U: ComponentVisitor>(&self, visitor: &mut U) -> U::Out {
+        let key = Required(Ref(&self.subject_public_key_info), &self.rest);
+        let validity = Required(Ref(&self.validity), Required(Ref(&self.subject), key));
+        let signature = Required(Ref(&self.signature), Required(Ref(&self.issuer), validity));
+        let serial_number = Required(Ref(&self.serial_number), signature);
+        visitor.visit(&Maybe(tagged(self.version), serial_number))
     }
 
     fn read_fields(alloc: Global, r: &mut Reader<'_>, nest: u8) -> Result<Self, Error> {
         let components: HeadComponents = ReadComponents::read_components(alloc, r, nest)?;
-        let Maybe(version, Part(serial_number, Part(signature, Part(issuer, rest)))) = components;
-        let Part(validity, Part(subject, Part(subject_public_key_info, rest))) = rest;
+        let Maybe(version, Required(serial_number, Required(signature, Required(issuer, rest)))) =
+            components;
+        let Required(validity, Required(subject, Required(subject_public_key_info, rest))) = rest;
         Ok(TbsCertificateHead {
             version: untagged(version),
             serial_number,
@@ -114,8 +118,8 @@ impl Sequence for CertificateHead {
 
     ghost value = { certificate_head_value };
 
-    fn with_components<U: Task>(&self, task: &mut U) -> U::Out {
-        with_components_of!(self, task; CertificateHead {
+    fn with_components<U: ComponentVisitor>(&self, visitor: &mut U) -> U::Out {
+        with_components_of!(self, visitor; CertificateHead {
             tbs_certificate, signature_algorithm, signature
         })
     }

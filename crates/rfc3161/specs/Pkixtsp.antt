@@ -2,11 +2,11 @@
 use Rattle.asn1_core.specs.Asn1.{ANY, Asn1, BOOLEAN_or_FALSE, Contents, EXPLICIT, IMPLICIT, INTEGER_BELOW, OBJECT_IDENTIFIER, OCTET_STRING, SEQUENCE, SEQUENCE_OF, contents, end, ◌then◌, ◌OPTIONAL◌, ◌DEFAULT◌}
 use Rattle.asn1_leaves.specs.Asn1.{BIT_STRING, INTEGER, UTF8_STRING}
 use Rattle.std.proofs.lemmas.Bool.Decides.{Decides-eqb}
-use Rattle.asn1_other_leaves.specs.Asn1.{KEPT_STRING}
+use Rattle.asn1_module_leaves.specs.Asn1.{KEPT_STRING}
 use Rattle.asn1_core.specs.Der.{SeesEqual, list_equal, octets_of, option_equal, option_value, raw_equal, two_equal, with_end}
 use Rattle.x509_base.specs.AlgorithmLaws.{algorithm_identifier}
 use Rattle.x509_base.specs.AlgorithmParts.{algorithm_identifier_equal, algorithm_identifier_value}
-use Rattle.asn1_other_leaves.specs.OtherEqual.{bits_equal, integer_equal, utf8_equal}
+use Rattle.asn1_module_leaves.specs.LeavesEqual.{bits_equal, integer_equal, utf8_equal}
 use Rattle.std.specs.Cmp.{booleans_Decides}
 use Rattle.std.proofs.lemmas.Slice.Eq.{bytes_eq-Decides}
 use Rattle.asn1_leaves_strings.specs.Octets.{contents_of, octets_of_utf8}

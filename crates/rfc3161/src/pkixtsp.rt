@@ -9,11 +9,11 @@ ghost use Rattle.rfc3161.specs.Pkixtsp.{accuracy, accuracy_value, accuracy_equal
 ghost use Rattle.rfc3161.specs.Pkixtsp.{tst_info, tst_info_value, tst_info_equal};
 ghost use Rattle.std.specs.Prelude.{◌↔◌, IsTrue};
 ghost use Rattle.asn1_leaves_strings.specs.Octets.{contents_of};
-ghost use Rattle.asn1_other_leaves.specs.NamedBits.{HasBit};
+ghost use Rattle.asn1_module_leaves.specs.NamedBits.{HasBit};
 
 use asn1_core::prelude::*;
 use asn1_leaves::{BitStringAsn1, IntegerAsn1, Utf8StringAsn1};
-use asn1_other_leaves::{KeptAsn1, has_bit};
+use asn1_module_leaves::{KeptAsn1, has_bit};
 use rfc5280::pkix1_implicit88::GeneralName;
 use std::alloc::Global;
 use x509_base::{AlgorithmIdentifier, Extensions};
@@ -31,8 +31,8 @@ impl Sequence for MessageImprint {
 
     ghost value = { message_imprint_value };
 
-    fn with_components<U: Task>(&self, task: &mut U) -> U::Out {
-        with_components_of!(self, task; MessageImprint { hash_algorithm, hashed_message })
+    fn with_components<U: ComponentVisitor>(&self, visitor: &mut U) -> U::Out {
+        with_components_of!(self, visitor; MessageImprint { hash_algorithm, hashed_message })
     }
 
     fn read_fields(alloc: Global, r: &mut Reader<'_>, nest: u8) -> Result<Self, Error> {
@@ -78,8 +78,8 @@ impl Sequence for TimeStampReq {
 
     ghost value = { time_stamp_req_value };
 
-    fn with_components<U: Task>(&self, task: &mut U) -> U::Out {
-        time_stamp_req_parts!(with_components_of(self, task))
+    fn with_components<U: ComponentVisitor>(&self, visitor: &mut U) -> U::Out {
+        time_stamp_req_parts!(with_components_of(self, visitor))
     }
 
     fn read_fields(alloc: Global, r: &mut Reader<'_>, nest: u8) -> Result<Self, Error> {
@@ -230,8 +230,8 @@ impl Sequence for PkiStatusInfo {
 
     ghost value = { pki_status_info_value };
 
-    fn with_components<U: Task>(&self, task: &mut U) -> U::Out {
-        pki_status_info_parts!(with_components_of(self, task))
+    fn with_components<U: ComponentVisitor>(&self, visitor: &mut U) -> U::Out {
+        pki_status_info_parts!(with_components_of(self, visitor))
     }
 
     fn read_fields(alloc: Global, r: &mut Reader<'_>, nest: u8) -> Result<Self, Error> {
@@ -258,8 +258,8 @@ impl Sequence for ContentInfo {
 
     ghost value = { content_info_value };
 
-    fn with_components<U: Task>(&self, task: &mut U) -> U::Out {
-        with_components_of!(self, task; ContentInfo { content_type, content })
+    fn with_components<U: ComponentVisitor>(&self, visitor: &mut U) -> U::Out {
+        with_components_of!(self, visitor; ContentInfo { content_type, content })
     }
 
     fn read_fields(alloc: Global, r: &mut Reader<'_>, nest: u8) -> Result<Self, Error> {
@@ -288,8 +288,8 @@ impl Sequence for TimeStampResp {
 
     ghost value = { time_stamp_resp_value };
 
-    fn with_components<U: Task>(&self, task: &mut U) -> U::Out {
-        with_components_of!(self, task; TimeStampResp { status, time_stamp_token OPTIONAL })
+    fn with_components<U: ComponentVisitor>(&self, visitor: &mut U) -> U::Out {
+        with_components_of!(self, visitor; TimeStampResp { status, time_stamp_token OPTIONAL })
     }
 
     fn read_fields(alloc: Global, r: &mut Reader<'_>, nest: u8) -> Result<Self, Error> {
@@ -327,8 +327,8 @@ impl Sequence for Accuracy {
 
     ghost value = { accuracy_value };
 
-    fn with_components<U: Task>(&self, task: &mut U) -> U::Out {
-        accuracy_parts!(with_components_of(self, task))
+    fn with_components<U: ComponentVisitor>(&self, visitor: &mut U) -> U::Out {
+        accuracy_parts!(with_components_of(self, visitor))
     }
 
     fn read_fields(alloc: Global, r: &mut Reader<'_>, nest: u8) -> Result<Self, Error> {
@@ -377,8 +377,8 @@ impl Sequence for TstInfo {
 
     ghost value = { tst_info_value };
 
-    fn with_components<U: Task>(&self, task: &mut U) -> U::Out {
-        tst_info_parts!(with_components_of(self, task))
+    fn with_components<U: ComponentVisitor>(&self, visitor: &mut U) -> U::Out {
+        tst_info_parts!(with_components_of(self, visitor))
     }
 
     fn read_fields(alloc: Global, r: &mut Reader<'_>, nest: u8) -> Result<Self, Error> {

@@ -2,17 +2,17 @@
 use Rattle.asn1_core.specs.Asn1.{ANY, Asn1, BOOLEAN_or_FALSE, CHOICE, Contents, EXPLICIT, IMPLICIT, IMPLICIT_default, INTEGER_or, OBJECT_IDENTIFIER, OCTET_STRING, SEQUENCE, SEQUENCE_OF, contents, end, ◌then◌, ◌OPTIONAL◌, ◌DEFAULT◌}
 use Rattle.asn1_leaves.specs.Asn1.{BIT_STRING, BMP_STRING, GENERALIZED_TIME, IA5_STRING, INTEGER, UTF8_STRING}
 use Rattle.std.proofs.lemmas.Bool.Decides.{Decides-eqb}
-use Rattle.asn1_other_leaves.specs.Asn1.{ENUMERATED_of, VISIBLE_STRING}
-use Rattle.asn1_other_leaves.specs.Enumerations.{IsOneOf}
+use Rattle.asn1_module_leaves.specs.Asn1.{ENUMERATED_of, VISIBLE_STRING}
+use Rattle.asn1_module_leaves.specs.Enumerations.{IsOneOf}
 use Rattle.std.specs.Prelude.{List, map, ℕ, [], ◌∷◌}
 use Rattle.asn1_core.specs.Der.{SeesEqual, list_equal, octets_of, option_equal, option_value, raw_equal, same_first, same_second, two_equal, with_end}
 use Rattle.x509_base.specs.Names.{attribute, name, name_equal, name_parts, name_value_equal, name_value_value}
-use Rattle.asn1_other_leaves.specs.OtherEqual.{bits_equal, bmp_equal, ia5_equal, integer_equal, utf8_equal}
+use Rattle.asn1_module_leaves.specs.LeavesEqual.{bits_equal, bmp_equal, ia5_equal, integer_equal, utf8_equal}
 use Rattle.std.specs.Cmp.{booleans_Decides}
 use Rattle.std.proofs.lemmas.Slice.Eq.{bytes_eq-Decides}
 use Rattle.rfc5280.specs.Pkix1Explicit88.{certificate_serial_number, directory_string, directory_string_equal, directory_string_value, relative_distinguished_name}
 use Rattle.asn1_leaves_strings.specs.Octets.{contents_of, octets_of_bmp, octets_of_ia5, octets_of_utf8}
-use Rattle.asn1_other_leaves.specs.Differ.{differ}
+use Rattle.asn1_module_leaves.specs.Differ.{differ}
 use Rattle.asn1_leaves_times.specs.TimesLaws.{equal_generalized}
 use Rattle.std.proofs.Common.{inl, inr, refl, rules}
 use Rattle.asn1_leaves_times.specs.Times.{moment_of_generalized}

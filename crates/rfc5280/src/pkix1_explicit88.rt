@@ -11,7 +11,7 @@ ghost use Rattle.rfc5280.specs.Pkix1Explicit88.{certificate_list, certificate_li
 
 use asn1_core::prelude::*;
 use asn1_leaves::{BMPStringAsn1, BitStringAsn1, IntegerAsn1, Utf8StringAsn1};
-use asn1_other_leaves::{PrintableStringAsn1, TeletexStringAsn1, UniversalStringAsn1};
+use asn1_module_leaves::{PrintableStringAsn1, TeletexStringAsn1, UniversalStringAsn1};
 use std::alloc::Global;
 use x509_base::{AlgorithmIdentifier, Extensions, Name, NameValue, Time};
 
@@ -40,13 +40,13 @@ impl Asn1Type for DirectoryString {
 
     ghost value = { directory_string_value };
 
-    fn with_encoded<U: Task>(&self, task: &mut U) -> U::Out {
+    fn with_encoded<U: ComponentVisitor>(&self, visitor: &mut U) -> U::Out {
         match self {
-            DirectoryString::TeletexString(x) => task.run_on(x),
-            DirectoryString::PrintableString(x) => task.run_on(x),
-            DirectoryString::UniversalString(x) => task.run_on(x),
-            DirectoryString::Utf8String(x) => task.run_on(x),
-            DirectoryString::BmpString(x) => task.run_on(x),
+            DirectoryString::TeletexString(x) => visitor.visit_value(x),
+            DirectoryString::PrintableString(x) => visitor.visit_value(x),
+            DirectoryString::UniversalString(x) => visitor.visit_value(x),
+            DirectoryString::Utf8String(x) => visitor.visit_value(x),
+            DirectoryString::BmpString(x) => visitor.visit_value(x),
         }
     }
 
@@ -110,8 +110,8 @@ impl Sequence for Validity {
 
     ghost value = { validity_value };
 
-    fn with_components<U: Task>(&self, task: &mut U) -> U::Out {
-        with_components_of!(self, task; Validity { not_before, not_after })
+    fn with_components<U: ComponentVisitor>(&self, visitor: &mut U) -> U::Out {
+        with_components_of!(self, visitor; Validity { not_before, not_after })
     }
 
     fn read_fields(alloc: Global, r: &mut Reader<'_>, nest: u8) -> Result<Self, Error> {
@@ -138,8 +138,8 @@ impl Sequence for SubjectPublicKeyInfo {
 
     ghost value = { subject_public_key_info_value };
 
-    fn with_components<U: Task>(&self, task: &mut U) -> U::Out {
-        with_components_of!(self, task; SubjectPublicKeyInfo { algorithm, subject_public_key })
+    fn with_components<U: ComponentVisitor>(&self, visitor: &mut U) -> U::Out {
+        with_components_of!(self, visitor; SubjectPublicKeyInfo { algorithm, subject_public_key })
     }
 
     fn read_fields(alloc: Global, r: &mut Reader<'_>, nest: u8) -> Result<Self, Error> {
@@ -190,8 +190,8 @@ impl Sequence for TbsCertificate {
 
     ghost value = { tbs_certificate_value };
 
-    fn with_components<U: Task>(&self, task: &mut U) -> U::Out {
-        tbs_certificate_parts!(with_components_of(self, task))
+    fn with_components<U: ComponentVisitor>(&self, visitor: &mut U) -> U::Out {
+        tbs_certificate_parts!(with_components_of(self, visitor))
     }
 
     fn read_fields(alloc: Global, r: &mut Reader<'_>, nest: u8) -> Result<Self, Error> {
@@ -227,8 +227,8 @@ impl Sequence for Certificate {
 
     ghost value = { certificate_value };
 
-    fn with_components<U: Task>(&self, task: &mut U) -> U::Out {
-        certificate_parts!(with_components_of(self, task))
+    fn with_components<U: ComponentVisitor>(&self, visitor: &mut U) -> U::Out {
+        certificate_parts!(with_components_of(self, visitor))
     }
 
     fn read_fields(alloc: Global, r: &mut Reader<'_>, nest: u8) -> Result<Self, Error> {
@@ -278,8 +278,8 @@ impl Sequence for TbsCertListRevokedCertificates {
 
     ghost value = { tbs_cert_list_revoked_certificates_value };
 
-    fn with_components<U: Task>(&self, task: &mut U) -> U::Out {
-        tbs_cert_list_revoked_certificates_parts!(with_components_of(self, task))
+    fn with_components<U: ComponentVisitor>(&self, visitor: &mut U) -> U::Out {
+        tbs_cert_list_revoked_certificates_parts!(with_components_of(self, visitor))
     }
 
     fn read_fields(alloc: Global, r: &mut Reader<'_>, nest: u8) -> Result<Self, Error> {
@@ -322,8 +322,8 @@ impl Sequence for TbsCertList {
 
     ghost value = { tbs_cert_list_value };
 
-    fn with_components<U: Task>(&self, task: &mut U) -> U::Out {
-        tbs_cert_list_parts!(with_components_of(self, task))
+    fn with_components<U: ComponentVisitor>(&self, visitor: &mut U) -> U::Out {
+        tbs_cert_list_parts!(with_components_of(self, visitor))
     }
 
     fn read_fields(alloc: Global, r: &mut Reader<'_>, nest: u8) -> Result<Self, Error> {
@@ -359,8 +359,8 @@ impl Sequence for CertificateList {
 
     ghost value = { certificate_list_value };
 
-    fn with_components<U: Task>(&self, task: &mut U) -> U::Out {
-        certificate_list_parts!(with_components_of(self, task))
+    fn with_components<U: ComponentVisitor>(&self, visitor: &mut U) -> U::Out {
+        certificate_list_parts!(with_components_of(self, visitor))
     }
 
     fn read_fields(alloc: Global, r: &mut Reader<'_>, nest: u8) -> Result<Self, Error> {

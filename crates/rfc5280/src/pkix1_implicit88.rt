@@ -21,10 +21,10 @@ ghost use Rattle.rfc5280.specs.Pkix1Implicit88.{access_description, access_descr
 ghost use Rattle.rfc5280.specs.Pkix1Implicit88.{issuing_distribution_point, issuing_distribution_point_value, issuing_distribution_point_equal};
 ghost use Rattle.rfc5280.specs.Pkix1Implicit88.{crl_reason, crl_reason_value, crl_reason_equal, crl_reason_numbers, crl_reason_listed};
 ghost use Rattle.std.proofs.Common.{ℕ, refl};
-ghost use Rattle.asn1_other_leaves.specs.Enumerations.{numbers_in};
+ghost use Rattle.asn1_module_leaves.specs.Enumerations.{numbers_in};
 ghost use Rattle.std.specs.Prelude.{◌↔◌, IsTrue};
 ghost use Rattle.asn1_leaves_strings.specs.Octets.{contents_of};
-ghost use Rattle.asn1_other_leaves.specs.NamedBits.{HasBit};
+ghost use Rattle.asn1_module_leaves.specs.NamedBits.{HasBit};
 
 use crate::pkix1_explicit88::{
     CertificateSerialNumber, DirectoryString, RelativeDistinguishedName,
@@ -33,7 +33,7 @@ use asn1_core::prelude::*;
 use asn1_leaves::{
     BMPStringAsn1, BitStringAsn1, GeneralizedTimeAsn1, IA5StringAsn1, IntegerAsn1, Utf8StringAsn1,
 };
-use asn1_other_leaves::{Enumerated, Under, VisibleStringAsn1, enumerated_from_contents, has_bit};
+use asn1_module_leaves::{Enumerated, Under, VisibleStringAsn1, enumerated_from_contents, has_bit};
 use std::alloc::Global;
 use x509_base::{Attribute, Name};
 
@@ -53,8 +53,8 @@ impl Sequence for AnotherName {
 
     ghost value = { another_name_value };
 
-    fn with_components<U: Task>(&self, task: &mut U) -> U::Out {
-        with_components_of!(self, task; AnotherName { type_id, value })
+    fn with_components<U: ComponentVisitor>(&self, visitor: &mut U) -> U::Out {
+        with_components_of!(self, visitor; AnotherName { type_id, value })
     }
 
     fn read_fields(alloc: Global, r: &mut Reader<'_>, nest: u8) -> Result<Self, Error> {
@@ -84,8 +84,8 @@ impl Sequence for EdiPartyName {
 
     ghost value = { edi_party_name_value };
 
-    fn with_components<U: Task>(&self, task: &mut U) -> U::Out {
-        with_components_of!(self, task; EdiPartyName { name_assigner OPTIONAL, party_name })
+    fn with_components<U: ComponentVisitor>(&self, visitor: &mut U) -> U::Out {
+        with_components_of!(self, visitor; EdiPartyName { name_assigner OPTIONAL, party_name })
     }
 
     fn read_fields(alloc: Global, r: &mut Reader<'_>, nest: u8) -> Result<Self, Error> {
@@ -143,17 +143,17 @@ impl Asn1Type for GeneralName {
 
     ghost value = { general_name_value };
 
-    fn with_encoded<U: Task>(&self, task: &mut U) -> U::Out {
+    fn with_encoded<U: ComponentVisitor>(&self, visitor: &mut U) -> U::Out {
         match self {
-            GeneralName::OtherName(x) => task.run(&Under::<0xA0, _>(x)),
-            GeneralName::Rfc822Name(x) => task.run(&Under::<0x81, _>(x)),
-            GeneralName::DnsName(x) => task.run(&Under::<0x82, _>(x)),
-            GeneralName::X400Address(x) => task.run(&Under::<0xA3, _>(x)),
-            GeneralName::DirectoryName(x) => task.run_within::<0xA4, _>(&Alone(Ref(x))),
-            GeneralName::EdiPartyName(x) => task.run(&Under::<0xA5, _>(x)),
-            GeneralName::UniformResourceIdentifier(x) => task.run(&Under::<0x86, _>(x)),
-            GeneralName::IpAddress(x) => task.run(&Under::<0x87, _>(x)),
-            GeneralName::RegisteredId(x) => task.run(&Under::<0x88, _>(x)),
+            GeneralName::OtherName(x) => visitor.visit(&Under::<0xA0, _>(x)),
+            GeneralName::Rfc822Name(x) => visitor.visit(&Under::<0x81, _>(x)),
+            GeneralName::DnsName(x) => visitor.visit(&Under::<0x82, _>(x)),
+            GeneralName::X400Address(x) => visitor.visit(&Under::<0xA3, _>(x)),
+            GeneralName::DirectoryName(x) => visitor.visit_within::<0xA4, _>(&Alone(Ref(x))),
+            GeneralName::EdiPartyName(x) => visitor.visit(&Under::<0xA5, _>(x)),
+            GeneralName::UniformResourceIdentifier(x) => visitor.visit(&Under::<0x86, _>(x)),
+            GeneralName::IpAddress(x) => visitor.visit(&Under::<0x87, _>(x)),
+            GeneralName::RegisteredId(x) => visitor.visit(&Under::<0x88, _>(x)),
         }
     }
 
@@ -281,8 +281,8 @@ impl Sequence for AuthorityKeyIdentifier {
 
     ghost value = { authority_key_identifier_value };
 
-    fn with_components<U: Task>(&self, task: &mut U) -> U::Out {
-        authority_key_identifier_parts!(with_components_of(self, task))
+    fn with_components<U: ComponentVisitor>(&self, visitor: &mut U) -> U::Out {
+        authority_key_identifier_parts!(with_components_of(self, visitor))
     }
 
     fn read_fields(alloc: Global, r: &mut Reader<'_>, nest: u8) -> Result<Self, Error> {
@@ -418,8 +418,8 @@ impl Sequence for PrivateKeyUsagePeriod {
 
     ghost value = { private_key_usage_period_value };
 
-    fn with_components<U: Task>(&self, task: &mut U) -> U::Out {
-        private_key_usage_period_parts!(with_components_of(self, task))
+    fn with_components<U: ComponentVisitor>(&self, visitor: &mut U) -> U::Out {
+        private_key_usage_period_parts!(with_components_of(self, visitor))
     }
 
     fn read_fields(alloc: Global, r: &mut Reader<'_>, nest: u8) -> Result<Self, Error> {
@@ -452,8 +452,8 @@ impl Sequence for PolicyQualifierInfo {
 
     ghost value = { policy_qualifier_info_value };
 
-    fn with_components<U: Task>(&self, task: &mut U) -> U::Out {
-        with_components_of!(self, task; PolicyQualifierInfo { policy_qualifier_id, qualifier })
+    fn with_components<U: ComponentVisitor>(&self, visitor: &mut U) -> U::Out {
+        with_components_of!(self, visitor; PolicyQualifierInfo { policy_qualifier_id, qualifier })
     }
 
     fn read_fields(alloc: Global, r: &mut Reader<'_>, nest: u8) -> Result<Self, Error> {
@@ -490,8 +490,8 @@ impl Sequence for PolicyInformation {
 
     ghost value = { policy_information_value };
 
-    fn with_components<U: Task>(&self, task: &mut U) -> U::Out {
-        policy_information_parts!(with_components_of(self, task))
+    fn with_components<U: ComponentVisitor>(&self, visitor: &mut U) -> U::Out {
+        policy_information_parts!(with_components_of(self, visitor))
     }
 
     fn read_fields(alloc: Global, r: &mut Reader<'_>, nest: u8) -> Result<Self, Error> {
@@ -535,12 +535,12 @@ impl Asn1Type for DisplayText {
 
     ghost value = { display_text_value };
 
-    fn with_encoded<U: Task>(&self, task: &mut U) -> U::Out {
+    fn with_encoded<U: ComponentVisitor>(&self, visitor: &mut U) -> U::Out {
         match self {
-            DisplayText::Ia5String(x) => task.run_on(x),
-            DisplayText::VisibleString(x) => task.run_on(x),
-            DisplayText::BmpString(x) => task.run_on(x),
-            DisplayText::Utf8String(x) => task.run_on(x),
+            DisplayText::Ia5String(x) => visitor.visit_value(x),
+            DisplayText::VisibleString(x) => visitor.visit_value(x),
+            DisplayText::BmpString(x) => visitor.visit_value(x),
+            DisplayText::Utf8String(x) => visitor.visit_value(x),
         }
     }
 
@@ -583,8 +583,8 @@ impl Sequence for NoticeReference {
 
     ghost value = { notice_reference_value };
 
-    fn with_components<U: Task>(&self, task: &mut U) -> U::Out {
-        with_components_of!(self, task; NoticeReference { organization, notice_numbers })
+    fn with_components<U: ComponentVisitor>(&self, visitor: &mut U) -> U::Out {
+        with_components_of!(self, visitor; NoticeReference { organization, notice_numbers })
     }
 
     fn read_fields(alloc: Global, r: &mut Reader<'_>, nest: u8) -> Result<Self, Error> {
@@ -611,8 +611,8 @@ impl Sequence for UserNotice {
 
     ghost value = { user_notice_value };
 
-    fn with_components<U: Task>(&self, task: &mut U) -> U::Out {
-        with_components_of!(self, task; UserNotice { notice_ref OPTIONAL, explicit_text OPTIONAL })
+    fn with_components<U: ComponentVisitor>(&self, visitor: &mut U) -> U::Out {
+        with_components_of!(self, visitor; UserNotice { notice_ref OPTIONAL, explicit_text OPTIONAL })
     }
 
     fn read_fields(alloc: Global, r: &mut Reader<'_>, nest: u8) -> Result<Self, Error> {
@@ -647,8 +647,8 @@ impl Sequence for PolicyMappingsItem {
 
     ghost value = { policy_mappings_item_value };
 
-    fn with_components<U: Task>(&self, task: &mut U) -> U::Out {
-        policy_mappings_item_parts!(with_components_of(self, task))
+    fn with_components<U: ComponentVisitor>(&self, visitor: &mut U) -> U::Out {
+        policy_mappings_item_parts!(with_components_of(self, visitor))
     }
 
     fn read_fields(alloc: Global, r: &mut Reader<'_>, nest: u8) -> Result<Self, Error> {
@@ -702,8 +702,8 @@ impl Sequence for BasicConstraints {
 
     ghost value = { basic_constraints_value };
 
-    fn with_components<U: Task>(&self, task: &mut U) -> U::Out {
-        basic_constraints_parts!(with_components_of(self, task))
+    fn with_components<U: ComponentVisitor>(&self, visitor: &mut U) -> U::Out {
+        basic_constraints_parts!(with_components_of(self, visitor))
     }
 
     fn read_fields(alloc: Global, r: &mut Reader<'_>, nest: u8) -> Result<Self, Error> {
@@ -738,8 +738,8 @@ impl Sequence for GeneralSubtree {
 
     ghost value = { general_subtree_value };
 
-    fn with_components<U: Task>(&self, task: &mut U) -> U::Out {
-        with_components_of!(self, task; GeneralSubtree { base, minimum DEFAULT, maximum OPTIONAL })
+    fn with_components<U: ComponentVisitor>(&self, visitor: &mut U) -> U::Out {
+        with_components_of!(self, visitor; GeneralSubtree { base, minimum DEFAULT, maximum OPTIONAL })
     }
 
     fn read_fields(alloc: Global, r: &mut Reader<'_>, nest: u8) -> Result<Self, Error> {
@@ -779,8 +779,8 @@ impl Sequence for NameConstraints {
 
     ghost value = { name_constraints_value };
 
-    fn with_components<U: Task>(&self, task: &mut U) -> U::Out {
-        name_constraints_parts!(with_components_of(self, task))
+    fn with_components<U: ComponentVisitor>(&self, visitor: &mut U) -> U::Out {
+        name_constraints_parts!(with_components_of(self, visitor))
     }
 
     fn read_fields(alloc: Global, r: &mut Reader<'_>, nest: u8) -> Result<Self, Error> {
@@ -820,8 +820,8 @@ impl Sequence for PolicyConstraints {
 
     ghost value = { policy_constraints_value };
 
-    fn with_components<U: Task>(&self, task: &mut U) -> U::Out {
-        policy_constraints_parts!(with_components_of(self, task))
+    fn with_components<U: ComponentVisitor>(&self, visitor: &mut U) -> U::Out {
+        policy_constraints_parts!(with_components_of(self, visitor))
     }
 
     fn read_fields(alloc: Global, r: &mut Reader<'_>, nest: u8) -> Result<Self, Error> {
@@ -853,10 +853,12 @@ impl Asn1Type for DistributionPointName {
 
     ghost value = { distribution_point_name_value };
 
-    fn with_encoded<U: Task>(&self, task: &mut U) -> U::Out {
+    fn with_encoded<U: ComponentVisitor>(&self, visitor: &mut U) -> U::Out {
         match self {
-            DistributionPointName::FullName(x) => task.run(&Under::<0xA0, _>(x)),
-            DistributionPointName::NameRelativeToCrlIssuer(x) => task.run(&Under::<0xA1, _>(x)),
+            DistributionPointName::FullName(x) => visitor.visit(&Under::<0xA0, _>(x)),
+            DistributionPointName::NameRelativeToCrlIssuer(x) => visitor.visit(&Under::<0xA1, _>(
+                x,
+            )),
         }
     }
 
@@ -1011,8 +1013,8 @@ impl Sequence for DistributionPoint {
 
     ghost value = { distribution_point_value };
 
-    fn with_components<U: Task>(&self, task: &mut U) -> U::Out {
-        distribution_point_parts!(with_components_of(self, task))
+    fn with_components<U: ComponentVisitor>(&self, visitor: &mut U) -> U::Out {
+        distribution_point_parts!(with_components_of(self, visitor))
     }
 
     fn read_fields(alloc: Global, r: &mut Reader<'_>, nest: u8) -> Result<Self, Error> {
@@ -1058,8 +1060,8 @@ impl Sequence for AccessDescription {
 
     ghost value = { access_description_value };
 
-    fn with_components<U: Task>(&self, task: &mut U) -> U::Out {
-        with_components_of!(self, task; AccessDescription { access_method, access_location })
+    fn with_components<U: ComponentVisitor>(&self, visitor: &mut U) -> U::Out {
+        with_components_of!(self, visitor; AccessDescription { access_method, access_location })
     }
 
     fn read_fields(alloc: Global, r: &mut Reader<'_>, nest: u8) -> Result<Self, Error> {
@@ -1119,8 +1121,8 @@ impl Sequence for IssuingDistributionPoint {
 
     ghost value = { issuing_distribution_point_value };
 
-    fn with_components<U: Task>(&self, task: &mut U) -> U::Out {
-        issuing_distribution_point_parts!(with_components_of(self, task))
+    fn with_components<U: ComponentVisitor>(&self, visitor: &mut U) -> U::Out {
+        issuing_distribution_point_parts!(with_components_of(self, visitor))
     }
 
     fn read_fields(alloc: Global, r: &mut Reader<'_>, nest: u8) -> Result<Self, Error> {

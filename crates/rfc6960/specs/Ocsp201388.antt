@@ -2,18 +2,18 @@
 use Rattle.asn1_core.specs.Asn1.{Asn1, CHOICE, Contents, EXPLICIT, EXPLICIT_default, IMPLICIT, INTEGER_BELOW, INTEGER_or, NULL, OBJECT_IDENTIFIER, OCTET_STRING, SEQUENCE, SEQUENCE_OF, contents, end, ◌then◌, ◌OPTIONAL◌, ◌DEFAULT◌}
 use Rattle.asn1_leaves.specs.Asn1.{BIT_STRING, GENERALIZED_TIME, IA5_STRING, INTEGER}
 use Rattle.std.proofs.lemmas.Bool.Decides.{Decides-eqb}
-use Rattle.asn1_other_leaves.specs.Asn1.{ENUMERATED_of, OCTET_STRING_CONTAINING}
-use Rattle.asn1_other_leaves.specs.Enumerations.{IsOneOf}
+use Rattle.asn1_module_leaves.specs.Asn1.{ENUMERATED_of, OCTET_STRING_CONTAINING}
+use Rattle.asn1_module_leaves.specs.Enumerations.{IsOneOf}
 use Rattle.std.specs.Prelude.{List, map, ℕ, ◌^◌, [], ◌∷◌}
 use Rattle.asn1_core.specs.Der.{SeesEqual, list_equal, octets_of, option_equal, option_value, same_first, same_second, two_equal, with_end}
 use Rattle.rfc5280.specs.Pkix1Implicit88.{access_description_equal, access_description_value, authority_info_access_syntax, crl_reason, crl_reason_equal, crl_reason_value, general_name, general_name_equal, general_name_value}
 use Rattle.x509_base.specs.AlgorithmLaws.{algorithm_identifier}
 use Rattle.x509_base.specs.AlgorithmParts.{algorithm_identifier_equal, algorithm_identifier_value}
-use Rattle.asn1_other_leaves.specs.OtherEqual.{bits_equal, ia5_equal, integer_equal, null_equal}
+use Rattle.asn1_module_leaves.specs.LeavesEqual.{bits_equal, ia5_equal, integer_equal, null_equal}
 use Rattle.std.proofs.lemmas.Slice.Eq.{bytes_eq-Decides}
 use Rattle.rfc5280.specs.Pkix1Explicit88.{certificate, certificate_equal, certificate_serial_number, certificate_value}
 use Rattle.asn1_leaves_strings.specs.Octets.{contents_of, octets_of_ia5}
-use Rattle.asn1_other_leaves.specs.Differ.{differ}
+use Rattle.asn1_module_leaves.specs.Differ.{differ}
 use Rattle.asn1_leaves_times.specs.TimesLaws.{equal_generalized}
 use Rattle.x509_base.specs.Extensions.{extensions, extensions_equal, extensions_value}
 use Rattle.std.proofs.Common.{inl, inr, refl, rules}

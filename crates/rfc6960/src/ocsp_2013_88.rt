@@ -19,11 +19,11 @@ ghost use Rattle.rfc6960.specs.Ocsp201388.{service_locator, service_locator_valu
 ghost use Rattle.rfc6960.specs.Ocsp201388.{crl_id, crl_id_value, crl_id_equal};
 ghost use Rattle.rfc6960.specs.Ocsp201388.{preferred_signature_algorithm, preferred_signature_algorithm_value, preferred_signature_algorithm_equal};
 ghost use Rattle.std.proofs.Common.{ℕ, refl};
-ghost use Rattle.asn1_other_leaves.specs.Enumerations.{numbers_in};
+ghost use Rattle.asn1_module_leaves.specs.Enumerations.{numbers_in};
 
 use asn1_core::prelude::*;
 use asn1_leaves::{BitStringAsn1, GeneralizedTimeAsn1, IA5StringAsn1, IntegerAsn1};
-use asn1_other_leaves::{Enumerated, NullAsn1, Under, enumerated_from_contents};
+use asn1_module_leaves::{Enumerated, NullAsn1, Under, enumerated_from_contents};
 use rfc5280::pkix1_explicit88::{Certificate, CertificateSerialNumber};
 use rfc5280::pkix1_implicit88::{AuthorityInfoAccessSyntax, CrlReason, GeneralName};
 use std::alloc::Global;
@@ -52,8 +52,8 @@ impl Sequence for CertId {
 
     ghost value = { cert_id_value };
 
-    fn with_components<U: Task>(&self, task: &mut U) -> U::Out {
-        cert_id_parts!(with_components_of(self, task))
+    fn with_components<U: ComponentVisitor>(&self, visitor: &mut U) -> U::Out {
+        cert_id_parts!(with_components_of(self, visitor))
     }
 
     fn read_fields(alloc: Global, r: &mut Reader<'_>, nest: u8) -> Result<Self, Error> {
@@ -80,8 +80,8 @@ impl Sequence for Request {
 
     ghost value = { request_value };
 
-    fn with_components<U: Task>(&self, task: &mut U) -> U::Out {
-        with_components_of!(self, task; Request { req_cert, single_request_extensions OPTIONAL })
+    fn with_components<U: ComponentVisitor>(&self, visitor: &mut U) -> U::Out {
+        with_components_of!(self, visitor; Request { req_cert, single_request_extensions OPTIONAL })
     }
 
     fn read_fields(alloc: Global, r: &mut Reader<'_>, nest: u8) -> Result<Self, Error> {
@@ -121,8 +121,8 @@ impl Sequence for TbsRequest {
 
     ghost value = { tbs_request_value };
 
-    fn with_components<U: Task>(&self, task: &mut U) -> U::Out {
-        tbs_request_parts!(with_components_of(self, task))
+    fn with_components<U: ComponentVisitor>(&self, visitor: &mut U) -> U::Out {
+        tbs_request_parts!(with_components_of(self, visitor))
     }
 
     fn read_fields(alloc: Global, r: &mut Reader<'_>, nest: u8) -> Result<Self, Error> {
@@ -158,8 +158,8 @@ impl Sequence for Signature {
 
     ghost value = { signature_value };
 
-    fn with_components<U: Task>(&self, task: &mut U) -> U::Out {
-        signature_parts!(with_components_of(self, task))
+    fn with_components<U: ComponentVisitor>(&self, visitor: &mut U) -> U::Out {
+        signature_parts!(with_components_of(self, visitor))
     }
 
     fn read_fields(alloc: Global, r: &mut Reader<'_>, nest: u8) -> Result<Self, Error> {
@@ -186,8 +186,8 @@ impl Sequence for OcspRequest {
 
     ghost value = { ocsp_request_value };
 
-    fn with_components<U: Task>(&self, task: &mut U) -> U::Out {
-        with_components_of!(self, task; OcspRequest { tbs_request, optional_signature OPTIONAL })
+    fn with_components<U: ComponentVisitor>(&self, visitor: &mut U) -> U::Out {
+        with_components_of!(self, visitor; OcspRequest { tbs_request, optional_signature OPTIONAL })
     }
 
     fn read_fields(alloc: Global, r: &mut Reader<'_>, nest: u8) -> Result<Self, Error> {
@@ -309,8 +309,8 @@ impl Sequence for ResponseBytes {
 
     ghost value = { response_bytes_value };
 
-    fn with_components<U: Task>(&self, task: &mut U) -> U::Out {
-        with_components_of!(self, task; ResponseBytes { response_type, response })
+    fn with_components<U: ComponentVisitor>(&self, visitor: &mut U) -> U::Out {
+        with_components_of!(self, visitor; ResponseBytes { response_type, response })
     }
 
     fn read_fields(alloc: Global, r: &mut Reader<'_>, nest: u8) -> Result<Self, Error> {
@@ -337,8 +337,8 @@ impl Sequence for OcspResponse {
 
     ghost value = { ocsp_response_value };
 
-    fn with_components<U: Task>(&self, task: &mut U) -> U::Out {
-        with_components_of!(self, task; OcspResponse { response_status, response_bytes OPTIONAL })
+    fn with_components<U: ComponentVisitor>(&self, visitor: &mut U) -> U::Out {
+        with_components_of!(self, visitor; OcspResponse { response_status, response_bytes OPTIONAL })
     }
 
     fn read_fields(alloc: Global, r: &mut Reader<'_>, nest: u8) -> Result<Self, Error> {
@@ -369,10 +369,10 @@ impl Asn1Type for ResponderId {
 
     ghost value = { responder_id_value };
 
-    fn with_encoded<U: Task>(&self, task: &mut U) -> U::Out {
+    fn with_encoded<U: ComponentVisitor>(&self, visitor: &mut U) -> U::Out {
         match self {
-            ResponderId::ByName(x) => task.run_within::<0xA1, _>(&Alone(Ref(x))),
-            ResponderId::ByKey(x) => task.run_within::<0xA2, _>(&Alone(Ref(x))),
+            ResponderId::ByName(x) => visitor.visit_within::<0xA1, _>(&Alone(Ref(x))),
+            ResponderId::ByKey(x) => visitor.visit_within::<0xA2, _>(&Alone(Ref(x))),
         }
     }
 
@@ -419,8 +419,8 @@ impl Sequence for RevokedInfo {
 
     ghost value = { revoked_info_value };
 
-    fn with_components<U: Task>(&self, task: &mut U) -> U::Out {
-        with_components_of!(self, task; RevokedInfo { revocation_time, revocation_reason OPTIONAL })
+    fn with_components<U: ComponentVisitor>(&self, visitor: &mut U) -> U::Out {
+        with_components_of!(self, visitor; RevokedInfo { revocation_time, revocation_reason OPTIONAL })
     }
 
     fn read_fields(alloc: Global, r: &mut Reader<'_>, nest: u8) -> Result<Self, Error> {
@@ -456,11 +456,11 @@ impl Asn1Type for CertStatus {
 
     ghost value = { cert_status_value };
 
-    fn with_encoded<U: Task>(&self, task: &mut U) -> U::Out {
+    fn with_encoded<U: ComponentVisitor>(&self, visitor: &mut U) -> U::Out {
         match self {
-            CertStatus::Good(x) => task.run(&Under::<0x80, _>(x)),
-            CertStatus::Revoked(x) => task.run(&Under::<0xA1, _>(x)),
-            CertStatus::Unknown(x) => task.run(&Under::<0x82, _>(x)),
+            CertStatus::Good(x) => visitor.visit(&Under::<0x80, _>(x)),
+            CertStatus::Revoked(x) => visitor.visit(&Under::<0xA1, _>(x)),
+            CertStatus::Unknown(x) => visitor.visit(&Under::<0x82, _>(x)),
         }
     }
 
@@ -523,8 +523,8 @@ impl Sequence for SingleResponse {
 
     ghost value = { single_response_value };
 
-    fn with_components<U: Task>(&self, task: &mut U) -> U::Out {
-        single_response_parts!(with_components_of(self, task))
+    fn with_components<U: ComponentVisitor>(&self, visitor: &mut U) -> U::Out {
+        single_response_parts!(with_components_of(self, visitor))
     }
 
     fn read_fields(alloc: Global, r: &mut Reader<'_>, nest: u8) -> Result<Self, Error> {
@@ -565,8 +565,8 @@ impl Sequence for ResponseData {
 
     ghost value = { response_data_value };
 
-    fn with_components<U: Task>(&self, task: &mut U) -> U::Out {
-        response_data_parts!(with_components_of(self, task))
+    fn with_components<U: ComponentVisitor>(&self, visitor: &mut U) -> U::Out {
+        response_data_parts!(with_components_of(self, visitor))
     }
 
     fn read_fields(alloc: Global, r: &mut Reader<'_>, nest: u8) -> Result<Self, Error> {
@@ -603,8 +603,8 @@ impl Sequence for BasicOcspResponse {
 
     ghost value = { basic_ocsp_response_value };
 
-    fn with_components<U: Task>(&self, task: &mut U) -> U::Out {
-        basic_ocsp_response_parts!(with_components_of(self, task))
+    fn with_components<U: ComponentVisitor>(&self, visitor: &mut U) -> U::Out {
+        basic_ocsp_response_parts!(with_components_of(self, visitor))
     }
 
     fn read_fields(alloc: Global, r: &mut Reader<'_>, nest: u8) -> Result<Self, Error> {
@@ -631,8 +631,8 @@ impl Sequence for BasicResponseBytes {
 
     ghost value = { basic_response_bytes_value };
 
-    fn with_components<U: Task>(&self, task: &mut U) -> U::Out {
-        with_components_of!(self, task; BasicResponseBytes { response_type, response })
+    fn with_components<U: ComponentVisitor>(&self, visitor: &mut U) -> U::Out {
+        with_components_of!(self, visitor; BasicResponseBytes { response_type, response })
     }
 
     fn read_fields(alloc: Global, r: &mut Reader<'_>, nest: u8) -> Result<Self, Error> {
@@ -658,8 +658,8 @@ impl Sequence for ServiceLocator {
 
     ghost value = { service_locator_value };
 
-    fn with_components<U: Task>(&self, task: &mut U) -> U::Out {
-        with_components_of!(self, task; ServiceLocator { issuer, locator })
+    fn with_components<U: ComponentVisitor>(&self, visitor: &mut U) -> U::Out {
+        with_components_of!(self, visitor; ServiceLocator { issuer, locator })
     }
 
     fn read_fields(alloc: Global, r: &mut Reader<'_>, nest: u8) -> Result<Self, Error> {
@@ -697,8 +697,8 @@ impl Sequence for CrlId {
 
     ghost value = { crl_id_value };
 
-    fn with_components<U: Task>(&self, task: &mut U) -> U::Out {
-        crl_id_parts!(with_components_of(self, task))
+    fn with_components<U: ComponentVisitor>(&self, visitor: &mut U) -> U::Out {
+        crl_id_parts!(with_components_of(self, visitor))
     }
 
     fn read_fields(alloc: Global, r: &mut Reader<'_>, nest: u8) -> Result<Self, Error> {
@@ -741,8 +741,8 @@ impl Sequence for PreferredSignatureAlgorithm {
 
     ghost value = { preferred_signature_algorithm_value };
 
-    fn with_components<U: Task>(&self, task: &mut U) -> U::Out {
-        preferred_signature_algorithm_parts!(with_components_of(self, task))
+    fn with_components<U: ComponentVisitor>(&self, visitor: &mut U) -> U::Out {
+        preferred_signature_algorithm_parts!(with_components_of(self, visitor))
     }
 
     fn read_fields(alloc: Global, r: &mut Reader<'_>, nest: u8) -> Result<Self, Error> {

@@ -51,13 +51,13 @@ pub struct ContentInfo<'a> {
     pub content: Option<Content<'a>>,
 }
 
-type Parts<'a> = Part<KnownOid<'a>, Maybe<ExplicitContextTag0<Content<'a>>, End>>;
+type Parts<'a> = Required<KnownOid<'a>, Maybe<ExplicitContextTag0<Content<'a>>, End>>;
 
 impl ContentInfo<'_> {
     fn parts(&self) -> Parts<'_>
         ensures { ⟦<Parts<'static> as WriteComponents>⟧.value result ≡ content_info_value self.now }
     {
-        Part(
+        Required(
             KnownOid(self.content_type),
             Maybe(explicit(self.content), End),
         )

@@ -231,7 +231,7 @@ fn certificate_range(
 
 /// A file that was read, and where its parts are.
 #[derive(Drop)]
-struct Known<'a> {
+struct LocatedFile<'a> {
     input: &'a [u8],
     file: &'a RawPkcs7Certificate,
     content: Option<Range<usize>>,
@@ -243,7 +243,7 @@ struct Known<'a> {
 /// have to be.
 fn ranges_of(
     alloc: Global,
-    known: &Known<'_>,
+    known: &LocatedFile<'_>,
     index: usize,
     signer: &RawSignerInfo,
     certificate: Option<SignerCertificate<'_>>,
@@ -278,7 +278,7 @@ fn ranges_of(
 /// The ranges of each of some signers that follow one another, from that index on.
 fn ranges_of_all(
     alloc: Global,
-    known: &Known<'_>,
+    known: &LocatedFile<'_>,
     first: usize,
     signers: &[RawSignerInfo],
     certificates: &[Option<SignerCertificate<'_>>],
@@ -364,7 +364,7 @@ fn ranges_in(
     let all = signed.signers_infos.0.0.as_slice();
     let signers = asked(all, first, most);
     let certificates = certificates_of_all(alloc, file, signers)?;
-    let known = Known {
+    let known = LocatedFile {
         input,
         file,
         content: content_range(input, file),

@@ -28,9 +28,9 @@ impl DerSerialize for Content<'_> {
         match self {
             Content::Data(octets) => put_within(
                 0x30,
-                &Part(
+                &Required(
                     KnownOid(&DATA),
-                    Part(ExplicitContextTag0(OctetsRef(octets)), End),
+                    Required(ExplicitContextTag0(OctetsRef(octets)), End),
                 ),
                 w,
             ),

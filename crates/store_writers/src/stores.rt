@@ -22,22 +22,22 @@ pub(crate) struct Store<'a> {
 
 /// `authSafe`, a `ContentInfo` of `data`.
 type AuthSafe<'a> = Body<
-    Part<KnownOid<'a>, Alone<ExplicitContextTag0<OctetStringAsn1Container<ElementRef<'a>>>>>,
+    Required<KnownOid<'a>, Alone<ExplicitContextTag0<OctetStringAsn1Container<ElementRef<'a>>>>>,
 >;
 
-type Parts<'a> = Part<FixedVersion<3>, Part<AuthSafe<'a>, Maybe<Ref<&'a MacData>, End>>>;
+type Parts<'a> = Required<FixedVersion<3>, Required<AuthSafe<'a>, Maybe<Ref<&'a MacData>, End>>>;
 
 impl Store<'_> {
     fn parts(&self) -> Parts<'_>
         ensures { ⟦<Parts<'static> as WriteComponents>⟧.value result ≡ (3, ((data_oid, self.now.safe.now), (option_value (λ m. mac_data_value m.now) self.now.mac, tt))) }
     {
         let data = ExplicitContextTag0(OctetStringAsn1Container(ElementRef(self.safe)));
-        let auth_safe = Body(Part(KnownOid(&DATA), Alone(data)));
+        let auth_safe = Body(Required(KnownOid(&DATA), Alone(data)));
         let mac = match self.mac {
             Some(mac) => Some(Ref(mac)),
             None => None,
         };
-        Part(FixedVersion, Part(auth_safe, Maybe(mac, End)))
+        Required(FixedVersion, Required(auth_safe, Maybe(mac, End)))
     }
 }
 

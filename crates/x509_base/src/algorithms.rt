@@ -12,7 +12,7 @@ use asn1_core::OidRef;
 use asn1_core::prelude::*;
 use std::alloc::Global;
 
-type AlgorithmComponents = Part<ObjectIdentifierAsn1, Maybe<Asn1RawDer, End>>;
+type AlgorithmComponents = Required<ObjectIdentifierAsn1, Maybe<Asn1RawDer, End>>;
 
 /// `AlgorithmIdentifier ::= SEQUENCE { algorithm OBJECT IDENTIFIER, parameters ANY DEFINED BY algorithm OPTIONAL }`,
 /// written as it is: absent parameters stay absent.
@@ -51,13 +51,13 @@ impl Sequence for AlgorithmIdentifier {
 
     ghost value = { algorithm_identifier_value };
 
-    fn with_components<U: Task>(&self, task: &mut U) -> U::Out {
-        task.run(&Part(OidRef(&self.algorithm), MaybeRef(&self.parameters, End)))
+    fn with_components<U: ComponentVisitor>(&self, visitor: &mut U) -> U::Out {
+        visitor.visit(&Required(OidRef(&self.algorithm), MaybeRef(&self.parameters, End)))
     }
 
     fn read_fields(alloc: Global, r: &mut Reader<'_>, nest: u8) -> Result<Self, Error> {
         let components: AlgorithmComponents = ReadComponents::read_components(alloc, r, nest)?;
-        let Part(ObjectIdentifierAsn1(algorithm), Maybe(parameters, End)) = components;
+        let Required(ObjectIdentifierAsn1(algorithm), Maybe(parameters, End)) = components;
         Ok(Self {
             algorithm,
             parameters,
@@ -105,8 +105,8 @@ impl Sequence for RawAlgorithmIdentifier {
 
     ghost value = { raw_algorithm_identifier_value };
 
-    fn with_components<U: Task>(&self, task: &mut U) -> U::Out {
-        task.run(&Chosen(self))
+    fn with_components<U: ComponentVisitor>(&self, visitor: &mut U) -> U::Out {
+        visitor.visit(&Chosen(self))
     }
 
     fn read_fields(alloc: Global, r: &mut Reader<'_>, nest: u8) -> Result<Self, Error> {
@@ -137,8 +137,8 @@ impl WriteChoice for RawAlgorithmIdentifier {
     fn put_choice<W: Writer>(&self, w: &mut W) -> Result<(), WriteError> {
         let oid = OidRef(self.algorithm());
         match self.parameters() {
-            Some(parameters) => Part(oid, Alone(Ref(parameters))).put_components(w),
-            None => Part(oid, Alone(Null)).put_components(w),
+            Some(parameters) => Required(oid, Alone(Ref(parameters))).put_components(w),
+            None => Required(oid, Alone(Null)).put_components(w),
         }
     }
 
@@ -164,5 +164,5 @@ pub fn put_algorithm<W: Writer>(octets: &[u8], w: &mut W) -> Result<(), WriteErr
     requires { W.MayTake w.old }
     ensures { W.Takes (algorithm_identifier.format.text (octets.now, (Some null, tt))) w.old w.new result }
 {
-    Part(KnownOid(octets), Alone(Null)).put_components(w)
+    Required(KnownOid(octets), Alone(Null)).put_components(w)
 }

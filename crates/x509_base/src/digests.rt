@@ -21,8 +21,8 @@ impl Sequence for DigestInfo {
 
     ghost value = { digest_info_value };
 
-    fn with_components<U: Task>(&self, task: &mut U) -> U::Out {
-        with_components_of!(self, task; DigestInfo { oid, digest })
+    fn with_components<U: ComponentVisitor>(&self, visitor: &mut U) -> U::Out {
+        with_components_of!(self, visitor; DigestInfo { oid, digest })
     }
 
     fn read_fields(alloc: Global, r: &mut Reader<'_>, nest: u8) -> Result<Self, Error> {

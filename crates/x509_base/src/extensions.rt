@@ -18,8 +18,8 @@ impl Sequence for Extension {
 
     ghost value = { extension_value };
 
-    fn with_components<U: Task>(&self, task: &mut U) -> U::Out {
-        with_components_of!(self, task; Extension { extn_id, DefaultFalse(critical) DEFAULT, extn_value })
+    fn with_components<U: ComponentVisitor>(&self, visitor: &mut U) -> U::Out {
+        with_components_of!(self, visitor; Extension { extn_id, DefaultFalse(critical) DEFAULT, extn_value })
     }
 
     fn read_fields(alloc: Global, r: &mut Reader<'_>, nest: u8) -> Result<Self, Error> {
@@ -43,8 +43,8 @@ impl Sequence for Extensions {
 
     ghost value = { extensions_value };
 
-    fn with_components<U: Task>(&self, task: &mut U) -> U::Out {
-        task.run(&self.0)
+    fn with_components<U: ComponentVisitor>(&self, visitor: &mut U) -> U::Out {
+        visitor.visit(&self.0)
     }
 
     fn read_fields(alloc: Global, r: &mut Reader<'_>, nest: u8) -> Result<Self, Error> {

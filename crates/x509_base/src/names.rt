@@ -17,8 +17,8 @@ impl Sequence for NameValue {
 
     ghost value = { name_value_value };
 
-    fn with_components<U: Task>(&self, task: &mut U) -> U::Out {
-        with_components_of!(self, task; NameValue { ty, value })
+    fn with_components<U: ComponentVisitor>(&self, visitor: &mut U) -> U::Out {
+        with_components_of!(self, visitor; NameValue { ty, value })
     }
 
     fn read_fields(alloc: Global, r: &mut Reader<'_>, nest: u8) -> Result<Self, Error> {
@@ -42,8 +42,8 @@ impl Sequence for Name {
 
     ghost value = { name_parts };
 
-    fn with_components<U: Task>(&self, task: &mut U) -> U::Out {
-        task.run(&self.0.0)
+    fn with_components<U: ComponentVisitor>(&self, visitor: &mut U) -> U::Out {
+        visitor.visit(&self.0.0)
     }
 
     fn read_fields(alloc: Global, r: &mut Reader<'_>, nest: u8) -> Result<Self, Error> {
@@ -70,8 +70,8 @@ impl Sequence for Attribute {
 
     ghost value = { attribute_value };
 
-    fn with_components<U: Task>(&self, task: &mut U) -> U::Out {
-        with_components_of!(self, task; Attribute { ty, value })
+    fn with_components<U: ComponentVisitor>(&self, visitor: &mut U) -> U::Out {
+        with_components_of!(self, visitor; Attribute { ty, value })
     }
 
     fn read_fields(alloc: Global, r: &mut Reader<'_>, nest: u8) -> Result<Self, Error> {

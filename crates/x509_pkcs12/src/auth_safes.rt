@@ -11,7 +11,7 @@ use crate::content_infos::{AnyContent, AnyContentRef, any_content, content_of};
 use crate::representations::{AuthenticatedSafeDataRepr, ReprRef};
 use asn1_choices::{Alternative, AnyOid, AnyOidRef, Chosen, WriteChoice};
 use asn1_core::prelude::*;
-use pkcs12_bags::parts::oids::{Known, PKCS7_DATA};
+use pkcs12_bags::parts::oids::{OidNumber, PKCS7_DATA};
 use std::alloc::Global;
 
 /// The `authSafe` of a PFX, a `ContentInfo ::= SEQUENCE { contentType ContentType, content [0] EXPLICIT ANY DEFINED BY
@@ -29,13 +29,13 @@ pub enum AuthenticatedSafeContentInfo<R: AuthenticatedSafeDataRepr> {
 }
 
 type AuthSafeChoice<R> = Either<
-    Alternative<Known<PKCS7_DATA>, Alone<ExplicitContextTag0<OctetStringAsn1Container<R>>>>,
+    Alternative<OidNumber<PKCS7_DATA>, Alone<ExplicitContextTag0<OctetStringAsn1Container<R>>>>,
     AnyOid<AnyContent>,
 >;
 
 type AuthSafeRef<'a, R> = Either<
     Alternative<
-        Known<PKCS7_DATA>,
+        OidNumber<PKCS7_DATA>,
         Alone<ExplicitContextTag0<OctetStringAsn1Container<ReprRef<'a, R>>>>,
     >,
     AnyOidRef<'a, AnyContentRef<'a>>,

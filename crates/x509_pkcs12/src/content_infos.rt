@@ -8,7 +8,7 @@ ghost use Rattle.x509_pkcs12.specs.ContentInfosEqual.{safe_contents_content_info
 use asn1_choices::{Alternative, AnyOid, AnyOidRef, Chosen, WriteChoice};
 use asn1_core::prelude::*;
 use pkcs12_bags::parts::EncryptedSafeContents;
-use pkcs12_bags::parts::oids::{ENCRYPTED_DATA, Known, PKCS7_DATA};
+use pkcs12_bags::parts::oids::{ENCRYPTED_DATA, OidNumber, PKCS7_DATA};
 use pkcs12_bags::safe_bags::SafeContents;
 use std::alloc::Global;
 
@@ -56,11 +56,11 @@ pub fn content_of(content: AnyContent) -> Option<Asn1RawDer>
 
 /// `EncryptedData ::= SEQUENCE { version Version, encryptedContentInfo EncryptedContentInfo }` (RFC 2315, 13), tagged.
 type EncryptedComponents = ExplicitContextTag0<
-    Asn1Sequence<Part<FixedVersion<0>, Part<EncryptedSafeContents, End>>>,
+    Asn1Sequence<Required<FixedVersion<0>, Required<EncryptedSafeContents, End>>>,
 >;
 
 type EncryptedRef<'a> = ExplicitContextTag0<
-    Asn1Sequence<Part<FixedVersion<0>, Part<Ref<&'a EncryptedSafeContents>, End>>>,
+    Asn1Sequence<Required<FixedVersion<0>, Required<Ref<&'a EncryptedSafeContents>, End>>>,
 >;
 
 /// A SEQUENCE of parts.
@@ -83,7 +83,8 @@ impl<R: WriteComponents> DerSerialize for Asn1Sequence<R> {
     }
 }
 
-impl<A: DerDeserialize, B: DerDeserialize> DerDeserialize for Asn1Sequence<Part<A, Part<B, End>>> {
+impl<A: DerDeserialize, B: DerDeserialize> DerDeserialize
+    for Asn1Sequence<Required<A, Required<B, End>>> {
     fn read(alloc: Global, r: &mut Reader<'_>, nest: u8) -> Result<Self, Error> {
         Ok(Asn1Sequence(read_within(alloc, r, nest, 0x30)?))
     }
@@ -97,19 +98,19 @@ impl<A: DerDeserialize, B: DerDeserialize> DerDeserialize for Asn1Sequence<Part<
 
 type ContentChoice = Either<
     Alternative<
-        Known<PKCS7_DATA>,
+        OidNumber<PKCS7_DATA>,
         Alone<ExplicitContextTag0<OctetStringAsn1Container<SafeContents>>>,
     >,
-    Either<Alternative<Known<ENCRYPTED_DATA>, Alone<EncryptedComponents>>, AnyOid<AnyContent>>,
+    Either<Alternative<OidNumber<ENCRYPTED_DATA>, Alone<EncryptedComponents>>, AnyOid<AnyContent>>,
 >;
 
 type ContentRef<'a> = Either<
     Alternative<
-        Known<PKCS7_DATA>,
+        OidNumber<PKCS7_DATA>,
         Alone<ExplicitContextTag0<OctetStringAsn1Container<Ref<&'a SafeContents>>>>,
     >,
     Either<
-        Alternative<Known<ENCRYPTED_DATA>, Alone<EncryptedRef<'a>>>,
+        Alternative<OidNumber<ENCRYPTED_DATA>, Alone<EncryptedRef<'a>>>,
         AnyOidRef<'a, AnyContentRef<'a>>,
     >,
 >;
@@ -124,7 +125,7 @@ impl SafeContentsContentInfo {
                 Either::First(Alternative::new(Alone(data)))
             }
             Self::EncryptedData(contents) => {
-                let components = Part(FixedVersion, Part(Ref(contents), End));
+                let components = Required(FixedVersion, Required(Ref(contents), End));
                 let data = ExplicitContextTag0(Asn1Sequence(components));
                 Either::Second(Either::First(Alternative::new(Alone(data))))
             }
@@ -144,8 +145,8 @@ impl Sequence for SafeContentsContentInfo {
 
     ghost value = { safe_contents_content_info_value };
 
-    fn with_components<U: Task>(&self, task: &mut U) -> U::Out {
-        task.run(&Chosen(self.choice()))
+    fn with_components<U: ComponentVisitor>(&self, visitor: &mut U) -> U::Out {
+        visitor.visit(&Chosen(self.choice()))
     }
 
     fn read_fields(alloc: Global, r: &mut Reader<'_>, nest: u8) -> Result<Self, Error> {
@@ -153,7 +154,11 @@ impl Sequence for SafeContentsContentInfo {
         match choice {
             Either::First(alternative) => Ok(Self::Data(alternative.into_components().0.0.0)),
             Either::Second(Either::First(alternative)) => {
-                let Part(FixedVersion, Part(contents, End)) = alternative.into_components().0.0.0;
+                let Required(FixedVersion, Required(contents, End)) = alternative
+                    .into_components()
+                    .0
+                    .0
+                    .0;
                 Ok(Self::EncryptedData(contents))
             }
             Either::Second(Either::Second(AnyOid(content_type, content))) => Ok(Self::Unknown {

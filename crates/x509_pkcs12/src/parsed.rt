@@ -23,8 +23,8 @@ impl Sequence for ParsedAuthenticatedSafeDataRepr {
 
     ghost value = { λ x. map safe_contents_content_info_value x.contents.items };
 
-    fn with_components<U: Task>(&self, task: &mut U) -> U::Out {
-        task.run(&self.contents)
+    fn with_components<U: ComponentVisitor>(&self, visitor: &mut U) -> U::Out {
+        visitor.visit(&self.contents)
     }
 
     fn read_fields(alloc: Global, r: &mut Reader<'_>, nest: u8) -> Result<Self, Error> {

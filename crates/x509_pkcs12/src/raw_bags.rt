@@ -88,8 +88,8 @@ impl Sequence for RawSafeBag {
 
     ghost value = { raw_safe_bag_value };
 
-    fn with_components<U: Task>(&self, task: &mut U) -> U::Out {
-        with_components_of!(self, task; RawSafeBag { bag_id, bag_value, bag_attributes OPTIONAL })
+    fn with_components<U: ComponentVisitor>(&self, visitor: &mut U) -> U::Out {
+        with_components_of!(self, visitor; RawSafeBag { bag_id, bag_value, bag_attributes OPTIONAL })
     }
 
     fn read_fields(alloc: Global, r: &mut Reader<'_>, nest: u8) -> Result<Self, Error> {

@@ -31,8 +31,8 @@ impl Sequence for RawBagsAuthenticatedSafeDataRepr {
 
     ghost value = { λ x. map ⟦<RawBagsContentInfo as DerSerialize>⟧.value x.contents.items };
 
-    fn with_components<U: Task>(&self, task: &mut U) -> U::Out {
-        task.run(&self.contents)
+    fn with_components<U: ComponentVisitor>(&self, visitor: &mut U) -> U::Out {
+        visitor.visit(&self.contents)
     }
 
     fn read_fields(alloc: Global, r: &mut Reader<'_>, nest: u8) -> Result<Self, Error> {

@@ -45,8 +45,8 @@ impl Sequence for RawEncapsulatedContentInfo {
 
     ghost value = { raw_encapsulated_content_info_value };
 
-    fn with_components<U: Task>(&self, task: &mut U) -> U::Out {
-        with_components_of!(self, task; RawEncapsulatedContentInfo { content_type, content OPTIONAL })
+    fn with_components<U: ComponentVisitor>(&self, visitor: &mut U) -> U::Out {
+        with_components_of!(self, visitor; RawEncapsulatedContentInfo { content_type, content OPTIONAL })
     }
 
     fn read_fields(alloc: Global, r: &mut Reader<'_>, nest: u8) -> Result<Self, Error> {

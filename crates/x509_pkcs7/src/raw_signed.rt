@@ -187,9 +187,9 @@ impl<S: DerSerialize> DerSerialize for RawPkcs7Certificate<S> {
 
 impl<S: DerDeserialize> DerDeserialize for RawPkcs7Certificate<S> {
     fn read(alloc: Global, r: &mut Reader<'_>, nest: u8) -> Result<Self, Error> {
-        let Part(_, Part(signed_data, End)) = read_within::<Part<OnlyOid<SignedDataType>, _>>(
-            alloc, r, nest, 0x30,
-        )?;
+        let Required(_, Required(signed_data, End)) = read_within::<
+            Required<OnlyOid<SignedDataType>, _>,
+        >(alloc, r, nest, 0x30)?;
         Ok(RawPkcs7Certificate { signed_data })
     }
 

@@ -32,8 +32,8 @@ impl Sequence for RawSignerInfo {
 
     ghost value = { raw_signer_info_value };
 
-    fn with_components<U: Task>(&self, task: &mut U) -> U::Out {
-        task.run(&body_of!(self;
+    fn with_components<U: ComponentVisitor>(&self, visitor: &mut U) -> U::Out {
+        visitor.visit(&body_of!(self;
             version, sid, digest_algorithm, (&self.signed_attrs.0) DEFAULT, signature_algorithm,
             signature, (&self.unsigned_attrs.0) DEFAULT
         ))

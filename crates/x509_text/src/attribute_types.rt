@@ -4,42 +4,42 @@ ghost use Rattle.std.specs.Prelude.{ℕ, List, MatchOption};
 ghost use Rattle.oid_names.specs.Tables.{IsNamed};
 ghost use Rattle.x509_text.specs.AttributeTypes.{short_names};
 
-use oid_names::tables::{Row, name_in};
+use oid_names::tables::{NamedOid, name_in};
 
-const SHORT_NAMES: [Row; 9] = [
-    Row {
+const SHORT_NAMES: [NamedOid; 9] = [
+    NamedOid {
         octets: &[0x55, 0x04, 0x03],
         name: "CN",
     },
-    Row {
+    NamedOid {
         octets: &[0x55, 0x04, 0x07],
         name: "L",
     },
-    Row {
+    NamedOid {
         octets: &[0x55, 0x04, 0x08],
         name: "ST",
     },
-    Row {
+    NamedOid {
         octets: &[0x55, 0x04, 0x0A],
         name: "O",
     },
-    Row {
+    NamedOid {
         octets: &[0x55, 0x04, 0x0B],
         name: "OU",
     },
-    Row {
+    NamedOid {
         octets: &[0x55, 0x04, 0x06],
         name: "C",
     },
-    Row {
+    NamedOid {
         octets: &[0x55, 0x04, 0x09],
         name: "STREET",
     },
-    Row {
+    NamedOid {
         octets: &[0x09, 0x92, 0x26, 0x89, 0x93, 0xF2, 0x2C, 0x64, 0x01, 0x19],
         name: "DC",
     },
-    Row {
+    NamedOid {
         octets: &[0x09, 0x92, 0x26, 0x89, 0x93, 0xF2, 0x2C, 0x64, 0x01, 0x01],
         name: "UID",
     },

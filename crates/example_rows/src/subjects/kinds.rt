@@ -1,6 +1,6 @@
 //! The types of the kinds, by the tables of their layers.
 
-use crate::checks::{is_kept_under_tags as under_tags, is_so as at};
+use crate::checks::{check_row as at, is_kept_under_tags as under_tags};
 use crate::rows::Row;
 use std::alloc::Global;
 use std::test::Fail;
@@ -13,12 +13,12 @@ use x509_containers::{
 };
 
 /// Asks what a row says of the type of a kind.
-pub fn is_so(alloc: Global, kind: Kind, row: &Row) -> Result<(), Fail> {
-    is_so_at_its_type(alloc, kind, row)?;
-    is_so_besides(alloc, kind, row)
+pub fn check_row(alloc: Global, kind: Kind, row: &Row) -> Result<(), Fail> {
+    check_at_its_type(alloc, kind, row)?;
+    check_besides(alloc, kind, row)
 }
 
-fn is_so_at_its_type(alloc: Global, kind: Kind, row: &Row) -> Result<(), Fail> {
+fn check_at_its_type(alloc: Global, kind: Kind, row: &Row) -> Result<(), Fail> {
     match kind {
         Kind::Algorithm(kind) => algorithm(alloc, kind, row),
         Kind::Authenticode(kind) => authenticode(alloc, kind, row),
@@ -73,7 +73,7 @@ fn has_mac_range(alloc: Global, row: &Row) -> Result<(), Fail> {
 }
 
 /// Asks what a row says under other tags, of the types that have a tag of their own, and of what a MAC covers.
-fn is_so_besides(alloc: Global, kind: Kind, row: &Row) -> Result<(), Fail> {
+fn check_besides(alloc: Global, kind: Kind, row: &Row) -> Result<(), Fail> {
     match kind {
         Kind::Authenticode(AuthenticodeKind::SpcSerializedObject) => {
             under_tags::<SpcSerializedObject>(alloc, row)

@@ -1,6 +1,6 @@
 //! Elements, numbers and leaves. These are no kinds of `derbox`.
 
-use crate::checks::{is_so as at, is_so_under_tags as under_tags};
+use crate::checks::{check_row as at, check_under_tags as under_tags};
 use crate::rows::Row;
 use std::alloc::Global;
 use std::test::Fail;
@@ -10,7 +10,7 @@ use x509_containers::{
 };
 
 /// What comes of a row, where the word names one of these types.
-pub fn is_so(alloc: Global, word: &str, row: &Row) -> Option<Result<(), Fail>> {
+pub fn check_row(alloc: Global, word: &str, row: &Row) -> Option<Result<(), Fail>> {
     Some(match word {
         "asn1rawder" => at::<Asn1RawDer>(alloc, row),
         "bitstringasn1" => under_tags::<BitStringAsn1>(alloc, row),

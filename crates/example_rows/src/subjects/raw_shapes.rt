@@ -1,6 +1,6 @@
 //! Raw counterparts of the types of CMS and PKCS #12. These are no kinds of `derbox`.
 
-use crate::checks::is_so as at;
+use crate::checks::check_row as at;
 use crate::rows::Row;
 use std::alloc::Global;
 use std::test::Fail;
@@ -11,7 +11,7 @@ use x509_containers::{
 };
 
 /// What comes of a row, where the word names one of these types.
-pub fn is_so(alloc: Global, word: &str, row: &Row) -> Option<Result<(), Fail>> {
+pub fn check_row(alloc: Global, word: &str, row: &Row) -> Option<Result<(), Fail>> {
     Some(match word {
         "rawbagspfx" => at::<RawBagsPfx>(alloc, row),
         "rawencapsulatedcontentinfo" => at::<RawEncapsulatedContentInfo>(alloc, row),

@@ -2,7 +2,7 @@
 //! These are no kinds of `derbox`.
 
 use crate::checks::{
-    is_so as at, is_so_in_each_way as in_each_way, is_so_under_tags as under_tags,
+    check_in_each_way as in_each_way, check_row as at, check_under_tags as under_tags,
 };
 use crate::rows::Row;
 use example_stamp::Stamp;
@@ -24,7 +24,7 @@ type TaggedNumbers = Asn1SequenceOf<ExplicitContextTag1<u8>>;
 type ContainedNumbers = OctetStringAsn1Container<Asn1SequenceOf<u8>>;
 
 /// What comes of a row, where the word names one of the lists and containers.
-pub fn is_so_of_a_list(alloc: Global, word: &str, row: &Row) -> Option<Result<(), Fail>> {
+pub fn check_list(alloc: Global, word: &str, row: &Row) -> Option<Result<(), Fail>> {
     Some(match word {
         "asn1sequenceof-asn1rawder" => under_tags::<Asn1SequenceOf<Asn1RawDer>>(alloc, row),
         "asn1sequenceof-explicitcontexttag0-asn1setof-octetstringasn1" => {
@@ -51,7 +51,7 @@ pub fn is_so_of_a_list(alloc: Global, word: &str, row: &Row) -> Option<Result<()
 }
 
 /// What comes of a row, where the word names one of the tags.
-pub fn is_so_of_a_tag(alloc: Global, word: &str, row: &Row) -> Option<Result<(), Fail>> {
+pub fn check_tag(alloc: Global, word: &str, row: &Row) -> Option<Result<(), Fail>> {
     Some(match word {
         "explicitcontexttag0-asn1rawder" => at::<ExplicitContextTag0<Asn1RawDer>>(alloc, row),
         "explicitcontexttag0-octetstringasn1" => {

@@ -4,110 +4,110 @@ ghost use Rattle.std.specs.Prelude.{ℕ, List, MatchOption};
 ghost use Rattle.oid_names.specs.Tables.{IsNamed};
 ghost use Rattle.oid_names.specs.Extensions.{extensions_names};
 
-use crate::tables::{Row, name_in};
+use crate::tables::{NamedOid, name_in};
 
-const ROWS: [Row; 26] = [
-    Row {
+const ROWS: [NamedOid; 26] = [
+    NamedOid {
         octets: &[0x55, 0x1D, 0x09],
         name: "X509v3 Subject Directory Attributes",
     },
-    Row {
+    NamedOid {
         octets: &[0x55, 0x1D, 0x0E],
         name: "X509v3 Subject Key Identifier",
     },
-    Row {
+    NamedOid {
         octets: &[0x55, 0x1D, 0x0F],
         name: "X509v3 Key Usage",
     },
-    Row {
+    NamedOid {
         octets: &[0x55, 0x1D, 0x10],
         name: "X509v3 Private Key Usage Period",
     },
-    Row {
+    NamedOid {
         octets: &[0x55, 0x1D, 0x11],
         name: "X509v3 Subject Alternative Name",
     },
-    Row {
+    NamedOid {
         octets: &[0x55, 0x1D, 0x12],
         name: "X509v3 Issuer Alternative Name",
     },
-    Row {
+    NamedOid {
         octets: &[0x55, 0x1D, 0x13],
         name: "X509v3 Basic Constraints",
     },
-    Row {
+    NamedOid {
         octets: &[0x55, 0x1D, 0x14],
         name: "X509v3 CRL Number",
     },
-    Row {
+    NamedOid {
         octets: &[0x55, 0x1D, 0x15],
         name: "X509v3 CRL Reason Code",
     },
-    Row {
+    NamedOid {
         octets: &[0x55, 0x1D, 0x17],
         name: "Hold Instruction Code",
     },
-    Row {
+    NamedOid {
         octets: &[0x55, 0x1D, 0x18],
         name: "Invalidity Date",
     },
-    Row {
+    NamedOid {
         octets: &[0x55, 0x1D, 0x1B],
         name: "X509v3 Delta CRL Indicator",
     },
-    Row {
+    NamedOid {
         octets: &[0x55, 0x1D, 0x1C],
         name: "X509v3 Issuing Distribution Point",
     },
-    Row {
+    NamedOid {
         octets: &[0x55, 0x1D, 0x1D],
         name: "X509v3 Certificate Issuer",
     },
-    Row {
+    NamedOid {
         octets: &[0x55, 0x1D, 0x1E],
         name: "X509v3 Name Constraints",
     },
-    Row {
+    NamedOid {
         octets: &[0x55, 0x1D, 0x1F],
         name: "X509v3 CRL Distribution Points",
     },
-    Row {
+    NamedOid {
         octets: &[0x55, 0x1D, 0x20],
         name: "X509v3 Certificate Policies",
     },
-    Row {
+    NamedOid {
         octets: &[0x55, 0x1D, 0x20, 0x00],
         name: "X509v3 Any Policy",
     },
-    Row {
+    NamedOid {
         octets: &[0x55, 0x1D, 0x21],
         name: "X509v3 Policy Mappings",
     },
-    Row {
+    NamedOid {
         octets: &[0x55, 0x1D, 0x23],
         name: "X509v3 Authority Key Identifier",
     },
-    Row {
+    NamedOid {
         octets: &[0x55, 0x1D, 0x24],
         name: "X509v3 Policy Constraints",
     },
-    Row {
+    NamedOid {
         octets: &[0x55, 0x1D, 0x25],
         name: "X509v3 Extended Key Usage",
     },
-    Row {
+    NamedOid {
         octets: &[0x55, 0x1D, 0x2E],
         name: "X509v3 Freshest CRL",
     },
-    Row {
+    NamedOid {
         octets: &[0x55, 0x1D, 0x36],
         name: "X509v3 Inhibit Any Policy",
     },
-    Row {
+    NamedOid {
         octets: &[0x55, 0x1D, 0x37],
         name: "X509v3 AC Targeting",
     },
-    Row {
+    NamedOid {
         octets: &[0x55, 0x1D, 0x38],
         name: "X509v3 No Revocation Available",
     },

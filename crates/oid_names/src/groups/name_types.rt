@@ -4,138 +4,138 @@ ghost use Rattle.std.specs.Prelude.{ℕ, List, MatchOption};
 ghost use Rattle.oid_names.specs.Tables.{IsNamed};
 ghost use Rattle.oid_names.specs.NameTypes.{name_types_names};
 
-use crate::tables::{Row, name_in};
+use crate::tables::{NamedOid, name_in};
 
-const ROWS: [Row; 32] = [
-    Row {
+const ROWS: [NamedOid; 32] = [
+    NamedOid {
         octets: &[0x55, 0x04, 0x03],
         name: "commonName",
     },
-    Row {
+    NamedOid {
         octets: &[0x55, 0x04, 0x04],
         name: "surname",
     },
-    Row {
+    NamedOid {
         octets: &[0x55, 0x04, 0x05],
         name: "serialNumber",
     },
-    Row {
+    NamedOid {
         octets: &[0x55, 0x04, 0x06],
         name: "countryName",
     },
-    Row {
+    NamedOid {
         octets: &[0x55, 0x04, 0x07],
         name: "localityName",
     },
-    Row {
+    NamedOid {
         octets: &[0x55, 0x04, 0x08],
         name: "stateOrProvinceName",
     },
-    Row {
+    NamedOid {
         octets: &[0x55, 0x04, 0x09],
         name: "streetAddress",
     },
-    Row {
+    NamedOid {
         octets: &[0x55, 0x04, 0x0A],
         name: "organizationName",
     },
-    Row {
+    NamedOid {
         octets: &[0x55, 0x04, 0x0B],
         name: "organizationalUnitName",
     },
-    Row {
+    NamedOid {
         octets: &[0x55, 0x04, 0x0C],
         name: "title",
     },
-    Row {
+    NamedOid {
         octets: &[0x55, 0x04, 0x0D],
         name: "description",
     },
-    Row {
+    NamedOid {
         octets: &[0x55, 0x04, 0x0F],
         name: "businessCategory",
     },
-    Row {
+    NamedOid {
         octets: &[0x55, 0x04, 0x10],
         name: "postalAddress",
     },
-    Row {
+    NamedOid {
         octets: &[0x55, 0x04, 0x11],
         name: "postalCode",
     },
-    Row {
+    NamedOid {
         octets: &[0x55, 0x04, 0x12],
         name: "postOfficeBox",
     },
-    Row {
+    NamedOid {
         octets: &[0x55, 0x04, 0x14],
         name: "telephoneNumber",
     },
-    Row {
+    NamedOid {
         octets: &[0x55, 0x04, 0x29],
         name: "name",
     },
-    Row {
+    NamedOid {
         octets: &[0x55, 0x04, 0x2A],
         name: "givenName",
     },
-    Row {
+    NamedOid {
         octets: &[0x55, 0x04, 0x2B],
         name: "initials",
     },
-    Row {
+    NamedOid {
         octets: &[0x55, 0x04, 0x2C],
         name: "generationQualifier",
     },
-    Row {
+    NamedOid {
         octets: &[0x55, 0x04, 0x2D],
         name: "x500UniqueIdentifier",
     },
-    Row {
+    NamedOid {
         octets: &[0x55, 0x04, 0x2E],
         name: "dnQualifier",
     },
-    Row {
+    NamedOid {
         octets: &[0x55, 0x04, 0x31],
         name: "distinguishedName",
     },
-    Row {
+    NamedOid {
         octets: &[0x55, 0x04, 0x41],
         name: "pseudonym",
     },
-    Row {
+    NamedOid {
         octets: &[0x55, 0x04, 0x48],
         name: "role",
     },
-    Row {
+    NamedOid {
         octets: &[0x55, 0x04, 0x61],
         name: "organizationIdentifier",
     },
-    Row {
+    NamedOid {
         octets: &[0x09, 0x92, 0x26, 0x89, 0x93, 0xF2, 0x2C, 0x64, 0x01, 0x01],
         name: "userId",
     },
-    Row {
+    NamedOid {
         octets: &[0x09, 0x92, 0x26, 0x89, 0x93, 0xF2, 0x2C, 0x64, 0x01, 0x03],
         name: "rfc822Mailbox",
     },
-    Row {
+    NamedOid {
         octets: &[0x09, 0x92, 0x26, 0x89, 0x93, 0xF2, 0x2C, 0x64, 0x01, 0x19],
         name: "domainComponent",
     },
-    Row {
+    NamedOid {
         octets: &[
             0x2B, 0x06, 0x01, 0x04, 0x01, 0x82, 0x37, 0x3C, 0x02, 0x01, 0x01,
         ],
         name: "jurisdictionLocalityName",
     },
-    Row {
+    NamedOid {
         octets: &[
             0x2B, 0x06, 0x01, 0x04, 0x01, 0x82, 0x37, 0x3C, 0x02, 0x01, 0x02,
         ],
         name: "jurisdictionStateOrProvinceName",
     },
-    Row {
+    NamedOid {
         octets: &[
             0x2B, 0x06, 0x01, 0x04, 0x01, 0x82, 0x37, 0x3C, 0x02, 0x01, 0x03,
         ],

@@ -6,7 +6,7 @@ ghost use Rattle.asn1_leaves_strings.specs.Octets.{octets_of_bmp};
 ghost use Rattle.pkcs12_bags.specs.Attributes.{pkcs12_attribute, pkcs12_attribute_value, AttributesValue, attributes, attributes_value};
 ghost use Rattle.pkcs12_bags.specs.AttributesEqual.{pkcs12_attribute_equal};
 
-use crate::parts::oids::{FRIENDLY_NAME, Known, LOCAL_KEY_ID};
+use crate::parts::oids::{FRIENDLY_NAME, LOCAL_KEY_ID, OidNumber};
 use crate::parts::sets::SetRef;
 use asn1_choices::{Alternative, AnyOid, AnyOidRef, Chosen, WriteChoice};
 use asn1_core::prelude::*;
@@ -51,17 +51,17 @@ impl DerSerialize for BmpRef<'_> {
 }
 
 type AttributeChoice = Either<
-    Alternative<Known<FRIENDLY_NAME>, Alone<SetOfOne<BmpStringAsn1>>>,
+    Alternative<OidNumber<FRIENDLY_NAME>, Alone<SetOfOne<BmpStringAsn1>>>,
     Either<
-        Alternative<Known<LOCAL_KEY_ID>, Alone<SetOfOne<OctetStringAsn1>>>,
+        Alternative<OidNumber<LOCAL_KEY_ID>, Alone<SetOfOne<OctetStringAsn1>>>,
         AnyOid<Alone<Asn1SetOf<Asn1RawDer>>>,
     >,
 >;
 
 type AttributeRef<'a> = Either<
-    Alternative<Known<FRIENDLY_NAME>, Alone<SetOfOne<BmpRef<'a>>>>,
+    Alternative<OidNumber<FRIENDLY_NAME>, Alone<SetOfOne<BmpRef<'a>>>>,
     Either<
-        Alternative<Known<LOCAL_KEY_ID>, Alone<SetOfOne<Ref<&'a OctetStringAsn1>>>>,
+        Alternative<OidNumber<LOCAL_KEY_ID>, Alone<SetOfOne<Ref<&'a OctetStringAsn1>>>>,
         AnyOidRef<'a, Alone<SetRef<'a, Asn1RawDer>>>,
     >,
 >;
@@ -89,8 +89,8 @@ impl Sequence for Pkcs12Attribute {
 
     ghost value = { pkcs12_attribute_value };
 
-    fn with_components<U: Task>(&self, task: &mut U) -> U::Out {
-        task.run(&Chosen(self.choice()))
+    fn with_components<U: ComponentVisitor>(&self, visitor: &mut U) -> U::Out {
+        visitor.visit(&Chosen(self.choice()))
     }
 
     fn read_fields(alloc: Global, r: &mut Reader<'_>, nest: u8) -> Result<Self, Error> {

@@ -6,7 +6,7 @@ ghost use Rattle.asn1_core.specs.Asn1.{SEQUENCE};
 ghost use Rattle.pkcs12_bags.specs.BagParts.{OctetsOrAny, x509_bag_value, x509_bag, secret_bag, secret_bag_value, encrypted_key_bag, encrypted_key_bag_value};
 ghost use Rattle.pkcs12_bags.specs.BagPartsEqual.{secret_equal, encrypted_key_equal};
 
-use crate::parts::oids::{Known, X509_CERTIFICATE, X509_CRL};
+use crate::parts::oids::{OidNumber, X509_CERTIFICATE, X509_CRL};
 use asn1_choices::{Alternative, AnyOid, AnyOidRef, Chosen, WriteChoice};
 use asn1_core::OidRef;
 use asn1_core::prelude::*;
@@ -47,8 +47,8 @@ pub enum X509Bag<const KNOWN: usize> {
 }
 
 impl<const KNOWN: usize> X509Bag<KNOWN> {
-    fn choice(&self) -> OctetsOrAnyRef<'_, Known<KNOWN>>
-        ensures { ⟦<OctetsOrAnyRef<'static, Known<KNOWN>> as WriteChoice>⟧.value result ≡ x509_bag_value self.now }
+    fn choice(&self) -> OctetsOrAnyRef<'_, OidNumber<KNOWN>>
+        ensures { ⟦<OctetsOrAnyRef<'static, OidNumber<KNOWN>> as WriteChoice>⟧.value result ≡ x509_bag_value self.now }
     {
         match self {
             Self::X509(octets) => Either::First(Alternative::new(Alone(ExplicitContextTag0(Ref(
@@ -79,7 +79,7 @@ impl<const KNOWN: usize> DerSerialize for X509Bag<KNOWN> {
 
 impl<const KNOWN: usize> DerDeserialize for X509Bag<KNOWN> {
     fn read(alloc: Global, r: &mut Reader<'_>, nest: u8) -> Result<Self, Error> {
-        let Chosen(choice) = read_within::<Chosen<OctetsOrAny<Known<KNOWN>>>>(
+        let Chosen(choice) = read_within::<Chosen<OctetsOrAny<OidNumber<KNOWN>>>>(
             alloc, r, nest, 0x30,
         )?;
         match choice {
@@ -127,8 +127,8 @@ impl Sequence for SecretBag {
 
     ghost value = { secret_bag_value };
 
-    fn with_components<U: Task>(&self, task: &mut U) -> U::Out {
-        with_components_of!(self, task; SecretBag { (OidRef(&self.type_id)), (ExplicitContextTag0(Ref(&self.value))) })
+    fn with_components<U: ComponentVisitor>(&self, visitor: &mut U) -> U::Out {
+        with_components_of!(self, visitor; SecretBag { (OidRef(&self.type_id)), (ExplicitContextTag0(Ref(&self.value))) })
     }
 
     fn read_fields(alloc: Global, r: &mut Reader<'_>, nest: u8) -> Result<Self, Error> {
@@ -159,8 +159,8 @@ impl Sequence for EncryptedKeyBag {
 
     ghost value = { encrypted_key_bag_value };
 
-    fn with_components<U: Task>(&self, task: &mut U) -> U::Out {
-        with_components_of!(self, task; EncryptedKeyBag { algorithm, encrypted_data })
+    fn with_components<U: ComponentVisitor>(&self, visitor: &mut U) -> U::Out {
+        with_components_of!(self, visitor; EncryptedKeyBag { algorithm, encrypted_data })
     }
 
     fn read_fields(alloc: Global, r: &mut Reader<'_>, nest: u8) -> Result<Self, Error> {

@@ -4,14 +4,14 @@ ghost use Rattle.std.specs.Prelude.{◌≡◌, ℕ, List};
 ghost use Rattle.pkcs12_bags.specs.EncryptedContents.{encrypted_octets, encrypted_safe_contents, encrypted_safe_contents_value};
 ghost use Rattle.pkcs12_bags.specs.EncryptedContentsEqual.{encrypted_safe_contents_equal};
 
-use crate::parts::oids::{Known, PKCS7_DATA};
+use crate::parts::oids::{OidNumber, PKCS7_DATA};
 use asn1_choices::OnlyOid;
 use asn1_core::prelude::*;
 use pkcs12_algs::Pkcs12EncryptionAlgorithm;
 use std::alloc::Global;
 
 /// The content type `pkcs7-data`. Any other is refused.
-type DataType = OnlyOid<Known<PKCS7_DATA>>;
+type DataType = OnlyOid<OidNumber<PKCS7_DATA>>;
 
 /// `[0] IMPLICIT OCTET STRING`, of borrowed octets, for writing.
 #[derive(Drop)]
@@ -42,9 +42,9 @@ pub struct EncryptedSafeContents {
     pub encrypted_content: Option<OctetStringAsn1>,
 }
 
-type ContentsRef<'a> = Part<
+type ContentsRef<'a> = Required<
     DataType,
-    Part<Ref<&'a Pkcs12EncryptionAlgorithm>, Maybe<EncryptedRef<'a>, End>>,
+    Required<Ref<&'a Pkcs12EncryptionAlgorithm>, Maybe<EncryptedRef<'a>, End>>,
 >;
 
 impl EncryptedSafeContents {
@@ -55,9 +55,9 @@ impl EncryptedSafeContents {
             Some(octets) => Some(EncryptedRef(octets)),
             None => None,
         };
-        Part(
+        Required(
             DataType::new(),
-            Part(Ref(&self.algorithm), Maybe(content, End)),
+            Required(Ref(&self.algorithm), Maybe(content, End)),
         )
     }
 }
@@ -67,12 +67,12 @@ impl Sequence for EncryptedSafeContents {
 
     ghost value = { encrypted_safe_contents_value };
 
-    fn with_components<U: Task>(&self, task: &mut U) -> U::Out {
-        task.run(&self.components())
+    fn with_components<U: ComponentVisitor>(&self, visitor: &mut U) -> U::Out {
+        visitor.visit(&self.components())
     }
 
     fn read_fields(alloc: Global, r: &mut Reader<'_>, nest: u8) -> Result<Self, Error> {
-        let fields_of!((_), algorithm, content OPTIONAL) = Part::<DataType, _>::read_components(
+        let fields_of!((_), algorithm, content OPTIONAL) = Required::<DataType, _>::read_components(
             alloc, r, nest,
         )?;
         let encrypted_content = match content {

@@ -63,9 +63,9 @@ pub fn octets_of_known(number: usize) -> &'static [u8]
 
 /// Names the object identifier with that number.
 #[derive(Drop)]
-pub struct Known<const N: usize>;
+pub struct OidNumber<const N: usize>;
 
-impl<const N: usize> Named for Known<N> {
+impl<const N: usize> Named for OidNumber<N> {
     ghost OID = { oid N };
 
     fn octets() -> &'static [u8] {

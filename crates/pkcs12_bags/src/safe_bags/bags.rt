@@ -15,7 +15,7 @@ ghost use Rattle.pkcs12_bags.specs.BagsLaws.{lawful_safe_bag, lawful_safe_conten
 ghost use Rattle.pkcs12_bags.specs.BagValues.{Kind, bag_value, kind_value, contents_value};
 
 use crate::parts::oids::{
-    CERTIFICATE_BAG, CRL_BAG, KEY_BAG, Known, SAFE_CONTENTS_BAG, SECRET_BAG, SHROUDED_KEY_BAG,
+    CERTIFICATE_BAG, CRL_BAG, KEY_BAG, OidNumber, SAFE_CONTENTS_BAG, SECRET_BAG, SHROUDED_KEY_BAG,
     is_oid_of, octets_of_known,
 };
 use crate::parts::{
@@ -65,26 +65,29 @@ pub enum SafeBagKind {
 pub struct SafeContents(pub Vec<SafeBag>);
 
 /// What follows the object identifier of a bag.
-type BagBody<T> = Part<ExplicitContextTag0<T>, BagAttributes>;
+type BagBody<T> = Required<ExplicitContextTag0<T>, BagAttributes>;
 
-type Nested = Known<SAFE_CONTENTS_BAG>;
+type Nested = OidNumber<SAFE_CONTENTS_BAG>;
 
 /// A bag that holds no bags.
 type SecretOr = Either<
-    Alternative<Known<SECRET_BAG>, BagBody<SecretBag>>,
+    Alternative<OidNumber<SECRET_BAG>, BagBody<SecretBag>>,
     AnyOid<BagBody<Asn1RawDer>>,
 >;
 
-type CrlOr = Either<Alternative<Known<CRL_BAG>, BagBody<CrlBag>>, SecretOr>;
+type CrlOr = Either<Alternative<OidNumber<CRL_BAG>, BagBody<CrlBag>>, SecretOr>;
 
-type CertificateOr = Either<Alternative<Known<CERTIFICATE_BAG>, BagBody<CertificateBag>>, CrlOr>;
+type CertificateOr = Either<
+    Alternative<OidNumber<CERTIFICATE_BAG>, BagBody<CertificateBag>>,
+    CrlOr,
+>;
 
 type ShroudedOr = Either<
-    Alternative<Known<SHROUDED_KEY_BAG>, BagBody<EncryptedKeyBag>>,
+    Alternative<OidNumber<SHROUDED_KEY_BAG>, BagBody<EncryptedKeyBag>>,
     CertificateOr,
 >;
 
-type PlainBag = Either<Alternative<Known<KEY_BAG>, BagBody<KeyBag>>, ShroudedOr>;
+type PlainBag = Either<Alternative<OidNumber<KEY_BAG>, BagBody<KeyBag>>, ShroudedOr>;
 
 impl SafeBag {
     /// The bag that was read.
@@ -94,27 +97,27 @@ impl SafeBag {
         match components {
             First((bags, attributes)) => made(SafeBagKind::SafeContents(bags), attributes),
             Second(First(alternative)) => {
-                let Part(ExplicitContextTag0(bag), attributes) = alternative.into_components();
+                let Required(ExplicitContextTag0(bag), attributes) = alternative.into_components();
                 made(SafeBagKind::Key(bag), attributes)
             }
             Second(Second(First(alternative))) => {
-                let Part(ExplicitContextTag0(bag), attributes) = alternative.into_components();
+                let Required(ExplicitContextTag0(bag), attributes) = alternative.into_components();
                 made(SafeBagKind::EncryptedKey(bag), attributes)
             }
             Second(Second(Second(First(alternative)))) => {
-                let Part(ExplicitContextTag0(bag), attributes) = alternative.into_components();
+                let Required(ExplicitContextTag0(bag), attributes) = alternative.into_components();
                 made(SafeBagKind::Certificate(bag), attributes)
             }
             Second(Second(Second(Second(First(alternative))))) => {
-                let Part(ExplicitContextTag0(bag), attributes) = alternative.into_components();
+                let Required(ExplicitContextTag0(bag), attributes) = alternative.into_components();
                 made(SafeBagKind::Crl(bag), attributes)
             }
             Second(Second(Second(Second(Second(First(alternative)))))) => {
-                let Part(ExplicitContextTag0(bag), attributes) = alternative.into_components();
+                let Required(ExplicitContextTag0(bag), attributes) = alternative.into_components();
                 made(SafeBagKind::Secret(bag), attributes)
             }
             Second(Second(Second(Second(Second(Second(other)))))) => {
-                let AnyOid(type_id, Part(ExplicitContextTag0(value), attributes)) = other;
+                let AnyOid(type_id, Required(ExplicitContextTag0(value), attributes)) = other;
                 made(SafeBagKind::Unknown { type_id, value }, attributes)
             }
         }
@@ -153,11 +156,11 @@ fn put_bag<T: DerSerialize, W: Writer>(
     requires { W.MayTake w.old }
     ensures { W.Takes (element 0x06 (oid number) ++ (bag_alternative T.format).text (T.value value.now, attributes_value attributes.now)) w.old w.new result }
 {
-    let components = Part(
+    let components = Required(
         ExplicitContextTag0(Ref(value)),
         BagAttributesRef(attributes),
     );
-    Part(KnownOid(octets_of_known(number)), components).put_components(w)
+    Required(KnownOid(octets_of_known(number)), components).put_components(w)
 }
 
 impl WriteComponents for SafeBag {
@@ -178,11 +181,11 @@ impl WriteComponents for SafeBag {
             SafeBagKind::Secret(bag) => put_bag(SECRET_BAG, bag, attributes, w),
             SafeBagKind::SafeContents(bags) => put_bag(SAFE_CONTENTS_BAG, bags, attributes, w),
             SafeBagKind::Unknown { type_id, value } => {
-                let components = Part(
+                let components = Required(
                     ExplicitContextTag0(Ref(value)),
                     BagAttributesRef(attributes),
                 );
-                Part(OidRef(type_id), components).put_components(w)
+                Required(OidRef(type_id), components).put_components(w)
             }
         }
     }

@@ -26,7 +26,7 @@ impl TaggedType for CTLEntryAttribute {
     const TAG: u8 = 0x30;
 
     fn put_tagged<W: Writer>(&self, tag: u8, w: &mut W) -> Result<(), WriteError> {
-        put_within(tag, &Part(Ref(&self.oid), Alone(Ref(&self.value))), w)
+        put_within(tag, &Required(Ref(&self.oid), Alone(Ref(&self.value))), w)
     }
 
     fn is_well_formed_at(&self, limit: u8) -> bool {

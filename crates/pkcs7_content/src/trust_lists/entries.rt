@@ -20,8 +20,8 @@ impl Sequence for CTLEntry {
 
     ghost value = { ctl_entry_value };
 
-    fn with_components<U: Task>(&self, task: &mut U) -> U::Out {
-        with_components_of!(self, task; CTLEntry { cert_fingerprint, attributes })
+    fn with_components<U: ComponentVisitor>(&self, visitor: &mut U) -> U::Out {
+        with_components_of!(self, visitor; CTLEntry { cert_fingerprint, attributes })
     }
 
     fn read_fields(alloc: Global, r: &mut Reader<'_>, nest: u8) -> Result<Self, Error> {
@@ -66,8 +66,8 @@ impl Sequence for Ctl {
 
     ghost value = { ctl_value };
 
-    fn with_components<U: Task>(&self, task: &mut U) -> U::Out {
-        ctl!(with_components_of(self, task))
+    fn with_components<U: ComponentVisitor>(&self, visitor: &mut U) -> U::Out {
+        ctl!(with_components_of(self, visitor))
     }
 
     fn read_fields(alloc: Global, r: &mut Reader<'_>, nest: u8) -> Result<Self, Error> {

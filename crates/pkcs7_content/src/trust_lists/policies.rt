@@ -17,8 +17,8 @@ impl Sequence for RootProgramChainPolicy {
 
     ghost value = { root_program_chain_policy_value };
 
-    fn with_components<U: Task>(&self, task: &mut U) -> U::Out {
-        with_components_of!(self, task; RootProgramChainPolicy { oid })
+    fn with_components<U: ComponentVisitor>(&self, visitor: &mut U) -> U::Out {
+        with_components_of!(self, visitor; RootProgramChainPolicy { oid })
     }
 
     fn read_fields(alloc: Global, r: &mut Reader<'_>, nest: u8) -> Result<Self, Error> {
@@ -45,8 +45,8 @@ impl Sequence for PolicyQualifier {
 
     ghost value = { policy_qualifier_value };
 
-    fn with_components<U: Task>(&self, task: &mut U) -> U::Out {
-        with_components_of!(self, task; PolicyQualifier { oid, bits })
+    fn with_components<U: ComponentVisitor>(&self, visitor: &mut U) -> U::Out {
+        with_components_of!(self, visitor; PolicyQualifier { oid, bits })
     }
 
     fn read_fields(alloc: Global, r: &mut Reader<'_>, nest: u8) -> Result<Self, Error> {
@@ -73,8 +73,8 @@ impl Sequence for CertPolicy {
 
     ghost value = { cert_policy_value };
 
-    fn with_components<U: Task>(&self, task: &mut U) -> U::Out {
-        with_components_of!(self, task; CertPolicy { oid, qualifier })
+    fn with_components<U: ComponentVisitor>(&self, visitor: &mut U) -> U::Out {
+        with_components_of!(self, visitor; CertPolicy { oid, qualifier })
     }
 
     fn read_fields(alloc: Global, r: &mut Reader<'_>, nest: u8) -> Result<Self, Error> {

@@ -44,9 +44,9 @@ impl WriteComponents for SignersBelow {
 
 type SignedTail = Omitted<CertificateSet, Maybe<RevocationInfoChoices, Tail<SignersBelow>>>;
 
-type SignedParts = Part<
+type SignedParts = Required<
     CmsVersion,
-    Part<DigestAlgorithmIdentifiers, Part<Boxed<EncapsulatedContentInfo>, SignedTail>>,
+    Required<DigestAlgorithmIdentifiers, Required<Boxed<EncapsulatedContentInfo>, SignedTail>>,
 >;
 
 impl SignedData {
@@ -123,7 +123,7 @@ fn signed_of(alloc: Global, components: SignedParts) -> Result<Boxed<SignedData>
         (λ x. signed_value x.0.value ≡ signed_parts_value components.0 components.1.0 components.1.1.0.0.value components.1.1.1.0 components.1.1.1.1.0 (map signer_value components.1.1.1.1.1.0.0.0.items))
         (λ e. e ≡ Memory) }
 {
-    let Part(version, Part(digest_algorithms, Part(content_info, rest))) = components;
+    let Required(version, Required(digest_algorithms, Required(content_info, rest))) = components;
     let Omitted(certificates, Maybe(crls, Tail(SignersBelow(signers)))) = rest;
     let signed = SignedData {
         version,

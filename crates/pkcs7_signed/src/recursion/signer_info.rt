@@ -27,14 +27,17 @@ use pkcs7_signed_crl::{
 };
 use std::alloc::Global;
 
-type SignerTail = Part<
+type SignerTail = Required<
     SignatureAlgorithmIdentifier,
-    Part<SignatureValue, Tail<SetOrNone<UnsignedAttribute>>>,
+    Required<SignatureValue, Tail<SetOrNone<UnsignedAttribute>>>,
 >;
 
-type SignerParts = Part<
+type SignerParts = Required<
     FixedVersion<1>,
-    Part<SignerIdentifier, Part<DigestAlgorithmIdentifier, Omitted<Attributes, SignerTail>>>,
+    Required<
+        SignerIdentifier,
+        Required<DigestAlgorithmIdentifier, Omitted<Attributes, SignerTail>>,
+    >,
 >;
 
 impl SignerInfo {
@@ -98,8 +101,8 @@ fn read_signer_with<F: Fn(&mut Reader<'_>, u8) -> Result<Boxed<SignerInfo>, Erro
             ensures { GivesComponents (λ x. (map attribute_value x.0.items, tt)) (set_or_none 0xA1 attribute) nest s.old s.new result }
         { read_unsigned_with(alloc, s, nest, by) },
     )?;
-    let Part(_, Part(sid, Part(digest_algorithm, Omitted(signed, rest)))) = components;
-    let Part(signature_algorithm, Part(signature, Tail(SetOrNone(unsigned)))) = rest;
+    let Required(_, Required(sid, Required(digest_algorithm, Omitted(signed, rest)))) = components;
+    let Required(signature_algorithm, Required(signature, Tail(SetOrNone(unsigned)))) = rest;
     Ok(SignerInfo {
         version: CmsVersion::V1,
         sid,

@@ -3,7 +3,7 @@
 ghost use Rattle.std.specs.Prelude.{◌≡◌, ◌↔◌, IsTrue, List, false};
 ghost use Rattle.asn1_core.specs.Der.{octets_of, less, Gives, GivesComponents};
 ghost use Rattle.pkcs7_signed.specs.Components.{UnsignedValues, kind_of, IsOfKind, values_components};
-ghost use Rattle.pkcs7_signed.specs.Signers.{Value, signers, attributes, certificates, signer, attribute, certificate, unsigned_attributes, values};
+ghost use Rattle.pkcs7_signed.specs.Signers.{Value, signers, attributes, certificates, signer, attribute, pkcs7_certificate, unsigned_attributes, values};
 ghost use Rattle.pkcs7_signed.specs.SignerValues.{signer_value, attribute_value, attributes_value, values_value};
 ghost use Rattle.pkcs7_signed.specs.Below.{ReadsSigners};
 ghost use Rattle.pkcs7_signed.specs.SignerLaws.{lawful_attribute, lawful_unsigned_attributes};
@@ -12,7 +12,7 @@ ghost use Rattle.pkcs7_signed.specs.SignerEqual.{attributes_equal, attribute_equ
 use crate::boxed::Boxed;
 use crate::heads::put_two;
 use crate::recursion::pkcs7_certificate::{
-    certificates_formed_at, cloned_certificates, read_certificates_with,
+    cloned_pkcs7_certificates, pkcs7_certificates_formed_at, read_pkcs7_certificates_with,
 };
 use crate::recursion::signed_data::{cloned_signers, read_signers_below, signers_formed_below};
 use crate::recursion::signer_info::read_boxed;
@@ -176,7 +176,7 @@ impl DerSerialize for UnsignedAttributeValue {
     #[cycle(formed)]
     fn well_formed_at(&self, limit: u8) -> bool {
         match self {
-            Self::MsCounterSign(certificates) => certificates_formed_at(certificates, limit),
+            Self::MsCounterSign(certificates) => pkcs7_certificates_formed_at(certificates, limit),
             Self::CounterSign(signers) => signers_formed_below(signers, limit),
             Self::Unknown(elements) => elements.0.components_well_formed_at(limit),
         }
@@ -193,11 +193,11 @@ fn read_values_with<F: Fn(&mut Reader<'_>, u8) -> Result<Boxed<SignerInfo>, Erro
 ) -> Result<UnsignedAttributeValue, Error>
     requires sound { r.old.refused ≡ false }
     requires below { ReadsSigners (F.pre by.now) (F.post by.now) nest }
-    ensures { GivesComponents values_value (values_components certificate (less signer) (kind_of oid.now)) nest r.old r.new result }
+    ensures { GivesComponents values_value (values_components pkcs7_certificate (less signer) (kind_of oid.now)) nest r.old r.new result }
 {
     match Kind::with_oid(oid) {
         Kind::MsCounterSign => {
-            let certificates = read_certificates_with(alloc, r, nest, by)?;
+            let certificates = read_pkcs7_certificates_with(alloc, r, nest, by)?;
             Ok(UnsignedAttributeValue::MsCounterSign(Asn1SetOf(certificates)))
         }
         Kind::CounterSign => {
@@ -219,7 +219,9 @@ impl TryClone for UnsignedAttributeValue {
     #[cycle(copy)]
     fn try_clone(&self, alloc: Global) -> Result<Self, Error> {
         match self {
-            Self::MsCounterSign(set) => Ok(Self::MsCounterSign(cloned_certificates(set, alloc)?)),
+            Self::MsCounterSign(set) => Ok(Self::MsCounterSign(cloned_pkcs7_certificates(
+                set, alloc,
+            )?)),
             Self::CounterSign(set) => Ok(Self::CounterSign(cloned_signers(set, alloc)?)),
             Self::Unknown(elements) => Ok(Self::Unknown(elements.try_clone(alloc)?)),
         }

@@ -21,10 +21,10 @@ impl Asn1Type for SpcString {
 
     ghost value = { spc_string_value };
 
-    fn with_encoded<U: Task>(&self, task: &mut U) -> U::Out {
+    fn with_encoded<U: ComponentVisitor>(&self, visitor: &mut U) -> U::Out {
         match self {
-            SpcString::Unicode(text) => task.run_on(&text.0),
-            SpcString::Ancii(text) => task.run_on(&text.0),
+            SpcString::Unicode(text) => visitor.visit_value(&text.0),
+            SpcString::Ancii(text) => visitor.visit_value(&text.0),
         }
     }
 
@@ -59,8 +59,8 @@ impl Asn1Type for Url {
 
     ghost value = { url_value };
 
-    fn with_encoded<U: Task>(&self, task: &mut U) -> U::Out {
-        task.run_on(&self.0.0)
+    fn with_encoded<U: ComponentVisitor>(&self, visitor: &mut U) -> U::Out {
+        visitor.visit_value(&self.0.0)
     }
 
     fn read_encoded(alloc: Global, r: &mut Reader<'_>, nest: u8) -> Result<Self, Error> {
@@ -88,8 +88,8 @@ impl Asn1Type for Moniker {
 
     ghost value = { moniker_value };
 
-    fn with_encoded<U: Task>(&self, task: &mut U) -> U::Out {
-        task.run_on(&self.0.0)
+    fn with_encoded<U: ComponentVisitor>(&self, visitor: &mut U) -> U::Out {
+        visitor.visit_value(&self.0.0)
     }
 
     fn read_encoded(alloc: Global, r: &mut Reader<'_>, nest: u8) -> Result<Self, Error> {
@@ -117,8 +117,8 @@ impl Asn1Type for File {
 
     ghost value = { file_value };
 
-    fn with_encoded<U: Task>(&self, task: &mut U) -> U::Out {
-        task.run_on(&self.0)
+    fn with_encoded<U: ComponentVisitor>(&self, visitor: &mut U) -> U::Out {
+        visitor.visit_value(&self.0)
     }
 
     fn read_encoded(alloc: Global, r: &mut Reader<'_>, nest: u8) -> Result<Self, Error> {
@@ -151,11 +151,11 @@ impl Asn1Type for SpcLink {
 
     ghost value = { spc_link_value };
 
-    fn with_encoded<U: Task>(&self, task: &mut U) -> U::Out {
+    fn with_encoded<U: ComponentVisitor>(&self, visitor: &mut U) -> U::Out {
         match self {
-            SpcLink::Url(url) => task.run_on(url),
-            SpcLink::Moniker(moniker) => task.run_on(moniker),
-            SpcLink::File(file) => task.run_on(file),
+            SpcLink::Url(url) => visitor.visit_value(url),
+            SpcLink::Moniker(moniker) => visitor.visit_value(moniker),
+            SpcLink::File(file) => visitor.visit_value(file),
         }
     }
 

@@ -84,8 +84,8 @@ impl Sequence for SpcSerializedObject {
 
     ghost value = { spc_serialized_object_value };
 
-    fn with_components<U: Task>(&self, task: &mut U) -> U::Out {
-        with_components_of!(self, task; SpcSerializedObject { class_id, serialized_data })
+    fn with_components<U: ComponentVisitor>(&self, visitor: &mut U) -> U::Out {
+        with_components_of!(self, visitor; SpcSerializedObject { class_id, serialized_data })
     }
 
     fn read_fields(alloc: Global, r: &mut Reader<'_>, nest: u8) -> Result<Self, Error> {

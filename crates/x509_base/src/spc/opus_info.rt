@@ -19,8 +19,8 @@ impl Sequence for SpcSpOpusInfo {
 
     ghost value = { spc_sp_opus_info_value };
 
-    fn with_components<U: Task>(&self, task: &mut U) -> U::Out {
-        with_components_of!(self, task; SpcSpOpusInfo { program_name OPTIONAL, more_info OPTIONAL })
+    fn with_components<U: ComponentVisitor>(&self, visitor: &mut U) -> U::Out {
+        with_components_of!(self, visitor; SpcSpOpusInfo { program_name OPTIONAL, more_info OPTIONAL })
     }
 
     fn read_fields(alloc: Global, r: &mut Reader<'_>, nest: u8) -> Result<Self, Error> {

@@ -66,8 +66,8 @@ impl Sequence for Accuracy {
 
     ghost value = { accuracy_value };
 
-    fn with_components<U: Task>(&self, task: &mut U) -> U::Out {
-        task.run(&self.0)
+    fn with_components<U: ComponentVisitor>(&self, visitor: &mut U) -> U::Out {
+        visitor.visit(&self.0)
     }
 
     fn read_fields(alloc: Global, r: &mut Reader<'_>, nest: u8) -> Result<Self, Error> {
@@ -107,16 +107,16 @@ pub struct TstInfo {
 // The version is no field.
 
 macro_rules! put_after_version {
-    ($value:ident, $task:ident; $type:ident { $($parts:tt)* }) => {
-        $task.run(&Part(FixedVersion::<1>, body_of!($value; $($parts)*)))
+    ($value:ident, $visitor:ident; $type:ident { $($parts:tt)* }) => {
+        $visitor.visit(&Required(FixedVersion::<1>, body_of!($value; $($parts)*)))
     };
 }
 
 macro_rules! read_after_version {
     ($alloc:ident, $r:ident, $nest:ident; $type:ident { $($parts:tt)* }) => {{
-        let components: Part<FixedVersion<1>, types_of!($($parts)*)> =
+        let components: Required<FixedVersion<1>, types_of!($($parts)*)> =
             ReadComponents::read_components($alloc, $r, $nest)?;
-        let Part(_, fields_of!($($parts)*)) = components;
+        let Required(_, fields_of!($($parts)*)) = components;
         Ok(struct_of!($type; ; $($parts)*))
     }};
 }
@@ -135,8 +135,8 @@ impl Sequence for TstInfo {
 
     ghost value = { tst_info_value };
 
-    fn with_components<U: Task>(&self, task: &mut U) -> U::Out {
-        tst_info!(put_after_version(self, task))
+    fn with_components<U: ComponentVisitor>(&self, visitor: &mut U) -> U::Out {
+        tst_info!(put_after_version(self, visitor))
     }
 
     fn read_fields(alloc: Global, r: &mut Reader<'_>, nest: u8) -> Result<Self, Error> {

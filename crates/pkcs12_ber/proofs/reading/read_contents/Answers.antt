@@ -4,7 +4,7 @@ use Rattle.asn1_core_element.specs.declared.error.Error.TheVariants.{Memory}
 use Rattle.pkcs12_ber.specs.ContentInfos.{content_info_value}
 use Rattle.pkcs12_ber.specs.Files.{HasNoContents}
 use Rattle.pkcs12_ber.specs.Places.{InAuthSafe}
-use Rattle.pkcs12_ber.specs.declared.reading.Place.TheVariants.{Contents}
+use Rattle.pkcs12_ber.specs.declared.reading.BufferOffset.TheVariants.{Contents}
 use Rattle.pkcs12_ber.proofs.Exits.{refused, no_safe, no_value, in_data}
 use Rattle.pkcs12_ber.proofs.reading.read_contents.Goals as goal
 

@@ -2,11 +2,11 @@ use Rattle.std.proofs.Common.{◌≡◌, ◌-◌, ◌↔◌, suc, IsTrue, false,
 use Rattle.std.proofs.lemmas.Bool.{iff_false}
 use Rattle.asn1_core.specs.Der.{octets_of, less, each, IsOid}
 use Rattle.asn1_core_format.proofs.ItemTests.{all_tested, one_failed}
-use Rattle.pkcs7_signed.specs.Components.{kind_of, attribute_components, certificate_components}
-use Rattle.pkcs7_signed.specs.Signers.{signer, attribute, certificate, signer_infos, unsigned_attributes, values}
-use Rattle.pkcs7_signed.specs.SignerLevels.{value_ms_counter_sign, value_counter_sign, value_unknown, value_signers, value_attributes, out_certificate, out_attribute}
+use Rattle.pkcs7_signed.specs.Components.{kind_of, attribute_components, pkcs7_certificate_components}
+use Rattle.pkcs7_signed.specs.Signers.{signer, attribute, pkcs7_certificate, signer_infos, unsigned_attributes, values}
+use Rattle.pkcs7_signed.specs.SignerLevels.{value_ms_counter_sign, value_counter_sign, value_unknown, value_signers, value_attributes, out_pkcs7_certificate, out_attribute}
 use Rattle.pkcs7_signed.specs.declared.signers.UnsignedAttribute.{out-UnsignedAttribute}
-use Rattle.pkcs7_signed.specs.SignerValues.{signer_value, attribute_value, certificate_value, values_value}
+use Rattle.pkcs7_signed.specs.SignerValues.{signer_value, attribute_value, pkcs7_certificate_value, values_value}
 use Rattle.pkcs7_signed.proofs.SignerTests.{never, through, signer_unformed, signer_formed, signed_formed, signed_unformed, of_kind, not_of_kind, none_below, some_below, with_first}
 use Rattle.pkcs7_signed.proofs.recursion.+formed.Goals as goal
 
@@ -36,19 +36,19 @@ unsigned_attribute::UnsignedAttributesDerSerialize::well_formed_at-returns m c =
 
 pub unsigned_attribute::UnsignedAttributeDerSerialize::well_formed_at-returns-then-not-fits : goal.unsigned_attribute::UnsignedAttributeDerSerialize::well_formed_at-returns-then-not-fits
 unsigned_attribute::UnsignedAttributeDerSerialize::well_formed_at-returns-then-not-fits m c =
-    subst (λ v. IsTrue false ↔ (attribute_components certificate (less signer)).IsWellFormed c.args.limit v) (sym (out_attribute c.args.self.now))
+    subst (λ v. IsTrue false ↔ (attribute_components pkcs7_certificate (less signer)).IsWellFormed c.args.limit v) (sym (out_attribute c.args.self.now))
     (never (λ w. not_of_kind c.args.limit (kind_of (octets_of (out-UnsignedAttribute c.args.self.now).ty.0)) (values_value (out-UnsignedAttribute c.args.self.now).value) (iff_false c.fits.ensures c.if-not-fits.true) w.1))
 
 pub unsigned_attribute::UnsignedAttributeDerSerialize::well_formed_at-returns : goal.unsigned_attribute::UnsignedAttributeDerSerialize::well_formed_at-returns
 unsigned_attribute::UnsignedAttributeDerSerialize::well_formed_at-returns m c =
     let o : IsOid (octets_of (out-UnsignedAttribute c.args.self.now).ty.0) = search rules in
     let f = of_kind c.args.limit (kind_of (octets_of (out-UnsignedAttribute c.args.self.now).ty.0)) (values_value (out-UnsignedAttribute c.args.self.now).value) (c.fits.ensures.0 c.if-not-fits.false) in
-    subst (λ v. IsTrue c.well_formed_at.result ↔ (attribute_components certificate (less signer)).IsWellFormed c.args.limit v) (sym (out_attribute c.args.self.now))
+    subst (λ v. IsTrue c.well_formed_at.result ↔ (attribute_components pkcs7_certificate (less signer)).IsWellFormed c.args.limit v) (sym (out_attribute c.args.self.now))
     (with_first o (through c.well_formed_at.ensures f))
 
 pub unsigned_attribute::UnsignedAttributeValueDerSerialize::well_formed_at-returns-in-MsCounterSign : goal.unsigned_attribute::UnsignedAttributeValueDerSerialize::well_formed_at-returns-in-MsCounterSign
 unsigned_attribute::UnsignedAttributeValueDerSerialize::well_formed_at-returns-in-MsCounterSign m c =
-    subst (λ v. IsTrue c.certificates_formed_at.result ↔ values.IsWellFormed c.args.limit v) (sym (ap values_value c.in-MsCounterSign.is ∙ value_ms_counter_sign _)) c.certificates_formed_at.ensures
+    subst (λ v. IsTrue c.pkcs7_certificates_formed_at.result ↔ values.IsWellFormed c.args.limit v) (sym (ap values_value c.in-MsCounterSign.is ∙ value_ms_counter_sign _)) c.pkcs7_certificates_formed_at.ensures
 
 pub unsigned_attribute::UnsignedAttributeValueDerSerialize::well_formed_at-returns-in-CounterSign : goal.unsigned_attribute::UnsignedAttributeValueDerSerialize::well_formed_at-returns-in-CounterSign
 unsigned_attribute::UnsignedAttributeValueDerSerialize::well_formed_at-returns-in-CounterSign m c =
@@ -60,12 +60,12 @@ unsigned_attribute::UnsignedAttributeValueDerSerialize::well_formed_at-returns-i
 
 pub pkcs7_certificate::Pkcs7CertificateDerSerialize::well_formed_at-returns-then-not-is_oid_of : goal.pkcs7_certificate::Pkcs7CertificateDerSerialize::well_formed_at-returns-then-not-is_oid_of
 pkcs7_certificate::Pkcs7CertificateDerSerialize::well_formed_at-returns-then-not-is_oid_of m c =
-    subst (λ v. IsTrue false ↔ (certificate_components (less signer)).IsWellFormed c.args.limit v) (sym (out_certificate c.args.self.now))
+    subst (λ v. IsTrue false ↔ (pkcs7_certificate_components (less signer)).IsWellFormed c.args.limit v) (sym (out_pkcs7_certificate c.args.self.now))
     (never (λ w. iff_false c.is_oid_of.ensures c.if-not-is_oid_of.true w.0))
 
 pub pkcs7_certificate::Pkcs7CertificateDerSerialize::well_formed_at-returns : goal.pkcs7_certificate::Pkcs7CertificateDerSerialize::well_formed_at-returns
 pkcs7_certificate::Pkcs7CertificateDerSerialize::well_formed_at-returns m c =
-    subst (λ v. IsTrue c.well_formed_at.result ↔ (certificate_components (less signer)).IsWellFormed c.args.limit v) (sym (out_certificate c.args.self.now))
+    subst (λ v. IsTrue c.well_formed_at.result ↔ (pkcs7_certificate_components (less signer)).IsWellFormed c.args.limit v) (sym (out_pkcs7_certificate c.args.self.now))
     (with_first (c.is_oid_of.ensures.0 c.if-not-is_oid_of.false) c.well_formed_at.ensures)
 
 pub signed_data::SignedDataDerSerialize::well_formed_at-returns-then-not-well_formed_at : goal.signed_data::SignedDataDerSerialize::well_formed_at-returns-then-not-well_formed_at
@@ -87,15 +87,15 @@ signed_data::signers_formed_at-returns m c =
     let h = all_tested (signer.IsWellFormed c.args.limit) signer_value c.deref-item-items.result.now c.loop-item.item-index c.loop-item.invariant c.loop-item-test.false in
     subst (λ xs. IsTrue true ↔ (each signer).IsWellFormed c.args.limit (map signer_value xs)) c.deref-item-items.ensures.value h
 
-pub pkcs7_certificate::certificates_formed_at-returns-then-not-well_formed_at : goal.pkcs7_certificate::certificates_formed_at-returns-then-not-well_formed_at
-pkcs7_certificate::certificates_formed_at-returns-then-not-well_formed_at m c =
-    let h = one_failed (certificate.IsWellFormed c.args.limit) certificate_value c.deref-item-items.result.now c.loop-item.item-index c.loop-item.invariant c.item-item.result c.loop-item-test.true c.item-item.is (iff_false c.well_formed_at.ensures c.if-not-well_formed_at.true) in
-    subst (λ xs. IsTrue false ↔ (each certificate).IsWellFormed c.args.limit (map certificate_value xs)) c.deref-item-items.ensures.value h
+pub pkcs7_certificate::pkcs7_certificates_formed_at-returns-then-not-well_formed_at : goal.pkcs7_certificate::pkcs7_certificates_formed_at-returns-then-not-well_formed_at
+pkcs7_certificate::pkcs7_certificates_formed_at-returns-then-not-well_formed_at m c =
+    let h = one_failed (pkcs7_certificate.IsWellFormed c.args.limit) pkcs7_certificate_value c.deref-item-items.result.now c.loop-item.item-index c.loop-item.invariant c.item-item.result c.loop-item-test.true c.item-item.is (iff_false c.well_formed_at.ensures c.if-not-well_formed_at.true) in
+    subst (λ xs. IsTrue false ↔ (each pkcs7_certificate).IsWellFormed c.args.limit (map pkcs7_certificate_value xs)) c.deref-item-items.ensures.value h
 
-pub pkcs7_certificate::certificates_formed_at-returns : goal.pkcs7_certificate::certificates_formed_at-returns
-pkcs7_certificate::certificates_formed_at-returns m c =
-    let h = all_tested (certificate.IsWellFormed c.args.limit) certificate_value c.deref-item-items.result.now c.loop-item.item-index c.loop-item.invariant c.loop-item-test.false in
-    subst (λ xs. IsTrue true ↔ (each certificate).IsWellFormed c.args.limit (map certificate_value xs)) c.deref-item-items.ensures.value h
+pub pkcs7_certificate::pkcs7_certificates_formed_at-returns : goal.pkcs7_certificate::pkcs7_certificates_formed_at-returns
+pkcs7_certificate::pkcs7_certificates_formed_at-returns m c =
+    let h = all_tested (pkcs7_certificate.IsWellFormed c.args.limit) pkcs7_certificate_value c.deref-item-items.result.now c.loop-item.item-index c.loop-item.invariant c.loop-item-test.false in
+    subst (λ xs. IsTrue true ↔ (each pkcs7_certificate).IsWellFormed c.args.limit (map pkcs7_certificate_value xs)) c.deref-item-items.ensures.value h
 
 pub signed_data::signers_formed_below-returns-then-limit-eq0 : goal.signed_data::signers_formed_below-returns-then-limit-eq0
 signed_data::signers_formed_below-returns-then-limit-eq0 m c =

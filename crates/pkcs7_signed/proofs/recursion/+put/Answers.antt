@@ -1,9 +1,9 @@
 use Rattle.std.proofs.Common.{sym, ap, ◌∙◌, subst}
 use Rattle.std.proofs.lemmas.Bool.{iff_false}
 use Rattle.asn1_core.specs.Der.{less}
-use Rattle.pkcs7_signed.specs.Components.{attribute_components, certificate_components}
-use Rattle.pkcs7_signed.specs.Signers.{signer, certificate, signer_infos, unsigned_attributes, values}
-use Rattle.pkcs7_signed.specs.SignerLevels.{value_ms_counter_sign, value_counter_sign, value_unknown, value_signers, value_attributes, text_signed, out_certificate, out_attribute, short_text, long_text, none_in, some_in}
+use Rattle.pkcs7_signed.specs.Components.{attribute_components, pkcs7_certificate_components}
+use Rattle.pkcs7_signed.specs.Signers.{signer, pkcs7_certificate, signer_infos, unsigned_attributes, values}
+use Rattle.pkcs7_signed.specs.SignerLevels.{value_ms_counter_sign, value_counter_sign, value_unknown, value_signers, value_attributes, text_signed, out_pkcs7_certificate, out_attribute, short_text, long_text, none_in, some_in}
 use Rattle.pkcs7_signed.specs.SignerValues.{values_value}
 use Rattle.pkcs7_signed.proofs.recursion.+put.Goals as goal
 
@@ -25,7 +25,7 @@ unsigned_attribute::UnsignedAttributesDerSerialize::put-returns g m c =
 
 pub unsigned_attribute::UnsignedAttributeDerSerialize::put-returns : goal.unsigned_attribute::UnsignedAttributeDerSerialize::put-returns
 unsigned_attribute::UnsignedAttributeDerSerialize::put-returns g m c =
-    subst (λ v. g.W.Writer.Takes ((attribute_components certificate (less signer)).text v) c.args.w.now c.put_two.new.w c.put_two.result) (sym (out_attribute c.args.self.now)) c.put_two.ensures
+    subst (λ v. g.W.Writer.Takes ((attribute_components pkcs7_certificate (less signer)).text v) c.args.w.now c.put_two.new.w c.put_two.result) (sym (out_attribute c.args.self.now)) c.put_two.ensures
 
 pub unsigned_attribute::UnsignedAttributeValueDerSerialize::put-returns-in-MsCounterSign : goal.unsigned_attribute::UnsignedAttributeValueDerSerialize::put-returns-in-MsCounterSign
 unsigned_attribute::UnsignedAttributeValueDerSerialize::put-returns-in-MsCounterSign g m c =
@@ -41,7 +41,7 @@ unsigned_attribute::UnsignedAttributeValueDerSerialize::put-returns-in-Unknown g
 
 pub pkcs7_certificate::Pkcs7CertificateDerSerialize::put-returns : goal.pkcs7_certificate::Pkcs7CertificateDerSerialize::put-returns
 pkcs7_certificate::Pkcs7CertificateDerSerialize::put-returns g m c =
-    subst (λ v. g.W.Writer.Takes ((certificate_components (less signer)).text v) c.args.w.now c.put_two.new.w c.put_two.result) (sym (out_certificate c.args.self.now)) c.put_two.ensures
+    subst (λ v. g.W.Writer.Takes ((pkcs7_certificate_components (less signer)).text v) c.args.w.now c.put_two.new.w c.put_two.result) (sym (out_pkcs7_certificate c.args.self.now)) c.put_two.ensures
 
 pub signed_data::SignedDataDerSerialize::put-returns : goal.signed_data::SignedDataDerSerialize::put-returns
 signed_data::SignedDataDerSerialize::put-returns g m c =

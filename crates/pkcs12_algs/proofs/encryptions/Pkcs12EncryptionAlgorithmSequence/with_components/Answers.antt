@@ -4,4 +4,4 @@ use Rattle.pkcs12_algs.proofs.encryptions.Pkcs12EncryptionAlgorithmSequence.with
 
 pub returns : goal.returns
 returns g c =
-    subst (λ v. g.U.Task.does c.args.task.now c.run.new.self (pkcs12_encryption_algorithm.format.text v) (λ k. pkcs12_encryption_algorithm.format.IsWellFormed k v) c.run.result) c.choice.ensures c.run.ensures
+    subst (λ v. g.U.ComponentVisitor.Visits c.args.visitor.now c.visit.new.self (pkcs12_encryption_algorithm.format.text v) (λ k. pkcs12_encryption_algorithm.format.IsWellFormed k v) c.visit.result) c.choice.ensures c.visit.ensures

@@ -4,4 +4,4 @@ use Rattle.pkcs12_algs.proofs.pbes2.Pbes2KeyDerivationFuncSequence.with_componen
 
 pub returns : goal.returns
 returns g c =
-    subst (λ v. g.U.Task.does c.args.task.now c.run.new.self (pbes2_key_derivation_func.format.text v) (λ k. pbes2_key_derivation_func.format.IsWellFormed k v) c.run.result) c.choice.ensures c.run.ensures
+    subst (λ v. g.U.ComponentVisitor.Visits c.args.visitor.now c.visit.new.self (pbes2_key_derivation_func.format.text v) (λ k. pbes2_key_derivation_func.format.IsWellFormed k v) c.visit.result) c.choice.ensures c.visit.ensures

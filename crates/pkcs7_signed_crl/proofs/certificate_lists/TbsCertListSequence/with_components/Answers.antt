@@ -11,4 +11,4 @@ pub returns : goal.returns
 returns g c =
     let x = c.args.self.now in
     let same = ap₂ (λ v e. (v, (algorithm_identifier_value x.signature, (name_parts x.issuer, (time_value x.this_update, (option_value time_value x.next_update, (option_value revoked_certificates_value x.revoked_certificates, (e, tt)))))))) c.as_v2.ensures c.tagged.ensures in
-    subst (λ (v : tbs_cert_list.Value). g.U.Task.does c.args.task.now c.run.new.self (tbs_cert_list.format.text v) (λ k. tbs_cert_list.format.IsWellFormed k v) c.run.result) same c.run.ensures
+    subst (λ (v : tbs_cert_list.Value). g.U.ComponentVisitor.Visits c.args.visitor.now c.visit.new.self (tbs_cert_list.format.text v) (λ k. tbs_cert_list.format.IsWellFormed k v) c.visit.result) same c.visit.ensures

@@ -4,4 +4,4 @@ use Rattle.pkcs7_signed_crl.proofs.revocations.RevocationInfoChoiceAsn1Type.with
 
 pub returns-in-Crl : goal.returns-in-Crl
 returns-in-Crl g c =
-    subst (λ x. g.U.Task.does c.args.task.now c.run_on.new.self (revocation_info_choice.format.text (revocation_info_choice_value x)) (λ k. revocation_info_choice.format.IsWellFormed k (revocation_info_choice_value x)) c.run_on.result) (sym c.in-Crl.is) c.run_on.ensures
+    subst (λ x. g.U.ComponentVisitor.Visits c.args.visitor.now c.visit_value.new.self (revocation_info_choice.format.text (revocation_info_choice_value x)) (λ k. revocation_info_choice.format.IsWellFormed k (revocation_info_choice_value x)) c.visit_value.result) (sym c.in-Crl.is) c.visit_value.ensures

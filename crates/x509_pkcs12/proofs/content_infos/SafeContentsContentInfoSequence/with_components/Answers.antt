@@ -4,4 +4,4 @@ use Rattle.x509_pkcs12.proofs.content_infos.SafeContentsContentInfoSequence.with
 
 pub returns : goal.returns
 returns g c =
-    subst (λ v. g.U.Task.does c.args.task.now c.run.new.self (safe_contents_content_info.format.text v) (λ k. safe_contents_content_info.format.IsWellFormed k v) c.run.result) c.choice.ensures c.run.ensures
+    subst (λ v. g.U.ComponentVisitor.Visits c.args.visitor.now c.visit.new.self (safe_contents_content_info.format.text v) (λ k. safe_contents_content_info.format.IsWellFormed k v) c.visit.result) c.choice.ensures c.visit.ensures

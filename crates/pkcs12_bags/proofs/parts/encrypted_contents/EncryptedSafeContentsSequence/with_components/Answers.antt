@@ -4,4 +4,4 @@ use Rattle.pkcs12_bags.proofs.parts.encrypted_contents.EncryptedSafeContentsSequ
 
 pub returns : goal.returns
 returns g c =
-    subst (λ v. g.U.Task.does c.args.task.now c.run.new.self (encrypted_safe_contents.format.text v) (λ k. encrypted_safe_contents.format.IsWellFormed k v) c.run.result) c.components.ensures c.run.ensures
+    subst (λ v. g.U.ComponentVisitor.Visits c.args.visitor.now c.visit.new.self (encrypted_safe_contents.format.text v) (λ k. encrypted_safe_contents.format.IsWellFormed k v) c.visit.result) c.components.ensures c.visit.ensures

@@ -1,5 +1,5 @@
-use Rattle.asn1_other_leaves.specs.Enumerations.{spells_none_in, spells_another}
-use Rattle.asn1_other_leaves.proofs.enumerated.enumerated_from_contents.Goals as goal
+use Rattle.asn1_module_leaves.specs.Enumerations.{spells_none_in, spells_another}
+use Rattle.asn1_module_leaves.proofs.enumerated.enumerated_from_contents.Goals as goal
 
 -- src/enumerated.rt:38:1
 pub returns-in-None : goal.returns-in-None

@@ -2,7 +2,7 @@
 
 ghost use Rattle.std.specs.Prelude.{◌↔◌, IsTrue};
 ghost use Rattle.asn1_leaves_strings.specs.Octets.{contents_of};
-ghost use Rattle.asn1_other_leaves.specs.NamedBits.{HasBit};
+ghost use Rattle.asn1_module_leaves.specs.NamedBits.{HasBit};
 
 use asn1_leaves::BitStringAsn1;
 

@@ -1,7 +1,7 @@
 use Rattle.std.proofs.Common.{subst}
 use Rattle.asn1_core_element.specs.Element.{retag}
 use Rattle.asn1_core_format.proofs.Tags.{own_text}
-use Rattle.asn1_core_format.proofs.types.OwnRefWriteComponents.put_components.Goals as goal
+use Rattle.asn1_core_format.proofs.types.UnderOwnTagRefWriteComponents.put_components.Goals as goal
 
 pub returns : goal.returns
 returns g c =

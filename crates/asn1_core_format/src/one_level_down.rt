@@ -10,9 +10,9 @@ use std::alloc::Global;
 
 /// A value that takes a nesting level, so that there is none where no level is left.
 #[derive(Debug, Drop)]
-pub struct Less<T>(pub T);
+pub struct OneLevelDown<T>(pub T);
 
-impl<T: DerSerialize> DerSerialize for Less<T> {
+impl<T: DerSerialize> DerSerialize for OneLevelDown<T> {
     ghost Value = { T.Value };
 
     ghost value = { λ x. T.value x.0 };
@@ -31,13 +31,13 @@ impl<T: DerSerialize> DerSerialize for Less<T> {
     }
 }
 
-impl<T: DerDeserialize> DerDeserialize for Less<T> {
+impl<T: DerDeserialize> DerDeserialize for OneLevelDown<T> {
     fn read(alloc: Global, r: &mut Reader<'_>, nest: u8) -> Result<Self, Error> {
         if nest == 0 {
             return Err(Error::TooDeep);
         }
         let value = T::read(alloc, r, nest - 1)?;
-        Ok(Less(value))
+        Ok(OneLevelDown(value))
     }
 
     fn begins(tag: u8) -> bool {

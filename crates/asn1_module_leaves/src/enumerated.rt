@@ -3,9 +3,9 @@
 ghost use Rattle.std.specs.Prelude.{◌≡◌, ◌^◌, ℕ, List, true, MatchOption};
 ghost use Rattle.std.proofs.Common.{rules};
 ghost use Rattle.asn1_core_format.specs.Numbers.{numbers_below};
-ghost use Rattle.asn1_other_leaves.specs.Asn1.{ENUMERATED};
+ghost use Rattle.asn1_module_leaves.specs.Asn1.{ENUMERATED};
 ghost use Rattle.asn1_core_format.specs.Leaf.{GivesSpelled};
-ghost use Rattle.asn1_other_leaves.specs.Enumerations.{IsNoneOf, IsOneOf, all_low, numbers_in};
+ghost use Rattle.asn1_module_leaves.specs.Enumerations.{IsNoneOf, IsOneOf, all_low, numbers_in};
 
 use asn1_core_element::{Error, Reader};
 use asn1_core_format::{Leaf, TaggedType, read_leaf_contents};

@@ -1,6 +1,6 @@
-pub mod OtherLeaves
+pub mod ModuleLeaves
 pub mod Enumerations
 pub mod NamedBits
-pub mod OtherEqual
+pub mod LeavesEqual
 pub mod Differ
 pub mod Asn1

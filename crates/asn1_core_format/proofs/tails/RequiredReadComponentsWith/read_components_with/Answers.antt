@@ -1,6 +1,6 @@
 use Rattle.std.proofs.Common.{rules}
 use Rattle.asn1_core_format.proofs.ComponentReads.{rest_refused}
-use Rattle.asn1_core_format.proofs.components.PartReadComponents.read_components.Goals as goal
+use Rattle.asn1_core_format.proofs.tails.RequiredReadComponentsWith.read_components_with.Goals as goal
 
 pub returns-in_err-rest : goal.returns-in_err-rest
 returns-in_err-rest g c =

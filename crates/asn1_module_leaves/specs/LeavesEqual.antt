@@ -8,8 +8,8 @@ use Rattle.asn1_leaves.specs.contracts.strings.BmpStringAsn1PartialEq.TheImpl as
 use Rattle.asn1_leaves.specs.contracts.strings.IA5StringAsn1PartialEq.TheImpl as Ia5s
 use Rattle.asn1_leaves.specs.contracts.strings.Utf8StringAsn1PartialEq.TheImpl as Utf8s
 use Rattle.asn1_core.specs.contracts.booleans.DefaultFalsePartialEq.TheImpl as Booleans
-use Rattle.asn1_other_leaves.specs.contracts.enumerated.EnumeratedAsn1PartialEq.TheImpl as Enumerateds
-use Rattle.asn1_other_leaves.specs.contracts.constants.NullAsn1PartialEq.TheImpl as Nulls
+use Rattle.asn1_module_leaves.specs.contracts.enumerated.EnumeratedAsn1PartialEq.TheImpl as Enumerateds
+use Rattle.asn1_module_leaves.specs.contracts.constants.NullAsn1PartialEq.TheImpl as Nulls
 
 pub integer_equal : SeesEqual Integers.ghosts.eq (λ x. x.0.items)
 integer_equal x y = search rules

@@ -4,7 +4,7 @@ ghost use Rattle.std.specs.Prelude.{◌%◌};
 ghost use Rattle.std.proofs.Common.{rules};
 ghost use Rattle.asn1_core.specs.Octets.{any_octets};
 ghost use Rattle.asn1_core.specs.Words.{Octets};
-ghost use Rattle.asn1_other_leaves.specs.Asn1.{KEPT_STRING};
+ghost use Rattle.asn1_module_leaves.specs.Asn1.{KEPT_STRING};
 
 use asn1_core_element::{Error, Reader};
 use asn1_core_format::{Leaf, TaggedType, read_leaf_contents};
