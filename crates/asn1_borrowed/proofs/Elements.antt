@@ -2,7 +2,7 @@
 use Rattle.std.proofs.Common.{◌≡◌, ◌↔◌, ℕ, ◌+◌, List, [], ◌++◌, length, drop, sym, ap, ◌∙◌, arith, length-append, length-drop}
 use Rattle.std.proofs.lemmas.List.{append-nil}
 use Rattle.asn1_core_element.specs.Element.{element, head, IsElement, IsTagByte, IsFront, HasNoFront}
-use Rattle.asn1_core_element.specs.ElementLaws.{head_cut}
+use Rattle.asn1_core_element.specs.laws.ElementLaws.{head_cut}
 
 pub whole_front : {b : List ℕ} {tag n size : ℕ} → IsFront b tag n size → (size + n ≡ length b) ↔ IsElement IsTagByte b
 whole_front {b} {tag} {n} {size} f = (

@@ -3,7 +3,7 @@ use Rattle.std.specs.Prelude.{◌≡◌, ℕ, List, Result, Ok, Err, MatchResult
 use Rattle.std.proofs.Common.{subst, sym}
 use Rattle.asn1_core.specs.Der.{Format, IsLawful}
 use Rattle.asn1_core_element.specs.declared.error.Error.{Error}
-use Rattle.asn1_core_format.specs.Whole.{value_of}
+use Rattle.asn1_core_format.specs.laws.Whole.{value_of}
 use Rattle.asn1_borrowed.specs.Written.{IsEncodingOf, IsNotWritten}
 
 module _ {V : Type 0} (F : Format V) (law : IsLawful F) (v : V) (normal : F.normal v ≡ v) where

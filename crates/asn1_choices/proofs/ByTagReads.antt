@@ -1,7 +1,7 @@
 -- What reading gives where the next tag says whether an element is of a type, or any other.
 use Rattle.std.proofs.Common.{◌≡◌, ◌≢◌, ℕ, List, ◌++◌, sym, subst, inl, inr, Result, Err}
 use Rattle.std.specs.Prelude.{◌⊎◌}
-use Rattle.asn1_choices.specs.ByTag.{with_tag, any_tag, not_both}
+use Rattle.asn1_choices.specs.laws.ByTag.{with_tag, any_tag, not_both}
 use Rattle.asn1_choices.specs.KnownOrRaw.{known_or_raw}
 use Rattle.asn1_core.specs.Der.{ElementOctets, Format, IsLawful, raw, Position, HasRead, HasRefused, Gives, NextIs, begins_next}
 use Rattle.asn1_core_element.specs.declared.error.Error.{Error}

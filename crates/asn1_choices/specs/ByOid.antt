@@ -2,7 +2,8 @@
 use Rattle.std.specs.Prelude.{◌⊎◌, ℕ, List}
 use Rattle.asn1_core.specs.Asn1.{Asn1, Contents}
 use Rattle.asn1_core.specs.Der.{Choice, IsLawfulChoice, known, lawful_known, otherwise, lawful_otherwise, IsOid, OidOctets}
-use Rattle.asn1_choices.specs.Tables.{Table, IsTable, among, lawful_among}
+use Rattle.asn1_choices.specs.Tables.{Table, IsTable, among}
+use Rattle.asn1_choices.specs.laws.Tables.{lawful_among}
 
 -- the alternatives in order, each for one object identifier or those of a table, and the last for any other
 pub record ByOid : Type 1 where

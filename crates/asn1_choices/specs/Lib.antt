@@ -3,5 +3,5 @@ pub mod Tables
 pub mod ByOid
 pub mod DefinedBy
 pub mod DefinedByLaws
-pub mod ByTag
 pub mod KnownOrRaw
+pub mod laws

@@ -3,7 +3,8 @@
 ghost use Rattle.std.specs.Prelude.{◌⊎◌, ◌↔◌, IsTrue};
 ghost use Rattle.std.proofs.Common.{inl, inr, rules};
 ghost use Rattle.asn1_core.specs.Der.{NextIs, ElementOctets, der_equal};
-ghost use Rattle.asn1_choices.specs.KnownOrRaw.{known_or_raw, lawful_known_or_raw};
+ghost use Rattle.asn1_choices.specs.KnownOrRaw.{known_or_raw};
+ghost use Rattle.asn1_choices.specs.laws.KnownOrRaw.{lawful_known_or_raw};
 ghost use Rattle.asn1_choices.specs.declared.known_or_raw.KnownOrRaw.TheVariants.{Known, Raw};
 
 use asn1_core::prelude::*;

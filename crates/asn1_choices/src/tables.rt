@@ -3,7 +3,8 @@
 ghost use Rattle.std.specs.Prelude.{◌≡◌, ◌⊎◌, ◌&&◌, Bool, None, MatchOption, true};
 ghost use Rattle.std.proofs.Common.{inl, inr};
 ghost use Rattle.std.proofs.lemmas.Bool.{and_parts};
-ghost use Rattle.asn1_choices.specs.Tables.{Table, IsTable, among, lawful_among};
+ghost use Rattle.asn1_choices.specs.Tables.{Table, IsTable, among};
+ghost use Rattle.asn1_choices.specs.laws.Tables.{lawful_among};
 ghost use Rattle.asn1_choices.specs.declared.tables.Among.TheVariants.{Alternative, Other};
 
 use crate::choices::{ReadChoice, WriteChoice};

@@ -2,7 +2,7 @@
 use Rattle.std.proofs.Common.{◌≡◌, ◌↔◌, ℕ, ◌+◌, List, [], ◌++◌, length, drop, sym, ap, ◌∙◌, arith, length-append, length-drop}
 use Rattle.std.proofs.lemmas.List.{append-nil}
 use Rattle.asn1_core_element.specs.Element.{element, head, IsElement, IsTagByte, IsFront, HasNoFront}
-use Rattle.asn1_core_element.specs.ElementLaws.{head_cut, element_long}
+use Rattle.asn1_core_element.specs.laws.ElementLaws.{head_cut, element_long}
 use Rattle.asn1_core_element.specs.Position.{Position}
 use Rattle.asn1_core_format.specs.Format.{HasRead}
 use Rattle.asn1_core_element.specs.Reading.{HasReadWholeElement}

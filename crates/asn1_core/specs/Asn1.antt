@@ -2,14 +2,20 @@
 use Rattle.std.specs.Prelude.{◌≡◌, ◌^◌, ℕ, ltb, true}
 use Rattle.std.proofs.Common.{arith}
 use Rattle.std.proofs.lemmas.Bool.{ltb-true}
-use Rattle.asn1_core_format.specs.TaggedLaws.{leaf_tagged}
-use Rattle.asn1_core.specs.Booleans.{lawful_boolean, booleans, explicit_false, false_left_out}
-use Rattle.asn1_core.specs.Defaults.{number_octets, number_left_out}
-use Rattle.asn1_core.specs.Nulls.{lawful_null_element, no_contents}
-use Rattle.asn1_core.specs.Objects.{lawful_object_identifier, oid_octets}
-use Rattle.asn1_core.specs.Octets.{lawful_octet_string, any_octets}
-use Rattle.asn1_core.specs.Raw.{lawful_raw}
-use Rattle.asn1_core.specs.Versions.{only, lawful_version}
+use Rattle.asn1_core_format.specs.laws.TaggedLaws.{leaf_tagged}
+use Rattle.asn1_core.specs.Booleans.{booleans, explicit_false}
+use Rattle.asn1_core.specs.laws.Booleans.{lawful_boolean, false_left_out}
+use Rattle.asn1_core.specs.Defaults.{number_octets}
+use Rattle.asn1_core.specs.laws.Defaults.{number_left_out}
+use Rattle.asn1_core.specs.Nulls.{no_contents}
+use Rattle.asn1_core.specs.laws.Nulls.{lawful_null_element}
+use Rattle.asn1_core.specs.Objects.{oid_octets}
+use Rattle.asn1_core.specs.laws.Objects.{lawful_object_identifier}
+use Rattle.asn1_core.specs.Octets.{any_octets}
+use Rattle.asn1_core.specs.laws.Octets.{lawful_octet_string}
+use Rattle.asn1_core.specs.laws.Raw.{lawful_raw}
+use Rattle.asn1_core.specs.Versions.{only}
+use Rattle.asn1_core.specs.laws.Versions.{lawful_version}
 pub use Rattle.asn1_core_format.specs.Asn1.{Asn1, asn1, asn1_tagged, INTEGER_BELOW, Asn1Default, ComponentTypes, Distinct, all_distinct, Contents, end, ◌then◌, ◌OPTIONAL◌, ◌DEFAULT◌, contents, SEQUENCE, list_of, SEQUENCE_OF, SET_OF, EXPLICIT, IMPLICIT, CHOICE, EXPLICIT_default, IMPLICIT_default}
 
 abbrev pub OBJECT_IDENTIFIER : Asn1

@@ -10,3 +10,4 @@ pub mod Tagged
 pub mod Asn1
 pub mod Defaults
 pub mod Booleans
+pub mod laws

@@ -3,7 +3,8 @@
 ghost use Rattle.std.specs.Prelude.{Bool};
 ghost use Rattle.std.proofs.Common.{rules};
 ghost use Rattle.asn1_core.specs.Asn1.{BOOLEAN};
-ghost use Rattle.asn1_core.specs.Booleans.{booleans, explicit_false, is_false, false_left_out, false_reads};
+ghost use Rattle.asn1_core.specs.Booleans.{booleans, explicit_false, false_reads};
+ghost use Rattle.asn1_core.specs.laws.Booleans.{is_false, false_left_out};
 
 use asn1_core_element::{Error, Reader};
 use asn1_core_format::{DefaultType, Leaf, TaggedType, read_leaf_contents};
@@ -67,7 +68,7 @@ impl TaggedType for DefaultFalse {
 impl DefaultType for DefaultFalse {
     ghost ABSENT = { explicit_false };
 
-    #[tactic(auto, using(crate::specs::Booleans::is_false))]
+    #[tactic(auto, using(crate::specs::laws::Booleans::is_false))]
     fn is_absent(&self) -> bool {
         !self.0
     }

@@ -2,7 +2,7 @@
 
 ghost use Rattle.std.proofs.Common.{arith};
 ghost use Rattle.asn1_core_format.specs.Components.{within};
-ghost use Rattle.asn1_core_format.specs.ComponentLaws.{lawful_within};
+ghost use Rattle.asn1_core_format.specs.laws.ComponentLaws.{lawful_within};
 
 use asn1_core_element::{Error, Reader};
 use asn1_core_format::{

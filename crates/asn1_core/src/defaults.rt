@@ -3,7 +3,8 @@
 ghost use Rattle.std.specs.Prelude.{◌^◌};
 ghost use Rattle.std.proofs.Common.{arith, rules};
 ghost use Rattle.asn1_core_format.specs.Asn1.{INTEGER_BELOW};
-ghost use Rattle.asn1_core.specs.Defaults.{number_octets, number_left_out, is_default_number};
+ghost use Rattle.asn1_core.specs.Defaults.{number_octets};
+ghost use Rattle.asn1_core.specs.laws.Defaults.{number_left_out, is_default_number};
 
 use asn1_core_element::{Error, Reader};
 use asn1_core_format::{DefaultType, DerSerialize, DerTagged, TaggedType};
@@ -48,7 +49,7 @@ impl<const D: u8> TaggedType for DefaultNumber<D> {
 impl<const D: u8> DefaultType for DefaultNumber<D> {
     ghost ABSENT = { number_octets D };
 
-    #[tactic(auto, using(crate::specs::Defaults::is_default_number))]
+    #[tactic(auto, using(crate::specs::laws::Defaults::is_default_number))]
     fn is_absent(&self) -> bool {
         self.0 == D
     }

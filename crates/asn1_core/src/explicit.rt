@@ -4,9 +4,10 @@ ghost use Rattle.std.specs.Prelude.{◌+◌};
 ghost use Rattle.std.proofs.Common.{arith};
 ghost use Rattle.asn1_core_element.specs.Element.{element};
 ghost use Rattle.asn1_core_format.specs.Components.{within};
-ghost use Rattle.asn1_core_format.specs.ComponentLaws.{lawful_within};
-ghost use Rattle.asn1_core_format.specs.TagNumbers.{explicit_tag, explicit_context, lawful_explicit_context};
-ghost use Rattle.asn1_core_format.specs.TaggedDefaults.{explicit_left_out};
+ghost use Rattle.asn1_core_format.specs.laws.ComponentLaws.{lawful_within};
+ghost use Rattle.asn1_core_format.specs.TagNumbers.{explicit_tag, explicit_context};
+ghost use Rattle.asn1_core_format.specs.laws.TagNumbers.{lawful_explicit_context};
+ghost use Rattle.asn1_core_format.specs.laws.TaggedDefaults.{explicit_left_out};
 
 use asn1_core_element::{Error, Reader};
 use asn1_core_format::{
@@ -164,14 +165,14 @@ impl<const N: u8, T: DerSerialize> DerSerialize for Explicit<N, T> {
         put_within(0xA0 + N % 31, &Alone(Ref(&self.0)), w)
     }
 
-    #[tactic(auto, using(asn1_core_format::specs::TagNumbers::numbered_is_formed))]
+    #[tactic(auto, using(asn1_core_format::specs::laws::TagNumbers::numbered_is_formed))]
     fn well_formed_at(&self, limit: u8) -> bool {
         N < 31 && self.0.well_formed_at(limit)
     }
 }
 
 impl<const N: u8, T: DerDeserialize> DerDeserialize for Explicit<N, T> {
-    #[tactic(auto, using(asn1_core_format::specs::TagNumbers::numbered_is_read, asn1_core_format::specs::TagNumbers::numbered_too_high))]
+    #[tactic(auto, using(asn1_core_format::specs::laws::TagNumbers::numbered_is_read, asn1_core_format::specs::laws::TagNumbers::numbered_too_high))]
     fn read(alloc: Global, r: &mut Reader<'_>, nest: u8) -> Result<Self, Error> {
         if N >= 31 {
             return Err(Error::Invalid);
@@ -203,12 +204,12 @@ impl<const N: u8, T: HasDefault> HasDefault for Explicit<N, T> {
 
     ghost INSIDE = { 1 + T.INSIDE };
 
-    #[tactic(auto, using(asn1_core_format::specs::TaggedDefaults::explicit_default_same))]
+    #[tactic(auto, using(asn1_core_format::specs::laws::TaggedDefaults::explicit_default_same))]
     fn is_default(&self) -> bool {
         self.0.is_default()
     }
 
-    #[tactic(auto, using(asn1_core_format::specs::TaggedDefaults::explicit_absent_value, asn1_core_format::specs::TaggedDefaults::explicit_too_high))]
+    #[tactic(auto, using(asn1_core_format::specs::laws::TaggedDefaults::explicit_absent_value, asn1_core_format::specs::laws::TaggedDefaults::explicit_too_high))]
     fn absent(alloc: Global) -> Result<Self, Error> {
         if N > 30 {
             return Err(Error::Invalid);

@@ -4,9 +4,10 @@ ghost use Rattle.std.specs.Prelude.{◌%◌};
 ghost use Rattle.std.proofs.Common.{arith};
 ghost use Rattle.asn1_core_element.specs.Element.{retag};
 ghost use Rattle.asn1_core_format.specs.Tagged.{implicit, context_tag};
-ghost use Rattle.asn1_core_format.specs.TaggedLaws.{lawful_implicit, context_tag_is};
-ghost use Rattle.asn1_core_format.specs.TagNumbers.{implicit_context, lawful_implicit_context};
-ghost use Rattle.asn1_core_format.specs.TaggedDefaults.{implicit_left_out};
+ghost use Rattle.asn1_core_format.specs.laws.TaggedLaws.{lawful_implicit, context_tag_is};
+ghost use Rattle.asn1_core_format.specs.TagNumbers.{implicit_context};
+ghost use Rattle.asn1_core_format.specs.laws.TagNumbers.{lawful_implicit_context};
+ghost use Rattle.asn1_core_format.specs.laws.TaggedDefaults.{implicit_left_out};
 
 use asn1_core_element::{Error, Reader};
 use asn1_core_format::tagged::context_tag_of;
@@ -118,14 +119,14 @@ impl<const N: u8, T: DerTagged> DerSerialize for Implicit<N, T> {
         self.0.put_as(context_tag_of::<T>(N % 31), w)
     }
 
-    #[tactic(auto, using(asn1_core_format::specs::TagNumbers::numbered_is_formed))]
+    #[tactic(auto, using(asn1_core_format::specs::laws::TagNumbers::numbered_is_formed))]
     fn well_formed_at(&self, limit: u8) -> bool {
         N < 31 && self.0.well_formed_at(limit)
     }
 }
 
 impl<const N: u8, T: DerTagged> DerDeserialize for Implicit<N, T> {
-    #[tactic(auto, using(asn1_core_format::specs::TagNumbers::numbered_is_read, asn1_core_format::specs::TagNumbers::numbered_too_high))]
+    #[tactic(auto, using(asn1_core_format::specs::laws::TagNumbers::numbered_is_read, asn1_core_format::specs::laws::TagNumbers::numbered_too_high))]
     fn read(alloc: Global, r: &mut Reader<'_>, nest: u8) -> Result<Self, Error> {
         if N >= 31 {
             return Err(Error::Invalid);
@@ -161,7 +162,7 @@ impl<const N: u8, T: HasDefault + DerTagged> HasDefault for Implicit<N, T> {
         self.0.is_default()
     }
 
-    #[tactic(auto, using(asn1_core_format::specs::TaggedDefaults::implicit_too_high))]
+    #[tactic(auto, using(asn1_core_format::specs::laws::TaggedDefaults::implicit_too_high))]
     fn absent(alloc: Global) -> Result<Self, Error> {
         if N > 30 {
             return Err(Error::Invalid);

@@ -3,12 +3,13 @@
 ghost use Rattle.std.specs.Prelude.{◌≡◌, List, map, slice_get};
 ghost use Rattle.std.proofs.Common.{arith};
 ghost use Rattle.asn1_core_format.specs.Lists.{each};
-ghost use Rattle.asn1_core_format.specs.ListLaws.{lawful_each};
+ghost use Rattle.asn1_core_format.specs.laws.ListLaws.{lawful_each};
 ghost use Rattle.asn1_core_format.specs.Components.{option_value, within};
-ghost use Rattle.asn1_core_format.specs.ComponentLaws.{lawful_within};
-ghost use Rattle.asn1_core_format.specs.Sequences.{set_of, lawful_set};
-ghost use Rattle.asn1_core_format.specs.TaggedLaws.{within_tagged};
-ghost use Rattle.asn1_core_format.specs.Views.{list_equal};
+ghost use Rattle.asn1_core_format.specs.laws.ComponentLaws.{lawful_within};
+ghost use Rattle.asn1_core_format.specs.Sequences.{set_of};
+ghost use Rattle.asn1_core_format.specs.laws.Sequences.{lawful_set};
+ghost use Rattle.asn1_core_format.specs.laws.TaggedLaws.{within_tagged};
+ghost use Rattle.asn1_core_format.specs.laws.Views.{list_equal};
 
 use asn1_core_element::{Error, Reader};
 use asn1_core_format::{

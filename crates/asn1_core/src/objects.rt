@@ -4,7 +4,7 @@ ghost use Rattle.std.specs.Prelude.{ℕ, List};
 ghost use Rattle.asn1_core.specs.Asn1.{OBJECT_IDENTIFIER};
 ghost use Rattle.asn1_core.specs.Objects.{oid_octets, object_identifier};
 ghost use Rattle.asn1_core_oid.specs.OidValue.{octets_of};
-ghost use Rattle.asn1_core_oid.specs.OidValueLaws.{equal_octets};
+ghost use Rattle.asn1_core_oid.specs.laws.OidValueLaws.{equal_octets};
 
 use asn1_core_element::{Error, Reader};
 use asn1_core_format::{DerSerialize, Leaf, TaggedType, TryClone, read_leaf_contents};

@@ -2,7 +2,8 @@
 
 ghost use Rattle.std.specs.Prelude.{ℕ, List};
 ghost use Rattle.asn1_core.specs.ViewsEqual.{raw_equal};
-ghost use Rattle.asn1_core.specs.Raw.{raw, lawful_raw};
+ghost use Rattle.asn1_core.specs.Raw.{raw};
+ghost use Rattle.asn1_core.specs.laws.Raw.{lawful_raw};
 
 use asn1_core_element::front::front;
 use asn1_core_element::{Error, Reader};

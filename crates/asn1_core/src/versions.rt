@@ -1,7 +1,8 @@
 //! Versions of which only one number is allowed.
 
 ghost use Rattle.std.specs.Prelude.{ℕ};
-ghost use Rattle.asn1_core.specs.Versions.{only, version, lawful_version_0, lawful_version_1, lawful_version_3};
+ghost use Rattle.asn1_core.specs.Versions.{only, version};
+ghost use Rattle.asn1_core.specs.laws.Versions.{lawful_version_0, lawful_version_1, lawful_version_3};
 
 use asn1_core_element::{Error, Reader};
 use asn1_core_format::{DerDeserialize, DerSerialize, Leaf, read_leaf};

@@ -1,7 +1,7 @@
 -- Reading one element.
 use Rattle.std.proofs.Common.{◌≡◌, ℕ, ◌-◌, ◌≤◌, List, ◌++◌, length, take, drop, sym, ap, subst, ◌∙◌, arith, append_assoc, length-append, length-take, length-drop}
 use Rattle.asn1_core_element.specs.Element.{head, element}
-use Rattle.asn1_core_element.specs.ElementLaws.{head_cut}
+use Rattle.asn1_core_element.specs.laws.ElementLaws.{head_cut}
 use Rattle.asn1_core_element.specs.Position.{Position}
 use Rattle.asn1_core_element.specs.Reading.{HasReadHeader, HasReadContents, HasReadWholeElement, Opened, RefusedElement, OpenedElement}
 use Rattle.std.proofs.lemmas.List.{take-append-drop, length-take-le}

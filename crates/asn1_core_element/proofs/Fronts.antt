@@ -5,8 +5,8 @@ use Rattle.std.proofs.lemmas.Bool.{cases_lt}
 use Rattle.std.proofs.lemmas.List.{take_at, take-append-drop, get_or_append_left}
 use Rattle.std.proofs.lemmas.Int.Digits.{length-digits_of-le, length-digits_of_step, number_digits_of, first_digits_of}
 use Rattle.asn1_core_element.specs.Element.{length_octets, head, element, IsTagByte, IsFront, HasNoFront}
-use Rattle.asn1_core_element.specs.ElementLaws.{octets_short, octets_long}
-use Rattle.asn1_core_element.specs.Digits.{all_bytes, all_bytes_take, digits_of_number}
+use Rattle.asn1_core_element.specs.laws.ElementLaws.{octets_short, octets_long}
+use Rattle.asn1_core_element.specs.laws.Digits.{all_bytes, all_bytes_take, digits_of_number}
 
 -- the bytes after the tag
 module _ (bytes : List ℕ) (t : ℕ) (c rest : List ℕ) (e : bytes ≡ element t c ++ rest) where

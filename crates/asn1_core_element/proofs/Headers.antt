@@ -2,7 +2,7 @@
 use Rattle.std.proofs.Common.{◌≡◌, ℕ, ◌+◌, ◌-◌, ◌≤◌, List, ◌++◌, length, take, drop, sym, ap, ◌∙◌, arith, length-take, length-drop}
 use Rattle.std.proofs.lemmas.List.{drop-take, take_rest, drop-drop}
 use Rattle.asn1_core_element.specs.Element.{head, IsFront}
-use Rattle.asn1_core_element.specs.ElementLaws.{head_long}
+use Rattle.asn1_core_element.specs.laws.ElementLaws.{head_long}
 
 pub unread : (rest : List ℕ) (room : ℕ) → room ≤ length rest → length rest ≡ length (take room rest) + length (drop room rest)
 unread rest room within = omega (arith, within, length-take room rest, length-drop room rest)

@@ -1,9 +1,9 @@
 -- What the octets of a number are.
 use Rattle.std.proofs.Common.{◌≡◌, ℕ, ◌+◌, ◌^◌, ◌<◌, ◌≤◌, List, [], length, get_or, sym, ap, subst, ◌∙◌, arith, ⊎_elim}
 use Rattle.std.specs.Int.Digits.{number_from_digits}
-use Rattle.asn1_core_element.specs.Digits.{all_bytes}
+use Rattle.asn1_core_element.specs.laws.Digits.{all_bytes}
 use Rattle.asn1_core_element.specs.Numbers.{integer_octets, IsNumeral}
-use Rattle.asn1_core_element.specs.NumberLaws.{number_integer_octets, is_numeral, has_number, few_octets}
+use Rattle.asn1_core_element.specs.laws.NumberLaws.{number_integer_octets, is_numeral, has_number, few_octets}
 
 -- what the octets of a number are
 pub octets_are : (c : List ℕ) (n : ℕ) → c ≡ integer_octets n → IsNumeral (n + 1) c

@@ -2,14 +2,15 @@
 -- it from the first of the chain on: `there` for each one that is passed, and `here`, or `other` at the chain's end.
 use Rattle.std.proofs.Common.{◌≡◌, ◌≢◌, ◌⊎◌, ℕ, ◌+◌, ◌*◌, ◌≤◌, List, ◌++◌, length, refl, sym, ap, ◌∙◌, subst, inl, inr, arith, length-append}
 use Rattle.asn1_core_element.specs.Element.{element}
-use Rattle.asn1_core_element.specs.ElementLaws.{element_cut}
+use Rattle.asn1_core_element.specs.laws.ElementLaws.{element_cut}
 use Rattle.asn1_core_element.specs.Position.{Position}
 use Rattle.asn1_core_element.specs.declared.error.Error.{Error}
 use Rattle.asn1_core_element.specs.declared.error.Error.TheVariants.{TooLong, Memory}
 use Rattle.asn1_core_format.specs.Format.{Format, HasRead, HasRefused}
 use Rattle.asn1_core_format.specs.Leaf.{leaf, verbatim}
 use Rattle.asn1_core_format.specs.Components.{HasReadComponents, HasRefusedComponents}
-use Rattle.asn1_core_format.specs.Choices.{Choice, otherwise, known, IsLawfulChoice, same_head}
+use Rattle.asn1_core_format.specs.Choices.{Choice, otherwise, known, IsLawfulChoice}
+use Rattle.asn1_core_format.specs.laws.Choices.{same_head}
 
 -- all that was left was read as a value under the object identifier `key`
 pub record HasReadAlternative {V : Type 0} (C : Choice V) (k : ℕ) (key : List ℕ) (old new : Position) (v : V) : Type 0 where

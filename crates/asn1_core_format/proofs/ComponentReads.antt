@@ -2,15 +2,17 @@
 use Rattle.std.proofs.Common.{◌≡◌, ◌≢◌, ℕ, ◌-◌, ◌<◌, Bool, List, [], ◌++◌, length, take, drop, Option, None, Some, refl, sym, ap, ◌∙◌, subst, arith, inl, inr, append-nil, length-append}
 use Rattle.std.proofs.lemmas.List.{take_at, drop_at}
 use Rattle.asn1_core_element.specs.Element.{element}
-use Rattle.asn1_core_element.specs.ElementLaws.{element_cut, element_long}
+use Rattle.asn1_core_element.specs.laws.ElementLaws.{element_cut, element_long}
 use Rattle.asn1_core_element.specs.Position.{Position}
 use Rattle.asn1_core_element.specs.Reading.{OpenedElement, Closed}
 use Rattle.asn1_core_element.specs.declared.error.Error.{Error}
 use Rattle.asn1_core_element.specs.declared.error.Error.TheVariants.{Memory, Malformed}
 use Rattle.asn1_core_format.specs.Format.{Format, IsLawful, IsLawfulComponents, HasRead, HasRefused}
-use Rattle.asn1_core_format.specs.Laws.{NextIs, texts_cut, next_distinct, begins_next}
+use Rattle.asn1_core_format.specs.Nexts.{NextIs}
+use Rattle.asn1_core_format.specs.laws.Formats.{texts_cut, next_distinct, begins_next}
 use Rattle.asn1_core_format.specs.Components.{part, optional, within, HasReadComponents, HasRefusedComponents}
-use Rattle.asn1_core_format.specs.Omitted.{omitted, IsDefault, HasNoDefault, least_unless, omitted_is}
+use Rattle.asn1_core_format.specs.Omitted.{omitted, IsDefault, HasNoDefault, least_unless}
+use Rattle.asn1_core_format.specs.laws.Omitted.{omitted_is}
 
 module _ {V W : Type 0} (F : Format V) (R : Format W) (f : IsLawful F) (k : ℕ) where
   -- where the rest is refused, the whole is

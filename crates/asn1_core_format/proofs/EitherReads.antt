@@ -4,7 +4,8 @@ use Rattle.asn1_core_element.specs.Position.{Position}
 use Rattle.asn1_core_element.specs.declared.error.Error.{Error}
 use Rattle.asn1_core_element.specs.declared.error.Error.TheVariants.{Memory}
 use Rattle.asn1_core_format.specs.Format.{Format, IsLawful, HasRefused}
-use Rattle.asn1_core_format.specs.Laws.{NextIs, begins_next, next_distinct}
+use Rattle.asn1_core_format.specs.Nexts.{NextIs}
+use Rattle.asn1_core_format.specs.laws.Formats.{begins_next, next_distinct}
 use Rattle.asn1_core_format.specs.Eithers.{either}
 
 module _ {V W : Type 0} (F : Format V) (G : Format W) (f : IsLawful F) (g : IsLawful G) (distinct : (t : ℕ) → F.IsTag t → G.IsTag t → ⊥) (k : ℕ) where

@@ -4,7 +4,7 @@ use Rattle.asn1_core_element.specs.Position.{Position}
 use Rattle.asn1_core_element.specs.declared.error.Error.{Error}
 use Rattle.asn1_core_element.specs.declared.error.Error.TheVariants.{Memory}
 use Rattle.asn1_core_format.specs.Format.{Format, IsLawful, HasRead, HasRefused}
-use Rattle.asn1_core_format.specs.Laws.{text_some, texts_cut}
+use Rattle.asn1_core_format.specs.laws.Formats.{text_some, texts_cut}
 use Rattle.asn1_core_format.specs.Lists.{ReadsAll, least_all, each, HasReadItems}
 use Rattle.asn1_core_format.specs.Components.{HasReadComponents, HasRefusedComponents}
 

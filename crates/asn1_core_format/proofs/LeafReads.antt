@@ -2,7 +2,7 @@
 use Rattle.std.proofs.Common.{◌≡◌, ℕ, false, List, ◌++◌, length, take, drop, Result, Ok, Err, sym, ap, ◌∙◌, arith}
 use Rattle.std.proofs.Math.Seq.{take-length, drop-length}
 use Rattle.asn1_core_element.specs.Element.{element}
-use Rattle.asn1_core_element.specs.ElementLaws.{element_cut, element_long, element_same}
+use Rattle.asn1_core_element.specs.laws.ElementLaws.{element_cut, element_long, element_same}
 use Rattle.asn1_core_element.specs.Position.{Position}
 use Rattle.asn1_core_element.specs.Reading.{HasReadElement, HasReadContents}
 use Rattle.asn1_core_element.specs.declared.error.Error.{Error}

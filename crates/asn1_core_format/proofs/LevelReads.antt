@@ -8,7 +8,8 @@ use Rattle.asn1_core_element.specs.declared.error.Error.TheVariants.{TooDeep}
 use Rattle.asn1_core_format.specs.Format.{Format, HasRead, HasRefused, Gives}
 use Rattle.asn1_core_format.specs.Components.{within, HasReadComponents, HasRefusedComponents, GivesComponents}
 use Rattle.asn1_core_format.specs.Levels.{less, LevelInvariant, levels}
-use Rattle.asn1_core_format.specs.LevelLaws.{IsStep, unroll, unroll_least}
+use Rattle.asn1_core_format.specs.LevelLaws.{IsStep}
+use Rattle.asn1_core_format.specs.laws.LevelLaws.{unroll, unroll_least}
 use Rattle.asn1_core_format.specs.Mapped.{mapped}
 
 -- no level is left

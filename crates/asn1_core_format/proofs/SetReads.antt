@@ -5,13 +5,14 @@ use Rattle.asn1_core_element.specs.Position.{Position}
 use Rattle.asn1_core_element.specs.declared.error.Error.{Error}
 use Rattle.asn1_core_element.specs.declared.error.Error.TheVariants.{Malformed}
 use Rattle.asn1_core_format.specs.Format.{Format, IsLawful, HasRead, HasRefused}
-use Rattle.asn1_core_format.specs.Laws.{NextIs}
+use Rattle.asn1_core_format.specs.Nexts.{NextIs}
 use Rattle.asn1_core_format.specs.Lists.{each}
-use Rattle.asn1_core_format.specs.ListLaws.{lawful_each}
+use Rattle.asn1_core_format.specs.laws.ListLaws.{lawful_each}
 use Rattle.asn1_core_format.specs.Components.{nothing, within, HasRefusedComponents}
-use Rattle.asn1_core_format.specs.ComponentLaws.{lawful_nothing, lawful_within}
+use Rattle.asn1_core_format.specs.laws.ComponentLaws.{lawful_nothing, lawful_within}
 use Rattle.asn1_core_format.proofs.ComponentReads.{first_refused, rest_refused, there_refused, omitted_refused}
-use Rattle.asn1_core_format.specs.EmptySets.{is_nil, set_or_none, empty_default}
+use Rattle.asn1_core_format.specs.EmptySets.{is_nil, set_or_none}
+use Rattle.asn1_core_format.specs.laws.EmptySets.{empty_default}
 
 more_left : (k : ℕ) (p : Position) → 0 < length p.left → HasRefusedComponents nothing k p p Malformed
 more_left k p more = record { kind = λ e. cc; none = λ m v r. omega (arith, more, ap length r); counts = omega arith; at_most = omega arith }

@@ -1,7 +1,7 @@
 -- Another tag in place of a type's own, read.
 use Rattle.std.proofs.Common.{◌≡◌, ℕ, List, ◌++◌, Result, Ok, Err, sym, ap, ◌∙◌, subst, refl, arith}
 use Rattle.asn1_core_element.specs.Element.{element, retag}
-use Rattle.asn1_core_element.specs.ElementLaws.{element_same, retag_element}
+use Rattle.asn1_core_element.specs.laws.ElementLaws.{element_same, retag_element}
 use Rattle.asn1_core_element.specs.Position.{Position}
 use Rattle.asn1_core_element.specs.Reading.{RefusedElement, OpenedElement, Closed}
 use Rattle.asn1_core_element.specs.declared.error.Error.{Error}

@@ -5,8 +5,9 @@ use Rattle.asn1_core_element.specs.Position.{Position}
 use Rattle.asn1_core_element.specs.declared.error.Error.{Error}
 use Rattle.asn1_core_element.specs.declared.error.Error.TheVariants.{Malformed}
 use Rattle.asn1_core_format.specs.Format.{Format, IsLawful, HasRead, HasRefused}
-use Rattle.asn1_core_format.specs.Laws.{texts_cut}
-use Rattle.asn1_core_format.specs.Whole.{IsValueOf, HasNoValue, HeadersOfRefused, value_of}
+use Rattle.asn1_core_format.specs.laws.Formats.{texts_cut}
+use Rattle.asn1_core_format.specs.Whole.{IsValueOf, HasNoValue, HeadersOfRefused}
+use Rattle.asn1_core_format.specs.laws.Whole.{value_of}
 
 module _ {V : Type 0} (F : Format V) (k : ℕ) where
   pub refused_input : {old new : Position} {e : Error} → HasRefused F k old new e → HasNoValue F k old.left e

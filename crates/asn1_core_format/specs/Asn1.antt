@@ -3,19 +3,23 @@
 use Rattle.std.specs.Prelude.{◌≡◌, ℕ, ◌+◌, ◌%◌, Bool, true, false, List, Option, None, Some}
 use Rattle.std.proofs.Common.{arith, refl}
 use Rattle.asn1_core_element.specs.Element.{element, retag}
-use Rattle.asn1_core_format.specs.Format.{Format, IsLawful, IsLawfulComponents, are_distinct, distinct_tags}
-use Rattle.asn1_core_format.specs.Eithers.{or_else}
+use Rattle.asn1_core_format.specs.Format.{Format, IsLawful, IsLawfulComponents, are_distinct}
+use Rattle.asn1_core_format.specs.laws.Format.{distinct_tags}
+use Rattle.asn1_core_format.specs.laws.Eithers.{or_else}
 use Rattle.asn1_core_format.specs.Lists.{each}
-use Rattle.asn1_core_format.specs.ListLaws.{lawful_each}
-use Rattle.asn1_core_format.specs.Omitted.{omitted, lawful_omitted, is_default_with, IsDefault}
+use Rattle.asn1_core_format.specs.laws.ListLaws.{lawful_each}
+use Rattle.asn1_core_format.specs.Omitted.{omitted, is_default_with, IsDefault}
+use Rattle.asn1_core_format.specs.laws.Omitted.{lawful_omitted}
 use Rattle.asn1_core_format.specs.Components.{nothing, part, optional}
-use Rattle.asn1_core_format.specs.ComponentLaws.{lawful_nothing, lawful_part, lawful_optional}
-use Rattle.asn1_core_format.specs.Sequences.{lawful_sequence, lawful_set}
-use Rattle.asn1_core_format.specs.Numbers.{lawful_number, numbers_below}
+use Rattle.asn1_core_format.specs.laws.ComponentLaws.{lawful_nothing, lawful_part, lawful_optional}
+use Rattle.asn1_core_format.specs.laws.Sequences.{lawful_sequence, lawful_set}
+use Rattle.asn1_core_format.specs.Numbers.{numbers_below}
+use Rattle.asn1_core_format.specs.laws.Numbers.{lawful_number}
 use Rattle.asn1_core_format.specs.Tagged.{IsTagged, context_tag}
-use Rattle.asn1_core_format.specs.TaggedLaws.{leaf_tagged, within_tagged}
-use Rattle.asn1_core_format.specs.TaggedDefaults.{explicit_left_out, implicit_left_out}
-use Rattle.asn1_core_format.specs.TagNumbers.{explicit_tag, explicit_context, lawful_explicit_context, explicit_context_tagged, implicit_context, lawful_implicit_context, implicit_context_tagged}
+use Rattle.asn1_core_format.specs.laws.TaggedLaws.{leaf_tagged, within_tagged}
+use Rattle.asn1_core_format.specs.laws.TaggedDefaults.{explicit_left_out, implicit_left_out}
+use Rattle.asn1_core_format.specs.TagNumbers.{explicit_tag, explicit_context, implicit_context}
+use Rattle.asn1_core_format.specs.laws.TagNumbers.{lawful_explicit_context, explicit_context_tagged, lawful_implicit_context, implicit_context_tagged}
 
 -- whether all encodings are elements with that tag, where there is one
 abbrev pub HasTag : {V : Type 0} → Option ℕ → Format V → Type 0

@@ -1,11 +1,10 @@
 -- What the values of a type are written as and read from, the laws of a type that does both, and what reading answers.
-use Rattle.std.specs.Prelude.{◌≡◌, ◌≢◌, ◌⊎◌, ◌↔◌, ℕ, ◌+◌, ◌*◌, ◌≤◌, ◌&&◌, Bool, true, false, List, [], ◌++◌, length, Result, MatchResult}
-use Rattle.std.proofs.lemmas.Bool.{and_parts}
+use Rattle.std.specs.Prelude.{◌≡◌, ◌≢◌, ◌⊎◌, ◌↔◌, ℕ, ◌+◌, ◌*◌, ◌≤◌, Bool, false, List, [], ◌++◌, length, Result, MatchResult}
 use Rattle.asn1_core_element.specs.Element.{IsElement}
 use Rattle.asn1_core_element.specs.Position.{Position}
 use Rattle.asn1_core_element.specs.declared.error.Error.{Error}
 use Rattle.asn1_core_element.specs.declared.error.Error.TheVariants.{TooLong, Memory}
-use Rattle.asn1_core_format.specs.FirstTags.{Listing, no_common, no_common_is}
+use Rattle.asn1_core_format.specs.FirstTags.{Listing, no_common}
 
 -- What the values V of a type are written as and read from. A level is a nesting level, where the type counts it.
 pub record Format (V : Type 0) : Type 1 where
@@ -29,13 +28,6 @@ pub record Format (V : Type 0) : Type 1 where
 -- whether no tag is one of both, which is computed
 abbrev pub are_distinct : {V W : Type 0} → Format V → Format W → Bool
 are_distinct F R = no_common F.first.tags R.first.tags
-
-pub distinct_tags : {V W : Type 0} (F : Format V) (R : Format W) → are_distinct F R ≡ true → (t : ℕ) → F.IsTag t → R.IsTag t → ⊥
-distinct_tags F R e t h i = no_common_is F.first.tags R.first.tags e t ((F.first.same t).0 h) ((R.first.same t).0 i)
-
--- the same of the rest, where a first test holds too
-pub distinct_both : {V W : Type 0} (F : Format V) (R : Format W) (c : Bool) → (c && are_distinct F R) ≡ true → (c ≡ true) × ((t : ℕ) → F.IsTag t → R.IsTag t → ⊥)
-distinct_both F R c e = let p = and_parts c (are_distinct F R) e in (p.0, distinct_tags F R p.1)
 
 -- there are no bytes, or they begin with an element of one of these tags
 abbrev pub BeginsBy : (ℕ → Type 0) → List ℕ → Type 0

@@ -4,7 +4,7 @@ use Rattle.asn1_core_element.specs.Element.{IsElement}
 use Rattle.asn1_core_element.specs.declared.error.Error.{Error}
 use Rattle.asn1_core_element.specs.declared.error.Error.TheVariants.{TooLong, Memory}
 use Rattle.asn1_core_writers.specs.Texts.{IsWriteError}
-use Rattle.asn1_core_format.specs.Format.{Format, IsLawful}
+use Rattle.asn1_core_format.specs.Format.{Format}
 
 -- v is the value of the whole input, and the only one
 pub record IsValueOf {V : Type 0} (F : Format V) (k : ℕ) (b : List ℕ) (v : V) : Type 0 where
@@ -47,18 +47,3 @@ pub record IsRewriting {V : Type 0} (F : Format V) (k : ℕ) (v : V) (t : List �
   -- the encoding of a well-formed value is normal, and reads as its normal value
   pub normal : F.IsWellFormed k v → F.IsNormal k t
   pub reads : F.IsWellFormed k v → F.Reads k t (F.normal v)
-
-pub rewriting : {V : Type 0} (F : Format V) (k : ℕ) (v : V) → IsLawful F → IsRewriting F k v (F.text v)
-rewriting F k v f = record {
-  back = λ b r. f.components.fixed k b v r;
-  normal = λ h. f.components.text_normal k v h;
-  reads = λ h. f.components.text_reads k v h;
-}
-
-pub value_of : {V : Type 0} (F : Format V) (k : ℕ) (b : List ℕ) (v : V) → IsLawful F → F.Reads k b v → IsValueOf F k b v
-value_of F k b v f r = record {
-  reads = r;
-  only = λ w s. f.components.one_value k b w v s r;
-  well_formed = f.components.well_formed k b v r;
-  element = f.element k b v r;
-}

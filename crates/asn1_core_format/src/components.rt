@@ -2,10 +2,11 @@
 
 ghost use Rattle.std.specs.Prelude.{◌≡◌, ◌↔◌, ◌++◌, ◌&&◌, ℕ, List, Option, Bool, IsTrue, true, false};
 ghost use Rattle.asn1_core_format.specs.Format.{Format, IsLawfulComponents, are_distinct};
-ghost use Rattle.asn1_core_format.specs.Laws.{NextIs};
-ghost use Rattle.asn1_core_format.specs.Omitted.{omitted, omitted_if_distinct, is_default_with, IsDefault, IsAbsentValue};
+ghost use Rattle.asn1_core_format.specs.Nexts.{NextIs};
+ghost use Rattle.asn1_core_format.specs.Omitted.{omitted, is_default_with, IsDefault, IsAbsentValue};
+ghost use Rattle.asn1_core_format.specs.laws.Omitted.{omitted_if_distinct};
 ghost use Rattle.asn1_core_format.specs.Components.{nothing, part, optional, option_value, GivesComponents};
-ghost use Rattle.asn1_core_format.specs.ComponentLaws.{lawful_nothing, lawful_part, optional_if_distinct};
+ghost use Rattle.asn1_core_format.specs.laws.ComponentLaws.{lawful_nothing, lawful_part, optional_if_distinct};
 
 use crate::traits::{DerDeserialize, DerSerialize, Ref};
 use asn1_core_element::{Error, Reader};

@@ -2,7 +2,8 @@
 
 ghost use Rattle.std.specs.Prelude.{◌≡◌, ◌⊎◌, ◌&&◌, Bool, true, false};
 ghost use Rattle.std.proofs.Common.{inl, inr};
-ghost use Rattle.asn1_core_format.specs.Eithers.{either, either_if_distinct};
+ghost use Rattle.asn1_core_format.specs.Eithers.{either};
+ghost use Rattle.asn1_core_format.specs.laws.Eithers.{either_if_distinct};
 ghost use Rattle.asn1_core_format.specs.Format.{Gives, IsLawful, are_distinct};
 ghost use Rattle.asn1_core_format.specs.declared.eithers.Either.TheVariants.{First, Second};
 

@@ -5,7 +5,7 @@ ghost use Rattle.asn1_core_element.specs.Element.{IsTagByte};
 ghost use Rattle.asn1_core_format.specs.EmptySets.{set_or_none};
 ghost use Rattle.asn1_core_format.specs.Format.{IsLawful, IsLawfulComponents};
 ghost use Rattle.asn1_core_format.specs.NeedsLevel.{needs_level};
-ghost use Rattle.asn1_core_format.specs.Laws.{IsSameAt};
+ghost use Rattle.asn1_core_format.specs.Nexts.{IsSameAt};
 
 use crate::traits::DerDeserialize;
 

@@ -5,7 +5,7 @@ ghost use Rattle.std.specs.List.{flat_map};
 ghost use Rattle.asn1_core_element.specs.declared.error.Error.TheVariants.{Memory};
 ghost use Rattle.asn1_core_format.specs.Format.{Gives};
 ghost use Rattle.asn1_core_format.specs.Lists.{each};
-ghost use Rattle.asn1_core_format.specs.ListLaws.{lawful_each};
+ghost use Rattle.asn1_core_format.specs.laws.ListLaws.{lawful_each};
 
 use crate::components::{ReadComponents, WriteComponents};
 use crate::recursive::{SameLevel, read_items};

@@ -4,8 +4,9 @@ ghost use Rattle.std.specs.Prelude.{◌≡◌, ◌≢◌, ◌^◌, ℕ, false, I
 ghost use Rattle.std.proofs.Common.{arith};
 ghost use Rattle.asn1_core_element.specs.declared.error.Error.TheVariants.{Memory};
 ghost use Rattle.asn1_core_format.specs.Format.{Gives};
-ghost use Rattle.asn1_core_format.specs.Numbers.{numbers_below, number_below, lawful_number};
-ghost use Rattle.asn1_core_format.specs.TaggedLaws.{leaf_tagged};
+ghost use Rattle.asn1_core_format.specs.Numbers.{numbers_below, number_below};
+ghost use Rattle.asn1_core_format.specs.laws.Numbers.{lawful_number};
+ghost use Rattle.asn1_core_format.specs.laws.TaggedLaws.{leaf_tagged};
 
 use crate::leaves::{Leaf, read_leaf, read_leaf_contents};
 use crate::tagged::DerTagged;

@@ -1,7 +1,7 @@
 //! What is inside a type that takes a nesting level.
 
 ghost use Rattle.asn1_core_format.specs.Levels.{less};
-ghost use Rattle.asn1_core_format.specs.LevelLaws.{lawful_less};
+ghost use Rattle.asn1_core_format.specs.laws.LevelLaws.{lawful_less};
 
 use crate::traits::{DerDeserialize, DerSerialize};
 use asn1_core_element::{Error, Reader};

@@ -4,7 +4,7 @@ ghost use Rattle.std.specs.Prelude.{◌≡◌, false};
 ghost use Rattle.std.proofs.Common.{arith};
 ghost use Rattle.asn1_core_format.specs.Asn1.{Contents as Body, SEQUENCE};
 ghost use Rattle.asn1_core_format.specs.Components.{GivesComponents};
-ghost use Rattle.asn1_core_format.specs.TaggedLaws.{within_tagged};
+ghost use Rattle.asn1_core_format.specs.laws.TaggedLaws.{within_tagged};
 ghost use Rattle.asn1_core_format.specs.Views.{SeesEqual, Clones};
 
 use crate::types::TaggedType;

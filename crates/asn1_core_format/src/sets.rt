@@ -5,7 +5,7 @@ ghost use Rattle.asn1_core_element.specs.Element.{IsTagByte, element};
 ghost use Rattle.asn1_core_format.specs.Calls.{MayBelow, GivesBelow};
 ghost use Rattle.asn1_core_format.specs.EmptySets.{set_or_none};
 ghost use Rattle.asn1_core_format.specs.Format.{Gives, IsLawful};
-ghost use Rattle.asn1_core_format.specs.Laws.{NextIs};
+ghost use Rattle.asn1_core_format.specs.Nexts.{NextIs};
 ghost use Rattle.asn1_core_format.specs.Levels.{less, less_if};
 ghost use Rattle.asn1_core_format.specs.Lists.{each};
 ghost use Rattle.asn1_core_format.specs.Omitted.{is_default};

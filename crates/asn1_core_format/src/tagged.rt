@@ -26,7 +26,7 @@ pub trait DerTagged: DerDeserialize {
         ensures { W.Takes (retag tag (Self.format.text (Self.value self.now))) w.old w.new result };
 
     /// Sends the encoding, whose first byte becomes that tag, as `emit` does.
-    #[tactic(auto, using(asn1_core_element::specs::ElementLaws::length_retag))]
+    #[tactic(auto, using(asn1_core_element::specs::laws::ElementLaws::length_retag))]
     final fn emit_as<S: Sink>(&self, tag: u8, sink: &mut S) -> Result<(), WriteError>
         requires { S.failed sink.old < u64.MAX }
         ensures { Emits (retag tag (Self.format.text (Self.value self.now))) sink.old sink.new (S.received sink.old) (S.received sink.new) (S.failed sink.old) (S.failed sink.new) result }

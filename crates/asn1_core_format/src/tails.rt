@@ -3,9 +3,10 @@
 ghost use Rattle.std.specs.Prelude.{◌≡◌, ◌&&◌, Bool, false, true};
 ghost use Rattle.asn1_core_element.specs.Element.{IsTagByte};
 ghost use Rattle.asn1_core_format.specs.Format.{Gives, IsLawfulComponents, are_distinct};
-ghost use Rattle.asn1_core_format.specs.Omitted.{is_default_with, omitted_if_distinct};
+ghost use Rattle.asn1_core_format.specs.Omitted.{is_default_with};
+ghost use Rattle.asn1_core_format.specs.laws.Omitted.{omitted_if_distinct};
 ghost use Rattle.asn1_core_format.specs.Components.{GivesComponents, within};
-ghost use Rattle.asn1_core_format.specs.ComponentLaws.{lawful_part, optional_if_distinct};
+ghost use Rattle.asn1_core_format.specs.laws.ComponentLaws.{lawful_part, optional_if_distinct};
 
 use crate::components::{HasDefault, Maybe, Omitted, Required, WriteComponents, next_is};
 use crate::recursive::read_components_by;

@@ -3,7 +3,8 @@
 ghost use Rattle.std.specs.Prelude.{◌≡◌, ◌↔◌, ℕ, List, Option, map, IsTrue};
 ghost use Rattle.std.proofs.Common.{rules};
 ghost use Rattle.asn1_core_format.specs.Components.{option_value};
-ghost use Rattle.asn1_core_format.specs.Views.{SeesEqual, Clones, list_equal, option_equal};
+ghost use Rattle.asn1_core_format.specs.Views.{SeesEqual, Clones};
+ghost use Rattle.asn1_core_format.specs.laws.Views.{list_equal, option_equal};
 
 use crate::traits::DerSerialize;
 use asn1_core_element::Error;

@@ -56,7 +56,7 @@ fn components_len<R: WriteComponents>(components: &R) -> Result<usize, WriteErro
 
 /// Writes an element with that tag, whose contents are the parts. It is also what any other element with these
 /// contents becomes under this tag.
-#[tactic(auto, using(asn1_core_element::specs::ElementLaws::retag_element))]
+#[tactic(auto, using(asn1_core_element::specs::laws::ElementLaws::retag_element))]
 pub fn put_within<R: WriteComponents, W: Writer>(
     tag: u8,
     components: &R,

@@ -9,7 +9,7 @@ use Rattle.asn1_core_element.specs.declared.error.Error.{Error}
 use Rattle.asn1_core_oid.specs.Refusal.{IsRefusal}
 use Rattle.asn1_core_oid.specs.Oid.{base128, IsOid}
 use Rattle.asn1_core_oid.specs.OidText.{arcs_text, IsArcs, groups_of_arcs, SpellsArcs, SpellsGroups, IsTextOf}
-use Rattle.asn1_core_oid.specs.OidTextLaws.{pieces, pieces-arcs_text, arcs_fit, some_arcs, same_arcs}
+use Rattle.asn1_core_oid.specs.laws.OidTextLaws.{pieces, pieces-arcs_text, arcs_fit, some_arcs, same_arcs}
 
 pub piece_more : (ps : List (List ℕ)) (old new : List ℕ) (piece : List ℕ) (k n : ℕ) → (k < length ps) × (piece ≡ get_or ps k piece) → map decimal old ≡ take k ps → piece ≡ decimal n → new ≡ old ++ n ∷ [] → map decimal new ≡ take (k + 1) ps
 piece_more ps old new piece k n t e d f =

@@ -9,7 +9,7 @@ use Rattle.asn1_core_oid.specs.Oid.{base128, IsOid}
 use Rattle.asn1_core_oid.specs.OidLaws.{groups_after, groups_after-flat_map}
 use Rattle.asn1_core_oid.specs.OidText.{SpellsGroups, HasLongGroup}
 use Rattle.asn1_core_oid.specs.OidTest.{ends_groups}
-use Rattle.asn1_core_oid.specs.OidTestLaws.{past_guard}
+use Rattle.asn1_core_oid.specs.laws.OidTestLaws.{past_guard}
 
 -- one digit more that ends no group
 pub leading_more : (n : ℕ) (old mid new : List ℕ) → (n ≡ 0 → ⊥) → mid ≡ old ++ map (λ d. 128 + d) (digits_of 128 (n / 128)) → new ≡ mid ++ (128 + n % 128) ∷ [] → new ≡ old ++ map (λ d. 128 + d) (digits_of 128 n)

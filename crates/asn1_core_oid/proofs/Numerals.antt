@@ -5,7 +5,7 @@ use Rattle.std.specs.Fmt.{decimal}
 use Rattle.std.specs.Str.Parse.{ParsesUnsigned, AllDigits, digits_value}
 use Rattle.std.proofs.lemmas.Str.Parse.{parse_plain, digit_at}
 use Rattle.std.proofs.lemmas.Fmt.{decimal_digit, decimal_nonempty, first_decimal, digits_decimal, digits_value-decimal, decimal-digits_value}
-use Rattle.asn1_core_oid.specs.OidTextLaws.{digit_model}
+use Rattle.asn1_core_oid.specs.laws.OidTextLaws.{digit_model}
 
 pub zero_alone : (bs : List ℕ) → get_or bs 0 0 ≡ 48 → length bs ≡ 1 → bs ≡ decimal 0
 zero_alone [] e l = absurd (omega (arith, l))

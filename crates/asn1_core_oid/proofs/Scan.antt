@@ -5,7 +5,7 @@ use Rattle.std.proofs.lemmas.List.{drop_more, drop_all, nil_from_length}
 use Rattle.std.proofs.lemmas.Bool.{false≢true}
 use Rattle.asn1_core_oid.specs.Oid.{IsOid}
 use Rattle.asn1_core_oid.specs.OidTest.{ends_groups}
-use Rattle.asn1_core_oid.specs.OidTestLaws.{is_oid_from, ends_from_oid, some_from_oid}
+use Rattle.asn1_core_oid.specs.laws.OidTestLaws.{is_oid_from, ends_from_oid, some_from_oid}
 
 -- bytes are below 256
 pub all_bytes : (os : List ℕ) → ((i : ℕ) → get_or os i 0 < 256) → AllBelowBase 256 os

@@ -3,9 +3,8 @@ pub mod Known
 pub mod Oid
 pub mod OidLaws
 pub mod OidTest
-pub mod OidTestLaws
 pub mod OidText
-pub mod OidTextLaws
 pub mod OidValue
 pub mod OidValueLaws
 pub mod Refusal
+pub mod laws

@@ -2,7 +2,7 @@
 
 ghost use Rattle.std.specs.Prelude.{ℕ, List};
 ghost use Rattle.asn1_core_oid.specs.OidValue.{octets_of};
-ghost use Rattle.asn1_core_oid.specs.OidValueLaws.{equal_octets};
+ghost use Rattle.asn1_core_oid.specs.laws.OidValueLaws.{equal_octets};
 
 use crate::oid::ObjectIdentifier;
 use asn1_core_element::Error;

@@ -8,7 +8,8 @@ use Rattle.std.proofs.lemmas.List.{append_cancel_right, get_or-drop, length-drop
 use Rattle.std.proofs.lemmas.Slice.Eq.{strip_suffix_is}
 use Rattle.std.specs.Prelude.{◌==◌}
 use lib.Pointwise.{pointwise}
-use Rattle.asn1_core_writers.specs.Comparing.{IsBefore, IsLongestEnd, longest_more, no_end}
+use Rattle.asn1_core_writers.specs.Comparing.{IsBefore, IsLongestEnd, no_end}
+use Rattle.asn1_core_writers.specs.laws.Comparing.{longest_more}
 
 -- what is before an end that was taken off
 pub before_end : (s t front : List ℕ) → s ≡ front ++ t → IsBefore t (Some s) (Some front)

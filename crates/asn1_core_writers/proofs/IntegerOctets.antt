@@ -6,7 +6,7 @@ use Rattle.std.proofs.lemmas.List.{drop-set}
 use Rattle.std.specs.Int.Digits.{digits_of}
 use Rattle.std.proofs.lemmas.Int.Digits.{digits_of_step}
 use Rattle.asn1_core_element.specs.Numbers.{with_sign, integer_octets}
-use Rattle.asn1_core_element.specs.NumberLaws.{with_sign_low, with_sign_high}
+use Rattle.asn1_core_element.specs.laws.NumberLaws.{with_sign_low, with_sign_high}
 
 push_with_sign : (ds : List ℕ) (d : ℕ) → (length ds ≡ 0 → 128 ≤ d) → with_sign (ds ++ (d ∷ [])) ≡ with_sign ds ++ (d ∷ [])
 push_with_sign [] d h = with_sign_high d [] (h refl)

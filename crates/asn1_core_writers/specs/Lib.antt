@@ -4,3 +4,4 @@ pub mod Sinks
 pub mod Buffers
 pub mod Appending
 pub mod Texts
+pub mod laws

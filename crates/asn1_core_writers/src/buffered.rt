@@ -3,7 +3,8 @@
 ghost use Rattle.std.specs.Prelude.{◌≡◌, ℕ, ◌+◌, ◌-◌, ◌^◌, ◌<◌, ◌≤◌, ◌++◌, [], length, false, OnOk, OnErr};
 ghost use Rattle.std.proofs.Common.{refl, rules};
 ghost use Rattle.asn1_core_writers.specs.Sinks.{Sends};
-ghost use Rattle.asn1_core_writers.specs.Buffers.{Buffers, buffered_nothing, buffer_forward};
+ghost use Rattle.asn1_core_writers.specs.Buffers.{Buffers, buffered_nothing};
+ghost use Rattle.asn1_core_writers.specs.laws.Buffers.{buffer_forward};
 
 use crate::writer::{WriteError, Writer};
 use asn1_core_streams::Sink;

@@ -2,7 +2,8 @@
 
 ghost use Rattle.std.specs.Prelude.{◌≡◌, ◌↔◌, ℕ, [], Some, Ok, IsTrue, true};
 ghost use Rattle.std.proofs.Common.{rules};
-ghost use Rattle.asn1_core_writers.specs.Comparing.{Comparison, ComparesTo, IsBefore, IsLongestEnd, IsPlace, borrowed, before_of, place_of, compared_backward, compared_nothing};
+ghost use Rattle.asn1_core_writers.specs.Comparing.{Comparison, ComparesTo, IsBefore, IsLongestEnd, IsPlace, borrowed, before_of, place_of, compared_nothing};
+ghost use Rattle.asn1_core_writers.specs.laws.Comparing.{compared_backward};
 
 use crate::writer::{WriteError, Writer};
 use std::marker::Model;

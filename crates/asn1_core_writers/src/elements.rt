@@ -39,7 +39,7 @@ pub fn put_head<W: Writer>(tag: u8, len: usize, w: &mut W) -> Result<(), WriteEr
 }
 
 /// Writes an element. It is also what any other element with these contents becomes under this tag.
-#[tactic(auto, using(asn1_core_element::specs::ElementLaws::retag_element))]
+#[tactic(auto, using(asn1_core_element::specs::laws::ElementLaws::retag_element))]
 pub fn put_element<W: Writer>(tag: u8, contents: &[u8], w: &mut W) -> Result<(), WriteError>
     requires { W.MayTake w.old }
     ensures text { W.Takes (element tag contents.now) w.old w.new result }

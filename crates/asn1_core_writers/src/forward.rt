@@ -2,7 +2,8 @@
 
 ghost use Rattle.std.specs.Prelude.{◌≡◌, ℕ, ◌≤◌, ◌++◌, [], vec_capacity, false};
 ghost use Rattle.std.proofs.Common.{rules};
-ghost use Rattle.asn1_core_writers.specs.Appending.{AppendingTakes, appended_nothing, appending_forward};
+ghost use Rattle.asn1_core_writers.specs.Appending.{AppendingTakes, appended_nothing};
+ghost use Rattle.asn1_core_writers.specs.laws.Appending.{appending_forward};
 
 use crate::writer::{WriteError, Writer};
 

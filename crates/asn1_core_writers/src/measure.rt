@@ -2,7 +2,8 @@
 
 ghost use Rattle.std.specs.Prelude.{◌≡◌, ℕ, true};
 ghost use Rattle.std.proofs.Common.{rules};
-ghost use Rattle.asn1_core_writers.specs.Writers.{MeasureTakes, measure_backward};
+ghost use Rattle.asn1_core_writers.specs.Writers.{MeasureTakes};
+ghost use Rattle.asn1_core_writers.specs.laws.Writers.{measure_backward};
 
 use crate::writer::{WriteError, Writer};
 

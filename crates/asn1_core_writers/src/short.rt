@@ -2,7 +2,8 @@
 
 ghost use Rattle.std.specs.Prelude.{◌≡◌, ℕ, ◌≤◌, true, List, [], length};
 ghost use Rattle.std.proofs.Common.{rules};
-ghost use Rattle.asn1_core_writers.specs.Writers.{Filling, FillingTakes, filling_backward, filled_nothing};
+ghost use Rattle.asn1_core_writers.specs.Writers.{Filling, FillingTakes, filled_nothing};
+ghost use Rattle.asn1_core_writers.specs.laws.Writers.{filling_backward};
 
 use crate::writer::{WriteError, Writer};
 use std::marker::Model;

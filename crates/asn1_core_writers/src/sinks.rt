@@ -2,7 +2,8 @@
 
 ghost use Rattle.std.specs.Prelude.{◌≡◌, ℕ, ◌-◌, ◌^◌, ◌<◌, false};
 ghost use Rattle.std.proofs.Common.{rules, arith};
-ghost use Rattle.asn1_core_writers.specs.Sinks.{Sends, sends_none, sink_forward};
+ghost use Rattle.asn1_core_writers.specs.Sinks.{Sends, sends_none};
+ghost use Rattle.asn1_core_writers.specs.laws.Sinks.{sink_forward};
 
 use crate::writer::{WriteError, Writer};
 use asn1_core_streams::{Sink, send};

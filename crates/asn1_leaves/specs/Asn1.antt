@@ -3,13 +3,15 @@ use Rattle.std.specs.Str.{IsUtf8}
 use Rattle.std.proofs.Common.{arith}
 use Rattle.asn1_core_format.specs.Asn1.{Asn1, asn1_tagged}
 use Rattle.asn1_core_format.specs.Leaf.{verbatim}
-use Rattle.asn1_core_format.specs.TaggedLaws.{leaf_tagged}
+use Rattle.asn1_core_format.specs.laws.TaggedLaws.{leaf_tagged}
 use Rattle.asn1_leaves_strings.specs.Bits.{IsBits}
 use Rattle.asn1_leaves_strings.specs.Bmp.{IsBmp}
 use Rattle.asn1_leaves_strings.specs.Ia5.{IsIa5}
-use Rattle.asn1_leaves.specs.Integers.{lawful_integer, some_octets}
-use Rattle.asn1_leaves.specs.Strings.{lawful_bit_string, lawful_bmp_string, lawful_ia5_string, lawful_utf8_string}
-use Rattle.asn1_leaves.specs.Times.{lawful_utc_time, utc_spelling, lawful_generalized_time, generalized_spelling}
+use Rattle.asn1_leaves.specs.Integers.{some_octets}
+use Rattle.asn1_leaves.specs.laws.Integers.{lawful_integer}
+use Rattle.asn1_leaves.specs.laws.Strings.{lawful_bit_string, lawful_bmp_string, lawful_ia5_string, lawful_utf8_string}
+use Rattle.asn1_leaves.specs.Times.{utc_spelling, generalized_spelling}
+use Rattle.asn1_leaves.specs.laws.Times.{lawful_utc_time, lawful_generalized_time}
 
 abbrev pub INTEGER : Asn1
 INTEGER = asn1_tagged lawful_integer 0x02 (leaf_tagged 0x02 (omega arith) some_octets)

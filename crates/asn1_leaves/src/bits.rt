@@ -54,7 +54,7 @@ fn put_octets<W: Writer>(first: &[u8], then: &[u8], w: &mut W) -> Result<(), Wri
 
 /// Writes an element whose contents are the count of unused bits and the bytes. That is also the encoding of any other
 /// type with these contents, under this tag.
-#[tactic(auto, using(asn1_core_element::specs::ElementLaws::retag_element))]
+#[tactic(auto, using(asn1_core_element::specs::laws::ElementLaws::retag_element))]
 fn put_bits<W: Writer>(tag: u8, bits: &BitString, w: &mut W) -> Result<(), WriteError>
     requires { W.MayTake w.old }
     ensures text { W.Takes (element tag (contents_of bits.now)) w.old w.new result }

@@ -51,7 +51,7 @@ impl TaggedType for BmpStringAsn1 {
         put_element(tag, self.0.as_bytes(), w)
     }
 
-    #[tactic(auto, using(asn1_leaves_strings::specs::StringLaws::bmp_octets))]
+    #[tactic(auto, using(asn1_leaves_strings::specs::laws::StringLaws::bmp_octets))]
     fn is_well_formed_at(&self, _limit: u8) -> bool {
         true
     }
@@ -152,7 +152,7 @@ impl TaggedType for Utf8StringAsn1 {
         put_element(tag, self.0.as_bytes(), w)
     }
 
-    #[tactic(auto, using(asn1_leaves_strings::specs::StringLaws::utf8_octets))]
+    #[tactic(auto, using(asn1_leaves_strings::specs::laws::StringLaws::utf8_octets))]
     fn is_well_formed_at(&self, _limit: u8) -> bool {
         true
     }

@@ -5,11 +5,13 @@ ghost use Rattle.std.specs.Prelude.{◌≡◌, ◌≢◌, false, IfErr};
 ghost use Rattle.std.proofs.Common.{arith};
 ghost use Rattle.asn1_core_element.specs.declared.error.Error.TheVariants.{Memory};
 ghost use Rattle.asn1_core_format.specs.Format.{Gives};
-ghost use Rattle.asn1_core_format.specs.TaggedLaws.{leaf_tagged};
-ghost use Rattle.asn1_leaves.specs.Times.{utc_spelling, utc_time, lawful_utc_time};
-ghost use Rattle.asn1_leaves.specs.Times.{generalized_spelling, generalized_time, lawful_generalized_time};
+ghost use Rattle.asn1_core_format.specs.laws.TaggedLaws.{leaf_tagged};
+ghost use Rattle.asn1_leaves.specs.Times.{utc_spelling, utc_time};
+ghost use Rattle.asn1_leaves.specs.laws.Times.{lawful_utc_time};
+ghost use Rattle.asn1_leaves.specs.Times.{generalized_spelling, generalized_time};
+ghost use Rattle.asn1_leaves.specs.laws.Times.{lawful_generalized_time};
 ghost use Rattle.asn1_leaves_times.specs.Times.{moment_of, moment_of_generalized};
-ghost use Rattle.asn1_leaves_times.specs.TimesLaws.{equal_utc, equal_generalized};
+ghost use Rattle.asn1_leaves_times.specs.laws.TimesLaws.{equal_utc, equal_generalized};
 ghost use Rattle.asn1_leaves_times.specs.declared.calendar.Moment.{Moment};
 
 use asn1_core_element::{Error, Reader};

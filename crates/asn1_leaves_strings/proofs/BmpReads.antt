@@ -6,7 +6,8 @@ use Rattle.std.proofs.lemmas.List.Elements.{All-nil, All-cons, All-head, All-tai
 use Rattle.std.specs.List.{All, flat_map}
 use Rattle.std.specs.Simd.{first_chunks}
 use Rattle.asn1_leaves_strings.specs.Bmp.{IsSurrogate, unit_octets, IsBmp}
-use Rattle.asn1_leaves_strings.specs.BmpLaws.{unit_of, IsBmp-nil, IsBmp-first, IsBmp-more}
+use Rattle.asn1_leaves_strings.specs.BmpLaws.{unit_of}
+use Rattle.asn1_leaves_strings.specs.laws.BmpLaws.{IsBmp-nil, IsBmp-first, IsBmp-more}
 
 -- the unit of two octets
 abbrev unit_at : List ℕ → ℕ

@@ -10,7 +10,8 @@ use Rattle.std.specs.Char.{IsScalar}
 use Rattle.std.specs.List.{All, flat_map}
 use Rattle.std.specs.Str.{IsUtf8, chars}
 use Rattle.asn1_leaves_strings.specs.Bmp.{IsBmp, IsBmpUnit, unit_octets}
-use Rattle.asn1_leaves_strings.specs.BmpLaws.{unit_of, IsBmp-chars, IsBmp-first}
+use Rattle.asn1_leaves_strings.specs.BmpLaws.{unit_of}
+use Rattle.asn1_leaves_strings.specs.laws.BmpLaws.{IsBmp-chars, IsBmp-first}
 use Rattle.asn1_leaves_strings.specs.BmpTexts.{IsOneUnit, HoldsUnits}
 use Rattle.asn1_leaves_strings.proofs.BmpReads.{is_even}
 

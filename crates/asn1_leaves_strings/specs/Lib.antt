@@ -5,4 +5,4 @@ pub mod BmpTexts
 pub mod CharSet
 pub mod Ia5
 pub mod Octets
-pub mod StringLaws
+pub mod laws

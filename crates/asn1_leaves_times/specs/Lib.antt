@@ -1,9 +1,6 @@
 pub mod Calendar
-pub mod CalendarLaws
 pub mod TimeContents
-pub mod TimeContentsLaws
 pub mod Grammar
-pub mod GrammarLaws
 pub mod Reading
 pub mod Times
-pub mod TimesLaws
+pub mod laws

@@ -1,7 +1,7 @@
 //! What the times say, as `==` and clones see it.
 
 ghost use Rattle.asn1_leaves_times.specs.Times.{moment_of, moment_of_generalized};
-ghost use Rattle.asn1_leaves_times.specs.TimesLaws.{equal_utc, equal_generalized};
+ghost use Rattle.asn1_leaves_times.specs.laws.TimesLaws.{equal_utc, equal_generalized};
 ghost use Rattle.asn1_leaves_times.specs.declared.calendar.Moment.{Moment};
 
 use crate::{GeneralizedTime, UTCTime};

@@ -3,7 +3,7 @@ use Rattle.std.specs.Prelude.{◌≡◌, ◌+◌, ◌-◌, ℕ, List, ◌++◌, 
 use Rattle.std.proofs.Common.{ap, sym, ◌∙◌, subst, arith}
 use Rattle.std.proofs.lemmas.List.{drop_at, take_at}
 use Rattle.asn1_located.specs.Places.{IsRangeAt, Walk}
-use Rattle.asn1_located.specs.WalkLaws.{fits, walk_lies_in}
+use Rattle.asn1_located.specs.laws.WalkLaws.{fits, walk_lies_in}
 use Rattle.asn1_located.specs.declared.walks.Step.{Step}
 
 pub range_of_walk : (steps : List Step) (b : List ℕ) (n : ℕ) (y : List ℕ) (end : ℕ) → end ≡ n + length y → Walk steps 0 b n y → IsRangeAt steps b n end

@@ -6,9 +6,9 @@ use Rattle.std.proofs.lemmas.Bool.{cases_lt}
 use Rattle.std.proofs.lemmas.List.{length-take, length-drop}
 use Rattle.std.proofs.Math.ListN.{drop_of_length-le}
 use Rattle.asn1_core_element.specs.Element.{HasNoFront, IsElement, IsFront, element, head}
-use Rattle.asn1_core_element.specs.ElementLaws.{same_parts}
+use Rattle.asn1_core_element.specs.laws.ElementLaws.{same_parts}
 use Rattle.asn1_located.specs.Places.{Begins, Contains, Finds, Follows, FollowsMany, HasFirst, Leads, Stays, Walk}
-use Rattle.asn1_located.specs.WalkLaws.{fits, one_many, one_step, step_lies_in}
+use Rattle.asn1_located.specs.laws.WalkLaws.{fits, one_many, one_step, step_lies_in}
 use Rattle.asn1_located.specs.declared.walks.Place.{Place}
 use Rattle.asn1_located.specs.declared.walks.Step.{Step}
 use Rattle.asn1_located.specs.declared.walks.Step.TheVariants.{Inside, Element, After, Past}

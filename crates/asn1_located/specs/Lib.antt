@@ -2,4 +2,4 @@ pub mod Places
 pub mod WalkLaws
 pub mod Finding
 pub mod Routes
-pub mod LocatedLaws
+pub mod laws

@@ -3,7 +3,8 @@
 use Rattle.std.specs.Prelude.{◌≡◌, ◌⊎◌, ◌+◌, ℕ, Bool, true, false, List, [], ◌∷◌, ◌++◌, length, Option, None, Some}
 use Rattle.std.proofs.Common.{refl, sym, subst, inl, inr, arith}
 use Rattle.asn1_core_element.specs.Element.{IsTagByte, element, head}
-use Rattle.asn1_core_format.specs.Format.{Format, IsLawful, are_distinct, distinct_tags}
+use Rattle.asn1_core_format.specs.Format.{Format, IsLawful, are_distinct}
+use Rattle.asn1_core_format.specs.laws.Format.{distinct_tags}
 use Rattle.asn1_core_format.specs.Asn1.{Asn1, Asn1Default, ComponentTypes, Distinct, HasTag, all_distinct, not_distinct_part, one_later, distinct_if, ◌then◌, ◌OPTIONAL◌, ◌DEFAULT◌}
 use Rattle.asn1_core_format.specs.Components.{part, within}
 use Rattle.asn1_core_format.specs.Leaf.{leaf, verbatim}
@@ -12,7 +13,8 @@ use Rattle.asn1_core_format.specs.Choices.{Choice, known}
 use Rattle.asn1_core_format.specs.Tagged.{IsTagged, implicit}
 use Rattle.asn1_core.specs.Raw.{raw}
 use Rattle.asn1_located.specs.Places.{Reading, Route, Walk}
-use Rattle.asn1_located.specs.Finding.{Found, Skips, begins_part, contains_element, any_element, first_step, follows_many, follows_part, found_on, walk_under, past_omitted, past_optional}
+use Rattle.asn1_located.specs.Finding.{Found, Skips, begins_part, contains_element, any_element, follows_many, follows_part}
+use Rattle.asn1_located.specs.laws.Finding.{first_step, found_on, walk_under, past_omitted, past_optional}
 use Rattle.asn1_located.specs.declared.walks.Step.{Step}
 use Rattle.asn1_located.specs.declared.walks.Step.TheVariants.{Inside, Element, After, Past, Nth}
 

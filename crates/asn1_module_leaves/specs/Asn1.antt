@@ -3,11 +3,12 @@ use Rattle.std.specs.Prelude.{◌≡◌, ℕ, ◌^◌, ◌%◌, List, true}
 use Rattle.std.proofs.Common.{arith}
 use Rattle.asn1_core_format.specs.Asn1.{Asn1, asn1_tagged}
 use Rattle.asn1_core_format.specs.Numbers.{numbers_below}
-use Rattle.asn1_core_format.specs.TaggedLaws.{leaf_tagged, within_tagged}
-use Rattle.asn1_core_format.specs.ComponentLaws.{lawful_within}
+use Rattle.asn1_core_format.specs.laws.TaggedLaws.{leaf_tagged, within_tagged}
+use Rattle.asn1_core_format.specs.laws.ComponentLaws.{lawful_within}
 use Rattle.asn1_core.specs.Octets.{any_octets}
-use Rattle.asn1_module_leaves.specs.Enumerations.{all_low, lawful_enumerated_in, numbers_in}
-use Rattle.asn1_module_leaves.specs.ModuleLeaves.{lawful_enumerated, lawful_kept_octets}
+use Rattle.asn1_module_leaves.specs.Enumerations.{all_low, numbers_in}
+use Rattle.asn1_module_leaves.specs.laws.Enumerations.{lawful_enumerated_in}
+use Rattle.asn1_module_leaves.specs.laws.ModuleLeaves.{lawful_enumerated, lawful_kept_octets}
 
 abbrev pub ENUMERATED : Asn1
 ENUMERATED = asn1_tagged lawful_enumerated 0x0A (leaf_tagged 0x0A (omega arith) (numbers_below (2 ^ 8)))

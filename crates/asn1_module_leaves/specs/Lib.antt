@@ -2,5 +2,5 @@ pub mod ModuleLeaves
 pub mod Enumerations
 pub mod NamedBits
 pub mod LeavesEqual
-pub mod Differ
 pub mod Asn1
+pub mod laws

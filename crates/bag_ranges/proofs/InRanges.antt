@@ -5,7 +5,7 @@ use Rattle.std.proofs.Common.{refl, sym, ap, subst, ◌∙◌, arith, length-app
 use Rattle.std.proofs.lemmas.List.{append_assoc, drop-drop, drop_at, take_at}
 use Rattle.std.proofs.lemmas.List.Edits.{length-between}
 use Rattle.asn1_located.specs.Places.{Reading, Route, Walk}
-use Rattle.asn1_located.specs.WalkLaws.{walk_lies_in}
+use Rattle.asn1_located.specs.laws.WalkLaws.{walk_lies_in}
 use Rattle.bag_ranges.specs.Bags.{IsIn, IsPartIn}
 use Rattle.located_rows.specs.Rows.{LeadsTo}
 

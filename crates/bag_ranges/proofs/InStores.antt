@@ -10,7 +10,8 @@ use Rattle.input_ranges.specs.declared.ranges.Refusal.TheVariants.{Refused, Part
 use Rattle.located_rows.proofs.RowLaws.{range_is}
 use Rattle.located_rows.specs.Rows.{IsRangeOf, LeadsTo}
 use Rattle.pkcs12_bags.specs.Oids.{data_oid}
-use Rattle.x509_pkcs12.specs.MacOctets.{mac_octets, same_some}
+use Rattle.x509_pkcs12.specs.MacOctets.{mac_octets}
+use Rattle.x509_pkcs12.specs.laws.MacOctets.{same_some}
 use Rattle.x509_pkcs12.specs.MacRoutes.{mac_route}
 use Rattle.x509_pkcs12.specs.Pfxs.{pfx}
 use Rattle.bag_ranges.proofs.Failures.{without}

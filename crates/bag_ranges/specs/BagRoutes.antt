@@ -7,7 +7,7 @@
 -- CertBag ::= SEQUENCE { certId OBJECT IDENTIFIER, certValue [0] EXPLICIT ANY DEFINED BY certId } (RFC 7292, 4.2.3), and
 -- CRLBag alike (4.2.4)
 -- Attribute ::= SEQUENCE { attrType OBJECT IDENTIFIER, attrValues SET OF ANY } (RFC 5652, 5.3)
-use Rattle.std.specs.Prelude.{◌≡◌, ℕ, List, [], ◌∷◌}
+use Rattle.std.specs.Prelude.{◌≡◌, ℕ, List}
 use Rattle.std.proofs.Common.{refl, arith}
 use Rattle.asn1_core.specs.Asn1.{Asn1, asn1, end, ◌OPTIONAL◌, OBJECT_IDENTIFIER, OCTET_STRING, ANY, EXPLICIT, SET_OF, SEQUENCE}
 use Rattle.asn1_core.specs.Der.{OidOctets, each, lawful_raw, lawful_version_3, leaf, raw, verbatim, within}
@@ -15,14 +15,14 @@ use Rattle.asn1_choices.specs.ByOid.{alone, any_oid}
 use Rattle.asn1_core_element.specs.Element.{IsTagByte}
 use Rattle.asn1_located.specs.Places.{Route}
 use Rattle.asn1_located.specs.Routes.{again, as_is, component, enclosed, fixed, item, known_body, octets, opened, ◌before◌, ◌here◌, ◌there◌, ◌▸◌}
-use Rattle.asn1_located.specs.declared.walks.Step.TheVariants.{Inside, Element, After, Nth}
 use Rattle.bag_ranges.specs.OtherBodies.{other_body}
 use Rattle.bag_ranges.specs.RawContentInfos.{raw_content_info}
 use Rattle.pkcs12_algs.specs.Digests.{mac_data}
 use Rattle.pkcs12_bags.specs.BagParts.{encrypted_key_bag, x509_bag}
 use Rattle.pkcs12_bags.specs.Oids.{oid}
 use Rattle.x509_base.specs.Names.{attribute}
-use Rattle.x509_pkcs12.specs.AuthSafes.{auth_safe, lawful_auth_safe}
+use Rattle.x509_pkcs12.specs.AuthSafes.{auth_safe}
+use Rattle.x509_pkcs12.specs.laws.AuthSafes.{lawful_auth_safe}
 use Rattle.x509_pkcs12.specs.MacRoutes.{mac_route}
 use Rattle.x509_pkcs12.specs.Pfxs.{pfx}
 use Rattle.x509_pkcs12.specs.RawBags.{raw_safe_bag, raw_safe_contents}
@@ -108,22 +108,3 @@ auth_safe_element = component 0x30 (omega arith) (asn1 lawful_version_3 before a
 -- from a store whose authSafe is data to its contents
 abbrev pub store_contents : Route (pfx raw).Reads (fixed (each CONTENT.format).Reads)
 store_contents = mac_route ▸ opened (within 0x30 (each CONTENT.format)) ▸ again (enclosed 0x30 (omega arith) (each CONTENT.format))
-
--- the steps, which are computed
-pub bag_value_steps : bag_value.steps ≡ Inside ∷ After ∷ Element ∷ Inside ∷ []
-bag_value_steps = refl
-
-pub x509_octets_steps : (number : ℕ) → (x509_octets number).steps ≡ Inside ∷ After ∷ Element ∷ Inside ∷ Inside ∷ After ∷ Inside ∷ Inside ∷ []
-x509_octets_steps number = refl
-
-pub other_element_steps : (number : ℕ) → (other_element number).steps ≡ Inside ∷ After ∷ Element ∷ Inside ∷ Inside ∷ After ∷ Inside ∷ []
-other_element_steps number = refl
-
-pub attribute_octets_steps : (type : OidOctets) (tag : ℕ) (h : IsTagByte tag) (P : List ℕ → Type 0) (j : ℕ) → (attribute_octets type tag h P j).steps ≡ Inside ∷ After ∷ After ∷ Element ∷ Inside ∷ Nth j ∷ Element ∷ Inside ∷ After ∷ Element ∷ Inside ∷ Nth 0 ∷ Element ∷ Inside ∷ []
-attribute_octets_steps type tag h P j = refl
-
-pub safe_in_data_steps : safe_in_data.steps ≡ Inside ∷ After ∷ Element ∷ Inside ∷ Inside ∷ []
-safe_in_data_steps = refl
-
-pub store_contents_steps : store_contents.steps ≡ Inside ∷ After ∷ Element ∷ Inside ∷ After ∷ Inside ∷ Inside ∷ Inside ∷ []
-store_contents_steps = refl

@@ -6,3 +6,4 @@ pub mod Pieces
 pub mod Failures
 pub mod Contained
 pub mod Stores
+pub mod laws

@@ -20,7 +20,8 @@ use Rattle.attribute_writers.specs.Attributes.{attribute_text, is_formed}
 use Rattle.bag_writers.specs.GivenAttributes.{IsName, is_further, key_ids, names, further}
 use Rattle.bag_writers.specs.Written.{HasGoodAttributes, HasTexts, given_attributes, key_id_of, name_of}
 use Rattle.bag_writers.specs.declared.bags.Bag.{Bag}
-use Rattle.pkcs12_bags.specs.Oids.{oid, oid_valid}
+use Rattle.pkcs12_bags.specs.Oids.{oid}
+use Rattle.pkcs12_bags.specs.laws.Oids.{oid_valid}
 use Rattle.pkcs12_bags.specs.declared.parts.oids.TheConstants.{FRIENDLY_NAME, LOCAL_KEY_ID}
 use Rattle.x509_base.specs.AttributesByOid.{with_oid}
 use Rattle.x509_base.specs.Names.{attribute, attribute_value}

@@ -7,7 +7,7 @@ use Rattle.asn1_core.specs.Asn1.{SEQUENCE}
 use Rattle.asn1_core.specs.Der.{Format, each, element, sequence}
 use Rattle.asn1_core_element.specs.declared.error.Error.{Error}
 use Rattle.asn1_core_element.specs.declared.error.Error.TheVariants.{Invalid, TooLong, Memory}
-use Rattle.asn1_core_format.specs.Whole.{value_of}
+use Rattle.asn1_core_format.specs.laws.Whole.{value_of}
 use Rattle.asn1_borrowed.specs.Written.{IsNotWritten}
 use Rattle.bag_writers.proofs.BagTexts.{bag, bag_formed, bag_normal, bag_text, can_be, can_formed, is_bag}
 use Rattle.bag_writers.specs.Given.{given_bag}

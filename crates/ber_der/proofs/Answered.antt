@@ -5,9 +5,9 @@ use Rattle.asn1_core_element.specs.declared.error.Error.TheVariants.{Malformed, 
 use Rattle.asn1_core_format.specs.Format.{Format}
 use Rattle.asn1_core_format.specs.Whole.{HasNoValue, AnswersInput}
 use Rattle.ber_der.specs.Ber.{IsBer, HasNoDer}
-use Rattle.ber_der.specs.BerLaws.{one_der}
+use Rattle.ber_der.specs.laws.BerLaws.{one_der}
 use Rattle.ber_der.specs.Der.{IsDer}
-use Rattle.ber_der.specs.DerLaws.{der_is_fixed}
+use Rattle.ber_der.specs.laws.DerLaws.{der_is_fixed}
 use Rattle.ber_der.specs.Typed.{AnswersBer, HasNoBerValue}
 use Rattle.ber_der.specs.declared.contexts.Role.TheVariants.{Whole}
 

@@ -2,11 +2,11 @@
 use Rattle.std.proofs.Common.{◌≡◌, ◌↔◌, ℕ, true, zero, suc, ◌-◌, ◌/◌, ◌%◌, ◌<◌, ◌≤◌, List, [], ◌∷◌, ◌++◌, length, take, drop, refl, sym, ap, subst, ◌∙◌, inl, inr, ◌⊎◌, ⊎_elim, arith, append_assoc, append-nil, length-append, length-drop}
 use Rattle.std.specs.List.{AllByRecursion}
 use Rattle.asn1_core_element.specs.Element.{head, element, IsFront, HasNoFront}
-use Rattle.asn1_core_element.specs.ElementLaws.{element_cut, element_same, element_long}
+use Rattle.asn1_core_element.specs.laws.ElementLaws.{element_cut, element_same, element_long}
 use Rattle.ber_der.specs.Contexts.{may_be_constructed}
 use Rattle.ber_der.specs.Ber.{IsTag, joined}
 use Rattle.ber_der.specs.Der.{AreDer, IsDerPrimitive, IsDerConstructed, IsDer, BeginsDer, BeginsNoDer}
-use Rattle.ber_der.specs.DerLaws.{some_element}
+use Rattle.ber_der.specs.laws.DerLaws.{some_element}
 use Rattle.ber_der.proofs.Steps.{split_is, front_long}
 
 der_shape : (k : ℕ) (b : List ℕ) → IsDer k b → IsDerPrimitive b ⊎ ((k ≡ 0 → ⊥) × IsDerConstructed (IsDer (k - 1)) b)

@@ -6,7 +6,7 @@ use Rattle.ber_der.specs.Contexts.{role_in, context_after, context_inside, der_t
 use Rattle.ber_der.specs.Ber.{IsLength, IsTag, Allows, IsDefinite, IsIndefinite, IsPrimitive, IsConstructed, IsBerWith, Holds, joined, der_of, Converted, ConvertedContents, ConvertedToEnd, ConvertedBody, BeginsNone, HoldsNone, EndsNone, BodyNone}
 use Rattle.ber_der.specs.Lengths.{BeginsDefinite, BeginsWithLength, HasNoLength}
 use Rattle.ber_der.proofs.Octets.{uncons}
-use Rattle.ber_der.specs.BerLaws.{role_in_front, first_at_front, ber_long, first_some, ber_fronts, ber_cut, length_cut, not_indefinite}
+use Rattle.ber_der.specs.laws.BerLaws.{role_in_front, first_at_front, ber_long, first_some, ber_fronts, ber_cut, length_cut, not_indefinite}
 use Rattle.ber_der.specs.declared.contexts.Role.{Role}
 use Rattle.ber_der.specs.declared.contexts.Context.{Context}
 

@@ -3,6 +3,6 @@ pub mod Ber
 pub mod Lengths
 pub mod BerLaws
 pub mod Der
-pub mod DerLaws
 pub mod Counts
 pub mod Typed
+pub mod laws

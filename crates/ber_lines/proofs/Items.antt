@@ -3,7 +3,7 @@ use Rattle.std.proofs.Common.{◌≡◌, ◌≢◌, ◌↔◌, inl, inr, ◌⊎�
 use Rattle.std.proofs.Math.Seq.{drop-append_seam}
 use Rattle.std.proofs.lemmas.List.{take-append-drop, take_rest, drop-drop, length-take-le}
 use Rattle.asn1_core_element.specs.Element.{head, element, IsTagByte, IsElement, IsFront, HasNoFront}
-use Rattle.asn1_core_element.specs.ElementLaws.{element_cut, element_long}
+use Rattle.asn1_core_element.specs.laws.ElementLaws.{element_cut, element_long}
 use Rattle.ber_lines.specs.Lines.{Begins, BeginsLonger, HoldsIndefinite, LeadsInto, OpensOctets}
 use Rattle.ber_der.specs.Lengths.{BeginsWithLength}
 use Rattle.ber_lines.specs.declared.lines.Opening.{Opening}

@@ -13,9 +13,11 @@ use Rattle.certificate_ranges.specs.Certificates.{CertificateValue, certificate}
 use Rattle.certificate_ranges.specs.Indices.{IsFirstAt}
 use Rattle.certificate_ranges.specs.Ranges.{AreCertificateRanges, AreExtensionsAt, AreRangesOf, FindsIdentifier, IsKeyIdentifierAt, IsRangeIf, IsRefusal, is_key_identifier}
 use Rattle.certificate_ranges.specs.declared.ranges.CertificateRanges.{CertificateRanges}
-use Rattle.input_ranges.specs.Failures.{is_refusal, memory_fails, refusal_of}
+use Rattle.input_ranges.specs.Failures.{refusal_of}
+use Rattle.input_ranges.specs.laws.Failures.{is_refusal, memory_fails}
 use Rattle.input_ranges.specs.declared.ranges.Refusal.{Refusal}
-use Rattle.pkcs7_verifier.specs.KeyIdentifiers.{AreExtensionsOf, IsKeyIdOf, explicit_extensions, extension_with, has_tag, lawful_explicit_extensions, rest_of, subject_key_identifier_oid}
+use Rattle.pkcs7_verifier.specs.KeyIdentifiers.{AreExtensionsOf, IsKeyIdOf, explicit_extensions, extension_with, has_tag, rest_of, subject_key_identifier_oid}
+use Rattle.pkcs7_verifier.specs.laws.KeyIdentifiers.{lawful_explicit_extensions}
 use Rattle.x509_base.specs.Extensions.{extension}
 
 pub extensions_at : (b : List ℕ) (v : CertificateValue) (rest : List ElementOctets) (i : ℕ) (r : Range ℕ) → IsValueOf certificate 64 b v → rest ≡ rest_of v → (x : ElementOctets) × IsFirstAt (has_tag 0xA3) rest i x → IsRangeIf (in_element i).steps b r → AreExtensionsAt b v (Some r)

@@ -9,15 +9,15 @@ use Rattle.asn1_core_element.specs.declared.error.Error.{Error}
 use Rattle.asn1_core_element.specs.declared.error.Error.TheVariants.{Memory}
 use Rattle.asn1_leaves_strings.specs.Bits.{IsBits}
 use Rattle.asn1_located.specs.Finding.{any_element, contains_element}
-use Rattle.asn1_located.specs.LocatedLaws.{one_walk}
+use Rattle.asn1_located.specs.laws.LocatedLaws.{one_walk}
 use Rattle.asn1_located.specs.Places.{Begins, Follows, IsRangeAt, Walk}
-use Rattle.asn1_located.specs.WalkLaws.{one_after, one_inside}
+use Rattle.asn1_located.specs.laws.WalkLaws.{one_after, one_inside}
 use Rattle.asn1_located.specs.declared.walks.Step.TheVariants.{After, Element, Inside}
 use Rattle.certificate_ranges.proofs.PartPlaces.{part_at, walk_apart}
 use Rattle.certificate_ranges.specs.CertificateRoutes.{key_algorithm_identifier, key_bits, key_parameters, read_key_info}
 use Rattle.certificate_ranges.specs.Certificates.{CertificateValue, KeyValue, certificate, key_element_of, key_format}
 use Rattle.certificate_ranges.specs.Ranges.{HasNoPart, IsKeyAt, IsPartAt, IsPartOrNone}
-use Rattle.x509_base.specs.AlgorithmLaws.{algorithm_identifier}
+use Rattle.x509_base.specs.Algorithms.{algorithm_identifier}
 
 -- the key reads as a SubjectPublicKeyInfo, or as none
 pub key_is : (v : CertificateValue) (octets : List ℕ) (k : KeyValue) → octets ≡ key_element_of v → key_format.Reads 64 octets k → read_key_info.IsPart v k

@@ -4,7 +4,7 @@ use Rattle.std.specs.declared.ops.Range.{Range}
 use Rattle.std.proofs.Common.{refl}
 use Rattle.asn1_core_format.specs.Format.{Format}
 use Rattle.asn1_core_format.specs.Whole.{IsValueOf}
-use Rattle.asn1_located.specs.LocatedLaws.{place_of}
+use Rattle.asn1_located.specs.laws.LocatedLaws.{place_of}
 use Rattle.asn1_located.specs.Places.{IsRangeAt, Reading, Route, Walk}
 use Rattle.asn1_located.specs.declared.walks.Step.{Step}
 use Rattle.certificate_ranges.specs.Ranges.{IsPartAt, IsRangeIf}

@@ -12,7 +12,7 @@ use Rattle.asn1_located.specs.declared.walks.Step.TheVariants.{Element, Inside, 
 use Rattle.certificate_ranges.specs.Certificates.{certificate, key_format}
 use Rattle.pkcs7_verifier.specs.Heads.{REST, tbs_certificate_head}
 use Rattle.pkcs7_verifier.specs.KeyIdentifiers.{explicit_extensions}
-use Rattle.x509_base.specs.AlgorithmLaws.{algorithm_identifier}
+use Rattle.x509_base.specs.Algorithms.{algorithm_identifier}
 use Rattle.x509_base.specs.Extensions.{extension, extensions}
 use Rattle.x509_base.specs.Names.{name}
 

@@ -6,7 +6,7 @@ use Rattle.asn1_core.specs.Der.{Format, ElementOctets}
 use Rattle.asn1_core.specs.declared.raw.Asn1RawDer.{Asn1RawDer}
 use Rattle.asn1_leaves.specs.Asn1.{BIT_STRING}
 use Rattle.pkcs7_verifier.specs.Heads.{certificate_head}
-use Rattle.x509_base.specs.AlgorithmLaws.{algorithm_identifier}
+use Rattle.x509_base.specs.Algorithms.{algorithm_identifier}
 
 abbrev pub CertificateValue : Type 0
 CertificateValue = certificate_head.Value

@@ -20,7 +20,7 @@ use Rattle.cms_calls.specs.declared.built_indirect.WrongIndirect.TheVariants.{At
 use Rattle.cms_calls.specs.declared.contents.Indirect.{Indirect}
 use Rattle.call_values.specs.declared.ranges.Octets.{Octets}
 use Rattle.pkcs7_content.specs.Oids.{pe_image_oid}
-use Rattle.x509_base.specs.AlgorithmLaws.{algorithm_identifier}
+use Rattle.x509_base.specs.Algorithms.{algorithm_identifier}
 
 pe_image_is_oid : IsOid pe_image_oid
 pe_image_is_oid = oid_from_test pe_image_oid refl

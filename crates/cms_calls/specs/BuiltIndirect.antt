@@ -19,7 +19,7 @@ use Rattle.cms_calls.specs.declared.contents.Indirect.{Indirect}
 use Rattle.call_values.specs.declared.ranges.Octets.{Octets}
 use Rattle.call_values.specs.declared.status.TheConstants.{INVALID, MALFORMED, MISSING, TOO_DEEP}
 use Rattle.pkcs7_content.specs.Oids.{pe_image_oid}
-use Rattle.x509_base.specs.AlgorithmLaws.{algorithm_identifier}
+use Rattle.x509_base.specs.Algorithms.{algorithm_identifier}
 
 -- the contents octets of a BIT STRING
 abbrev pub IsBitsOf : List ℕ → Octets → List ℕ → Type 0

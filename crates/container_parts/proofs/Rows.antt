@@ -7,7 +7,8 @@ use Rattle.bag_ranges.specs.declared.ranges.BagRanges.{BagRanges}
 use Rattle.input_ranges.specs.declared.ranges.Refusal.{Refusal}
 use Rattle.input_ranges.specs.declared.ranges.Refusal.TheVariants.{Refused, Part, NoRange}
 use Rattle.container_parts.specs.Copies.{Copies}
-use Rattle.container_parts.specs.Inputs.{GivesPart, gives_copy, RefusesPart, with_refusal}
+use Rattle.container_parts.specs.Inputs.{GivesPart, RefusesPart, with_refusal}
+use Rattle.container_parts.specs.laws.Inputs.{gives_copy}
 use Rattle.container_parts.specs.StoreParts.{all_in, in_store}
 use Rattle.container_parts.specs.declared.stores.StorePart.{StorePart}
 

@@ -1,6 +1,6 @@
 -- Octets that are copied, or their absence.
-use Rattle.std.specs.Prelude.{◌≡◌, ◌⊎◌, ◌≤◌, ◌^◌, ℕ, zero, suc, List, [], ◌∷◌, length, map, Option, None, Some, Result, MatchResult, slice_get}
-use Rattle.std.proofs.Common.{Vec, Global, refl}
+use Rattle.std.specs.Prelude.{◌≡◌, ◌⊎◌, ◌≤◌, ◌^◌, ℕ, List, length, Option, None, Some, Result, MatchResult}
+use Rattle.std.proofs.Common.{Vec, Global}
 use Rattle.asn1_core.specs.Der.{option_value}
 use Rattle.asn1_core_element.specs.declared.error.Error.{Error}
 use Rattle.asn1_core_element.specs.declared.error.Error.TheVariants.{TooLong, Memory}
@@ -32,9 +32,3 @@ pub record CopiesOne (Is : Option (List ℕ) → Type 0) (r : Result (Option (Ve
 abbrev pub of_some : {A B : Type 0} → (A → Option B) → Option A → Option B
 of_some f None = None
 of_some f (Some x) = f x
-
--- an item by its index, as its value
-pub get_value : {A B : Type 0} (f : A → B) (xs : List A) (i : ℕ) → slice_get (map f xs) i ≡ option_value f (slice_get xs i)
-get_value f [] i = refl
-get_value f (x ∷ xs) zero = refl
-get_value f (x ∷ xs) (suc i) = get_value f xs i

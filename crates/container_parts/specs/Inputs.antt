@@ -1,13 +1,12 @@
 -- What an input has of a part, and why the part isn't given.
-use Rattle.std.specs.Prelude.{◌≡◌, ◌≢◌, ◌≤◌, ◌^◌, ℕ, List, length, Option, None, Some, Result, Ok, Err, MatchResult}
-use Rattle.std.proofs.Common.{Vec, Global, arith, inl, inr, sym, subst, ◌∙◌}
+use Rattle.std.specs.Prelude.{◌≡◌, ◌≢◌, ◌≤◌, ◌^◌, ℕ, List, length, Option, Some, Result, Ok, Err, MatchResult}
+use Rattle.std.proofs.Common.{Vec, Global}
 use Rattle.asn1_core.specs.Der.{Format, IsValueOf}
 use Rattle.asn1_core_element.specs.declared.error.Error.{Error}
 use Rattle.asn1_core_element.specs.declared.error.Error.TheVariants.{TooLong, Memory}
-use Rattle.input_ranges.specs.Failures.{IsRefusalOf}
 use Rattle.input_ranges.specs.declared.ranges.Refusal.{Refusal}
 use Rattle.input_ranges.specs.declared.ranges.Refusal.TheVariants.{Refused, Part, NoRange}
-use Rattle.container_parts.specs.Copies.{copied, Copies, CopiesOne, IsLong, IsNotCopied}
+use Rattle.container_parts.specs.Copies.{copied}
 
 -- what a part means
 pub record Meaning : Type 1 where
@@ -51,37 +50,3 @@ GivesPart M b r = MatchResult r (λ found. M.Has b (copied found)) (λ refusal. 
 abbrev pub with_refusal : Result (Option (Vec ℕ Global)) Error → Result (Option (Vec ℕ Global)) Refusal
 with_refusal (Ok found) = Ok found
 with_refusal (Err e) = Err (Refused e 0)
-
-module _ (M : Meaning) (b : List ℕ) where
-  is_long : (octets : Option (List ℕ)) → M.Has b octets → IsLong octets → HasLongPart M b
-  is_long None has long = absurd long
-  is_long (Some octets) has long = record { octets = octets; has = has; long = long }
-
-  not_copied : (octets : Option (List ℕ)) → M.Has b octets → (e : Error) → IsNotCopied octets e → GivesNoPart M b e
-  not_copied octets has e (inl memory) = record {
-    none = λ m. absurd (m memory);
-    long = λ l. absurd (let n : TooLong ≡ Memory = sym l ∙ memory in cc);
-  }
-  not_copied octets has e (inr long) = record {
-    none = λ m l. absurd (l long.0);
-    long = λ l. is_long octets has long.1;
-  }
-
-  -- octets that the input has were copied
-  pub gives_copy : (octets : Option (List ℕ)) → M.Has b octets → (r : Result (Option (Vec ℕ Global)) Error) → Copies octets r → GivesPart M b (with_refusal r)
-  gives_copy octets has (Ok found) c = subst (M.Has b) (sym c) has
-  gives_copy octets has (Err e) c = (not_copied octets has e c, omega arith)
-
-module _ {V : Type 0} (F : Format V) (Is : V → Option (List ℕ) → Type 0) (b : List ℕ) where
-  -- the input doesn't read
-  pub refused : (refusal : Refusal) → IsRefusalOf F b ⊥ refusal → RefusesPart (part_of F Is) b refusal
-  refused (Refused e place) why = (
-    record { none = λ m l v r. why.0.none m v r; long = λ l. absurd (why.0.kind l) },
-    why.1,
-  )
-  refused (Part e place) why = absurd why
-  refused NoRange why = why
-
-  -- the input reads, and what is said of its value was copied
-  pub gives : (v : V) → IsValueOf F 64 b v → (r : Result (Option (Vec ℕ Global)) Error) → CopiesOne (Is v) r → GivesPart (part_of F Is) b (with_refusal r)
-  gives v is r c = gives_copy (part_of F Is) b c.octets (record { value = v; is_value = is; is = c.are }) r c.copies

@@ -5,3 +5,4 @@ pub mod MacParts
 pub mod SignedParts
 pub mod StoreParts
 pub mod Parts
+pub mod laws

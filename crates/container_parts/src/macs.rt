@@ -28,7 +28,7 @@ pub enum MacPart {
 }
 
 /// A part of the MAC of the PKCS #12 file that the input is, read as `RawPfx`. `None` where it has no MAC.
-#[tactic(auto, using(crate::specs::Inputs::refused))]
+#[tactic(auto, using(crate::specs::laws::Inputs::refused))]
 pub fn mac_part(alloc: Global, part: MacPart, input: &[u8]) -> Result<Option<Vec<u8>>, Refusal>
     ensures { GivesPart (in_mac part) input.now result }
 {

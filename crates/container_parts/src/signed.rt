@@ -53,7 +53,7 @@ pub enum SignerPart {
 
 /// The part with that index, from 0 on, of the signed data that the input is, read as `RawPkcs7Certificate`: with
 /// signers of every version, and content of any type. `None` where there is none.
-#[tactic(auto, using(crate::specs::Inputs::refused, crate::specs::Contents::content_read))]
+#[tactic(auto, using(crate::specs::laws::Inputs::refused, crate::specs::laws::Contents::content_read))]
 pub fn signed_part(
     alloc: Global,
     part: SignedPart,
@@ -86,7 +86,7 @@ fn part_of_file(
 }
 
 /// The octets of the content that are hashed. Content that was read is one element, so that this isn't refused.
-#[tactic(auto, using(crate::specs::Contents::no_element))]
+#[tactic(auto, using(crate::specs::laws::Contents::no_element))]
 fn hashed_content(file: &RawPkcs7Certificate) -> Option<&[u8]>
     requires content { IsOneElement (content_of (content_info_of (file_value file.now))) }
     ensures { IsRawHashed (content_of (content_info_of (file_value file.now))) (option_value (λ o. o.now) result) }
@@ -97,7 +97,7 @@ fn hashed_content(file: &RawPkcs7Certificate) -> Option<&[u8]>
     }
 }
 
-#[tactic(auto, using(crate::specs::Copies::get_value))]
+#[tactic(auto, using(crate::specs::laws::Copies::get_value))]
 fn certificate_at(file: &RawPkcs7Certificate, index: usize) -> Option<&[u8]>
     ensures { option_value (λ s. s.now) result ≡ slice_get (certificates_of (file_value file.now)) index }
 {
@@ -107,7 +107,7 @@ fn certificate_at(file: &RawPkcs7Certificate, index: usize) -> Option<&[u8]>
     }
 }
 
-#[tactic(auto, using(crate::specs::Copies::get_value))]
+#[tactic(auto, using(crate::specs::laws::Copies::get_value))]
 fn signer_at(file: &RawPkcs7Certificate, index: usize) -> Option<&RawSignerInfo>
     ensures { option_value (λ s. raw_signer_info_value s.now) result ≡ slice_get (signers_of (file_value file.now)) index }
 {

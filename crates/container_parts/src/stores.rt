@@ -41,7 +41,7 @@ pub fn store_part(
 }
 
 /// The octets of the part with that index.
-#[tactic(auto, using(crate::specs::Copies::get_value))]
+#[tactic(auto, using(crate::specs::laws::Copies::get_value))]
 fn octets_at<'a>(
     part: StorePart,
     index: usize,

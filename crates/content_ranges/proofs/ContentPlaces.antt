@@ -6,7 +6,7 @@ use Rattle.asn1_core.specs.Der.{ElementOctets, Format, OidOctets}
 use Rattle.asn1_core_element.specs.declared.error.Error.{Error}
 use Rattle.asn1_core_element.specs.declared.error.Error.TheVariants.{Memory, TooLong}
 use Rattle.asn1_core_format.specs.Whole.{IsValueOf}
-use Rattle.asn1_located.specs.LocatedLaws.{one_walk}
+use Rattle.asn1_located.specs.laws.LocatedLaws.{one_walk}
 use Rattle.asn1_located.specs.Places.{Reading, Route, Walk}
 use Rattle.asn1_located.specs.Routes.{fixed}
 use Rattle.asn1_located.specs.declared.walks.Place.{Place}

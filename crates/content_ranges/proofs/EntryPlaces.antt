@@ -7,10 +7,10 @@ use Rattle.asn1_core.specs.Der.{element_some, head, lawful_octet_string, octet_s
 use Rattle.asn1_core_element.specs.declared.error.Error.{Error}
 use Rattle.asn1_core_element.specs.declared.error.Error.TheVariants.{Memory}
 use Rattle.asn1_located.specs.Finding.{any_element, contains_element}
-use Rattle.asn1_located.specs.LocatedLaws.{one_walk}
+use Rattle.asn1_located.specs.laws.LocatedLaws.{one_walk}
 use Rattle.asn1_located.specs.Places.{Begins, Follows, Reading, Route, Walk}
 use Rattle.asn1_located.specs.Routes.{again, fixed, ◌▸◌}
-use Rattle.asn1_located.specs.WalkLaws.{one_after, one_inside, walk_on}
+use Rattle.asn1_located.specs.laws.WalkLaws.{one_after, one_inside, walk_on}
 use Rattle.asn1_located.specs.declared.walks.Step.{Step}
 use Rattle.asn1_located.specs.declared.walks.Step.TheVariants.{Element, Nth}
 use Rattle.content_ranges.specs.Contents.{HasContent, IsPartAt, IsPartOrNone, in_content}

@@ -9,7 +9,7 @@ use Rattle.content_ranges.specs.declared.ranges.IndirectRanges.{IndirectRanges}
 use Rattle.input_ranges.specs.declared.ranges.Refusal.{Refusal}
 use Rattle.pkcs7_content.specs.Oids.{indirect_data_oid, pe_image_oid}
 use Rattle.signer_ranges.specs.Signers.{FileValue}
-use Rattle.x509_base.specs.AlgorithmLaws.{algorithm_identifier}
+use Rattle.x509_base.specs.Algorithms.{algorithm_identifier}
 
 abbrev pub type_of : IndirectValue → OidOctets
 type_of w = w.0.0

@@ -3,7 +3,6 @@
 -- SpcAttributeTypeAndOptionalValue ::= SEQUENCE { type OBJECT IDENTIFIER, value ANY DEFINED BY type OPTIONAL }
 -- DigestInfo ::= SEQUENCE { digestAlgorithm AlgorithmIdentifier, digest OCTET STRING }
 -- SpcPeImageData ::= SEQUENCE { flags SpcPeImageFlags DEFAULT { includeResources }, file [0] EXPLICIT SpcLink OPTIONAL }
-use Rattle.std.specs.Prelude.{◌≡◌, [], ◌∷◌}
 use Rattle.std.proofs.Common.{refl, arith}
 use Rattle.asn1_core.specs.Asn1.{ANY, EXPLICIT, OBJECT_IDENTIFIER, OCTET_STRING, SEQUENCE, end, ◌then◌, ◌OPTIONAL◌}
 use Rattle.asn1_core.specs.Der.{Format, IsOid, raw}
@@ -11,9 +10,8 @@ use Rattle.asn1_leaves.specs.Asn1.{BIT_STRING}
 use Rattle.asn1_leaves_strings.specs.Bits.{IsBits}
 use Rattle.asn1_located.specs.Places.{Route}
 use Rattle.asn1_located.specs.Routes.{Tagged, again, as_is, component, enclosed, fixed, octets, opened, with_tag, ◌before◌, ◌here◌, ◌maybe◌, ◌there◌, ◌▸◌}
-use Rattle.asn1_located.specs.declared.walks.Step.TheVariants.{Inside, Element, After, Past}
 use Rattle.content_ranges.specs.Heads.{any_subject, image_head, indirect_head}
-use Rattle.x509_base.specs.AlgorithmLaws.{algorithm_identifier}
+use Rattle.x509_base.specs.Algorithms.{algorithm_identifier}
 use Rattle.x509_base.specs.Digests.{digest_info}
 
 abbrev pub IndirectValue : Type 0
@@ -60,22 +58,3 @@ PAST_FLAGS = with_tag 0x03 BIT_STRING refl
 
 abbrev pub link : Route (fixed indirect_data.Reads) (fixed raw.Reads)
 link = image ▸ again (component 0x30 (omega arith) (PAST_FLAGS maybe EXPLICIT 0 ANY there end) refl) ▸ again (enclosed 0xA0 (omega arith) ANY.format)
-
--- the steps, which are computed
-pub subject_type_steps : subject_type.steps ≡ Inside ∷ Element ∷ Inside ∷ Element ∷ Inside ∷ []
-subject_type_steps = refl
-
-pub subject_value_steps : subject_value.steps ≡ Inside ∷ Element ∷ Inside ∷ After ∷ Element ∷ []
-subject_value_steps = refl
-
-pub digest_algorithm_steps : digest_algorithm.steps ≡ Inside ∷ After ∷ Element ∷ Inside ∷ Element ∷ []
-digest_algorithm_steps = refl
-
-pub digest_steps : digest.steps ≡ Inside ∷ After ∷ Element ∷ Inside ∷ After ∷ Element ∷ Inside ∷ []
-digest_steps = refl
-
-pub flags_steps : flags.steps ≡ Inside ∷ Element ∷ Inside ∷ After ∷ Element ∷ Inside ∷ Element ∷ Inside ∷ []
-flags_steps = refl
-
-pub link_steps : link.steps ≡ Inside ∷ Element ∷ Inside ∷ After ∷ Element ∷ Inside ∷ Past 0x03 ∷ Element ∷ Inside ∷ []
-link_steps = refl

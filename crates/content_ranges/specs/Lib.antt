@@ -8,3 +8,4 @@ pub mod PastTimes
 pub mod TrustRoutes
 pub mod TrustLists
 pub mod TrustParts
+pub mod laws

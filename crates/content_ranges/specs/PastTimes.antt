@@ -3,9 +3,12 @@ use Rattle.std.specs.Prelude.{◌≡◌, ℕ, Bool, true, false, List, [], ◌�
 use Rattle.std.proofs.Common.{refl, sym, ◌∙◌, subst, inl, inr, ⊎_elim, arith}
 use Rattle.asn1_core_format.specs.Asn1.{Distinct, all_distinct, distinct_if, not_distinct_part, one_later, ◌OPTIONAL◌}
 use Rattle.asn1_core_format.specs.Components.{optional}
-use Rattle.asn1_core_format.specs.Format.{Format, IsLawfulComponents, are_distinct, distinct_tags}
-use Rattle.asn1_core_format.specs.Laws.{NextIs, begins_next, next_distinct}
-use Rattle.asn1_located.specs.Finding.{Found, follows_part, found_on}
+use Rattle.asn1_core_format.specs.Format.{Format, IsLawfulComponents, are_distinct}
+use Rattle.asn1_core_format.specs.laws.Format.{distinct_tags}
+use Rattle.asn1_core_format.specs.Nexts.{NextIs}
+use Rattle.asn1_core_format.specs.laws.Formats.{begins_next, next_distinct}
+use Rattle.asn1_located.specs.Finding.{Found, follows_part}
+use Rattle.asn1_located.specs.laws.Finding.{found_on}
 use Rattle.asn1_located.specs.Places.{HasFirst, Leads}
 use Rattle.asn1_located.specs.Routes.{Mark}
 use Rattle.asn1_located.specs.declared.walks.Step.TheVariants.{Past}

@@ -14,7 +14,7 @@ use Rattle.content_ranges.specs.contracts.trust_heads.TrustedSubjectPartialEq.Th
 use Rattle.content_ranges.specs.contracts.trust_heads.TrustListHeadPartialEq.TheImpl as ListEq
 use Rattle.content_ranges.specs.declared.trust_heads.TrustedSubject.{TrustedSubject}
 use Rattle.content_ranges.specs.declared.trust_heads.TrustListHead.{TrustListHead}
-use Rattle.x509_base.specs.AlgorithmLaws.{algorithm_identifier}
+use Rattle.x509_base.specs.Algorithms.{algorithm_identifier}
 use Rattle.x509_base.specs.AlgorithmParts.{algorithm_identifier_value}
 use Rattle.x509_base.specs.Names.{attribute, attribute_equal, attribute_value}
 use Rattle.x509_base.specs.Times.{time, time_equal, time_value}

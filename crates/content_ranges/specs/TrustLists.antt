@@ -11,7 +11,7 @@ use Rattle.input_ranges.specs.declared.ranges.Refusal.{Refusal}
 use Rattle.located_rows.specs.Rows.{AllAt}
 use Rattle.pkcs7_content.specs.Oids.{trust_list_oid}
 use Rattle.signer_ranges.specs.Signers.{FileValue}
-use Rattle.x509_base.specs.AlgorithmLaws.{algorithm_identifier}
+use Rattle.x509_base.specs.Algorithms.{algorithm_identifier}
 use Rattle.x509_base.specs.Times.{time}
 
 abbrev pub version_of : TrustValue → Option Octets

@@ -4,18 +4,17 @@
 --   subjectAlgorithm AlgorithmIdentifier, trustedSubjects SEQUENCE OF TrustedSubject OPTIONAL, ctlExtensions [0] EXPLICIT
 --   Extensions OPTIONAL }
 -- TrustedSubject ::= SEQUENCE { subjectIdentifier OCTET STRING, subjectAttributes SET OF Attribute OPTIONAL }
-use Rattle.std.specs.Prelude.{◌≡◌, ◌≢◌, ℕ, [], ◌∷◌}
+use Rattle.std.specs.Prelude.{◌≢◌, ℕ, []}
 use Rattle.std.proofs.Common.{refl, arith}
 use Rattle.asn1_core.specs.Asn1.{ANY, Asn1, EXPLICIT, OCTET_STRING, SEQUENCE, end, ◌then◌, ◌OPTIONAL◌}
 use Rattle.asn1_core.specs.Der.{Format, each, raw}
 use Rattle.asn1_leaves.specs.Asn1.{INTEGER}
 use Rattle.asn1_located.specs.Places.{Route}
 use Rattle.asn1_located.specs.Routes.{Tagged, again, as_is, component, enclosed, fixed, octets, with_tag, ◌before◌, ◌here◌, ◌maybe◌, ◌there◌, ◌▸◌}
-use Rattle.asn1_located.specs.declared.walks.Step.TheVariants.{Inside, Element, After, Past, Nth}
 use Rattle.content_ranges.specs.PastTimes.{past_time}
 use Rattle.content_ranges.specs.TrustHeads.{ATTRIBUTES, SUBJECTS, USAGES, trust_list_head, trusted_subject}
 use Rattle.located_rows.specs.Rows.{entry}
-use Rattle.x509_base.specs.AlgorithmLaws.{algorithm_identifier}
+use Rattle.x509_base.specs.Algorithms.{algorithm_identifier}
 use Rattle.x509_base.specs.Times.{time}
 
 abbrev pub TrustValue : Type 0
@@ -85,40 +84,3 @@ identifier = component 0x30 (omega arith) (OCTET_STRING here ATTRIBUTES OPTIONAL
 -- and to its attributes
 abbrev pub attributes : Route (SEQUENCE trusted_subject).format.Reads ATTRIBUTES.format.Reads
 attributes = component 0x30 (omega arith) (OCTET_STRING before ATTRIBUTES there end) refl
-
--- the steps, which are computed
-pub version_steps : version.steps ≡ Inside ∷ Element ∷ Inside ∷ []
-version_steps = refl
-
-pub usages_steps : usages.steps ≡ Inside ∷ Past 0x02 ∷ Element ∷ []
-usages_steps = refl
-
-pub list_identifier_steps : list_identifier.steps ≡ Inside ∷ Past 0x02 ∷ After ∷ Element ∷ Inside ∷ []
-list_identifier_steps = refl
-
-pub sequence_number_steps : sequence_number.steps ≡ Inside ∷ Past 0x02 ∷ After ∷ Past 0x04 ∷ Element ∷ Inside ∷ []
-sequence_number_steps = refl
-
-pub this_update_steps : this_update.steps ≡ Inside ∷ Past 0x02 ∷ After ∷ Past 0x04 ∷ Past 0x02 ∷ Element ∷ []
-this_update_steps = refl
-
-pub next_update_steps : next_update.steps ≡ Inside ∷ Past 0x02 ∷ After ∷ Past 0x04 ∷ Past 0x02 ∷ After ∷ Element ∷ []
-next_update_steps = refl
-
-pub algorithm_steps : algorithm.steps ≡ Inside ∷ Past 0x02 ∷ After ∷ Past 0x04 ∷ Past 0x02 ∷ After ∷ Past 0x17 ∷ Past 0x18 ∷ Element ∷ []
-algorithm_steps = refl
-
-pub subjects_steps : subjects.steps ≡ Inside ∷ Past 0x02 ∷ After ∷ Past 0x04 ∷ Past 0x02 ∷ After ∷ Past 0x17 ∷ Past 0x18 ∷ After ∷ Element ∷ Inside ∷ []
-subjects_steps = refl
-
-pub extensions_steps : extensions.steps ≡ Inside ∷ Past 0x02 ∷ After ∷ Past 0x04 ∷ Past 0x02 ∷ After ∷ Past 0x17 ∷ Past 0x18 ∷ After ∷ Past 0x30 ∷ Element ∷ Inside ∷ []
-extensions_steps = refl
-
-pub subject_at_steps : (i : ℕ) → (subject_at i).steps ≡ Inside ∷ Past 0x02 ∷ After ∷ Past 0x04 ∷ Past 0x02 ∷ After ∷ Past 0x17 ∷ Past 0x18 ∷ After ∷ Element ∷ Inside ∷ Nth i ∷ Element ∷ []
-subject_at_steps i = refl
-
-pub identifier_steps : identifier.steps ≡ Inside ∷ Element ∷ Inside ∷ []
-identifier_steps = refl
-
-pub attributes_steps : attributes.steps ≡ Inside ∷ After ∷ Element ∷ []
-attributes_steps = refl

@@ -3,3 +3,4 @@ pub mod Lines
 pub mod Engine
 pub mod Steps
 pub mod Verdicts
+pub mod laws

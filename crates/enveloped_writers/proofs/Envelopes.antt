@@ -22,7 +22,8 @@ use Rattle.enveloped_writers.specs.Values.{enveloped_value}
 use Rattle.enveloped_writers.specs.declared.enveloped.Enveloped.{Enveloped}
 use Rattle.enveloped_writers.specs.declared.enveloped.NotEnveloped.{NotEnveloped}
 use Rattle.enveloped_writers.specs.declared.parts.EnvelopedParts.{EnvelopedParts}
-use Rattle.part_ranges.specs.Enveloped.{EnvelopedFileValue, enveloped_data_oid, enveloped_file, lawful_envelope}
+use Rattle.part_ranges.specs.Enveloped.{EnvelopedFileValue, enveloped_data_oid, enveloped_file}
+use Rattle.part_ranges.specs.laws.Enveloped.{lawful_envelope}
 use Rattle.pkcs7_attributes.specs.SignedSets.{attributes_as_set}
 use Rattle.pkcs7_content.specs.Versions.{number_of}
 use Rattle.pkcs7_content.specs.declared.versions.CmsVersion.{CmsVersion}

@@ -3,7 +3,7 @@ use Rattle.std.specs.Prelude.{◌≡◌, ◌↔◌, ◌<◌, ℕ, zero, suc, IsT
 use Rattle.std.specs.List.{AllByRecursion}
 use Rattle.std.proofs.Common.{ap, arith, inl, inr, subst, sym, true≢false, ◌++◌, ◌∙◌}
 use Rattle.asn1_core.specs.Der.{ElementOctets, Octets, element}
-use Rattle.asn1_core_element.specs.ElementLaws.{element_cut}
+use Rattle.asn1_core_element.specs.laws.ElementLaws.{element_cut}
 use Rattle.enveloped_writers.specs.Elements.{Begins, IsOfVersion, IsPlain, IsVersion, IsVersionBy, has_password_or_other}
 
 pub none : (n : ℕ) → IsTrue false ↔ Begins n []

@@ -2,7 +2,7 @@
 use Rattle.std.proofs.Common.{◌≡◌, ◌≢◌, ℕ, ◌+◌, List, [], length, drop, sym, ap, ◌∙◌, arith, length-append}
 use Rattle.std.proofs.lemmas.List.{append-nil}
 use Rattle.asn1_core_element.specs.Element.{element, head, IsFront, HasNoFront}
-use Rattle.asn1_core_element.specs.ElementLaws.{head_cut}
+use Rattle.asn1_core_element.specs.laws.ElementLaws.{head_cut}
 
 pub no_sequence : {b : List ℕ} → HasNoFront b → (c : List ℕ) → b ≡ element 0x30 c → ⊥
 no_sequence {b} h c e = h 0x30 c [] (omega arith) (e ∙ sym (append-nil (element 0x30 c)))

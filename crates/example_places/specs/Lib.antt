@@ -1,1 +1,2 @@
 pub mod ParcelRoutes
+pub mod laws

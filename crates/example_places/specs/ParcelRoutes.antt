@@ -1,13 +1,13 @@
 -- The ways to parts of a parcel.
 -- Parcel ::= SEQUENCE { code OBJECT IDENTIFIER, fragile BOOLEAN DEFAULT FALSE, floor INTEGER (0..255) DEFAULT 3,
 --   note [30] EXPLICIT OCTET STRING OPTIONAL, stamps [5] IMPLICIT SEQUENCE OF Stamp }
-use Rattle.std.specs.Prelude.{◌≡◌, ◌^◌, ℕ, [], ◌∷◌}
+use Rattle.std.specs.Prelude.{◌^◌, ℕ, [], ◌∷◌}
 use Rattle.std.proofs.Common.{refl, arith}
 use Rattle.asn1_core.specs.Asn1.{Asn1, BOOLEAN_or_FALSE, INTEGER_BELOW, INTEGER_or, ◌then◌, ◌OPTIONAL◌, end, OBJECT_IDENTIFIER, OCTET_STRING, EXPLICIT, IMPLICIT, SEQUENCE, SEQUENCE_OF}
 use Rattle.asn1_core.specs.Der.{octet_string}
 use Rattle.asn1_located.specs.Places.{Route}
 use Rattle.asn1_located.specs.Routes.{TaggedDefault, as_is, component, enclosed, item, octets, default_with_tag, under, with_tag, ◌before◌, ◌default◌, ◌here◌, ◌maybe◌, ◌there◌, ◌▸◌}
-use Rattle.asn1_located.specs.declared.walks.Step.TheVariants.{Inside, Element, After, Past, Nth}
+use Rattle.asn1_located.specs.declared.walks.Step.TheVariants.{Element, Nth}
 use Rattle.example_stamp.specs.Parcels.{parcel}
 use Rattle.example_stamp.specs.Stamps.{stamp}
 
@@ -37,10 +37,3 @@ data_of_stamp i =
     ▸ under 0xA5 0x30 (omega arith) (SEQUENCE_OF (SEQUENCE stamp)).format (item 0x30 (omega arith) (SEQUENCE stamp).format (SEQUENCE stamp).law i) (Nth i ∷ Element ∷ []) refl
     ▸ component 0x30 (omega arith) (OBJECT_IDENTIFIER before OCTET_STRING here INTEGER_BELOW (2 ^ 32) OPTIONAL end) refl
     ▸ octets 0x04 (omega arith) (λ _. Unit {0})
-
--- the steps, which are computed
-pub note_steps : note.steps ≡ Inside ∷ After ∷ Past 0x01 ∷ Past 0x02 ∷ Element ∷ Inside ∷ Inside ∷ []
-note_steps = refl
-
-pub data_steps : (i : ℕ) → (data_of_stamp i).steps ≡ Inside ∷ After ∷ Past 0x01 ∷ Past 0x02 ∷ Past 0xBE ∷ Element ∷ Inside ∷ Nth i ∷ Element ∷ Inside ∷ After ∷ Element ∷ Inside ∷ []
-data_steps i = refl

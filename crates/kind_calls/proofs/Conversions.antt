@@ -3,7 +3,7 @@ use Rattle.std.proofs.Common.{◌≡◌, ◌≤◌, ◌∙◌, ℕ, List, true, 
 use Rattle.asn1_core_element.specs.declared.error.Error.{Error}
 use Rattle.asn1_core_element.specs.declared.error.Error.TheVariants.{TooLong, Memory}
 use Rattle.ber_der.specs.Ber.{HasNoDer, IsBer}
-use Rattle.ber_der.specs.BerLaws.{one_der}
+use Rattle.ber_der.specs.laws.BerLaws.{one_der}
 use Rattle.ber_der.specs.declared.contexts.Role.TheVariants.{Whole}
 use Rattle.call_values.proofs.Statuses.{error_written_at}
 use Rattle.kind_calls.specs.Conversions.{ConvertsBer, IsDerOf, without_der}

@@ -9,14 +9,14 @@ use Rattle.asn1_core_element.specs.Element.{IsElement}
 use Rattle.asn1_core_element.specs.declared.error.Error.{Error}
 use Rattle.asn1_core_element.specs.declared.error.Error.TheVariants.{Malformed, Missing, Invalid, TooDeep, TooLong, Memory}
 use Rattle.asn1_core_format.specs.Format.{Format, IsLawful}
-use Rattle.asn1_core_format.specs.Laws.{element_some}
+use Rattle.asn1_core_format.specs.laws.Formats.{element_some}
 use Rattle.asn1_core_format.specs.Lists.{each}
 use Rattle.asn1_located.proofs.Ranges.{range_of_walk}
 use Rattle.asn1_located.specs.Finding.{Skips, follows_many}
-use Rattle.asn1_located.specs.LocatedLaws.{one_walk, place_of}
+use Rattle.asn1_located.specs.laws.LocatedLaws.{one_walk, place_of}
 use Rattle.asn1_located.specs.Places.{Follows, FollowsMany, Reading, Route, Walk}
 use Rattle.asn1_located.specs.Routes.{◌▸◌}
-use Rattle.asn1_located.specs.WalkLaws.{one_many}
+use Rattle.asn1_located.specs.laws.WalkLaws.{one_many}
 use Rattle.asn1_located.specs.declared.walks.Step.{Step}
 use Rattle.asn1_located.specs.declared.walks.Step.TheVariants.{Element, Nth}
 use Rattle.located_rows.specs.Rows.{AllAt, AreItemsOf, AreRows, HasNoList, IsElementRange, IsRangeOf, LeadsTo, entry}

@@ -4,10 +4,10 @@ use Rattle.std.proofs.Common.{refl, sym, ap, subst, arith, length-append, ⊎_el
 use Rattle.std.proofs.lemmas.Bool.{cases_lt}
 use Rattle.asn1_core_element.specs.declared.error.Error.{Error}
 use Rattle.asn1_core_element.specs.declared.error.Error.TheVariants.{Memory}
-use Rattle.asn1_core_format.specs.Laws.{element_some}
-use Rattle.asn1_located.specs.LocatedLaws.{one_walk}
+use Rattle.asn1_core_format.specs.laws.Formats.{element_some}
+use Rattle.asn1_located.specs.laws.LocatedLaws.{one_walk}
 use Rattle.asn1_located.specs.Places.{Follows, FollowsMany, Walk}
-use Rattle.asn1_located.specs.WalkLaws.{fits, one_many, step_lies_in, walk_on}
+use Rattle.asn1_located.specs.laws.WalkLaws.{fits, one_many, step_lies_in, walk_on}
 use Rattle.asn1_located.specs.declared.walks.Step.{Step}
 use Rattle.asn1_located.specs.declared.walks.Step.TheVariants.{After, Nth}
 use Rattle.located_rows.proofs.RowLaws.{many_ends, none_yet, one_more}

@@ -2,11 +2,10 @@
 use Rattle.asn1_core.specs.Asn1.{Asn1, CHOICE, Contents, IMPLICIT, INTEGER_BELOW, SEQUENCE, contents, end, ◌then◌, ◌OPTIONAL◌}
 use Rattle.std.proofs.lemmas.Bool.Decides.{Decides-eqb}
 use Rattle.asn1_module_leaves.specs.Asn1.{ENUMERATED_of}
-use Rattle.asn1_module_leaves.specs.Enumerations.{IsOneOf}
 use Rattle.std.specs.Prelude.{List, ℕ, ◌^◌, [], ◌∷◌}
 use Rattle.asn1_core.specs.Der.{SeesEqual, option_equal, option_value, same_first, same_second, two_equal, with_end}
 use Rattle.asn1_leaves.specs.Asn1.{UTF8_STRING}
-use Rattle.asn1_module_leaves.specs.Differ.{differ}
+use Rattle.asn1_module_leaves.specs.laws.Differ.{differ}
 use Rattle.std.proofs.Common.{inl, inr, refl, rules}
 use Rattle.asn1_leaves_strings.specs.Octets.{octets_of_utf8}
 use Rattle.asn1_module_leaves.specs.LeavesEqual.{utf8_equal}
@@ -52,11 +51,6 @@ abbrev pub state_value : State → ℕ
 state_value StateIs.Sent = 0
 state_value StateIs.Received = 1
 state_value StateIs.Answered = 3
-
-pub state_listed : (x : State) → IsOneOf state_numbers (state_value x)
-state_listed StateIs.Sent = inl refl
-state_listed StateIs.Received = inr (inl refl)
-state_listed StateIs.Answered = inr (inr (inl refl))
 
 pub state_equal : SeesEqual StateEq.ghosts.eq state_value
 state_equal x y = search rules

@@ -1,9 +1,10 @@
 //! The types of Forms, made of `forms.asn1`; not to be edited.
 
 ghost use Rattle.made_forms.specs.Forms.{sender, sender_value, sender_equal};
-ghost use Rattle.made_forms.specs.Forms.{state, state_value, state_equal, state_numbers, state_listed};
+ghost use Rattle.made_forms.specs.Forms.{state, state_value, state_equal, state_numbers};
 ghost use Rattle.made_forms.specs.Forms.{head, head_value, head_equal};
 ghost use Rattle.made_forms.specs.Forms.{message, message_value, message_equal};
+ghost use Rattle.made_forms.specs.laws.Forms.{state_listed};
 ghost use Rattle.std.proofs.Common.{ℕ, refl};
 ghost use Rattle.asn1_module_leaves.specs.Enumerations.{numbers_in};
 
@@ -121,7 +122,7 @@ impl TaggedType for State {
         put_unsigned(tag, u32::from(self.number()), w)
     }
 
-    #[tactic(auto, using(crate::specs::Forms::state_listed))]
+    #[tactic(auto, using(crate::specs::laws::Forms::state_listed))]
     fn is_well_formed_at(&self, _limit: u8) -> bool {
         true
     }

@@ -4,7 +4,8 @@ use Rattle.std.proofs.Common.{Vec, Global, refl}
 use Rattle.asn1_core.specs.Der.{option_value, Octets, IsValueOf, HasNoValue}
 use Rattle.asn1_core_element.specs.declared.error.Error.{Error}
 use Rattle.container_parts.specs.Copies.{Copies}
-use Rattle.container_parts.specs.Inputs.{gives_copy, GivesNoPart}
+use Rattle.container_parts.specs.Inputs.{GivesNoPart}
+use Rattle.container_parts.specs.laws.Inputs.{gives_copy}
 use Rattle.container_parts.specs.MacParts.{mac_of, mac_part_in, of_mac}
 use Rattle.container_parts.specs.declared.macs.MacPart.{MacPart}
 use Rattle.x509_pkcs12.specs.Pfxs.{PfxValue}

@@ -10,7 +10,8 @@ use Rattle.asn1_core_element.specs.declared.error.Error.{Error}
 use Rattle.asn1_core_element.specs.declared.error.Error.TheVariants.{Memory}
 use Rattle.asn1_core_format.specs.Whole.{IsValueOf}
 use Rattle.asn1_located.specs.Routes.{enclosed, ◌▸◌}
-use Rattle.input_ranges.specs.Failures.{is_refusal, memory_fails, refusal_of}
+use Rattle.input_ranges.specs.Failures.{refusal_of}
+use Rattle.input_ranges.specs.laws.Failures.{is_refusal, memory_fails}
 use Rattle.input_ranges.specs.declared.ranges.Refusal.{Refusal}
 use Rattle.located_rows.proofs.RowLaws.{items_found, no_items, range_is}
 use Rattle.located_rows.specs.Rows.{AreRows, HasNoList, IsElementRange, IsRangeOf, LeadsTo}

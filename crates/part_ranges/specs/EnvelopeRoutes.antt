@@ -5,16 +5,16 @@
 --   OPTIONAL } (RFC 5652, 6.1)
 -- EncryptedContentInfo ::= SEQUENCE { contentType ContentType, contentEncryptionAlgorithm
 --   ContentEncryptionAlgorithmIdentifier, encryptedContent [0] IMPLICIT OCTET STRING OPTIONAL } (RFC 5652, 6.1)
-use Rattle.std.specs.Prelude.{◌≡◌, [], ◌∷◌}
+use Rattle.std.specs.Prelude.{[]}
 use Rattle.std.proofs.Common.{refl, arith}
 use Rattle.asn1_core.specs.Asn1.{Asn1, asn1, end, ◌then◌, ◌OPTIONAL◌, INTEGER_BELOW, OCTET_STRING, OBJECT_IDENTIFIER, ANY, IMPLICIT, SET_OF, SEQUENCE}
 use Rattle.asn1_core.specs.Der.{each, lawful_explicit, lawful_only_oid}
 use Rattle.asn1_located.specs.Places.{Route}
 use Rattle.asn1_located.specs.Routes.{Tagged, as_is, component, enclosed, octets, under, with_tag, ◌before◌, ◌here◌, ◌maybe◌, ◌there◌, ◌▸◌}
-use Rattle.asn1_located.specs.declared.walks.Step.TheVariants.{Inside, Element, After, Past}
 use Rattle.part_ranges.specs.Enveloped.{enveloped_data_oid, enveloped_file}
-use Rattle.pkcs7_enveloped.specs.Enveloped.{encrypted_content_info, enveloped, lawful_enveloped, originator_info}
-use Rattle.x509_base.specs.AlgorithmLaws.{algorithm_identifier}
+use Rattle.pkcs7_enveloped.specs.Enveloped.{encrypted_content_info, enveloped, originator_info}
+use Rattle.pkcs7_enveloped.specs.laws.Enveloped.{lawful_enveloped}
+use Rattle.x509_base.specs.Algorithms.{algorithm_identifier}
 use Rattle.x509_base.specs.Names.{attribute}
 
 abbrev pub ALGORITHM : Asn1
@@ -50,13 +50,3 @@ encrypted_content =
     content_info
     ▸ component 0x30 (omega arith) (OBJECT_IDENTIFIER before ALGORITHM before IMPLICIT 0 OCTET_STRING there end) refl
     ▸ under 0x80 0x04 (omega arith) OCTET_STRING.format (octets 0x04 (omega arith) (λ _. Unit {0})) [] refl
-
--- the steps, which are computed
-pub recipients_steps : recipients.steps ≡ Inside ∷ After ∷ Element ∷ Inside ∷ Inside ∷ After ∷ Past 0xA0 ∷ Element ∷ Inside ∷ []
-recipients_steps = refl
-
-pub encryption_algorithm_steps : encryption_algorithm.steps ≡ Inside ∷ After ∷ Element ∷ Inside ∷ Inside ∷ After ∷ Past 0xA0 ∷ After ∷ Element ∷ Inside ∷ After ∷ Element ∷ []
-encryption_algorithm_steps = refl
-
-pub encrypted_content_steps : encrypted_content.steps ≡ Inside ∷ After ∷ Element ∷ Inside ∷ Inside ∷ After ∷ Past 0xA0 ∷ After ∷ Element ∷ Inside ∷ After ∷ After ∷ Element ∷ Inside ∷ []
-encrypted_content_steps = refl

@@ -1,10 +1,9 @@
 -- ContentInfo ::= SEQUENCE { contentType ContentType, content [0] EXPLICIT ANY DEFINED BY contentType } (RFC 5652, 3)
 --   of id-envelopedData
 use Rattle.std.specs.Prelude.{ℕ, List, [], ◌∷◌}
-use Rattle.std.proofs.Common.{arith}
 use Rattle.asn1_core.specs.Asn1.{ANY}
-use Rattle.asn1_core.specs.Der.{arcs, explicit, ElementOctets, followed_by, Format, IsLawful, lawful_explicit, lawful_nothing, lawful_only_oid, lawful_sequence, nothing, only_oid, part, sequence}
-use Rattle.pkcs7_enveloped.specs.Enveloped.{enveloped, enveloped_value, EnvelopedValue, lawful_enveloped}
+use Rattle.asn1_core.specs.Der.{arcs, explicit, ElementOctets, Format, nothing, only_oid, part, sequence}
+use Rattle.pkcs7_enveloped.specs.Enveloped.{enveloped, enveloped_value, EnvelopedValue}
 use Rattle.part_ranges.specs.declared.enveloped.Envelope.{Envelope}
 
 -- id-envelopedData (RFC 5652, 6.1)
@@ -20,9 +19,6 @@ envelope_value value x = (enveloped_data_oid, (enveloped_value value x.enveloped
 
 abbrev pub envelope : {V : Type 0} → Format V → Format (EnvelopeValue V)
 envelope F = sequence (part (only_oid enveloped_data_oid) (part (explicit 0 (enveloped F)) nothing))
-
-pub lawful_envelope : {V : Type 0} (F : Format V) → IsLawful F → IsLawful (envelope F)
-lawful_envelope F f = lawful_sequence (followed_by (lawful_only_oid enveloped_data_oid) (followed_by (lawful_explicit (omega arith) (lawful_enveloped F f)) lawful_nothing))
 
 -- enveloped data with each recipient as it is
 abbrev pub EnvelopedFileValue : Type 0

@@ -3,10 +3,11 @@
 ghost use Rattle.std.specs.Prelude.{◌≡◌, ℕ, List, map};
 ghost use Rattle.std.proofs.Common.{refl};
 ghost use Rattle.asn1_core.specs.Der.{list_equal, oid_from_test, option_equal, two_equal, with_end};
-ghost use Rattle.part_ranges.specs.Enveloped.{enveloped_data_oid, envelope, EnvelopeValue, envelope_value, lawful_envelope};
+ghost use Rattle.part_ranges.specs.Enveloped.{enveloped_data_oid, envelope, EnvelopeValue, envelope_value};
+ghost use Rattle.part_ranges.specs.laws.Enveloped.{lawful_envelope};
 ghost use Rattle.x509_base.specs.Names.{attribute_equal, attribute_value};
 ghost use Rattle.pkcs7_enveloped.specs.Enveloped.{encrypted_content_equal, originator_equal, originator_info_value};
-ghost use Rattle.x509_pkcs7.specs.RawSigned.{with_head};
+ghost use Rattle.x509_pkcs7.specs.laws.RawSigned.{with_head};
 ghost use Rattle.pkcs7_enveloped.specs.Versions.{version_equal};
 
 use asn1_choices::{Named, OnlyOid};

@@ -22,7 +22,7 @@ use Rattle.password_writers.specs.Written.{IsNotWrittenAs, IsWrittenAs, info_of,
 use Rattle.asn1_choices.specs.Tables.{Table}
 use Rattle.password_ranges.specs.SaltKinds.{pbes1_table, pkcs12_table}
 use Rattle.pkcs12_algs.specs.Oids.{pbes2_oid, pbkdf2_oid}
-use Rattle.x509_base.specs.AlgorithmLaws.{null_is_element}
+use Rattle.x509_base.specs.laws.AlgorithmLaws.{null_is_element}
 use Rattle.x509_base.specs.Algorithms.{null}
 
 pbes2_is_oid : IsOid pbes2_oid

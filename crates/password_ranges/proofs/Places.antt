@@ -7,7 +7,8 @@ use Rattle.asn1_core_element.specs.declared.error.Error.TheVariants.{Memory}
 use Rattle.asn1_located.specs.Places.{Walk}
 use Rattle.asn1_located.specs.declared.walks.Place.{Place}
 use Rattle.asn1_located.specs.declared.walks.Step.{Step}
-use Rattle.input_ranges.specs.Failures.{is_refusal, memory_fails, refusal_of}
+use Rattle.input_ranges.specs.Failures.{refusal_of}
+use Rattle.input_ranges.specs.laws.Failures.{is_refusal, memory_fails}
 use Rattle.input_ranges.specs.declared.ranges.Refusal.{Refusal}
 use Rattle.password_ranges.specs.Holders.{IsPlaceIf, IsRefusal}
 

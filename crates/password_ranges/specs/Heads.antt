@@ -4,7 +4,7 @@ use Rattle.std.proofs.Common.{refl}
 use Rattle.asn1_core.specs.Asn1.{Asn1, asn1, Contents, EXPLICIT, IMPLICIT, INTEGER_BELOW, OBJECT_IDENTIFIER, OCTET_STRING, SEQUENCE, VERSION, contents, end, ◌then◌, ◌OPTIONAL◌}
 use Rattle.asn1_core.specs.Der.{arcs, lawful_only_oid}
 use Rattle.pkcs12_algs.specs.Pbkdf2.{pbkdf2_salt_source}
-use Rattle.x509_base.specs.AlgorithmLaws.{algorithm_identifier}
+use Rattle.x509_base.specs.Algorithms.{algorithm_identifier}
 
 -- AlgorithmIdentifier ::= SEQUENCE { algorithm OBJECT IDENTIFIER, parameters ANY DEFINED BY algorithm OPTIONAL }
 abbrev pub ALGORITHM : Asn1

@@ -6,3 +6,4 @@ pub mod PasswordRoutes
 pub mod Passwords
 pub mod Schemes
 pub mod Holders
+pub mod laws

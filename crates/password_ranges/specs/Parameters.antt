@@ -3,7 +3,7 @@ use Rattle.std.specs.Prelude.{◌≡◌, Option, None, Some}
 use Rattle.asn1_choices.specs.Tables.{Table}
 use Rattle.asn1_core.specs.Der.{ElementOctets, Format, OidOctets}
 use Rattle.asn1_core_format.specs.Whole.{IsValueOf}
-use Rattle.x509_base.specs.AlgorithmLaws.{algorithm_identifier}
+use Rattle.x509_base.specs.Algorithms.{algorithm_identifier}
 
 abbrev pub AlgorithmValue : Type 0
 AlgorithmValue = algorithm_identifier.Value

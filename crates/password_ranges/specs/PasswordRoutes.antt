@@ -1,11 +1,10 @@
 -- The ways to the parts of an algorithm identifier that encrypts with a password, and to the algorithm in what holds it.
-use Rattle.std.specs.Prelude.{◌≡◌, ◌^◌, [], ◌∷◌}
+use Rattle.std.specs.Prelude.{◌≡◌, ◌^◌, []}
 use Rattle.std.proofs.Common.{refl, subst, arith, inl}
 use Rattle.asn1_core.specs.Asn1.{ANY, EXPLICIT, IMPLICIT, INTEGER_BELOW, OBJECT_IDENTIFIER, OCTET_STRING, SEQUENCE, VERSION, asn1, end, ◌then◌, ◌OPTIONAL◌}
 use Rattle.asn1_core.specs.Der.{Format, IsOid, lawful_only_oid, raw}
 use Rattle.asn1_located.specs.Places.{Route}
 use Rattle.asn1_located.specs.Routes.{Tagged, again, as_is, component, enclosed, fixed, octets, opened, under, with_tag, ◌before◌, ◌here◌, ◌maybe◌, ◌there◌, ◌▸◌}
-use Rattle.asn1_located.specs.declared.walks.Step.TheVariants.{Inside, Element, After, Past}
 use Rattle.password_ranges.specs.Heads.{ALGORITHM, encrypted_content_head, encrypted_data_head, encrypted_data_oid, encrypted_info_head, encrypted_key_head, pbes2_head, pbkdf2_head}
 use Rattle.pkcs12_algs.specs.Pbes1.{pbes1_params}
 use Rattle.pkcs12_algs.specs.Pbkdf2.{pbkdf2_salt_source}
@@ -109,28 +108,3 @@ contents_encrypted =
     encrypted_content
     ▸ component 0x30 (omega arith) (OBJECT_IDENTIFIER before ALGORITHM before IMPLICIT 0 OCTET_STRING there end) refl
     ▸ under 0x80 0x04 (omega arith) OCTET_STRING.format (octets 0x04 (omega arith) (λ _. Unit {0})) [] refl
-
--- the steps, which are computed
-pub only_salt_steps : only_salt.steps ≡ Inside ∷ After ∷ Element ∷ Inside ∷ Element ∷ Inside ∷ []
-only_salt_steps = refl
-
-pub derivation_oid_steps : derivation_oid.steps ≡ Inside ∷ After ∷ Element ∷ Inside ∷ Element ∷ Inside ∷ Element ∷ Inside ∷ []
-derivation_oid_steps = refl
-
-pub encryption_oid_steps : encryption_oid.steps ≡ Inside ∷ After ∷ Element ∷ Inside ∷ After ∷ Element ∷ Inside ∷ Element ∷ Inside ∷ []
-encryption_oid_steps = refl
-
-pub vector_steps : vector.steps ≡ Inside ∷ After ∷ Element ∷ Inside ∷ After ∷ Element ∷ Inside ∷ After ∷ Element ∷ Inside ∷ []
-vector_steps = refl
-
-pub pbkdf2_salt_steps : pbkdf2_salt.steps ≡ Inside ∷ After ∷ Element ∷ Inside ∷ Element ∷ Inside ∷ After ∷ Element ∷ Inside ∷ Element ∷ Inside ∷ []
-pbkdf2_salt_steps = refl
-
-pub prf_oid_steps : prf_oid.steps ≡ Inside ∷ After ∷ Element ∷ Inside ∷ Element ∷ Inside ∷ After ∷ Element ∷ Inside ∷ After ∷ After ∷ Past 0x02 ∷ Element ∷ Inside ∷ Element ∷ Inside ∷ []
-prf_oid_steps = refl
-
-pub contents_algorithm_steps : contents_algorithm.steps ≡ Inside ∷ After ∷ Element ∷ Inside ∷ Inside ∷ After ∷ Element ∷ Inside ∷ After ∷ Element ∷ []
-contents_algorithm_steps = refl
-
-pub contents_encrypted_steps : contents_encrypted.steps ≡ Inside ∷ After ∷ Element ∷ Inside ∷ Inside ∷ After ∷ Element ∷ Inside ∷ After ∷ After ∷ Element ∷ Inside ∷ []
-contents_encrypted_steps = refl

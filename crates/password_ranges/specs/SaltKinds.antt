@@ -1,14 +1,12 @@
 -- Algorithms that encrypt with a password and have a salt and a count as their parameters, by their arcs.
-use Rattle.std.specs.Prelude.{◌≡◌, ℕ, List, [], ◌∷◌, Some}
-use Rattle.std.proofs.Common.{rules}
-use Rattle.asn1_choices.specs.Tables.{IsTable, Table}
+use Rattle.std.specs.Prelude.{ℕ, List, [], ◌∷◌}
+use Rattle.asn1_choices.specs.Tables.{Table}
 use Rattle.asn1_core.specs.Der.{arcs}
 use Rattle.password_ranges.specs.declared.salt_kinds.Pbes1Kind.{Pbes1Kind}
 use Rattle.password_ranges.specs.declared.salt_kinds.Pbes1Kind.TheVariants.{Md2AndDes, Md5AndDes, Md2AndRc2, Md5AndRc2, Sha1AndDes, Sha1AndRc2}
 use Rattle.password_ranges.specs.declared.salt_kinds.Pkcs12Kind.{Pkcs12Kind}
 use Rattle.password_ranges.specs.declared.salt_kinds.Pkcs12Kind.TheVariants.{ShaAnd128BitRc4, ShaAnd40BitRc4, ShaAnd3Key3Des, ShaAnd2Key3Des, ShaAnd128BitRc2, ShaAnd40BitRc2}
-use Rattle.pkcs12_algs.specs.TableLaws.{is_table}
-use Rattle.pkcs12_algs.specs.Tables.{alternative_with, table}
+use Rattle.pkcs12_algs.specs.Tables.{table}
 
 -- an object identifier below pkcs-5, 1.2.840.113549.1.5
 abbrev pkcs5 : ℕ → List ℕ
@@ -33,17 +31,6 @@ pbes1_kinds = Md2AndDes ∷ Md5AndDes ∷ Md2AndRc2 ∷ Md5AndRc2 ∷ Sha1AndDes
 abbrev pub pbes1_table : Table Pbes1Kind
 pbes1_table = table pbes1_oid pbes1_kinds
 
-found_pbes1 : (a : Pbes1Kind) → alternative_with pbes1_oid pbes1_kinds (pbes1_oid a) ≡ Some a
-found_pbes1 Md2AndDes = search rules
-found_pbes1 Md5AndDes = search rules
-found_pbes1 Md2AndRc2 = search rules
-found_pbes1 Md5AndRc2 = search rules
-found_pbes1 Sha1AndDes = search rules
-found_pbes1 Sha1AndRc2 = search rules
-
-pub pbes1_is_table : IsTable pbes1_table
-pbes1_is_table = is_table pbes1_oid pbes1_kinds found_pbes1
-
 -- pkcs-12PbeIds (RFC 7292, appendix C)
 abbrev pub pkcs12_oid : Pkcs12Kind → List ℕ
 pkcs12_oid ShaAnd128BitRc4 = pkcs12_pbe 1  -- pbeWithSHAAnd128BitRC4
@@ -58,14 +45,3 @@ pkcs12_kinds = ShaAnd128BitRc4 ∷ ShaAnd40BitRc4 ∷ ShaAnd3Key3Des ∷ ShaAnd2
 
 abbrev pub pkcs12_table : Table Pkcs12Kind
 pkcs12_table = table pkcs12_oid pkcs12_kinds
-
-found_pkcs12 : (a : Pkcs12Kind) → alternative_with pkcs12_oid pkcs12_kinds (pkcs12_oid a) ≡ Some a
-found_pkcs12 ShaAnd128BitRc4 = search rules
-found_pkcs12 ShaAnd40BitRc4 = search rules
-found_pkcs12 ShaAnd3Key3Des = search rules
-found_pkcs12 ShaAnd2Key3Des = search rules
-found_pkcs12 ShaAnd128BitRc2 = search rules
-found_pkcs12 ShaAnd40BitRc2 = search rules
-
-pub pkcs12_is_table : IsTable pkcs12_table
-pkcs12_is_table = is_table pkcs12_oid pkcs12_kinds found_pkcs12

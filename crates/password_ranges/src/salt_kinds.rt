@@ -1,6 +1,7 @@
 //! Algorithms that encrypt with a password and have a salt and a count as their parameters, by their object identifiers.
 
-ghost use Rattle.password_ranges.specs.SaltKinds.{pbes1_is_table, pbes1_table, pkcs12_is_table, pkcs12_table};
+ghost use Rattle.password_ranges.specs.SaltKinds.{pbes1_table, pkcs12_table};
+ghost use Rattle.password_ranges.specs.laws.SaltKinds.{pbes1_is_table, pkcs12_is_table};
 
 use asn1_choices::OidTable;
 

@@ -3,7 +3,8 @@ use Rattle.std.specs.Prelude.{◌≡◌, None, Some}
 use Rattle.std.proofs.Common.{ap, inl, inr, refl, subst, ◌∙◌}
 use Rattle.asn1_core.specs.Asn1.{OBJECT_IDENTIFIER, OCTET_STRING, SEQUENCE}
 use Rattle.asn1_core.specs.Der.{Format, IsElement, IsLawful, IsTagByte, OidOctets}
-use Rattle.asn1_core_format.specs.Whole.{IsValueOf, value_of}
+use Rattle.asn1_core_format.specs.Whole.{IsValueOf}
+use Rattle.asn1_core_format.specs.laws.Whole.{value_of}
 use Rattle.password_ranges.specs.Heads.{ALGORITHM, pbes2_head, pbkdf2_head}
 use Rattle.password_ranges.specs.Parameters.{AlgorithmValue, AreParameters}
 use Rattle.password_writers.specs.Given.{DerivationValue, EncryptionValue, GivenValue, Pbes2PartsValue, algorithm_of, derivation, derivation_of, encryption, encryption_of, given, pbkdf2_of, salted_pbkdf2, pbes2_parts, pbes2_of, with_parameters}

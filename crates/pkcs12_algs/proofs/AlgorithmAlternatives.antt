@@ -3,11 +3,11 @@ use Rattle.std.proofs.Common.{◌≡◌, ℕ, List, refl, sym, subst, arith}
 use Rattle.asn1_core.specs.Der.{Position, HasReadComponents, HasRefusedComponents}
 use Rattle.asn1_core_element.specs.declared.error.Error.{Error}
 use Rattle.x509_base.specs.Algorithms.{algorithm_identifier}
-use Rattle.x509_base.specs.AlgorithmChoiceLaws.{alternative_loosening}
+use Rattle.x509_base.specs.laws.AlgorithmChoiceLaws.{alternative_loosening}
 use Rattle.x509_base.specs.OtherAlgorithms.{raw_algorithm_identifier}
 use Rattle.pkcs12_algs.specs.Algorithms.{ListedOrRaw, listed_or_raw, from_raw}
 use Rattle.pkcs12_algs.specs.Tables.{listing}
-use Rattle.pkcs12_algs.specs.TableLaws.{listing_is_table}
+use Rattle.pkcs12_algs.specs.laws.TableLaws.{listing_is_table}
 
 -- absent parameters are read as absent
 module _ (oids : List (List ℕ)) {k : ℕ} {old new : Position} where

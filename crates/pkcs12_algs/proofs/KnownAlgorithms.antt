@@ -2,11 +2,11 @@
 use Rattle.std.proofs.Common.{◌≡◌, ℕ, List, true, sym, ap, ◌∙◌, subst, inl, inr}
 use Rattle.asn1_core.specs.Der.{IsOid}
 use Rattle.x509_base.specs.Algorithms.{algorithm_identifier}
-use Rattle.x509_base.specs.AlgorithmLaws.{null_is_element}
+use Rattle.x509_base.specs.laws.AlgorithmLaws.{null_is_element}
 use Rattle.x509_base.specs.AlgorithmChoices.{alternative_read}
 use Rattle.pkcs12_algs.specs.Algorithms.{ListedOrRaw, listed_or_raw, from_raw, IsKnown}
 use Rattle.pkcs12_algs.specs.Tables.{listing, are_oids}
-use Rattle.pkcs12_algs.specs.TableLaws.{one_listed, listing_is_table, valid_listed}
+use Rattle.pkcs12_algs.specs.laws.TableLaws.{one_listed, listing_is_table, valid_listed}
 
 module _ (oids : List (List ℕ)) where
   -- a known object identifier picks its alternative

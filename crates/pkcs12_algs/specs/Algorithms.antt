@@ -5,9 +5,9 @@ use Rattle.asn1_core.specs.Asn1.{Contents}
 use Rattle.asn1_core.specs.Der.{from_one}
 use Rattle.x509_base.specs.Algorithms.{algorithm_identifier}
 use Rattle.x509_base.specs.AlgorithmChoices.{alternative_read, algorithm_choice}
-use Rattle.x509_base.specs.AlgorithmChoiceLaws.{lawful_algorithm_choice}
+use Rattle.x509_base.specs.laws.AlgorithmChoiceLaws.{lawful_algorithm_choice}
 use Rattle.pkcs12_algs.specs.Tables.{Listed, listing}
-use Rattle.pkcs12_algs.specs.TableLaws.{listing_is_table}
+use Rattle.pkcs12_algs.specs.laws.TableLaws.{listing_is_table}
 
 -- a known object identifier, or an algorithm identifier with another
 abbrev pub ListedOrRaw : List (List ℕ) → Type 0

@@ -9,7 +9,7 @@ use Rattle.pkcs12_algs.specs.Algorithms.{ListedOrRaw}
 use Rattle.pkcs12_algs.specs.Digests.{digest_oids, pkcs12_digest_algorithm_value, pkcs12_digest_info_value, mac_data_value}
 use Rattle.pkcs12_algs.specs.Pbkdf2.{prf_oids, pbkdf2_prf_value, pbkdf2_salt_source_value, pbkdf2_params_value}
 use Rattle.pkcs12_algs.specs.Pbes2.{pbes2_key_derivation_func_value, pbes2_encryption_scheme_value, pbes2_params_value}
-use Rattle.pkcs12_algs.specs.TableLaws.{one_listed}
+use Rattle.pkcs12_algs.specs.laws.TableLaws.{one_listed}
 use Rattle.pkcs12_algs.specs.contracts.digests.Pkcs12DigestAlgorithmPartialEq.TheImpl as Digest
 use Rattle.pkcs12_algs.specs.contracts.digests.Pkcs12DigestInfoPartialEq.TheImpl as DigestInfo
 use Rattle.pkcs12_algs.specs.contracts.macs.MacDataPartialEq.TheImpl as Mac

@@ -8,7 +8,8 @@ use Rattle.asn1_choices.specs.ByOid.{if_oid, if_in, chosen, alone}
 use Rattle.x509_base.specs.AlgorithmParts.{raw_algorithm_identifier_value}
 use Rattle.x509_base.specs.OtherAlgorithms.{other_algorithm}
 use Rattle.pkcs12_algs.specs.Oids.{pbes2_oid}
-use Rattle.pkcs12_algs.specs.Pbes1.{pbes1_params, pbes1_params_value, pbe_is_table}
+use Rattle.pkcs12_algs.specs.Pbes1.{pbes1_params, pbes1_params_value}
+use Rattle.pkcs12_algs.specs.laws.Pbes1.{pbe_is_table}
 use Rattle.pkcs12_algs.specs.Pbes2.{pbes2_params, pbes2_params_value}
 use Rattle.pkcs12_algs.specs.declared.encryptions.Pkcs12EncryptionAlgorithm.{Pkcs12EncryptionAlgorithm}
 use Rattle.pkcs12_algs.specs.declared.encryptions.Pkcs12EncryptionAlgorithm.TheVariants.{Pbes1, Pbes2, Unknown}

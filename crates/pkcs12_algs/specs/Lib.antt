@@ -1,5 +1,4 @@
 pub mod Tables
-pub mod TableLaws
 pub mod Algorithms
 pub mod Oids
 pub mod Digests
@@ -9,3 +8,4 @@ pub mod Pbes2
 pub mod Encryption
 pub mod AlgorithmsEqual
 pub mod Names
+pub mod laws

@@ -1,14 +1,12 @@
 -- PKCS #12 password based encryption with parameters of the first kind (RFC 7292, appendix C).
 --
 -- pkcs-12PbeParams ::= SEQUENCE { salt OCTET STRING, iterations INTEGER }
-use Rattle.std.specs.Prelude.{◌≡◌, ◌^◌, ℕ, List, [], ◌∷◌, Some}
+use Rattle.std.specs.Prelude.{◌^◌, ℕ, List, [], ◌∷◌}
 use Rattle.asn1_core.specs.Asn1.{Contents, contents, ◌then◌, end, OCTET_STRING, INTEGER_BELOW}
-use Rattle.asn1_core.specs.Der.{IsOid}
-use Rattle.std.proofs.Common.{refl, rules}
-use Rattle.asn1_choices.specs.Tables.{Table, IsTable}
+use Rattle.std.proofs.Common.{refl}
+use Rattle.asn1_choices.specs.Tables.{Table}
 use Rattle.pkcs12_algs.specs.Oids.{sha_and_40_bit_rc2_cbc_oid, sha_and_3_key_3_des_cbc_oid}
-use Rattle.pkcs12_algs.specs.Tables.{table, alternative_with}
-use Rattle.pkcs12_algs.specs.TableLaws.{is_table, valid_alternative}
+use Rattle.pkcs12_algs.specs.Tables.{table}
 use Rattle.pkcs12_algs.specs.declared.pbes1.Pbes1Params.{Pbes1Params}
 use Rattle.pkcs12_algs.specs.declared.pbes1.Pbes1AlgorithmKind.{Pbes1AlgorithmKind}
 use Rattle.pkcs12_algs.specs.declared.pbes1.Pbes1AlgorithmKind.TheVariants.{ShaAnd40BitRc2Cbc, ShaAnd3Key3DesCbc}
@@ -23,15 +21,6 @@ pbe_kinds = ShaAnd40BitRc2Cbc ∷ ShaAnd3Key3DesCbc ∷ []
 
 abbrev pub pbe_table : Table Pbes1AlgorithmKind
 pbe_table = table pbe_oid pbe_kinds
-
-found_pbe : (a : Pbes1AlgorithmKind) → alternative_with pbe_oid pbe_kinds (pbe_oid a) ≡ Some a
-found_pbe a = search rules
-
-pub pbe_is_table : IsTable pbe_table
-pbe_is_table = is_table pbe_oid pbe_kinds found_pbe
-
-pub pbe_valid : (a : Pbes1AlgorithmKind) → IsOid (pbe_oid a)
-pbe_valid a = valid_alternative pbe_oid pbe_kinds refl (pbe_oid a) a (found_pbe a)
 
 -- the salt, and the count
 abbrev pub pbes1_params : Contents

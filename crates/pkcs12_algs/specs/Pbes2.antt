@@ -8,7 +8,6 @@
 -- The parameters of AES in CBC mode are its initialization vector, an OCTET STRING (RFC 8018, appendix B.2.5).
 use Rattle.std.specs.Prelude.{◌≡◌, ℕ, List, [], ◌∷◌, Some}
 use Rattle.asn1_core.specs.Asn1.{Contents, contents, ◌then◌, end, OCTET_STRING, SEQUENCE}
-use Rattle.asn1_core.specs.Der.{IsOid}
 use Rattle.std.proofs.Common.{refl, inl, inr, rules}
 use Rattle.x509_base.specs.AlgorithmParts.{raw_algorithm_identifier_value}
 use Rattle.asn1_choices.specs.ByOid.{if_oid, if_in, chosen, alone}
@@ -17,7 +16,7 @@ use Rattle.x509_base.specs.OtherAlgorithms.{other_algorithm}
 use Rattle.pkcs12_algs.specs.Oids.{aes128_cbc_pad_oid, aes192_cbc_pad_oid, aes256_cbc_pad_oid, pbkdf2_oid}
 use Rattle.pkcs12_algs.specs.Pbkdf2.{pbkdf2_params, pbkdf2_params_value}
 use Rattle.pkcs12_algs.specs.Tables.{table, alternative_with}
-use Rattle.pkcs12_algs.specs.TableLaws.{is_table, valid_alternative}
+use Rattle.pkcs12_algs.specs.laws.TableLaws.{is_table}
 use Rattle.pkcs12_algs.specs.declared.pbes2.Pbes2AesCbcEncryption.{Pbes2AesCbcEncryption}
 use Rattle.pkcs12_algs.specs.declared.pbes2.Pbes2AesCbcEncryption.TheVariants.{Aes128, Aes192, Aes256}
 use Rattle.pkcs12_algs.specs.declared.pbes2.Pbes2EncryptionScheme.{Pbes2EncryptionScheme}
@@ -37,14 +36,11 @@ aes_kinds = Aes128 ∷ Aes192 ∷ Aes256 ∷ []
 abbrev pub aes_table : Table Pbes2AesCbcEncryption
 aes_table = table aes_oid aes_kinds
 
-found_aes : (a : Pbes2AesCbcEncryption) → alternative_with aes_oid aes_kinds (aes_oid a) ≡ Some a
+pub found_aes : (a : Pbes2AesCbcEncryption) → alternative_with aes_oid aes_kinds (aes_oid a) ≡ Some a
 found_aes a = search rules
 
 pub aes_is_table : IsTable aes_table
 aes_is_table = is_table aes_oid aes_kinds found_aes
-
-pub aes_valid : (a : Pbes2AesCbcEncryption) → IsOid (aes_oid a)
-aes_valid a = valid_alternative aes_oid aes_kinds refl (aes_oid a) a (found_aes a)
 
 -- PBKDF2 with its parameters, or any other function
 abbrev pub pbes2_key_derivation_func : Contents

@@ -4,7 +4,8 @@ ghost use Rattle.std.specs.Prelude.{◌≡◌, MatchResult, Some};
 ghost use Rattle.std.proofs.Common.{rules};
 ghost use Rattle.asn1_core_element.specs.declared.error.Error.TheVariants.{Memory};
 ghost use Rattle.asn1_core.specs.Der.{octets_of};
-ghost use Rattle.pkcs12_algs.specs.Pbes1.{pbe_oid, pbe_table, pbe_is_table, pbe_valid, pbes1_params, pbes1_params_value};
+ghost use Rattle.pkcs12_algs.specs.Pbes1.{pbe_oid, pbe_table, pbes1_params, pbes1_params_value};
+ghost use Rattle.pkcs12_algs.specs.laws.Pbes1.{pbe_is_table, pbe_valid};
 ghost use Rattle.pkcs12_algs.specs.declared.pbes1.Pbes1AlgorithmKind.{Pbes1AlgorithmKind};
 ghost use Rattle.pkcs12_algs.specs.Names.{pbe_name};
 

@@ -4,7 +4,7 @@ use Rattle.asn1_core.specs.Der.{Position, HasRead, HasRefused, less}
 use Rattle.asn1_core_element.specs.declared.error.Error.{Error}
 use Rattle.asn1_core_format.proofs.LevelReads.{has_read_level, refused_level, has_read_mapped, refused_mapped}
 use Rattle.pkcs12_bags.specs.Bags.{Bag, bag_out, bag_into, bag_components, bags_with, level_invariant, step, safe_contents, safe_bag}
-use Rattle.pkcs12_bags.specs.BagsLaws.{bags_step}
+use Rattle.pkcs12_bags.specs.laws.BagsLaws.{bags_step}
 
 module _ (k : ℕ) {old new : Position} where
   pub contents_has_read : {bs : List Bag} → HasRead (bags_with (less safe_contents)) k old new bs → HasRead safe_contents k old new bs

@@ -7,12 +7,8 @@ pub mod EncryptedContents
 pub mod EncryptedContentsEqual
 pub mod PlainBags
 pub mod Bags
-pub mod BagsLaws
 pub mod BagValues
-pub mod BagLevels
-pub mod BagEqual
 pub mod BagWalks
-pub mod BagWalkLaws
 pub mod FirstAttributes
 pub mod Selections
-pub mod SelectionLaws
+pub mod laws

@@ -4,7 +4,7 @@ use Rattle.asn1_core.specs.Der.{Format, Octets, HasNoValue, sequence}
 use Rattle.asn1_core_element.specs.declared.error.Error.{Error}
 use Rattle.asn1_core_element.specs.declared.error.Error.TheVariants.{Memory}
 use Rattle.ber_der.specs.Ber.{IsBer}
-use Rattle.ber_der.specs.BerLaws.{one_der}
+use Rattle.ber_der.specs.laws.BerLaws.{one_der}
 use Rattle.ber_der.specs.Typed.{HasNoBerValue}
 use Rattle.ber_der.specs.declared.contexts.Role.TheVariants.{Whole}
 use Rattle.x509_pkcs12.specs.Agree.{DataReadsAs}

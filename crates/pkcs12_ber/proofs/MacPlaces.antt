@@ -2,7 +2,8 @@
 use Rattle.std.proofs.Common.{◌≡◌, ℕ, List, ◌++◌, None, Some, ap, ◌∙◌, inl, inr}
 use Rattle.asn1_core.specs.Der.{Octets, sequence, element, integer_octets}
 use Rattle.pkcs12_bags.specs.Oids.{data_oid}
-use Rattle.x509_pkcs12.specs.MacOctets.{mac_octets, auth_safe_of, Covers, same_some}
+use Rattle.x509_pkcs12.specs.MacOctets.{mac_octets, auth_safe_of, Covers}
+use Rattle.x509_pkcs12.specs.laws.MacOctets.{same_some}
 use Rattle.x509_pkcs12.specs.Pfxs.{PfxValue}
 use Rattle.pkcs12_ber.specs.Pfxs.{ber_pfx}
 

@@ -2,15 +2,17 @@
 use Rattle.std.proofs.Common.{◌≡◌, ◌↔◌, ℕ, ◌^◌, ◌<◌, true, List, Some, length, refl, sym, ap, subst, ◌∙◌, inl, inr, arith}
 use Rattle.asn1_core.specs.Der.{Format, IsLawful, Octets, raw, lawful_raw, sequence, lawful_sequence, element, IsElement, IsTagByte}
 use Rattle.ber_der.specs.Ber.{IsBer}
-use Rattle.ber_der.specs.BerLaws.{one_der}
+use Rattle.ber_der.specs.laws.BerLaws.{one_der}
 use Rattle.ber_der.specs.Der.{IsDer}
-use Rattle.ber_der.specs.DerLaws.{der_is_fixed}
+use Rattle.ber_der.specs.laws.DerLaws.{der_is_fixed}
 use Rattle.ber_der.specs.Typed.{IsBerValueOf}
 use Rattle.ber_der.specs.declared.contexts.Role.TheVariants.{Whole}
-use Rattle.x509_pkcs12.specs.Agree.{DataReadsAs, ReadsAs, pfx_agrees}
+use Rattle.x509_pkcs12.specs.Agree.{DataReadsAs, ReadsAs}
+use Rattle.x509_pkcs12.specs.laws.Agree.{pfx_agrees}
 use Rattle.x509_pkcs12.specs.AuthSafes.{AuthSafeValue, auth_safe_choice}
 use Rattle.x509_pkcs12.specs.MacOctets.{mac_octets}
-use Rattle.x509_pkcs12.specs.Pfxs.{PfxValue, pfx, lawful_pfx}
+use Rattle.x509_pkcs12.specs.Pfxs.{PfxValue, pfx}
+use Rattle.x509_pkcs12.specs.laws.Pfxs.{lawful_pfx}
 use Rattle.pkcs12_ber.specs.ContentInfos.{content_info}
 use Rattle.pkcs12_ber.specs.Files.{ReadsInDer, IsBerFile, HasNoReading, HasNoContents}
 use Rattle.pkcs12_ber.specs.InDer.{IsSafeInDer}

@@ -2,7 +2,7 @@
 use Rattle.std.specs.Prelude.{ℕ, List, [], map}
 use Rattle.std.proofs.Common.{arith}
 use Rattle.asn1_core.specs.Asn1.{Asn1, asn1_tagged, list_of, SEQUENCE}
-use Rattle.asn1_core.specs.Der.{SeesEqual, element, empty_left_out, is_default, IsDefault, lawful_implicit_set, within_tagged}
+use Rattle.asn1_core.specs.Der.{SeesEqual, element, lawful_implicit_set, within_tagged}
 use Rattle.x509_base.specs.BaseEqual.{x509_equal}
 use Rattle.x509_base.specs.Names.{attribute, attribute_value}
 use Rattle.pkcs7_attributes.specs.contracts.attributes.AttributesPartialEq.TheImpl as AttributesEq
@@ -17,9 +17,6 @@ attributes_value x = map attribute_value x.0.0.items
 -- the empty set, which is left out
 abbrev pub no_attributes : List ℕ
 no_attributes = element 0xA0 []
-
-pub no_attributes_left_out : IsDefault (is_default attributes.format no_attributes) no_attributes attributes.format
-no_attributes_left_out = empty_left_out 0xA0 (omega arith) (SEQUENCE attribute).format (SEQUENCE attribute).law
 
 pub attributes_equal : SeesEqual AttributesEq.ghosts.eq attributes_value
 attributes_equal x y = search x509_equal depth 20

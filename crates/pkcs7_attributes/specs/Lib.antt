@@ -3,3 +3,4 @@ pub mod NamedAttributes
 pub mod SignedSets
 pub mod AttributesEqual
 pub mod UnsignedAttributes
+pub mod laws

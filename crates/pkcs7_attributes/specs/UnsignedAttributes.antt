@@ -2,7 +2,7 @@
 use Rattle.std.specs.Prelude.{ℕ, List, [], map}
 use Rattle.std.proofs.Common.{arith}
 use Rattle.asn1_core.specs.Asn1.{Asn1, asn1_tagged, list_of, SEQUENCE}
-use Rattle.asn1_core.specs.Der.{SeesEqual, der_equal, element, empty_left_out, is_default, IsDefault, lawful_implicit_set, within_tagged}
+use Rattle.asn1_core.specs.Der.{SeesEqual, der_equal, element, lawful_implicit_set, within_tagged}
 use Rattle.x509_base.specs.Names.{attribute, attribute_equal, attribute_value}
 use Rattle.pkcs7_attributes.specs.contracts.unsigned_attributes.RawUnsignedAttributesPartialEq.TheImpl as Unsigned
 use Rattle.pkcs7_attributes.specs.declared.unsigned_attributes.RawUnsignedAttributes.{RawUnsignedAttributes}
@@ -16,9 +16,6 @@ raw_unsigned_attributes_value x = map attribute_value x.0.items
 -- the empty set, which is left out
 abbrev pub no_unsigned_attributes : List ℕ
 no_unsigned_attributes = element 0xA1 []
-
-pub no_unsigned_attributes_left_out : IsDefault (is_default raw_unsigned_attributes.format no_unsigned_attributes) no_unsigned_attributes raw_unsigned_attributes.format
-no_unsigned_attributes_left_out = empty_left_out 0xA1 (omega arith) (SEQUENCE attribute).format (SEQUENCE attribute).law
 
 pub raw_unsigned_attributes_equal : SeesEqual Unsigned.ghosts.eq raw_unsigned_attributes_value
 raw_unsigned_attributes_equal x y = search (der_equal, attribute_equal) depth 20

@@ -1,7 +1,8 @@
 //! The attributes that a signer signs (RFC 5652, 5.3).
 
 ghost use Rattle.std.specs.Prelude.{◌≡◌, []};
-ghost use Rattle.pkcs7_attributes.specs.Attributes.{attributes, attributes_value, attributes_equal, no_attributes, no_attributes_left_out};
+ghost use Rattle.pkcs7_attributes.specs.Attributes.{attributes, attributes_value, attributes_equal, no_attributes};
+ghost use Rattle.pkcs7_attributes.specs.laws.Attributes.{no_attributes_left_out};
 
 use asn1_core::prelude::*;
 use std::alloc::Global;

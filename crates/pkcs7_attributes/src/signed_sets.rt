@@ -18,7 +18,7 @@ pub struct AttributesAsSet<'a>(pub &'a Attributes);
 
 impl Attributes {
     /// The attributes as a signature covers them. `None` where there are none: the signature is then over the content.
-    #[tactic(auto, using(crate::specs::SignedSets::no_attributes_there, crate::specs::SignedSets::attributes_there))]
+    #[tactic(auto, using(crate::specs::laws::SignedSets::no_attributes_there, crate::specs::laws::SignedSets::attributes_there))]
     pub fn as_set(&self) -> Option<AttributesAsSet<'_>>
         ensures { option_value (λ set. attributes_value set.0.now) result ≡ some_attributes (attributes_value self.now) }
     {

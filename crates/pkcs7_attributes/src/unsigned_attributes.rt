@@ -1,6 +1,7 @@
 //! The attributes that a signer doesn't sign, each as it is (RFC 5652, 5.3).
 
-ghost use Rattle.pkcs7_attributes.specs.UnsignedAttributes.{raw_unsigned_attributes, raw_unsigned_attributes_value, raw_unsigned_attributes_equal, no_unsigned_attributes, no_unsigned_attributes_left_out};
+ghost use Rattle.pkcs7_attributes.specs.UnsignedAttributes.{raw_unsigned_attributes, raw_unsigned_attributes_value, raw_unsigned_attributes_equal, no_unsigned_attributes};
+ghost use Rattle.pkcs7_attributes.specs.laws.UnsignedAttributes.{no_unsigned_attributes_left_out};
 
 use asn1_core::prelude::*;
 use std::alloc::Global;

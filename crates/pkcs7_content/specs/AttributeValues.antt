@@ -6,15 +6,14 @@
 -- any others ANY
 use Rattle.asn1_core.specs.Asn1.{SEQUENCE}
 use Rattle.std.specs.Prelude.{◌⊎◌, ◌↔◌, ℕ, Bool, true, List, ◌≡◌, map}
-use Rattle.asn1_core.specs.Der.{no_tag, Format, within, set_of, object_identifier, octet_string, raw, OidOctets, ElementOctets, IsLawful, IsLawfulComponents, lawful_within, lawful_set, lawful_each, lawful_sequence, lawful_object_identifier, lawful_octet_string, lawful_raw, octets_of, sequence_of, either, SeesEqual, list_equal, octets_equal, raw_equal, same_first, same_second, equal_octets}
+use Rattle.asn1_core.specs.Der.{no_tag, Format, within, set_of, object_identifier, octet_string, raw, OidOctets, ElementOctets, octets_of, sequence_of, either, SeesEqual, list_equal, octets_equal, raw_equal, same_first, same_second, equal_octets}
 use Rattle.asn1_core.specs.Words as Words
-use Rattle.std.proofs.Common.{inl, inr, arith, ap, refl}
+use Rattle.std.proofs.Common.{inl, inr, arith, ap}
 use Rattle.asn1_choices.specs.DefinedBy.{DefinedBy, alternative, by_itself, only_written}
 use Rattle.pkcs7_content.specs.Policies.{root_program_chain_policy, cert_policy, root_program_chain_policy_value, root_program_chain_policy_equal, cert_policy_value, cert_policy_equal}
 use Rattle.pkcs7_content.specs.Properties.{property_of, shape_of}
 use Rattle.pkcs7_content.specs.declared.trust_lists.properties.Shape.{Shape}
 use Rattle.pkcs7_content.specs.declared.trust_lists.properties.Shape.TheVariants.{Octets, Usages, ChainPolicies, CertPolicies, Raws}
-use Rattle.asn1_choices.specs.DefinedByLaws.{IsDefinedBy, itself, lawful_alternative}
 use Rattle.asn1_core.specs.declared.lists.Asn1SetOf.{Asn1SetOf}
 use Rattle.asn1_core.specs.declared.octets.OctetStringAsn1.{OctetStringAsn1}
 use Rattle.asn1_core.specs.declared.containers.OctetStringAsn1Container.{OctetStringAsn1Container}
@@ -107,29 +106,6 @@ values_components Raws n = alternative attribute_values (by_itself (λ v. inr (i
 -- the object identifier says which property it is, and so which values follow it
 abbrev pub values_defined_by : DefinedBy AttributeValues
 values_defined_by = record { text = attribute_values.text; components = λ o. values_components (shape_of (property_of o)) (property_of o) }
-
-lawful_in_octets : {V : Type 0} (F : Format V) → IsLawful F → IsLawful (within 0x04 F)
-lawful_in_octets F f = lawful_within F f.components 0x04 (omega arith)
-
-lawful_values_components : (s : Shape) (n : ℕ) → IsLawfulComponents (values_components s n)
-lawful_values_components Octets n = lawful_alternative attribute_values _ octets_set (itself (λ a. refl) (λ a. refl) (λ a. refl)) (lawful_set _ lawful_octet_string).components
-lawful_values_components Usages n = lawful_alternative attribute_values _ usages_set (itself (λ a. refl) (λ a. refl) (λ a. refl)) (lawful_set _ (lawful_in_octets _ (lawful_sequence (lawful_each _ lawful_object_identifier)))).components
-lawful_values_components ChainPolicies n = lawful_alternative attribute_values _ chain_policies_set (itself (λ a. refl) (λ a. refl) (λ a. refl)) (lawful_set _ (lawful_in_octets _ (SEQUENCE root_program_chain_policy).law)).components
-lawful_values_components CertPolicies n = lawful_alternative attribute_values _ cert_policies_set (itself (λ a. refl) (λ a. refl) (λ a. refl)) (lawful_set _ (lawful_in_octets _ (lawful_sequence (lawful_each _ (SEQUENCE cert_policy).law)))).components
-lawful_values_components Raws n = lawful_alternative attribute_values _ raws_set (itself (λ a. refl) (λ a. refl) (λ a. refl)) (lawful_set _ lawful_raw).components
-
-written_alike : (s : Shape) (n : ℕ) (v : AttributeValues) → (values_components s n).text v ≡ attribute_values.text v
-written_alike Octets n v = refl
-written_alike Usages n v = refl
-written_alike ChainPolicies n v = refl
-written_alike CertPolicies n v = refl
-written_alike Raws n v = refl
-
-pub values_are_defined_by : IsDefinedBy values_defined_by
-values_are_defined_by = record {
-  lawful = λ o. lawful_values_components (shape_of (property_of o)) (property_of o);
-  alike = λ o v. written_alike (shape_of (property_of o)) (property_of o) v;
-}
 
 -- where the numbers are the same, a test of what comes with them is one of the pairs
 same_number : {B : Type 0} {n : ℕ} {p : Bool} {a c : B} → (p ≡ true) ↔ (a ≡ c) → (p ≡ true) ↔ (◌≡◌ {A = ℕ × B} (n, a) (n, c))

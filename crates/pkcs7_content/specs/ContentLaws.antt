@@ -1,19 +1,16 @@
 -- The laws of encapsulated content.
 use Rattle.asn1_core.specs.Asn1.{Contents, SEQUENCE}
 use Rattle.std.specs.Prelude.{◌≡◌, ℕ, ◌+◌, List, [], ◌++◌, Some, None}
-use Rattle.std.proofs.Common.{arith, refl, sym, ap, subst, inl, inr}
-use Rattle.asn1_core.specs.Der.{IsLawfulComponents, part, nothing, within, octet_string, followed_by, perhaps, lawful_nothing, lawful_within, lawful_octet_string, element, IsOid, oid_from_test, OidOctets}
+use Rattle.std.proofs.Common.{arith, refl, ap, inl, inr}
+use Rattle.asn1_core.specs.Der.{IsLawfulComponents, part, nothing, within, octet_string, followed_by, perhaps, lawful_nothing, lawful_within, lawful_octet_string, element, OidOctets}
 use Rattle.asn1_choices.specs.DefinedBy.{Alternative, any_defined_by}
-use Rattle.asn1_choices.specs.DefinedByLaws.{IsDefinedBy, IsAlternative, itself, lawful_alternative, lawful_any_defined_by}
+use Rattle.asn1_choices.specs.DefinedByLaws.{IsDefinedBy, IsAlternative}
+use Rattle.asn1_choices.specs.laws.DefinedByLaws.{itself, lawful_alternative, lawful_any_defined_by}
 use Rattle.pkcs7_content.specs.Contents.{ContentValues, content_values, ContentComponents, written_content, content_kind, as_data, as_octets, OctetsComponents, octets_components, to_data, to_octets, perhaps_in, data_alternative, octets_alternative, content_components, content_defined_by}
 use Rattle.pkcs7_content.specs.IndirectData.{spc_indirect_data_content}
-use Rattle.pkcs7_content.specs.Oids.{data_oid}
 use Rattle.pkcs7_content.specs.declared.contents.Kind.{Kind}
 use Rattle.pkcs7_content.specs.declared.contents.Kind.TheVariants.{IndirectData, TrustList, PlainData, Foreign}
 use Rattle.pkcs7_content.specs.TrustLists.{ctl}
-
-pub data_oid_is : (octets : List ℕ) → octets ≡ data_oid → IsOid octets
-data_oid_is octets e = subst IsOid (sym e) (oid_from_test data_oid refl)
 
 lawful_octets_components : IsLawfulComponents octets_components
 lawful_octets_components = perhaps (lawful_within octet_string lawful_octet_string.components 0xA0 (omega arith)) refl lawful_nothing

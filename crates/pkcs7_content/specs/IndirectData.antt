@@ -13,7 +13,8 @@ use Rattle.pkcs7_content.specs.PeImages.{spc_pe_image_data_value, spc_pe_image_d
 use Rattle.pkcs7_content.specs.SipInfos.{spc_sip_info, spc_sip_info_value, spc_sip_info_equal}
 use Rattle.pkcs7_content.specs.declared.indirect_data.Subject.{Subject}
 use Rattle.pkcs7_content.specs.declared.indirect_data.Subject.TheVariants.{PeImage, SipInfo, Foreign}
-use Rattle.asn1_choices.specs.DefinedByLaws.{IsDefinedBy, itself, lawful_alternative, lawful_no_alternative, lawful_any_defined_by}
+use Rattle.asn1_choices.specs.DefinedByLaws.{IsDefinedBy}
+use Rattle.asn1_choices.specs.laws.DefinedByLaws.{itself, lawful_alternative, lawful_no_alternative, lawful_any_defined_by}
 use Rattle.pkcs7_content.specs.PeImageLaws.{spc_pe_image_data}
 use Rattle.pkcs7_content.specs.declared.indirect_data.SpcAttributeAndOptionalValueValue.{SpcAttributeAndOptionalValueValue}
 use Rattle.pkcs7_content.specs.declared.indirect_data.SpcAttributeAndOptionalValueValue.TheVariants as Spc

@@ -12,3 +12,4 @@ pub mod Properties
 pub mod AttributeValues
 pub mod TrustLists
 pub mod Borrowed
+pub mod laws

@@ -5,7 +5,7 @@ use Rattle.asn1_core.specs.Asn1.{Asn1, asn1_tagged}
 use Rattle.asn1_core.specs.Der.{IsLawful, IsLawfulComponents, lawful_sequence, followed_by, lawful_explicit, lawful_nothing, perhaps, element_same, begins_next, next_distinct, IsLoosening, lawful_loosened, least_unless}
 use Rattle.std.specs.Str.{bytes_eq}
 use Rattle.std.proofs.lemmas.Slice.Eq.{bytes_eq-Decides}
-use Rattle.asn1_leaves.specs.Strings.{lawful_bit_string}
+use Rattle.asn1_leaves.specs.laws.Strings.{lawful_bit_string}
 use Rattle.asn1_leaves_strings.specs.Bits.{IsBits}
 use Rattle.x509_base.specs.SpcLinks.{spc_link}
 use Rattle.pkcs7_content.specs.PeImages.{default_flags, PeImageValue, file_components, pe_image_spelled, HasFlags, flags_written}

@@ -6,14 +6,15 @@ use Rattle.asn1_core.specs.Der.{SeesEqual, der_equal, OidOctets, octets_of}
 use Rattle.asn1_leaves.specs.Asn1.{INTEGER, UTC_TIME}
 use Rattle.asn1_leaves_times.specs.Times.{moment_of}
 use Rattle.asn1_choices.specs.DefinedBy.{any_defined_by}
-use Rattle.asn1_choices.specs.DefinedByLaws.{lawful_any_defined_by}
-use Rattle.x509_base.specs.AlgorithmLaws.{algorithm_identifier}
+use Rattle.asn1_choices.specs.laws.DefinedByLaws.{lawful_any_defined_by}
+use Rattle.x509_base.specs.Algorithms.{algorithm_identifier}
 use Rattle.x509_base.specs.AlgorithmParts.{algorithm_identifier_value}
-use Rattle.pkcs7_content.specs.AttributeValues.{AttributeValues, values_defined_by, values_are_defined_by, attribute_values_value, attribute_values_equal}
+use Rattle.pkcs7_content.specs.AttributeValues.{AttributeValues, values_defined_by, attribute_values_value, attribute_values_equal}
+use Rattle.pkcs7_content.specs.laws.AttributeValues.{values_are_defined_by}
 use Rattle.pkcs7_content.specs.declared.trust_lists.attributes.CTLEntryAttribute.{CTLEntryAttribute}
 use Rattle.pkcs7_content.specs.declared.trust_lists.entries.CTLEntry.{CTLEntry}
 use Rattle.pkcs7_content.specs.declared.trust_lists.entries.Ctl.{Ctl}
-use Rattle.asn1_leaves_times.specs.TimesLaws.{equal_utc}
+use Rattle.asn1_leaves_times.specs.laws.TimesLaws.{equal_utc}
 use Rattle.x509_base.specs.contracts.algorithms.AlgorithmIdentifierPartialEq.TheImpl as AlgorithmEq
 use Rattle.pkcs7_content.specs.contracts.trust_lists.attributes.CTLEntryAttributePartialEq.TheImpl as AttributeEq
 use Rattle.pkcs7_content.specs.contracts.trust_lists.entries.CTLEntryPartialEq.TheImpl as EntryEq

@@ -233,7 +233,7 @@ impl EncapsulatedContentInfo {
     }
 
     /// Data (`id-data`), or none. Refuses by `Memory` alone.
-    #[tactic(auto, using(crate::specs::ContentLaws::data_oid_is))]
+    #[tactic(auto, using(crate::specs::laws::ContentLaws::data_oid_is))]
     pub fn new_pkcs7_data(alloc: Global, content: Option<Vec<u8>>) -> Result<Self, Error>
         ensures { MatchResult result
             (λ x. encapsulated_content_info_value x ≡ (data_oid, (option_value (λ octets. inr (inr (inl octets.items))) content, tt)))

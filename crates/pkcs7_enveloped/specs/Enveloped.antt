@@ -3,12 +3,12 @@
 --   OPTIONAL } (RFC 5652, 6.1)
 use Rattle.std.specs.Prelude.{ℕ, List, Option, map}
 use Rattle.std.proofs.Common.{refl}
-use Rattle.asn1_core.specs.Asn1.{asn1, Contents, contents, ◌then◌, ◌OPTIONAL◌, end, OBJECT_IDENTIFIER, OCTET_STRING, INTEGER_BELOW, IMPLICIT, SEQUENCE, SET_OF}
-use Rattle.asn1_core.specs.Der.{Format, IsLawful, sequence, part, optional, nothing, set_of, number_below, octets_of, option_value, implicit, SeesEqual, der_equal}
+use Rattle.asn1_core.specs.Asn1.{Contents, contents, ◌then◌, ◌OPTIONAL◌, end, OBJECT_IDENTIFIER, OCTET_STRING, IMPLICIT, SEQUENCE}
+use Rattle.asn1_core.specs.Der.{Format, sequence, part, optional, nothing, set_of, number_below, octets_of, option_value, implicit, SeesEqual, der_equal}
 use Rattle.pkcs7_content.specs.Versions.{number_of}
 use Rattle.pkcs7_signed_crl.specs.Certificates.{certificate_set_value, certificate_set}
 use Rattle.pkcs7_signed_crl.specs.Revocations.{revocation_info_choices_value, revocation_info_choices}
-use Rattle.x509_base.specs.AlgorithmLaws.{algorithm_identifier}
+use Rattle.x509_base.specs.Algorithms.{algorithm_identifier}
 use Rattle.x509_base.specs.AlgorithmParts.{algorithm_identifier_value}
 use Rattle.x509_base.specs.Names.{attribute, attribute_value}
 use Rattle.pkcs7_enveloped.specs.declared.enveloped.EncryptedContentInfo.{EncryptedContentInfo}
@@ -59,11 +59,6 @@ abbrev pub enveloped : {V : Type 0} → Format V → Format (EnvelopedValue V)
 enveloped F =
     sequence (part (number_below 6) (optional (implicit 0xA0 0x30 (SEQUENCE originator_info).format) (part (set_of F)
     (part (SEQUENCE encrypted_content_info).format (optional (implicit 0xA1 0x31 attributes) nothing)))))
-
-pub lawful_enveloped : {V : Type 0} (F : Format V) → IsLawful F → IsLawful (enveloped F)
-lawful_enveloped F f =
-    (SEQUENCE (contents (INTEGER_BELOW 6 then IMPLICIT 0 (SEQUENCE originator_info) OPTIONAL SET_OF (asn1 f) then
-    SEQUENCE encrypted_content_info then IMPLICIT 1 (SET_OF (SEQUENCE attribute)) OPTIONAL end) refl)).law
 
 pub encrypted_content_equal : SeesEqual Encrypted.ghosts.eq encrypted_content_info_value
 encrypted_content_equal x y = search x509_equal depth 20

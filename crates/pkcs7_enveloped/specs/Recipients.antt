@@ -6,7 +6,7 @@ use Rattle.asn1_core.specs.Der.{octets_of, option_value, SeesEqual, der_equal}
 use Rattle.asn1_leaves.specs.Asn1.{GENERALIZED_TIME}
 use Rattle.asn1_leaves_times.specs.Times.{moment_of_generalized}
 use Rattle.pkcs7_content.specs.Versions.{number_of}
-use Rattle.x509_base.specs.AlgorithmLaws.{algorithm_identifier}
+use Rattle.x509_base.specs.Algorithms.{algorithm_identifier}
 use Rattle.x509_base.specs.AlgorithmParts.{algorithm_identifier_value}
 use Rattle.pkcs7_enveloped.specs.declared.recipients.KekIdentifier.{KekIdentifier}
 use Rattle.pkcs7_enveloped.specs.declared.recipients.KekRecipientInfo.{KekRecipientInfo}
@@ -14,7 +14,7 @@ use Rattle.pkcs7_enveloped.specs.declared.recipients.OtherKeyAttribute.{OtherKey
 use Rattle.pkcs7_enveloped.specs.declared.recipients.RecipientInfo.{RecipientInfo}
 use Rattle.pkcs7_enveloped.specs.declared.recipients.RecipientInfo.TheVariants.{Kek}
 use Rattle.x509_base.specs.BaseEqual.{x509_equal}
-use Rattle.asn1_leaves_times.specs.TimesLaws.{equal_generalized}
+use Rattle.asn1_leaves_times.specs.laws.TimesLaws.{equal_generalized}
 use Rattle.pkcs7_enveloped.specs.Versions.{version_equal}
 use Rattle.pkcs7_enveloped.specs.contracts.recipients.OtherKeyAttributePartialEq.TheImpl as OtherKey
 use Rattle.pkcs7_enveloped.specs.contracts.recipients.KekIdentifierPartialEq.TheImpl as KekId

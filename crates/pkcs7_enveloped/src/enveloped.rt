@@ -3,7 +3,8 @@
 ghost use Rattle.std.specs.Prelude.{map};
 ghost use Rattle.asn1_core.specs.Der.{list_equal, option_equal, two_equal, with_end};
 ghost use Rattle.x509_base.specs.Names.{attribute_equal, attribute_value};
-ghost use Rattle.pkcs7_enveloped.specs.Enveloped.{encrypted_content_info, encrypted_content_info_value, originator_info, originator_info_value, EnvelopedValue, enveloped_value, enveloped, lawful_enveloped, encrypted_content_equal, originator_equal};
+ghost use Rattle.pkcs7_enveloped.specs.Enveloped.{encrypted_content_info, encrypted_content_info_value, originator_info, originator_info_value, EnvelopedValue, enveloped_value, enveloped, encrypted_content_equal, originator_equal};
+ghost use Rattle.pkcs7_enveloped.specs.laws.Enveloped.{lawful_enveloped};
 ghost use Rattle.pkcs7_enveloped.specs.Versions.{version_equal};
 
 use crate::recipients::RecipientInfo;

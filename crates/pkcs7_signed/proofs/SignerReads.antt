@@ -13,7 +13,7 @@ use Rattle.pkcs7_signed_crl.specs.declared.signers.SignatureValue.{SignatureValu
 use Rattle.pkcs7_signed_crl.specs.declared.signers.SignerIdentifier.{SignerIdentifier}
 use Rattle.pkcs7_signed.specs.Components.{signer_components, pkcs7_certificate_components, attribute_components, UnsignedValues, kind_of, values_components}
 use Rattle.pkcs7_signed.specs.Signers.{Value, signers, attributes, certificates, signer_out, signer_into, pkcs7_certificate_out, pkcs7_certificate_into, attribute_out, attribute_into, level_invariant, step, signer, attribute, pkcs7_certificate}
-use Rattle.pkcs7_signed.specs.SignerLaws.{signer_there, pkcs7_certificate_there, attribute_there, signer_step}
+use Rattle.pkcs7_signed.specs.laws.SignerLaws.{signer_there, pkcs7_certificate_there, attribute_there, signer_step}
 use Rattle.pkcs7_signed.specs.Heads.{signer_parts_value}
 use Rattle.pkcs7_signed.specs.SignerValues.{signer_value, attribute_value, values_value, pkcs7_certificate_value, signed_value}
 use Rattle.pkcs7_signed.specs.declared.signers.Pkcs7Certificate.{roll-Pkcs7Certificate}

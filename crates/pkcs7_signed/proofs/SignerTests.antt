@@ -4,8 +4,9 @@ use Rattle.asn1_core.specs.Der.{Format, nothing, set_of, less, set_or_none, unro
 use Rattle.pkcs7_signed.specs.Parts.{SignerParts, signer_end, after_signer, signer_parts, SignedParts, signed_end, after_signed, signed_parts}
 use Rattle.pkcs7_signed.specs.Components.{SignerComponents, signer_components, UnsignedValues, IsOfKind, values_components}
 use Rattle.pkcs7_signed.specs.Signers.{Value, signers, attributes, certificates, level_invariant, step, signer, attribute, pkcs7_certificate, signed_data, signer_infos, unsigned_attributes, values}
-use Rattle.pkcs7_signed.specs.SignerLaws.{signer_step}
-use Rattle.pkcs7_signed.specs.SignerLevels.{parts_of_signer, attributes_in, parts_of_signed, out_signer, value_signed}
+use Rattle.pkcs7_signed.specs.laws.SignerLaws.{signer_step}
+use Rattle.pkcs7_signed.specs.SignerLevels.{parts_of_signer, parts_of_signed}
+use Rattle.pkcs7_signed.specs.laws.SignerLevels.{attributes_in, out_signer, value_signed}
 use Rattle.pkcs7_signed.specs.SignerValues.{signer_value, signers_value, signed_value}
 use Rattle.pkcs7_signed.specs.declared.signers.Kind.{Kind}
 use Rattle.pkcs7_signed.specs.declared.signers.Kind.TheVariants.{MsCounterSign, CounterSign, Foreign}

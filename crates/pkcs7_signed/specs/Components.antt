@@ -7,12 +7,11 @@
 -- Absent unsigned attributes are an empty set; signed data need a nesting level to be left.
 use Rattle.std.specs.Prelude.{◌⊎◌, ℕ, List, if◌then◌else◌}
 use Rattle.std.specs.Str.{bytes_eq}
-use Rattle.std.proofs.Common.{refl, inl, inr, arith}
-use Rattle.asn1_core.specs.Der.{Format, IsLawful, IsLawfulComponents, sequence, lawful_sequence, part, raw, lawful_raw, OidOctets, ElementOctets, set_of, lawful_set, explicit, only_oid, either, set_or_none, lawful_set_or_none, needs_level, lawful_needs_level, followed_by, lawful_only_oid, lawful_explicit}
+use Rattle.std.proofs.Common.{inl, inr}
+use Rattle.asn1_core.specs.Der.{Format, sequence, part, raw, OidOctets, ElementOctets, set_of, explicit, only_oid, either, set_or_none, needs_level}
 use Rattle.asn1_choices.specs.DefinedBy.{DefinedBy, any_defined_by, alternative, by_itself, only_written}
-use Rattle.asn1_choices.specs.DefinedByLaws.{IsDefinedBy, itself, lawful_alternative, lawful_any_defined_by}
 use Rattle.pkcs7_signed.specs.Oids.{signed_data_oid, countersignature_oid, ms_counter_sign_oid}
-use Rattle.pkcs7_signed.specs.Parts.{SignerParts, signer_parts, lawful_signer_parts, SignedParts, signed_parts, lawful_signed_parts}
+use Rattle.pkcs7_signed.specs.Parts.{SignerParts, signer_parts, SignedParts, signed_parts}
 use Rattle.pkcs7_signed.specs.declared.signers.Kind.{Kind}
 use Rattle.pkcs7_signed.specs.declared.signers.Kind.TheVariants.{MsCounterSign, CounterSign, Foreign}
 
@@ -93,24 +92,3 @@ AttributeComponents C S = OidOctets × UnsignedValues C S
 
 abbrev pub attribute_components : {C S : Type 0} → Format C → Format S → Format (AttributeComponents C S)
 attribute_components F G = sequence (any_defined_by (values_defined_by F G))
-
-pub lawful_signer_components : {A : Type 0} (F : Format A) → IsLawful F → IsLawful (signer_components F)
-lawful_signer_components F f = lawful_sequence (lawful_signer_parts (lawful_set_or_none 0xA1 (omega arith) F f))
-
-pub lawful_signed_components : {S : Type 0} (F : Format S) → IsLawful F → IsLawful (signed_components F)
-lawful_signed_components F f = lawful_needs_level (sequence (signed_parts (set_of F))) (lawful_sequence (lawful_signed_parts (lawful_set F f).components refl refl))
-
-pub lawful_pkcs7_certificate_components : {S : Type 0} (F : Format S) → IsLawful F → IsLawful (pkcs7_certificate_components F)
-lawful_pkcs7_certificate_components F f = lawful_sequence (followed_by (lawful_only_oid signed_data_oid) (lawful_explicit (omega arith) (lawful_signed_components F f)).components)
-
-module _ {C S : Type 0} (F : Format C) (G : Format S) (f : IsLawful F) (g : IsLawful G) where
-  lawful_values : (i : Kind) → IsLawfulComponents (values_components F G i)
-  lawful_values MsCounterSign = lawful_alternative (attribute_values F G) _ (set_of F) (itself (λ a. refl) (λ a. refl) (λ a. refl)) (lawful_set F f).components
-  lawful_values CounterSign = lawful_alternative (attribute_values F G) _ (set_of G) (itself (λ a. refl) (λ a. refl) (λ a. refl)) (lawful_set G g).components
-  lawful_values Foreign = lawful_alternative (attribute_values F G) _ (set_of raw) (itself (λ a. refl) (λ a. refl) (λ a. refl)) (lawful_set raw lawful_raw).components
-
-  pub values_are_defined_by : IsDefinedBy (values_defined_by F G)
-  values_are_defined_by = record { lawful = λ o. lawful_values (kind_of o); alike = λ o v. refl }
-
-  pub lawful_attribute_components : IsLawful (attribute_components F G)
-  lawful_attribute_components = lawful_sequence (lawful_any_defined_by (values_defined_by F G) values_are_defined_by)

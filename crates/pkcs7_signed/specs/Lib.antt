@@ -4,8 +4,8 @@ pub mod Forest
 pub mod Parts
 pub mod Components
 pub mod Signers
-pub mod SignerLaws
 pub mod Heads
 pub mod SignerValues
 pub mod SignerLevels
 pub mod SignerEqual
+pub mod laws

@@ -1,12 +1,11 @@
 -- The parts of a signer before its unsigned attributes, and of signed data before its signers.
 use Rattle.asn1_core.specs.Asn1.{SEQUENCE}
-use Rattle.std.specs.Prelude.{◌≡◌, ℕ, List, Option, true}
-use Rattle.std.proofs.Common.{arith, refl, ⊎_elim}
-use Rattle.asn1_core.specs.Der.{no_tag, Format, IsLawfulComponents, number_below, lawful_number, version, lawful_version_1, part, optional, followed_by, perhaps, octet_string, lawful_octet_string, Octets, no_grammar, always, omitted, is_default, lawful_omitted, unless, are_distinct, distinct_tags}
+use Rattle.std.specs.Prelude.{ℕ, List, Option}
+use Rattle.asn1_core.specs.Der.{Format, number_below, version, part, optional, octet_string, Octets, omitted, is_default}
 use Rattle.pkcs7_content.specs.ContentLaws.{encapsulated_content_info}
 use Rattle.pkcs7_signed_crl.specs.Algorithms.{digest_algorithm_identifiers}
-use Rattle.pkcs7_attributes.specs.Attributes.{attributes, no_attributes, no_attributes_left_out}
-use Rattle.pkcs7_signed_crl.specs.Certificates.{certificate_choices, certificate_set, no_certificates, no_certificates_left_out}
+use Rattle.pkcs7_attributes.specs.Attributes.{attributes, no_attributes}
+use Rattle.pkcs7_signed_crl.specs.Certificates.{certificate_choices, certificate_set, no_certificates}
 use Rattle.pkcs7_signed_crl.specs.Revocations.{revocation_info_choice, revocation_info_choices}
 use Rattle.pkcs7_signed_crl.specs.SignerParts.{signer_identifier}
 use Rattle.x509_base.specs.Algorithms.{algorithm_identifier}
@@ -28,12 +27,6 @@ signer_parts R =
     (omitted (is_default attributes.format no_attributes) no_attributes attributes.format
     (part (SEQUENCE algorithm_identifier).format (part octet_string R)))))
 
-pub lawful_signer_parts : {V : Type 0} {R : Format V} → IsLawfulComponents R → IsLawfulComponents (signer_parts R)
-lawful_signer_parts {V} {R} r =
-    followed_by lawful_version_1 (followed_by signer_identifier.law (followed_by (SEQUENCE algorithm_identifier).law
-    (unless attributes.law no_attributes_left_out refl
-    (followed_by (SEQUENCE algorithm_identifier).law (followed_by lawful_octet_string r)))))
-
 -- signed data before its signers, and what follows
 abbrev pub SignedParts : Type 0 → Type 0
 SignedParts R = ℕ × (List algorithm_identifier.Value × (encapsulated_content_info.Value × (List certificate_choices.Value × (Option (List revocation_info_choice.Value) × R))))
@@ -49,15 +42,3 @@ signed_parts R =
     part (number_below 6) (part digest_algorithm_identifiers.format (part (SEQUENCE encapsulated_content_info).format
     (omitted (is_default certificate_set.format no_certificates) no_certificates certificate_set.format
     (optional revocation_info_choices.format R))))
-
-pub lawful_signed_parts : {V : Type 0} {R : Format V} → IsLawfulComponents R → are_distinct revocation_info_choices.format R ≡ true → are_distinct certificate_set.format R ≡ true → IsLawfulComponents (signed_parts R)
-lawful_signed_parts {V} {R} r e f =
-    followed_by (lawful_number 6) (followed_by digest_algorithm_identifiers.law (followed_by (SEQUENCE encapsulated_content_info).law
-    (lawful_omitted (is_default certificate_set.format no_certificates) no_certificates certificate_set.format _ certificate_set.law
-    (perhaps revocation_info_choices.law e r)
-    no_certificates_left_out
-    (λ t h i. ⊎_elim (λ (x : t ≡ 0xA1). omega (arith, h, x)) (distinct_tags certificate_set.format R f t h) i))))
-
--- something that is written so and has so many elements
-abbrev pub ending : List ℕ → ℕ → Format (Unit {0})
-ending t n = always (record { text = λ _. t; normal = λ v. v; IsTag = λ _. ⊥; first = no_tag; least = λ _. n }) no_grammar

@@ -12,8 +12,8 @@ use Rattle.pkcs7_signed_crl.specs.PartsEqual.{digest_algorithm_identifiers_equal
 use Rattle.pkcs7_signed.specs.Heads.{elements}
 use Rattle.pkcs7_signed.specs.Components.{UnsignedValues}
 use Rattle.pkcs7_signed.specs.Signers.{Value, signers, certificates, signer_out, signer_into, pkcs7_certificate_out, pkcs7_certificate_into, attribute_out, attribute_into}
-use Rattle.pkcs7_signed.specs.SignerLaws.{signer_there, pkcs7_certificate_there, attribute_there}
-use Rattle.pkcs7_signed.specs.SignerLevels.{value_signers, value_attributes, value_signed}
+use Rattle.pkcs7_signed.specs.laws.SignerLaws.{signer_there, pkcs7_certificate_there, attribute_there}
+use Rattle.pkcs7_signed.specs.laws.SignerLevels.{value_signers, value_attributes, value_signed}
 use Rattle.pkcs7_signed.specs.SignerValues.{values_value, pkcs7_certificate_value, signed_value, signer_value, signers_value, attribute_value, attributes_value}
 use Rattle.pkcs7_signed.specs.declared.signers.Pkcs7Certificate.{Pkcs7Certificate, Pkcs7Certificate', out-Pkcs7Certificate}
 use Rattle.pkcs7_signed.specs.declared.signers.SignedData.{SignedData, SignedData', out-SignedData}

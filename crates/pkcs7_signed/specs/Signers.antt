@@ -3,7 +3,8 @@
 use Rattle.std.specs.Prelude.{◌≡◌, ℕ, List, [], map}
 use Rattle.std.proofs.Common.{inl, inr}
 use Rattle.asn1_core.specs.Der.{no_tag, one_tag, Format, nothing, raw, OidOctets, ElementOctets, set_of, implicit_set, LevelInvariant, no_grammar, always, less, levels, mapped}
-use Rattle.pkcs7_signed.specs.Forest.{Forest, none, Node, nodes, forest, fold_node, same_node}
+use Rattle.pkcs7_signed.specs.Forest.{Forest, none, Node, nodes, forest, fold_node}
+use Rattle.pkcs7_signed.specs.laws.Forest.{same_node}
 use Rattle.pkcs7_signed.specs.Parts.{SignerParts, signer_end, after_signer, signer_parts, SignedParts, signed_end, after_signed, signed_parts}
 use Rattle.pkcs7_signed.specs.Components.{SignerComponents, signer_components, SignedComponents, signed_components, Pkcs7CertificateComponents, pkcs7_certificate_components, UnsignedValues, attribute_values, AttributeComponents, attribute_components}
 use Rattle.pkcs7_signed.specs.declared.signers.Kind.{Kind}

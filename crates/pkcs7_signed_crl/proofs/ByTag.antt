@@ -1,6 +1,6 @@
 -- An element, told apart by its tag.
 use Rattle.std.proofs.Common.{◌≡◌, ◌≢◌, ℕ, List, ◌++◌, sym, subst, inl, inr}
-use Rattle.asn1_choices.specs.ByTag.{any_tag, tagged_is, other_is}
+use Rattle.asn1_choices.specs.laws.ByTag.{any_tag, tagged_is, other_is}
 use Rattle.asn1_core.specs.Der.{raw, Position, HasRead, HasRefused, NextIs}
 use Rattle.asn1_core_element.specs.declared.error.Error.{Error}
 use Rattle.asn1_core_element.specs.declared.error.Error.TheVariants.{Memory}

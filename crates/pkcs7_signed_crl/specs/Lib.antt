@@ -5,3 +5,4 @@ pub mod Revoked
 pub mod CertificateLists
 pub mod Revocations
 pub mod PartsEqual
+pub mod laws

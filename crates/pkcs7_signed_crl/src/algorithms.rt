@@ -1,6 +1,6 @@
 //! The algorithms of signers (RFC 5652, 10.1).
 
-ghost use Rattle.x509_base.specs.AlgorithmLaws.{algorithm_identifier};
+ghost use Rattle.x509_base.specs.Algorithms.{algorithm_identifier};
 ghost use Rattle.x509_base.specs.AlgorithmParts.{algorithm_identifier_value, algorithm_identifier_equal};
 ghost use Rattle.pkcs7_signed_crl.specs.Algorithms.{digest_algorithm_identifiers, digest_algorithm_identifiers_value};
 ghost use Rattle.pkcs7_signed_crl.specs.PartsEqual.{digest_algorithm_identifiers_equal};

@@ -2,7 +2,8 @@
 
 ghost use Rattle.std.specs.Prelude.{◌≡◌, ◌↔◌, IsTrue, []};
 ghost use Rattle.asn1_core.specs.Der.{NextIs};
-ghost use Rattle.pkcs7_signed_crl.specs.Certificates.{IsSequenceTag, certificate_choices, certificate_choices_value, certificate_set, certificate_set_value, no_certificates, no_certificates_left_out};
+ghost use Rattle.pkcs7_signed_crl.specs.Certificates.{IsSequenceTag, certificate_choices, certificate_choices_value, certificate_set, certificate_set_value, no_certificates};
+ghost use Rattle.pkcs7_signed_crl.specs.laws.Certificates.{no_certificates_left_out};
 ghost use Rattle.pkcs7_signed_crl.specs.PartsEqual.{certificate_choices_equal, certificate_set_equal};
 
 use asn1_core::prelude::*;
@@ -60,7 +61,7 @@ impl DerDeserialize for CertificateChoices {
         }
     }
 
-    #[tactic(auto, using(crate::specs::Certificates::any_tag))]
+    #[tactic(auto, using(crate::specs::laws::Certificates::any_tag))]
     fn begins(_tag: u8) -> bool {
         true
     }
@@ -141,7 +142,7 @@ impl DerTagged for CertificateSet {
 impl HasDefault for CertificateSet {
     ghost DEFAULT = { no_certificates };
 
-    #[tactic(auto, using(crate::specs::Certificates::some_certificate))]
+    #[tactic(auto, using(crate::specs::laws::Certificates::some_certificate))]
     fn is_default(&self) -> bool {
         is_left_out(0xA0, &self.0)
     }

@@ -19,7 +19,8 @@ use Rattle.x509_base.specs.declared.extensions.Extensions.{Extensions}
 use Rattle.x509_base.specs.declared.digests.SubjectKeyIdentifier.{SubjectKeyIdentifier}
 use Rattle.pkcs7_verifier.specs.Heads.{certificate_head}
 use Rattle.pkcs7_verifier.specs.Matches.{IsNamedBy, NeedsExtensions, IsSigners}
-use Rattle.pkcs7_verifier.specs.KeyIdentifiers.{explicit_extensions, lawful_explicit_extensions, has_tag, subject_key_identifier_oid, rest_of, AreExtensionsOf, extension_with, IsKeyIdOf, HasExtensions, HasNone, Answers}
+use Rattle.pkcs7_verifier.specs.KeyIdentifiers.{explicit_extensions, has_tag, subject_key_identifier_oid, rest_of, AreExtensionsOf, extension_with, IsKeyIdOf, HasExtensions, HasNone, Answers}
+use Rattle.pkcs7_verifier.specs.laws.KeyIdentifiers.{lawful_explicit_extensions}
 
 -- a `?` passes on why there is no answer
 pub has_refused_none : {T V : Type 0} (value : T → V) (P : List ElementOctets → V → Type 0) (rest : List ElementOctets) {r : Result T Error} {e : Error} → ((x : Error) × (r ≡ Err x) × (x ≡ e)) → HasNone P rest e → Answers value P rest r

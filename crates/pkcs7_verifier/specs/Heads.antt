@@ -7,7 +7,7 @@ use Rattle.asn1_leaves.specs.Asn1.{BIT_STRING, INTEGER}
 use Rattle.asn1_leaves.specs.contracts.bits.BitStringAsn1PartialEq.TheImpl as Bits
 use Rattle.asn1_leaves_strings.specs.Octets.{contents_of}
 use Rattle.pkcs7_signed_crl.specs.SignerParts.{certificate_serial_number_value}
-use Rattle.x509_base.specs.AlgorithmLaws.{algorithm_identifier}
+use Rattle.x509_base.specs.Algorithms.{algorithm_identifier}
 use Rattle.x509_base.specs.AlgorithmParts.{algorithm_identifier_value}
 use Rattle.x509_base.specs.BaseEqual.{x509_equal}
 use Rattle.x509_base.specs.Names.{name_parts, name}

@@ -2,10 +2,10 @@
 -- extensions [3] EXPLICIT Extensions OPTIONAL; id-ce-subjectKeyIdentifier, whose value is an OCTET STRING
 use Rattle.asn1_core.specs.Asn1.{SEQUENCE}
 use Rattle.std.specs.Prelude.{◌≡◌, ◌≢◌, ◌⊎◌, ℕ, Bool, false, List, [], ◌∷◌, Option, None, Some, Result, MatchResult}
-use Rattle.std.proofs.Common.{arith, eqb}
+use Rattle.std.proofs.Common.{eqb}
 use Rattle.std.specs.List.{find}
 use Rattle.std.specs.Str.{bytes_eq}
-use Rattle.asn1_core.specs.Der.{Format, IsLawful, explicit, lawful_within, octet_string, arcs, Octets, OidOctets, ElementOctets}
+use Rattle.asn1_core.specs.Der.{Format, explicit, octet_string, arcs, Octets, OidOctets, ElementOctets}
 use Rattle.asn1_core_element.specs.declared.error.Error.{Error}
 use Rattle.asn1_core_element.specs.declared.error.Error.TheVariants.{TooLong, Memory}
 use Rattle.x509_base.specs.Extensions.{extension, extensions}
@@ -17,9 +17,6 @@ subject_key_identifier_oid = arcs (2 ∷ 5 ∷ 29 ∷ 14 ∷ [])
 
 abbrev pub explicit_extensions : Format (List extension.Value)
 explicit_extensions = explicit 3 (SEQUENCE extensions).format
-
-pub lawful_explicit_extensions : IsLawful explicit_extensions
-lawful_explicit_extensions = lawful_within (SEQUENCE extensions).format (SEQUENCE extensions).law.components 0xA3 (omega arith)
 
 -- the element has that tag
 abbrev pub has_tag : ℕ → ElementOctets → Bool

@@ -4,7 +4,7 @@ use Rattle.asn1_leaves.specs.Asn1.{BIT_STRING, INTEGER, UTF8_STRING}
 use Rattle.std.proofs.lemmas.Bool.Decides.{Decides-eqb}
 use Rattle.asn1_module_leaves.specs.Asn1.{KEPT_STRING}
 use Rattle.asn1_core.specs.Der.{SeesEqual, list_equal, octets_of, option_equal, option_value, raw_equal, two_equal, with_end}
-use Rattle.x509_base.specs.AlgorithmLaws.{algorithm_identifier}
+use Rattle.x509_base.specs.Algorithms.{algorithm_identifier}
 use Rattle.x509_base.specs.AlgorithmParts.{algorithm_identifier_equal, algorithm_identifier_value}
 use Rattle.asn1_module_leaves.specs.LeavesEqual.{bits_equal, integer_equal, utf8_equal}
 use Rattle.std.specs.Cmp.{booleans_Decides}
@@ -13,7 +13,7 @@ use Rattle.asn1_leaves_strings.specs.Octets.{contents_of, octets_of_utf8}
 use Rattle.x509_base.specs.Extensions.{extensions, extensions_equal, extensions_value}
 use Rattle.rfc5280.specs.Pkix1Implicit88.{general_name, general_name_equal, general_name_value}
 use Rattle.std.specs.Prelude.{map, ◌^◌}
-use Rattle.asn1_core.specs.ViewsEqual.{oid_equal}
+use Rattle.asn1_core.specs.laws.ViewsEqual.{oid_equal}
 use Rattle.std.proofs.Common.{refl}
 use Rattle.rfc3161.specs.declared.pkixtsp.MessageImprint.{MessageImprint}
 use Rattle.rfc3161.specs.contracts.pkixtsp.MessageImprintPartialEq.TheImpl as MessageImprintEq

@@ -4,12 +4,12 @@ use Rattle.asn1_leaves.specs.Asn1.{BIT_STRING, BMP_STRING, INTEGER, UTF8_STRING}
 use Rattle.std.proofs.lemmas.Bool.Decides.{Decides-eqb}
 use Rattle.asn1_module_leaves.specs.Asn1.{PRINTABLE_STRING, TELETEX_STRING, UNIVERSAL_STRING}
 use Rattle.asn1_core.specs.Der.{SeesEqual, list_equal, option_equal, option_value, same_first, same_second, two_equal, with_end}
-use Rattle.x509_base.specs.AlgorithmLaws.{algorithm_identifier}
+use Rattle.x509_base.specs.Algorithms.{algorithm_identifier}
 use Rattle.x509_base.specs.AlgorithmParts.{algorithm_identifier_equal, algorithm_identifier_value}
 use Rattle.asn1_module_leaves.specs.LeavesEqual.{bits_equal, bmp_equal, integer_equal, utf8_equal}
 use Rattle.std.proofs.lemmas.Slice.Eq.{bytes_eq-Decides}
 use Rattle.asn1_leaves_strings.specs.Octets.{contents_of, octets_of_bmp, octets_of_utf8}
-use Rattle.asn1_module_leaves.specs.Differ.{differ}
+use Rattle.asn1_module_leaves.specs.laws.Differ.{differ}
 use Rattle.x509_base.specs.Extensions.{extensions, extensions_equal, extensions_value}
 use Rattle.std.proofs.Common.{inl, inr, refl}
 use Rattle.std.specs.Prelude.{map, ℕ, ◌^◌}

@@ -3,7 +3,6 @@ use Rattle.asn1_core.specs.Asn1.{ANY, Asn1, BOOLEAN_or_FALSE, CHOICE, Contents, 
 use Rattle.asn1_leaves.specs.Asn1.{BIT_STRING, BMP_STRING, GENERALIZED_TIME, IA5_STRING, INTEGER, UTF8_STRING}
 use Rattle.std.proofs.lemmas.Bool.Decides.{Decides-eqb}
 use Rattle.asn1_module_leaves.specs.Asn1.{ENUMERATED_of, VISIBLE_STRING}
-use Rattle.asn1_module_leaves.specs.Enumerations.{IsOneOf}
 use Rattle.std.specs.Prelude.{List, map, ℕ, [], ◌∷◌}
 use Rattle.asn1_core.specs.Der.{SeesEqual, list_equal, octets_of, option_equal, option_value, raw_equal, same_first, same_second, two_equal, with_end}
 use Rattle.x509_base.specs.Names.{attribute, name, name_equal, name_parts, name_value_equal, name_value_value}
@@ -12,11 +11,11 @@ use Rattle.std.specs.Cmp.{booleans_Decides}
 use Rattle.std.proofs.lemmas.Slice.Eq.{bytes_eq-Decides}
 use Rattle.rfc5280.specs.Pkix1Explicit88.{certificate_serial_number, directory_string, directory_string_equal, directory_string_value, relative_distinguished_name}
 use Rattle.asn1_leaves_strings.specs.Octets.{contents_of, octets_of_bmp, octets_of_ia5, octets_of_utf8}
-use Rattle.asn1_module_leaves.specs.Differ.{differ}
-use Rattle.asn1_leaves_times.specs.TimesLaws.{equal_generalized}
+use Rattle.asn1_module_leaves.specs.laws.Differ.{differ}
+use Rattle.asn1_leaves_times.specs.laws.TimesLaws.{equal_generalized}
 use Rattle.std.proofs.Common.{inl, inr, refl, rules}
 use Rattle.asn1_leaves_times.specs.Times.{moment_of_generalized}
-use Rattle.asn1_core.specs.ViewsEqual.{oid_equal}
+use Rattle.asn1_core.specs.laws.ViewsEqual.{oid_equal}
 use Rattle.rfc5280.specs.declared.pkix1_implicit88.AnotherName.{AnotherName}
 use Rattle.rfc5280.specs.contracts.pkix1_implicit88.AnotherNamePartialEq.TheImpl as AnotherNameEq
 use Rattle.rfc5280.specs.declared.pkix1_implicit88.EdiPartyName.{EdiPartyName}
@@ -561,18 +560,6 @@ crl_reason_value CrlReasonIs.CertificateHold = 6
 crl_reason_value CrlReasonIs.RemoveFromCrl = 8
 crl_reason_value CrlReasonIs.PrivilegeWithdrawn = 9
 crl_reason_value CrlReasonIs.AaCompromise = 10
-
-pub crl_reason_listed : (x : CrlReason) → IsOneOf crl_reason_numbers (crl_reason_value x)
-crl_reason_listed CrlReasonIs.Unspecified = inl refl
-crl_reason_listed CrlReasonIs.KeyCompromise = inr (inl refl)
-crl_reason_listed CrlReasonIs.CaCompromise = inr (inr (inl refl))
-crl_reason_listed CrlReasonIs.AffiliationChanged = inr (inr (inr (inl refl)))
-crl_reason_listed CrlReasonIs.Superseded = inr (inr (inr (inr (inl refl))))
-crl_reason_listed CrlReasonIs.CessationOfOperation = inr (inr (inr (inr (inr (inl refl)))))
-crl_reason_listed CrlReasonIs.CertificateHold = inr (inr (inr (inr (inr (inr (inl refl))))))
-crl_reason_listed CrlReasonIs.RemoveFromCrl = inr (inr (inr (inr (inr (inr (inr (inl refl)))))))
-crl_reason_listed CrlReasonIs.PrivilegeWithdrawn = inr (inr (inr (inr (inr (inr (inr (inr (inl refl))))))))
-crl_reason_listed CrlReasonIs.AaCompromise = inr (inr (inr (inr (inr (inr (inr (inr (inr (inl refl)))))))))
 
 pub crl_reason_equal : SeesEqual CrlReasonEq.ghosts.eq crl_reason_value
 crl_reason_equal x y = search rules

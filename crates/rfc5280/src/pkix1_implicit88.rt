@@ -19,7 +19,8 @@ ghost use Rattle.rfc5280.specs.Pkix1Implicit88.{distribution_point_name, distrib
 ghost use Rattle.rfc5280.specs.Pkix1Implicit88.{distribution_point, distribution_point_value, distribution_point_equal};
 ghost use Rattle.rfc5280.specs.Pkix1Implicit88.{access_description, access_description_value, access_description_equal};
 ghost use Rattle.rfc5280.specs.Pkix1Implicit88.{issuing_distribution_point, issuing_distribution_point_value, issuing_distribution_point_equal};
-ghost use Rattle.rfc5280.specs.Pkix1Implicit88.{crl_reason, crl_reason_value, crl_reason_equal, crl_reason_numbers, crl_reason_listed};
+ghost use Rattle.rfc5280.specs.Pkix1Implicit88.{crl_reason, crl_reason_value, crl_reason_equal, crl_reason_numbers};
+ghost use Rattle.rfc5280.specs.laws.Pkix1Implicit88.{crl_reason_listed};
 ghost use Rattle.std.proofs.Common.{ℕ, refl};
 ghost use Rattle.asn1_module_leaves.specs.Enumerations.{numbers_in};
 ghost use Rattle.std.specs.Prelude.{◌↔◌, IsTrue};
@@ -1219,7 +1220,7 @@ impl TaggedType for CrlReason {
         put_unsigned(tag, u32::from(self.number()), w)
     }
 
-    #[tactic(auto, using(crate::specs::Pkix1Implicit88::crl_reason_listed))]
+    #[tactic(auto, using(crate::specs::laws::Pkix1Implicit88::crl_reason_listed))]
     fn is_well_formed_at(&self, _limit: u8) -> bool {
         true
     }

@@ -1,1 +1,2 @@
 pub mod Ocsp201388
+pub mod laws

@@ -3,23 +3,22 @@ use Rattle.asn1_core.specs.Asn1.{Asn1, CHOICE, Contents, EXPLICIT, EXPLICIT_defa
 use Rattle.asn1_leaves.specs.Asn1.{BIT_STRING, GENERALIZED_TIME, IA5_STRING, INTEGER}
 use Rattle.std.proofs.lemmas.Bool.Decides.{Decides-eqb}
 use Rattle.asn1_module_leaves.specs.Asn1.{ENUMERATED_of, OCTET_STRING_CONTAINING}
-use Rattle.asn1_module_leaves.specs.Enumerations.{IsOneOf}
 use Rattle.std.specs.Prelude.{List, map, ℕ, ◌^◌, [], ◌∷◌}
 use Rattle.asn1_core.specs.Der.{SeesEqual, list_equal, octets_of, option_equal, option_value, same_first, same_second, two_equal, with_end}
 use Rattle.rfc5280.specs.Pkix1Implicit88.{access_description_equal, access_description_value, authority_info_access_syntax, crl_reason, crl_reason_equal, crl_reason_value, general_name, general_name_equal, general_name_value}
-use Rattle.x509_base.specs.AlgorithmLaws.{algorithm_identifier}
+use Rattle.x509_base.specs.Algorithms.{algorithm_identifier}
 use Rattle.x509_base.specs.AlgorithmParts.{algorithm_identifier_equal, algorithm_identifier_value}
 use Rattle.asn1_module_leaves.specs.LeavesEqual.{bits_equal, ia5_equal, integer_equal, null_equal}
 use Rattle.std.proofs.lemmas.Slice.Eq.{bytes_eq-Decides}
 use Rattle.rfc5280.specs.Pkix1Explicit88.{certificate, certificate_equal, certificate_serial_number, certificate_value}
 use Rattle.asn1_leaves_strings.specs.Octets.{contents_of, octets_of_ia5}
-use Rattle.asn1_module_leaves.specs.Differ.{differ}
-use Rattle.asn1_leaves_times.specs.TimesLaws.{equal_generalized}
+use Rattle.asn1_module_leaves.specs.laws.Differ.{differ}
+use Rattle.asn1_leaves_times.specs.laws.TimesLaws.{equal_generalized}
 use Rattle.x509_base.specs.Extensions.{extensions, extensions_equal, extensions_value}
 use Rattle.std.proofs.Common.{inl, inr, refl, rules}
 use Rattle.asn1_leaves_times.specs.Times.{moment_of_generalized}
 use Rattle.x509_base.specs.Names.{name, name_equal, name_parts}
-use Rattle.asn1_core.specs.ViewsEqual.{oid_equal}
+use Rattle.asn1_core.specs.laws.ViewsEqual.{oid_equal}
 use Rattle.rfc6960.specs.declared.ocsp_2013_88.CertId.{CertId}
 use Rattle.rfc6960.specs.contracts.ocsp_2013_88.CertIdPartialEq.TheImpl as CertIdEq
 use Rattle.rfc6960.specs.declared.ocsp_2013_88.Request.{Request}
@@ -143,14 +142,6 @@ ocsp_response_status_value OcspResponseStatusIs.InternalError = 2
 ocsp_response_status_value OcspResponseStatusIs.TryLater = 3
 ocsp_response_status_value OcspResponseStatusIs.SigRequired = 5
 ocsp_response_status_value OcspResponseStatusIs.Unauthorized = 6
-
-pub ocsp_response_status_listed : (x : OcspResponseStatus) → IsOneOf ocsp_response_status_numbers (ocsp_response_status_value x)
-ocsp_response_status_listed OcspResponseStatusIs.Successful = inl refl
-ocsp_response_status_listed OcspResponseStatusIs.MalformedRequest = inr (inl refl)
-ocsp_response_status_listed OcspResponseStatusIs.InternalError = inr (inr (inl refl))
-ocsp_response_status_listed OcspResponseStatusIs.TryLater = inr (inr (inr (inl refl)))
-ocsp_response_status_listed OcspResponseStatusIs.SigRequired = inr (inr (inr (inr (inl refl))))
-ocsp_response_status_listed OcspResponseStatusIs.Unauthorized = inr (inr (inr (inr (inr (inl refl)))))
 
 pub ocsp_response_status_equal : SeesEqual OcspResponseStatusEq.ghosts.eq ocsp_response_status_value
 ocsp_response_status_equal x y = search rules

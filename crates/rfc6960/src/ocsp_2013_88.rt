@@ -5,7 +5,7 @@ ghost use Rattle.rfc6960.specs.Ocsp201388.{request, request_value, request_equal
 ghost use Rattle.rfc6960.specs.Ocsp201388.{tbs_request, tbs_request_value, tbs_request_equal};
 ghost use Rattle.rfc6960.specs.Ocsp201388.{signature, signature_value, signature_equal};
 ghost use Rattle.rfc6960.specs.Ocsp201388.{ocsp_request, ocsp_request_value, ocsp_request_equal};
-ghost use Rattle.rfc6960.specs.Ocsp201388.{ocsp_response_status, ocsp_response_status_value, ocsp_response_status_equal, ocsp_response_status_numbers, ocsp_response_status_listed};
+ghost use Rattle.rfc6960.specs.Ocsp201388.{ocsp_response_status, ocsp_response_status_value, ocsp_response_status_equal, ocsp_response_status_numbers};
 ghost use Rattle.rfc6960.specs.Ocsp201388.{response_bytes, response_bytes_value, response_bytes_equal};
 ghost use Rattle.rfc6960.specs.Ocsp201388.{ocsp_response, ocsp_response_value, ocsp_response_equal};
 ghost use Rattle.rfc6960.specs.Ocsp201388.{responder_id, responder_id_value, responder_id_equal};
@@ -18,6 +18,7 @@ ghost use Rattle.rfc6960.specs.Ocsp201388.{basic_response_bytes, basic_response_
 ghost use Rattle.rfc6960.specs.Ocsp201388.{service_locator, service_locator_value, service_locator_equal};
 ghost use Rattle.rfc6960.specs.Ocsp201388.{crl_id, crl_id_value, crl_id_equal};
 ghost use Rattle.rfc6960.specs.Ocsp201388.{preferred_signature_algorithm, preferred_signature_algorithm_value, preferred_signature_algorithm_equal};
+ghost use Rattle.rfc6960.specs.laws.Ocsp201388.{ocsp_response_status_listed};
 ghost use Rattle.std.proofs.Common.{ℕ, refl};
 ghost use Rattle.asn1_module_leaves.specs.Enumerations.{numbers_in};
 
@@ -279,7 +280,7 @@ impl TaggedType for OcspResponseStatus {
         put_unsigned(tag, u32::from(self.number()), w)
     }
 
-    #[tactic(auto, using(crate::specs::Ocsp201388::ocsp_response_status_listed))]
+    #[tactic(auto, using(crate::specs::laws::Ocsp201388::ocsp_response_status_listed))]
     fn is_well_formed_at(&self, _limit: u8) -> bool {
         true
     }

@@ -4,7 +4,7 @@ use Rattle.std.specs.List.{AllByRecursion, flat_map}
 use Rattle.std.proofs.Common.{ap, inl, inr, refl, subst, sym, true≢false, ◌∙◌, ◌++◌, ⊎_elim}
 use Rattle.std.proofs.lemmas.Bool.{cases_Bool}
 use Rattle.std.proofs.lemmas.Bool.Decides.{eqb_tells}
-use Rattle.asn1_choices.specs.ByTag.{other_is, tagged_is}
+use Rattle.asn1_choices.specs.laws.ByTag.{other_is, tagged_is}
 use Rattle.asn1_core.specs.Asn1.{SEQUENCE}
 use Rattle.asn1_core.specs.Der.{ElementOctets, IsElement, IsTagByte, NextIs}
 use Rattle.attribute_writers.specs.Attributes.{ATTRIBUTE}

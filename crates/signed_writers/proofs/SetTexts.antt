@@ -6,7 +6,7 @@ use Rattle.std.proofs.lemmas.List.Folds.{flat_map-map}
 use Rattle.asn1_core.specs.Asn1.{ANY, SET_OF}
 use Rattle.asn1_core.specs.Der.{ElementOctets, element}
 use Rattle.asn1_core_element.specs.declared.error.Error.{Error}
-use Rattle.asn1_core_format.specs.Whole.{value_of}
+use Rattle.asn1_core_format.specs.laws.Whole.{value_of}
 use Rattle.asn1_core_writers.specs.Texts.{IsWriteError}
 use Rattle.asn1_sets.proofs.NotEncoded.{no_memory, no_memory_invalid, not_invalid}
 use Rattle.attribute_writers.specs.Attributes.{ATTRIBUTE, attribute_text}

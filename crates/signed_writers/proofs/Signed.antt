@@ -10,7 +10,7 @@ use Rattle.std.proofs.lemmas.Option.{none-some}
 use Rattle.asn1_core.specs.Der.{ElementOctets, IsElement, IsTagByte}
 use Rattle.asn1_core_element.specs.declared.error.Error.{Error}
 use Rattle.asn1_core_format.specs.Components.{AllIf}
-use Rattle.asn1_core_format.specs.Whole.{value_of}
+use Rattle.asn1_core_format.specs.laws.Whole.{value_of}
 use Rattle.asn1_borrowed.specs.Written.{IsNotWritten}
 use Rattle.asn1_sets.proofs.NotEncoded.{no_memory, no_memory_invalid, not_invalid}
 use Rattle.asn1_sets.specs.Order.{IsInOrder, compared}
@@ -30,7 +30,8 @@ use Rattle.signed_writers.specs.declared.parts.SignedParts.{SignedParts}
 use Rattle.signer_ranges.specs.SignerRoutes.{ALGORITHM, FileValue, SIGNER, SignerValue, signed_file}
 use Rattle.signer_ranges.specs.Signers.{algorithm_text, digest_algorithm_of}
 use Rattle.x509_base.specs.Algorithms.{algorithm_identifier}
-use Rattle.x509_pkcs7.specs.RawSigned.{lawful_raw_certificate, signed_data_oid}
+use Rattle.x509_pkcs7.specs.RawSigned.{signed_data_oid}
+use Rattle.x509_pkcs7.specs.laws.RawSigned.{lawful_raw_certificate}
 
 version_low : (v : CmsVersion) → number_of v < 6
 version_low V0 = omega arith

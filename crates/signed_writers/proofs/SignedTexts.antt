@@ -6,9 +6,10 @@ use Rattle.std.proofs.lemmas.List.Folds.{flat_map-map}
 use Rattle.asn1_core.specs.Asn1.{ANY, SEQUENCE, SET_OF}
 use Rattle.asn1_core.specs.Der.{ElementOctets, each, element, is_default, number_below, only_oid, raw, set_of, text_unless, within}
 use Rattle.asn1_core_format.specs.Components.{normal_if, text_if}
-use Rattle.asn1_core_format.specs.EmptySets.{empty_alone}
+use Rattle.asn1_core_format.specs.laws.EmptySets.{empty_alone}
 use Rattle.pkcs7_signed_crl.specs.Algorithms.{digest_algorithm_identifiers}
-use Rattle.pkcs7_signed_crl.specs.Certificates.{certificate_choices, certificate_set, no_certificates, some_certificate}
+use Rattle.pkcs7_signed_crl.specs.Certificates.{certificate_choices, certificate_set, no_certificates}
+use Rattle.pkcs7_signed_crl.specs.laws.Certificates.{some_certificate}
 use Rattle.signed_writers.proofs.Normals.{algorithms_normal, choice_of, choices_normal, choices_text, signers_normal}
 use Rattle.signed_writers.specs.Given.{GivenFileValue, given_file}
 use Rattle.signed_writers.specs.Parts.{set_of_some}

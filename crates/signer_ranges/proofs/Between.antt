@@ -4,13 +4,14 @@ use Rattle.std.proofs.Common.{refl, sym, ap, ◌∙◌, subst, inl, inr, arith, 
 use Rattle.asn1_core.specs.Asn1.{ComponentTypes, end, ◌then◌, ◌DEFAULT◌, INTEGER_BELOW, OCTET_STRING, SEQUENCE}
 use Rattle.asn1_core.specs.Der.{begins_next, each, element_same, element_some, Format, IsLawful, IsLawfulComponents, NextIs, next_distinct, octets_short, part, within}
 use Rattle.asn1_core_element.specs.Element.{element, head}
-use Rattle.asn1_core_element.specs.ElementLaws.{elements_cut}
-use Rattle.asn1_core_format.specs.Laws.{text_some}
-use Rattle.asn1_located.specs.Finding.{Found, begins_part, first_step, follows_part}
-use Rattle.asn1_located.specs.LocatedLaws.{one_walk}
+use Rattle.asn1_core_element.specs.laws.ElementLaws.{elements_cut}
+use Rattle.asn1_core_format.specs.laws.Formats.{text_some}
+use Rattle.asn1_located.specs.Finding.{Found, begins_part, follows_part}
+use Rattle.asn1_located.specs.laws.Finding.{first_step}
+use Rattle.asn1_located.specs.laws.LocatedLaws.{one_walk}
 use Rattle.asn1_located.specs.Places.{Begins, Follows, HasFirst, Reading, Route, Walk}
 use Rattle.asn1_located.specs.Routes.{into, ◌▸◌}
-use Rattle.asn1_located.specs.WalkLaws.{walk_on}
+use Rattle.asn1_located.specs.laws.WalkLaws.{walk_on}
 use Rattle.asn1_located.specs.declared.walks.Step.{Step}
 use Rattle.asn1_located.specs.declared.walks.Step.TheVariants.{Inside, Element, After, Past}
 use Rattle.located_rows.proofs.RowLaws.{skips_to, walk_apart}

@@ -5,7 +5,7 @@ use Rattle.asn1_core.specs.Asn1.{ANY, SEQUENCE, SET_OF}
 use Rattle.asn1_core.specs.Der.{each, element, Format, nothing, object_identifier, optional, part, raw, within}
 use Rattle.pkcs7_attributes.specs.Attributes.{attributes}
 use Rattle.signer_ranges.specs.SignerRoutes.{ALGORITHM}
-use Rattle.x509_base.specs.AlgorithmLaws.{algorithm_identifier}
+use Rattle.x509_base.specs.Algorithms.{algorithm_identifier}
 use Rattle.x509_base.specs.Names.{attribute}
 
 abbrev pub IsExact : {V : Type 0} → Format V → Type 0

@@ -18,7 +18,8 @@ use Rattle.pkcs7_verifier.specs.Hashed.{AreContentsOf}
 use Rattle.pkcs7_verifier.specs.Matches.{choice_octets}
 use Rattle.signer_ranges.proofs.Between.{are_between, attributes_given, of_signer, only_none}
 use Rattle.signer_ranges.proofs.InRanges.{octets_at}
-use Rattle.signer_ranges.specs.SignerRoutes.{SIGNER, certificate, certificates, content, content_element, digest_algorithm, signature, signature_algorithm, signed_attributes, signer, signers}
+use Rattle.signer_ranges.specs.SignerRoutes.{SIGNER, certificate, certificates, content, content_element, digest_algorithm, signature, signature_algorithm, signed_attributes, signer}
+use Rattle.signer_ranges.specs.laws.SignerRoutes.{signers}
 use Rattle.signer_ranges.specs.SignerRows.{AreCertificateRows, AreParts, AreSignerRows, IsCertificateRow, IsContentFound, IsSignerRow}
 use Rattle.signer_ranges.specs.Signers.{FileValue, SignerValue, certificates_of, content_info_of, digest_algorithm_of, signature_algorithm_of, signature_of, signed_file, signed_of, signers_of}
 use Rattle.signer_ranges.specs.declared.parts.CertificateRow.{CertificateRow}

@@ -11,9 +11,10 @@ use Rattle.asn1_core_element.specs.declared.error.Error.TheVariants.{Memory}
 use Rattle.asn1_core_format.specs.Whole.{IsValueOf}
 use Rattle.asn1_located.specs.Places.{Walk}
 use Rattle.asn1_located.specs.Routes.{◌▸◌}
-use Rattle.asn1_located.specs.WalkLaws.{fits, walk_lies_in}
+use Rattle.asn1_located.specs.laws.WalkLaws.{fits, walk_lies_in}
 use Rattle.asn1_located.specs.declared.walks.Step.{Step}
-use Rattle.input_ranges.specs.Failures.{is_refusal, memory_fails, refusal_of}
+use Rattle.input_ranges.specs.Failures.{refusal_of}
+use Rattle.input_ranges.specs.laws.Failures.{is_refusal, memory_fails}
 use Rattle.input_ranges.specs.Ranges.{IsAt}
 use Rattle.input_ranges.specs.declared.ranges.Refusal.{Refusal}
 use Rattle.located_rows.proofs.RowLaws.{leads_after, range_is}

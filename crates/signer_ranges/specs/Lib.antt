@@ -3,3 +3,4 @@ pub mod Signers
 pub mod Files
 pub mod SignerRows
 pub mod Pieces
+pub mod laws

@@ -16,20 +16,21 @@ use Rattle.asn1_core.specs.Der.{Format, each, head, lawful_explicit, lawful_only
 use Rattle.asn1_located.specs.Finding.{Found, contains_element}
 use Rattle.asn1_located.specs.Places.{Route}
 use Rattle.asn1_located.specs.Routes.{Tagged, TaggedDefault, again, as_is, component, default_with_tag, enclosed, item, octets, opened, with_tag, ◌before◌, ◌here◌, ◌maybe◌, ◌default◌, ◌there◌, ◌given◌, ◌▸◌}
-use Rattle.asn1_located.specs.declared.walks.Step.{Step}
-use Rattle.asn1_located.specs.declared.walks.Step.TheVariants.{Inside, Element, After, Past, Nth}
+use Rattle.asn1_located.specs.declared.walks.Step.TheVariants.{Inside}
 use Rattle.pkcs7_attributes.specs.Attributes.{attributes}
 use Rattle.pkcs7_attributes.specs.NamedAttributes.{message_digest_oid}
 use Rattle.pkcs7_attributes.specs.UnsignedAttributes.{raw_unsigned_attributes}
 use Rattle.pkcs7_signed_crl.specs.Algorithms.{digest_algorithm_identifiers}
-use Rattle.pkcs7_signed_crl.specs.Certificates.{certificate_choices, certificate_set, no_certificates, no_certificates_left_out}
+use Rattle.pkcs7_signed_crl.specs.Certificates.{certificate_choices, certificate_set, no_certificates}
+use Rattle.pkcs7_signed_crl.specs.laws.Certificates.{no_certificates_left_out}
 use Rattle.pkcs7_signed_crl.specs.SignerParts.{signer_identifier}
 use Rattle.pkcs7_verifier.specs.Hashed.{AreContentsOf}
 use Rattle.pkcs7_verifier.specs.Matches.{choice_octets}
-use Rattle.x509_base.specs.AlgorithmLaws.{algorithm_identifier}
+use Rattle.x509_base.specs.Algorithms.{algorithm_identifier}
 use Rattle.x509_base.specs.Names.{attribute}
 use Rattle.x509_pkcs7.specs.RawContents.{raw_encapsulated_content_info}
-use Rattle.x509_pkcs7.specs.RawSigned.{RawCertificateValue, lawful_raw_signed, raw_certificate, raw_revocation_info_choices, raw_signed, signed_data_oid}
+use Rattle.x509_pkcs7.specs.RawSigned.{RawCertificateValue, raw_certificate, raw_revocation_info_choices, raw_signed, signed_data_oid}
+use Rattle.x509_pkcs7.specs.laws.RawSigned.{lawful_raw_signed}
 use Rattle.x509_pkcs7.specs.RawSigners.{SIGNED_ATTRIBUTES, UNSIGNED_ATTRIBUTES, raw_signer_info}
 
 abbrev pub SignerValue : Type 0
@@ -107,23 +108,12 @@ certificate j =
     ▸ item 0xA0 (omega arith) certificate_choices.format certificate_choices.law j
     ▸ choice
 
--- the signers
-abbrev pub signers : Route signed_file.Reads (each SIGNER.format).Reads
-signers =
-    signed_data
-    ▸ component 0x30 (omega arith) (INTEGER_BELOW 6 before digest_algorithm_identifiers before SEQUENCE raw_encapsulated_content_info before PAST_CERTIFICATES default PAST_CRLS maybe SET_OF SIGNER here end) refl
-    ▸ enclosed 0x31 (omega arith) (each SIGNER.format)
-
 -- the signer with an index
 abbrev pub signer : ℕ → Route signed_file.Reads SIGNER.format.Reads
 signer i =
     signed_data
     ▸ component 0x30 (omega arith) (INTEGER_BELOW 6 before digest_algorithm_identifiers before SEQUENCE raw_encapsulated_content_info before PAST_CERTIFICATES default PAST_CRLS maybe SET_OF SIGNER here end) refl
     ▸ item 0x31 (omega arith) SIGNER.format SIGNER.law i
-
--- the parts of a signer
-abbrev pub sid : Route SIGNER.format.Reads signer_identifier.format.Reads
-sid = component 0x30 (omega arith) (INTEGER_BELOW 6 before signer_identifier here ALGORITHM then SIGNED_ATTRIBUTES DEFAULT ALGORITHM then OCTET_STRING then UNSIGNED_ATTRIBUTES DEFAULT end) refl
 
 abbrev pub digest_algorithm : Route SIGNER.format.Reads ALGORITHM.format.Reads
 digest_algorithm = component 0x30 (omega arith) (INTEGER_BELOW 6 before signer_identifier before ALGORITHM here SIGNED_ATTRIBUTES DEFAULT ALGORITHM then OCTET_STRING then UNSIGNED_ATTRIBUTES DEFAULT end) refl
@@ -162,37 +152,3 @@ digest_in j =
 
 abbrev pub message_digest : ℕ → Route SIGNER.format.Reads as_is
 message_digest j = signed_attributes ▸ digest_in j
-
--- the steps, which are computed
-abbrev pub to_signer : ℕ → List Step
-to_signer i = Inside ∷ After ∷ Element ∷ Inside ∷ Inside ∷ After ∷ After ∷ After ∷ Past 0xA0 ∷ Past 0xA1 ∷ Element ∷ Inside ∷ Nth i ∷ Element ∷ []
-
-pub signer_steps : (i : ℕ) → (signer i).steps ≡ to_signer i
-signer_steps i = refl
-
-pub sid_steps : sid.steps ≡ Inside ∷ After ∷ Element ∷ []
-sid_steps = refl
-
-pub digest_algorithm_steps : digest_algorithm.steps ≡ Inside ∷ After ∷ After ∷ Element ∷ []
-digest_algorithm_steps = refl
-
-pub signed_attributes_steps : signed_attributes.steps ≡ Inside ∷ After ∷ After ∷ After ∷ Element ∷ []
-signed_attributes_steps = refl
-
-pub signature_algorithm_steps : signature_algorithm.steps ≡ Inside ∷ After ∷ After ∷ After ∷ Past 0xA0 ∷ Element ∷ []
-signature_algorithm_steps = refl
-
-pub signature_steps : signature.steps ≡ Inside ∷ After ∷ After ∷ After ∷ Past 0xA0 ∷ After ∷ Element ∷ Inside ∷ []
-signature_steps = refl
-
-pub unsigned_attributes_steps : unsigned_attributes.steps ≡ Inside ∷ After ∷ After ∷ After ∷ Past 0xA0 ∷ After ∷ After ∷ Element ∷ []
-unsigned_attributes_steps = refl
-
-pub digest_steps : (j : ℕ) → (digest_in j).steps ≡ Inside ∷ Nth j ∷ Element ∷ Inside ∷ After ∷ Element ∷ Inside ∷ Nth 0 ∷ Element ∷ Inside ∷ []
-digest_steps j = refl
-
-pub content_steps : content.steps ≡ Inside ∷ After ∷ Element ∷ Inside ∷ Inside ∷ After ∷ After ∷ Element ∷ Inside ∷ After ∷ Element ∷ Inside ∷ Inside ∷ []
-content_steps = refl
-
-pub certificate_steps : (j : ℕ) → (certificate j).steps ≡ Inside ∷ After ∷ Element ∷ Inside ∷ Inside ∷ After ∷ After ∷ After ∷ Element ∷ Inside ∷ Nth j ∷ Element ∷ []
-certificate_steps j = refl

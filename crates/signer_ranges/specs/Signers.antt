@@ -16,7 +16,7 @@ use Rattle.pkcs7_attributes.specs.Attributes.{attributes}
 use Rattle.pkcs7_attributes.specs.NamedAttributes.{content_type_oid, message_digest_oid}
 use Rattle.pkcs7_signed_crl.specs.SignerParts.{signer_identifier}
 use Rattle.pkcs7_verifier.specs.Matches.{choice_octets, IsSigners, IsFirst}
-use Rattle.x509_base.specs.AlgorithmLaws.{algorithm_identifier}
+use Rattle.x509_base.specs.Algorithms.{algorithm_identifier}
 use Rattle.x509_base.specs.AttributesByOid.{with_oid, IsOnlyOf}
 use Rattle.x509_base.specs.Names.{attribute}
 use Rattle.x509_pkcs7.specs.RawContents.{raw_encapsulated_content_info}

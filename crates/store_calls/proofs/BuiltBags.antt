@@ -29,7 +29,7 @@ use Rattle.call_values.specs.Read.{HasOne}
 use Rattle.store_calls.specs.declared.built_bags.BagGiven.{BagGiven}
 use Rattle.call_values.specs.declared.built_lists.NoList.TheVariants.{NotWritten}
 use Rattle.call_values.specs.declared.ranges.Octets.{Octets}
-use Rattle.pkcs12_bags.specs.Oids.{oid_valid}
+use Rattle.pkcs12_bags.specs.laws.Oids.{oid_valid}
 use Rattle.pkcs12_bags.specs.declared.parts.oids.TheConstants.{CERTIFICATE_BAG, CRL_BAG, KEY_BAG, SAFE_CONTENTS_BAG, SECRET_BAG, SHROUDED_KEY_BAG, X509_CERTIFICATE, X509_CRL}
 use Rattle.x509_base.specs.Names.{attribute, attribute_value}
 use Rattle.x509_pkcs12.specs.Utf16.{IsUtf16}

@@ -5,13 +5,15 @@ use Rattle.asn1_borrowed.specs.Written.{IsNotWritten}
 use Rattle.asn1_core.specs.Asn1.{OBJECT_IDENTIFIER, OCTET_STRING, SEQUENCE}
 use Rattle.asn1_core.specs.Der.{Format, IsElement, IsOid, IsTagByte, Octets, lawful_raw, nothing, octet_string, oid_from_test, optional, part, raw, sequence, version, within}
 use Rattle.asn1_core_element.specs.declared.error.Error.{Error}
-use Rattle.asn1_core_format.specs.Whole.{value_of}
+use Rattle.asn1_core_format.specs.laws.Whole.{value_of}
 use Rattle.asn1_core_oid.specs.Known.{data_oid}
 use Rattle.bag_ranges.specs.RawContentInfos.{raw_content_info}
 use Rattle.pkcs12_algs.specs.Digests.{mac_data}
 use Rattle.store_writers.specs.Written.{CONTENT, CONTENTS, IsAuthenticatedSafeOf, IsStoreOf, store_value}
-use Rattle.x509_pkcs12.specs.MacOctets.{Covers, data_covers}
-use Rattle.x509_pkcs12.specs.Pfxs.{lawful_pfx, pfx}
+use Rattle.x509_pkcs12.specs.MacOctets.{Covers}
+use Rattle.x509_pkcs12.specs.laws.MacOctets.{data_covers}
+use Rattle.x509_pkcs12.specs.Pfxs.{pfx}
+use Rattle.x509_pkcs12.specs.laws.Pfxs.{lawful_pfx}
 
 data_is_oid : IsOid data_oid
 data_is_oid = oid_from_test data_oid refl

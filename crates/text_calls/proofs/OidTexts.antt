@@ -8,7 +8,7 @@ use Rattle.std.proofs.lemmas.List.Elements.{All-head, All-tail}
 use Rattle.std.proofs.lemmas.Str.{IsAscii-append, IsUtf8-from_ascii}
 use Rattle.std.proofs.lemmas.Str.Ascii.{IsAscii-cons, IsAscii-nil}
 use Rattle.asn1_core_oid.specs.OidText.{IsTextOf, arcs_text, dot}
-use Rattle.asn1_core_oid.specs.OidTextLaws.{arcs_fit}
+use Rattle.asn1_core_oid.specs.laws.OidTextLaws.{arcs_fit}
 use Rattle.asn1_core_oid.specs.Refusal.{IsRefusal}
 use Rattle.asn1_core_element.specs.declared.error.Error.{Error}
 use Rattle.call_values.proofs.Statuses.{IsError}

@@ -3,7 +3,7 @@ use Rattle.std.proofs.Common.{◌≡◌, ℕ, List, refl, rules}
 use Rattle.std.specs.Prelude.{codes}
 use Rattle.std.specs.List.{All}
 use Rattle.asn1_leaves_strings.specs.Bmp.{IsBmp}
-use Rattle.asn1_leaves_strings.specs.BmpLaws.{IsBmp-chars}
+use Rattle.asn1_leaves_strings.specs.laws.BmpLaws.{IsBmp-chars}
 use Rattle.asn1_leaves_strings.specs.BmpTexts.{IsOneUnit}
 use Rattle.x509_base.specs.SpcTexts.{obsolete}
 

@@ -2,7 +2,7 @@
 -- SubjectKeyIdentifier ::= OCTET STRING (RFC 5280, 4.2.1.2)
 use Rattle.std.proofs.Common.{refl}
 use Rattle.asn1_core.specs.Asn1.{Asn1, Contents, contents, ◌then◌, end, OCTET_STRING, SEQUENCE}
-use Rattle.x509_base.specs.AlgorithmLaws.{algorithm_identifier}
+use Rattle.x509_base.specs.Algorithms.{algorithm_identifier}
 use Rattle.x509_base.specs.AlgorithmParts.{algorithm_identifier_value}
 use Rattle.x509_base.specs.declared.digests.DigestInfo.{DigestInfo}
 use Rattle.x509_base.specs.declared.digests.SubjectKeyIdentifier.{SubjectKeyIdentifier}

@@ -1,9 +1,7 @@
 pub mod Algorithms
 pub mod AlgorithmParts
-pub mod AlgorithmLaws
 pub mod OtherAlgorithms
 pub mod AlgorithmChoices
-pub mod AlgorithmChoiceLaws
 pub mod Digests
 pub mod Extensions
 pub mod Names
@@ -14,3 +12,4 @@ pub mod AttributesByOid
 pub mod SpcObjects
 pub mod SpcLinks
 pub mod SpcTexts
+pub mod laws

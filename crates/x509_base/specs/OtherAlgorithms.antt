@@ -6,7 +6,7 @@ use Rattle.asn1_core.specs.Asn1.{Contents}
 use Rattle.asn1_core.specs.Der.{Choice, Heads, IsLawfulChoice, loosened, lawful_loosened_components}
 use Rattle.asn1_choices.specs.ByOid.{ByOid, chosen}
 use Rattle.x509_base.specs.Algorithms.{algorithm_identifier, null_written}
-use Rattle.x509_base.specs.AlgorithmLaws.{null_loosening}
+use Rattle.x509_base.specs.laws.AlgorithmLaws.{null_loosening}
 
 abbrev pub other : Choice algorithm_identifier.Value
 other = record { components = loosened algorithm_identifier.format null_written; oid_of = λ v. v.0 }

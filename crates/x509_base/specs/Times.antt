@@ -4,7 +4,7 @@ use Rattle.asn1_core.specs.Asn1.{Asn1, CHOICE}
 use Rattle.asn1_core.specs.Der.{SeesEqual, same_first, same_second}
 use Rattle.asn1_leaves.specs.Asn1.{UTC_TIME, GENERALIZED_TIME}
 use Rattle.asn1_leaves_times.specs.Times.{moment_of, moment_of_generalized}
-use Rattle.asn1_leaves_times.specs.TimesLaws.{equal_utc, equal_generalized}
+use Rattle.asn1_leaves_times.specs.laws.TimesLaws.{equal_utc, equal_generalized}
 use Rattle.x509_base.specs.contracts.times.TimePartialEq.TheImpl as TimeEq
 use Rattle.x509_base.specs.declared.times.Time.{Time}
 use Rattle.x509_base.specs.declared.times.Time.TheVariants.{Utc, Generalized}

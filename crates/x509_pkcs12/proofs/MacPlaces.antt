@@ -6,8 +6,9 @@ use Rattle.std.proofs.lemmas.List.{drop_at}
 use Rattle.std.proofs.lemmas.List.Edits.{length-between}
 use Rattle.asn1_core.specs.Der.{Format, Octets, element, option_value, IsValueOf}
 use Rattle.asn1_core_element.specs.Element.{head}
-use Rattle.asn1_located.specs.Finding.{begins_element, contains_element, follows_element}
-use Rattle.asn1_located.specs.LocatedLaws.{one_walk}
+use Rattle.asn1_located.specs.Finding.{contains_element}
+use Rattle.asn1_located.specs.laws.Finding.{begins_element, follows_element}
+use Rattle.asn1_located.specs.laws.LocatedLaws.{one_walk}
 use Rattle.asn1_located.specs.Places.{IsRangeAt, Walk}
 use Rattle.pkcs12_bags.specs.Oids.{data_oid}
 use Rattle.x509_pkcs12.specs.MacOctets.{mac_octets, auth_safe_of, Covers}

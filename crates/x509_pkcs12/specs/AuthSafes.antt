@@ -1,9 +1,9 @@
 -- ContentInfo ::= SEQUENCE { contentType ContentType, content [0] EXPLICIT ANY DEFINED BY contentType OPTIONAL }
 -- (RFC 2315, 7) of pkcs7-data, an OCTET STRING around an encoding of F
 use Rattle.std.specs.Prelude.{◌⊎◌}
-use Rattle.asn1_core.specs.Der.{Format, IsLawful, sequence, lawful_sequence, OidOctets, Choice, known, IsLawfulChoice, lawful_known}
+use Rattle.asn1_core.specs.Der.{Format, sequence, OidOctets, Choice, known}
 use Rattle.asn1_choices.specs.ByOid.{any_oid}
-use Rattle.x509_pkcs12.specs.ContentInfos.{data_content, lawful_data_content, any_content}
+use Rattle.x509_pkcs12.specs.ContentInfos.{data_content, any_content}
 use Rattle.pkcs12_bags.specs.Oids.{data_oid}
 
 -- the value of the data, or an object identifier and its content
@@ -15,10 +15,3 @@ auth_safe_choice F = known data_oid (data_content F) (any_oid any_content).choic
 
 abbrev pub auth_safe : {V : Type 0} → Format V → Format (AuthSafeValue V)
 auth_safe F = sequence (auth_safe_choice F).components
-
-module _ {V : Type 0} (F : Format V) where
-  pub lawful_auth_safe_choice : IsLawful F → IsLawfulChoice (auth_safe_choice F)
-  lawful_auth_safe_choice f = lawful_known data_oid (data_content F) (any_oid any_content).choice (lawful_data_content F f).components (any_oid any_content).law
-
-  pub lawful_auth_safe : IsLawful F → IsLawful (auth_safe F)
-  lawful_auth_safe f = lawful_sequence (lawful_auth_safe_choice f).components

@@ -5,7 +5,7 @@ use Rattle.std.proofs.Common.{inl, inr, arith, refl}
 use Rattle.asn1_core.specs.Asn1.{asn1, Contents, contents, ◌then◌, ◌OPTIONAL◌, end, ANY, EXPLICIT, SEQUENCE, VERSION}
 use Rattle.asn1_core.specs.Der.{Format, within, octets_of, option_value, IsLawful, lawful_within, explicit}
 use Rattle.pkcs12_bags.specs.Bags.{safe_contents}
-use Rattle.pkcs12_bags.specs.BagsLaws.{lawful_safe_contents}
+use Rattle.pkcs12_bags.specs.laws.BagsLaws.{lawful_safe_contents}
 use Rattle.pkcs12_bags.specs.BagValues.{contents_value}
 use Rattle.asn1_choices.specs.ByOid.{if_oid, any_oid, chosen, alone}
 use Rattle.pkcs12_bags.specs.EncryptedContents.{encrypted_safe_contents, encrypted_safe_contents_value}

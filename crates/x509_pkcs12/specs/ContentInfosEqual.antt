@@ -1,7 +1,7 @@
 -- `==` of contents is equality of what they contain.
 use Rattle.asn1_core.specs.Der.{SeesEqual}
 use Rattle.std.proofs.Common.{rules}
-use Rattle.pkcs12_bags.specs.BagEqual.{contents_equal}
+use Rattle.pkcs12_bags.specs.laws.BagEqual.{contents_equal}
 use Rattle.pkcs12_bags.specs.EncryptedContentsEqual.{encrypted_safe_contents_equal}
 use Rattle.x509_pkcs12.specs.ContentInfos.{safe_contents_content_info_value}
 use Rattle.x509_pkcs12.specs.contracts.content_infos.SafeContentsContentInfoPartialEq.TheImpl as Info

@@ -15,3 +15,4 @@ pub mod Utf16Octets
 pub mod RawBags
 pub mod RawBagsEqual
 pub mod RawBagsRepr
+pub mod laws

@@ -6,9 +6,9 @@ use Rattle.asn1_core_element.specs.declared.error.Error.{Error}
 use Rattle.asn1_core_element.specs.declared.error.Error.TheVariants.{Memory, Invalid}
 use Rattle.asn1_core_format.specs.Asn1.{Asn1, asn1_tagged}
 use Rattle.asn1_core_format.specs.Leaf.{verbatim}
-use Rattle.asn1_core_format.specs.LeafLaws.{lawful_leaf, lawful_verbatim}
-use Rattle.asn1_core_format.specs.TaggedLaws.{leaf_tagged}
-use Rattle.std.proofs.Common.{refl, arith}
+use Rattle.asn1_core_format.specs.laws.LeafLaws.{lawful_leaf, lawful_verbatim}
+use Rattle.asn1_core_format.specs.laws.TaggedLaws.{leaf_tagged}
+use Rattle.std.proofs.Common.{arith}
 
 -- the units of octets, two by two
 abbrev pub units_of : List ℕ → List ℕ
@@ -28,9 +28,3 @@ abbrev pub NoText : List ℕ → Error → Type 0
 NoText octets Invalid = ¬ (IsUtf16 octets)
 NoText octets Memory = Unit {0}
 NoText octets other = ⊥
-
--- of UTF-16, memory alone is refused
-pub memory_alone : (octets : List ℕ) (e : Error) → IsUtf16 octets → NoText octets e → e ≡ Memory
-memory_alone octets Invalid is none = absurd (none is)
-memory_alone octets Memory is none = refl
-memory_alone octets e is none = absurd none

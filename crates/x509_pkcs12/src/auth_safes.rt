@@ -4,7 +4,8 @@ ghost use Rattle.std.specs.Prelude.{◌≡◌, Option};
 ghost use Rattle.std.proofs.Common.{inl, inr, rules};
 ghost use Rattle.asn1_core.specs.Der.{option_value, octets_of};
 ghost use Rattle.x509_pkcs12.specs.SeenAs.{seen_as};
-ghost use Rattle.x509_pkcs12.specs.AuthSafes.{AuthSafeValue, auth_safe, lawful_auth_safe};
+ghost use Rattle.x509_pkcs12.specs.AuthSafes.{AuthSafeValue, auth_safe};
+ghost use Rattle.x509_pkcs12.specs.laws.AuthSafes.{lawful_auth_safe};
 ghost use Rattle.x509_pkcs12.specs.declared.auth_safes.AuthenticatedSafeContentInfo.TheVariants.{Data, Unknown};
 
 use crate::content_infos::{AnyContent, AnyContentRef, any_content, content_of};

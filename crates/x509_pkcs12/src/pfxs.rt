@@ -7,7 +7,8 @@ ghost use Rattle.asn1_core.specs.Der.{with_end, option_value, SeesEqual, option_
 ghost use Rattle.pkcs12_algs.specs.Digests.{mac_data_value};
 ghost use Rattle.pkcs12_algs.specs.AlgorithmsEqual.{mac_data_equal};
 ghost use Rattle.x509_pkcs12.specs.SeenAs.{seen_as};
-ghost use Rattle.x509_pkcs12.specs.Pfxs.{PfxValue, pfx, lawful_pfx};
+ghost use Rattle.x509_pkcs12.specs.Pfxs.{PfxValue, pfx};
+ghost use Rattle.x509_pkcs12.specs.laws.Pfxs.{lawful_pfx};
 
 use crate::auth_safes::AuthenticatedSafeContentInfo;
 use crate::representations::AuthenticatedSafeDataRepr;

@@ -4,7 +4,7 @@ use Rattle.std.proofs.Common.{sym, ap, ◌∙◌, arith}
 use Rattle.std.proofs.lemmas.List.{length-append}
 use Rattle.asn1_core.specs.Der.{head, IsElement, IsTagByte}
 use Rattle.asn1_core_element.specs.Element.{IsFront}
-use Rattle.asn1_core_element.specs.ElementLaws.{head_cut}
+use Rattle.asn1_core_element.specs.laws.ElementLaws.{head_cut}
 
 -- something follows the element
 pub not_one_element : (b : List ℕ) (tag n size : ℕ) → IsFront b tag n size → size + n ≢ length b → IsElement IsTagByte b → ⊥

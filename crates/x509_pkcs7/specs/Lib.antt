@@ -8,3 +8,4 @@ pub mod Pages
 pub mod RawHashed
 pub mod RawAttributes
 pub mod AllSigners
+pub mod laws

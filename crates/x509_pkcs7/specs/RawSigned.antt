@@ -4,12 +4,12 @@
 -- ContentInfo ::= SEQUENCE { contentType ContentType, content [0] EXPLICIT ANY DEFINED BY contentType } (RFC 5652, 3)
 --   of id-signedData
 use Rattle.asn1_core.specs.Asn1.{Asn1, asn1_tagged, ANY, SEQUENCE}
-use Rattle.std.specs.Prelude.{ℕ, List, Option, map, ◌≡◌, ◌↔◌, ◌&&◌, Bool, true}
-use Rattle.std.proofs.Common.{arith, refl, ap}
-use Rattle.asn1_core.specs.Der.{Format, IsLawful, IsLawfulComponents, sequence, part, optional, nothing, number_below, set_of, each, explicit, within_tagged, only_oid, option_value, ElementOctets, omitted, is_default, lawful_sequence, followed_by, perhaps, lawful_number, lawful_nothing, lawful_set, lawful_explicit, lawful_implicit_set, lawful_only_oid, unless, SeesEqual, der_equal, two_equal, with_end, list_equal, option_equal}
+use Rattle.std.specs.Prelude.{ℕ, List, Option, map, ◌&&◌, Bool}
+use Rattle.std.proofs.Common.{arith}
+use Rattle.asn1_core.specs.Der.{Format, sequence, part, optional, nothing, number_below, set_of, each, explicit, within_tagged, only_oid, option_value, ElementOctets, omitted, is_default, lawful_implicit_set, SeesEqual, der_equal, two_equal, with_end, list_equal, option_equal}
 use Rattle.pkcs7_content.specs.Versions.{number_of}
 use Rattle.pkcs7_signed_crl.specs.Algorithms.{digest_algorithm_identifiers_value, digest_algorithm_identifiers}
-use Rattle.pkcs7_signed_crl.specs.Certificates.{certificate_choices, certificate_set_value, certificate_set, no_certificates, no_certificates_left_out}
+use Rattle.pkcs7_signed_crl.specs.Certificates.{certificate_choices, certificate_set_value, certificate_set, no_certificates}
 use Rattle.x509_base.specs.Algorithms.{algorithm_identifier}
 use Rattle.x509_pkcs7.specs.RawContents.{raw_encapsulated_content_info, raw_encapsulated_content_info_value, raw_encapsulated_equal}
 use Rattle.x509_pkcs7.specs.declared.raw_signed.RawSignedData.{RawSignedData}
@@ -58,22 +58,11 @@ module _ {V : Type 0} where
   abbrev pub raw_signed : Format V → Format (RawSignedValue V)
   raw_signed F = sequence (part (number_below 6) (part digest_algorithm_identifiers.format (part (SEQUENCE raw_encapsulated_content_info).format (sets_components F))))
 
-  lawful_sets_components : (F : Format V) → IsLawful F → IsLawfulComponents (sets_components F)
-  lawful_sets_components F f =
-      unless certificate_set.law no_certificates_left_out refl
-      (perhaps raw_revocation_info_choices.law refl (followed_by (lawful_set F f) lawful_nothing))
-
-  pub lawful_raw_signed : (F : Format V) → IsLawful F → IsLawful (raw_signed F)
-  lawful_raw_signed F f = lawful_sequence (followed_by (lawful_number 6) (followed_by digest_algorithm_identifiers.law (followed_by (SEQUENCE raw_encapsulated_content_info).law (lawful_sets_components F f))))
-
 abbrev pub RawCertificateValue : Type 0 → Type 0
 RawCertificateValue V = List ℕ × (RawSignedValue V × Unit {0})
 
 abbrev pub raw_certificate : {V : Type 0} → Format V → Format (RawCertificateValue V)
 raw_certificate F = sequence (part (only_oid signed_data_oid) (part (explicit 0 (raw_signed F)) nothing))
-
-pub lawful_raw_certificate : {V : Type 0} (F : Format V) → IsLawful F → IsLawful (raw_certificate F)
-lawful_raw_certificate F f = lawful_sequence (followed_by (lawful_only_oid signed_data_oid) (followed_by (lawful_explicit (omega arith) (lawful_raw_signed F f)) lawful_nothing))
 
 pub raw_revocation_info_choices_equal : SeesEqual Revocations.ghosts.eq raw_revocation_info_choices_value
 raw_revocation_info_choices_equal x y = search der_equal depth 20
@@ -93,7 +82,3 @@ raw_signed_equal eq value same x y =
     (two_equal (certificate_set_equal x.certificates.0 y.certificates.0)
     (two_equal (option_equal _ raw_revocation_info_choices_value raw_revocation_info_choices_equal x.crls y.crls)
     (with_end (list_equal eq value same x.signers_infos.0.0.items y.signers_infos.0.0.items))))))
-
--- after a field that is always the same
-pub with_head : {A B : Type 0} {p : Bool} {c : A} {b d : B} → (p ≡ true) ↔ (b ≡ d) → (p ≡ true) ↔ (◌≡◌ {A = A × B} (c, b) (c, d))
-with_head {A} {B} {p} {c} f = (λ e. ap (λ x. (c, x)) (f.0 e), λ e. f.1 (ap (λ x. x.1) e))

@@ -3,10 +3,12 @@ use Rattle.std.proofs.Common.{refl}
 use Rattle.asn1_core.specs.Asn1.{Asn1Default, Contents, contents, ◌then◌, ◌DEFAULT◌, end, INTEGER_BELOW, OCTET_STRING, SEQUENCE}
 use Rattle.asn1_core.specs.Der.{SeesEqual, two_equal, with_end, octets_equal}
 use Rattle.pkcs7_content.specs.Versions.{number_of}
-use Rattle.pkcs7_attributes.specs.Attributes.{attributes, attributes_value, no_attributes, no_attributes_left_out}
-use Rattle.pkcs7_attributes.specs.UnsignedAttributes.{raw_unsigned_attributes, raw_unsigned_attributes_value, raw_unsigned_attributes_equal, no_unsigned_attributes, no_unsigned_attributes_left_out}
+use Rattle.pkcs7_attributes.specs.Attributes.{attributes, attributes_value, no_attributes}
+use Rattle.pkcs7_attributes.specs.laws.Attributes.{no_attributes_left_out}
+use Rattle.pkcs7_attributes.specs.UnsignedAttributes.{raw_unsigned_attributes, raw_unsigned_attributes_value, raw_unsigned_attributes_equal, no_unsigned_attributes}
+use Rattle.pkcs7_attributes.specs.laws.UnsignedAttributes.{no_unsigned_attributes_left_out}
 use Rattle.pkcs7_signed_crl.specs.SignerParts.{signer_identifier_value, signer_identifier}
-use Rattle.x509_base.specs.AlgorithmLaws.{algorithm_identifier}
+use Rattle.x509_base.specs.Algorithms.{algorithm_identifier}
 use Rattle.x509_base.specs.AlgorithmParts.{algorithm_identifier_value, algorithm_identifier_equal}
 use Rattle.x509_pkcs7.specs.declared.raw_signers.RawSignerInfo.{RawSignerInfo}
 use Rattle.pkcs7_attributes.specs.AttributesEqual.{attributes_equal}

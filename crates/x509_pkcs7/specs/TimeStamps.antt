@@ -7,9 +7,9 @@ use Rattle.std.proofs.Common.{arith, rules, ap, refl}
 use Rattle.asn1_core.specs.Asn1.{Asn1, asn1_tagged, Contents, contents, ◌then◌, ◌OPTIONAL◌, ◌DEFAULT◌, end, VERSION, OBJECT_IDENTIFIER, ANY, BOOLEAN_or_FALSE, list_of, SEQUENCE, SEQUENCE_OF, EXPLICIT, IMPLICIT}
 use Rattle.asn1_core.specs.Der.{octets_of, option_value, any_octets, lawful_leaf, der_equal, SeesEqual, two_equal, option_equal, list_equal, with_end, raw_equal}
 use Rattle.std.specs.Cmp.{booleans_Decides}
-use Rattle.asn1_core.specs.ViewsEqual.{oid_equal}
-use Rattle.asn1_core_format.specs.LeafLaws.{lawful_verbatim}
-use Rattle.asn1_core_format.specs.TaggedLaws.{leaf_tagged}
+use Rattle.asn1_core.specs.laws.ViewsEqual.{oid_equal}
+use Rattle.asn1_core_format.specs.laws.LeafLaws.{lawful_verbatim}
+use Rattle.asn1_core_format.specs.laws.TaggedLaws.{leaf_tagged}
 use Rattle.asn1_leaves.specs.Asn1.{INTEGER}
 use Rattle.x509_base.specs.Digests.{digest_info_value, digest_info}
 use Rattle.x509_base.specs.Extensions.{extension_equal, extension, extension_value}

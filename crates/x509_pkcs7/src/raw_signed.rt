@@ -2,7 +2,8 @@
 
 ghost use Rattle.std.specs.Prelude.{◌≡◌, ℕ, List, map};
 ghost use Rattle.asn1_core.specs.Der.{set_of, lawful_set, list_equal, with_end};
-ghost use Rattle.x509_pkcs7.specs.RawSigned.{signed_data_oid, raw_revocation_info_choices, raw_revocation_info_choices_value, RawSignedValue, raw_signed_value, raw_signed, lawful_raw_signed, RawCertificateValue, raw_certificate, lawful_raw_certificate, raw_revocation_info_choices_equal, raw_signed_equal, with_head};
+ghost use Rattle.x509_pkcs7.specs.RawSigned.{signed_data_oid, raw_revocation_info_choices, raw_revocation_info_choices_value, RawSignedValue, raw_signed_value, raw_signed, RawCertificateValue, raw_certificate, raw_revocation_info_choices_equal, raw_signed_equal};
+ghost use Rattle.x509_pkcs7.specs.laws.RawSigned.{lawful_raw_signed, lawful_raw_certificate, with_head};
 
 use crate::raw_contents::RawEncapsulatedContentInfo;
 use crate::raw_signers::RawSignerInfo;

@@ -8,7 +8,7 @@ use Rattle.std.specs.Str.{IsUtf8, IsAscii, chars}
 use Rattle.asn1_core_element.specs.declared.error.Error.{Error}
 use Rattle.asn1_core_element.specs.declared.error.Error.TheVariants.{Memory}
 use Rattle.asn1_core_element.specs.Element.{head, element, IsTagByte, IsFront, HasNoFront}
-use Rattle.asn1_core_element.specs.ElementLaws.{head_cut}
+use Rattle.asn1_core_element.specs.laws.ElementLaws.{head_cut}
 use Rattle.asn1_leaves_strings.specs.Ia5.{IsIa5}
 use Rattle.x509_text.specs.Characters.{characters, Appends}
 use Rattle.x509_text.specs.Values.{HasCharacters, IsString, IsValueText, hexadecimal}

@@ -1,4 +1,4 @@
-use Rattle.asn1_located.specs.LocatedLaws.{located}
+use Rattle.asn1_located.specs.laws.LocatedLaws.{located}
 use Rattle.example_places.specs.ParcelRoutes.{data_of_stamp}
 use Rattle.example_places.proofs.data_of_stamp.Goals as goal
 

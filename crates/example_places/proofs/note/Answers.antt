@@ -1,4 +1,4 @@
-use Rattle.asn1_located.specs.LocatedLaws.{located}
+use Rattle.asn1_located.specs.laws.LocatedLaws.{located}
 use Rattle.example_places.specs.ParcelRoutes.{note}
 use Rattle.example_places.proofs.note.Goals as goal
 

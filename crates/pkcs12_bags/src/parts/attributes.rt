@@ -44,7 +44,7 @@ impl DerSerialize for BmpRef<'_> {
         put_element(0x1E, self.0.as_bytes(), w)
     }
 
-    #[tactic(auto, using(asn1_leaves_strings::specs::StringLaws::bmp_octets))]
+    #[tactic(auto, using(asn1_leaves_strings::specs::laws::StringLaws::bmp_octets))]
     fn well_formed_at(&self, _limit: u8) -> bool {
         true
     }

@@ -1,7 +1,8 @@
 //! The object identifiers that bags, attributes and contents are known by: a number each, and a table of their octets.
 
 ghost use Rattle.std.specs.Prelude.{◌≡◌};
-ghost use Rattle.pkcs12_bags.specs.Oids.{oid, oid_valid};
+ghost use Rattle.pkcs12_bags.specs.Oids.{oid};
+ghost use Rattle.pkcs12_bags.specs.laws.Oids.{oid_valid};
 
 use asn1_choices::Named;
 pub use asn1_core_oid::is_oid_of;

@@ -10,8 +10,8 @@ ghost use Rattle.pkcs12_bags.specs.Oids.{oid};
 ghost use Rattle.pkcs12_bags.specs.declared.parts.oids.TheConstants.{KEY_BAG, SHROUDED_KEY_BAG, CERTIFICATE_BAG, CRL_BAG, SECRET_BAG, SAFE_CONTENTS_BAG};
 ghost use Rattle.pkcs12_bags.specs.PlainBags.{bag_alternative};
 ghost use Rattle.pkcs12_bags.specs.Bags.{Bag, BagComponents, bag_out, safe_bag, safe_contents, nested_choice};
-ghost use Rattle.pkcs12_bags.specs.BagEqual.{bag_equal, kind_equal, contents_equal};
-ghost use Rattle.pkcs12_bags.specs.BagsLaws.{lawful_safe_bag, lawful_safe_contents};
+ghost use Rattle.pkcs12_bags.specs.laws.BagEqual.{bag_equal, kind_equal, contents_equal};
+ghost use Rattle.pkcs12_bags.specs.laws.BagsLaws.{lawful_safe_bag, lawful_safe_contents};
 ghost use Rattle.pkcs12_bags.specs.BagValues.{Kind, bag_value, kind_value, contents_value};
 
 use crate::parts::oids::{
@@ -358,7 +358,7 @@ impl TryClone for SafeBagKind {
 
 /// Appends a bag that is equal to another one. It is made where it is kept.
 #[inline(always)]
-#[tactic(auto, using(crate::specs::BagLevels::same_bag))]
+#[tactic(auto, using(crate::specs::laws::BagLevels::same_bag))]
 fn push_like(
     bag: &SafeBag,
     kind: SafeBagKind,

@@ -3,7 +3,8 @@
 ghost use Rattle.std.specs.Prelude.{◌≡◌, ◌↔◌, IsTrue};
 ghost use Rattle.std.proofs.Common.{rules, inl, inr};
 ghost use Rattle.asn1_core.specs.Der.{GivesComponents};
-ghost use Rattle.pkcs7_content.specs.AttributeValues.{AttributeValues, attribute_values, values_defined_by, values_are_defined_by, octets_in, usages_in, attribute_values_value, attribute_values_equal};
+ghost use Rattle.pkcs7_content.specs.AttributeValues.{AttributeValues, attribute_values, values_defined_by, octets_in, usages_in, attribute_values_value, attribute_values_equal};
+ghost use Rattle.pkcs7_content.specs.laws.AttributeValues.{values_are_defined_by};
 ghost use Rattle.pkcs7_content.specs.Properties.{shape_of};
 ghost use Rattle.pkcs7_content.specs.Borrowed.{borrowed_values, IsBorrowed};
 ghost use Rattle.pkcs7_content.specs.declared.trust_lists.properties.Shape.TheVariants.{Octets, Usages};

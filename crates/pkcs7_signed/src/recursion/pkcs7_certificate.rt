@@ -7,7 +7,7 @@ ghost use Rattle.pkcs7_signed.specs.SignerValues.{signer_value, signers_value, p
 ghost use Rattle.asn1_core_element.specs.declared.error.Error.TheVariants.{Memory};
 ghost use Rattle.pkcs7_signed.specs.Below.{ReadsSigners};
 ghost use Rattle.pkcs7_signed.specs.Oids.{signed_data_oid};
-ghost use Rattle.pkcs7_signed.specs.SignerLaws.{lawful_pkcs7_certificate};
+ghost use Rattle.pkcs7_signed.specs.laws.SignerLaws.{lawful_pkcs7_certificate};
 ghost use Rattle.pkcs7_signed.specs.SignerEqual.{pkcs7_certificate_equal};
 ghost use Rattle.pkcs7_signed.specs.declared.signers.Pkcs7Certificate.{out-Pkcs7Certificate};
 ghost use Rattle.pkcs7_signed.specs.declared.signers.SignedData.{out-SignedData};

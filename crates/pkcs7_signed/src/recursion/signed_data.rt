@@ -8,7 +8,7 @@ ghost use Rattle.pkcs7_signed.specs.Signers.{Value, signers, SignedValue, signer
 ghost use Rattle.pkcs7_signed.specs.SignerValues.{signer_value, signers_value, signed_value};
 ghost use Rattle.asn1_core_element.specs.declared.error.Error.TheVariants.{Memory};
 ghost use Rattle.pkcs7_signed.specs.Below.{ReadsSigners};
-ghost use Rattle.pkcs7_signed.specs.SignerLaws.{lawful_signed_data, lawful_signer_infos};
+ghost use Rattle.pkcs7_signed.specs.laws.SignerLaws.{lawful_signed_data, lawful_signer_infos};
 ghost use Rattle.pkcs7_signed.specs.SignerEqual.{signers_equal, signed_equal};
 ghost use Rattle.pkcs7_signed.specs.declared.signers.SignedData.{out-SignedData};
 

@@ -9,7 +9,7 @@ ghost use Rattle.pkcs7_signed.specs.Signers.{Value, signers, signer, attribute};
 ghost use Rattle.pkcs7_signed.specs.SignerValues.{signer_value, attribute_value, attributes_value};
 ghost use Rattle.asn1_core_element.specs.declared.error.Error.TheVariants.{Memory};
 ghost use Rattle.pkcs7_signed.specs.Below.{ReadsSigners};
-ghost use Rattle.pkcs7_signed.specs.SignerLaws.{lawful_signer};
+ghost use Rattle.pkcs7_signed.specs.laws.SignerLaws.{lawful_signer};
 ghost use Rattle.pkcs7_signed.specs.SignerEqual.{signer_equal};
 ghost use Rattle.pkcs7_signed.specs.declared.signers.SignerInfo.{out-SignerInfo};
 

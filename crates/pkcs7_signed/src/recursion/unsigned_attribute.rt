@@ -6,7 +6,7 @@ ghost use Rattle.pkcs7_signed.specs.Components.{UnsignedValues, kind_of, IsOfKin
 ghost use Rattle.pkcs7_signed.specs.Signers.{Value, signers, attributes, certificates, signer, attribute, pkcs7_certificate, unsigned_attributes, values};
 ghost use Rattle.pkcs7_signed.specs.SignerValues.{signer_value, attribute_value, attributes_value, values_value};
 ghost use Rattle.pkcs7_signed.specs.Below.{ReadsSigners};
-ghost use Rattle.pkcs7_signed.specs.SignerLaws.{lawful_attribute, lawful_unsigned_attributes};
+ghost use Rattle.pkcs7_signed.specs.laws.SignerLaws.{lawful_attribute, lawful_unsigned_attributes};
 ghost use Rattle.pkcs7_signed.specs.SignerEqual.{attributes_equal, attribute_equal, values_equal};
 
 use crate::boxed::Boxed;

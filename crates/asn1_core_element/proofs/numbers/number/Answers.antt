@@ -1,5 +1,5 @@
 use Rattle.std.proofs.Common.{arith}
-use Rattle.asn1_core_element.specs.Digits.{digit_fits}
+use Rattle.asn1_core_element.specs.laws.Digits.{digit_fits}
 use Rattle.asn1_core_element.proofs.numbers.number.Goals as goal
 
 pub overflow_mul-n : goal.overflow_mul-n

@@ -1,4 +1,4 @@
-use Rattle.asn1_core_format.specs.Laws.{same_at}
+use Rattle.asn1_core_format.specs.laws.Formats.{same_at}
 use Rattle.asn1_core_format.proofs.laws.limits_agree.Goals as goal
 
 pub returns : goal.returns

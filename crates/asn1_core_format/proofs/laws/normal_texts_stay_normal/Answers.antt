@@ -1,4 +1,4 @@
-use Rattle.asn1_core_format.specs.Laws.{normal_deeper}
+use Rattle.asn1_core_format.specs.laws.Formats.{normal_deeper}
 use Rattle.asn1_core_format.proofs.laws.normal_texts_stay_normal.Goals as goal
 
 pub returns : goal.returns

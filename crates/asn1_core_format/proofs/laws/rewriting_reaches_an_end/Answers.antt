@@ -1,4 +1,4 @@
-use Rattle.asn1_core_format.specs.Laws.{normal_value}
+use Rattle.asn1_core_format.specs.laws.Formats.{normal_value}
 use Rattle.asn1_core_format.proofs.laws.rewriting_reaches_an_end.Goals as goal
 
 pub returns : goal.returns

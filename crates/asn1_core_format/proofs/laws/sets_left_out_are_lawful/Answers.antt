@@ -1,4 +1,4 @@
-use Rattle.asn1_core_format.specs.EmptySets.{lawful_set_or_none}
+use Rattle.asn1_core_format.specs.laws.EmptySets.{lawful_set_or_none}
 use Rattle.asn1_core_format.proofs.laws.sets_left_out_are_lawful.Goals as goal
 
 pub returns : goal.returns

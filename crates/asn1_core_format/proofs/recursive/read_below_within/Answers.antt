@@ -1,6 +1,6 @@
 use Rattle.std.proofs.Common.{rules, arith}
 use Rattle.asn1_core_format.specs.Levels.{less}
-use Rattle.asn1_core_format.specs.LevelLaws.{lawful_less}
+use Rattle.asn1_core_format.specs.laws.LevelLaws.{lawful_less}
 use Rattle.asn1_core_format.proofs.LevelReads.{alone_has_read}
 use Rattle.asn1_core_format.proofs.ComponentReads.{within_refused, within_has_read, alone_refused, alone_left}
 use Rattle.asn1_core_format.proofs.recursive.read_below_within.Goals as goal

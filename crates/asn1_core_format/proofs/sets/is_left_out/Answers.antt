@@ -1,5 +1,5 @@
 use Rattle.std.proofs.Common.{map}
-use Rattle.asn1_core_format.specs.EmptySets.{empty_alone}
+use Rattle.asn1_core_format.specs.laws.EmptySets.{empty_alone}
 use Rattle.asn1_core_format.proofs.sets.is_left_out.Goals as goal
 
 pub returns : goal.returns

@@ -1,7 +1,8 @@
 use Rattle.std.proofs.Common.{map, arith}
 use Rattle.std.proofs.lemmas.Result.{err_from_is_err_and}
 use Rattle.asn1_core_format.specs.Levels.{less_if}
-use Rattle.asn1_core_format.specs.Sequences.{set_of, lawful_set}
+use Rattle.asn1_core_format.specs.Sequences.{set_of}
+use Rattle.asn1_core_format.specs.laws.Sequences.{lawful_set}
 use Rattle.asn1_core_format.proofs.LevelReads.{has_refused_components, alone_has_read}
 use Rattle.asn1_core_format.proofs.ComponentReads.{alone_refused, alone_left}
 use Rattle.asn1_core_format.proofs.sets.read_set_with.Goals as goal

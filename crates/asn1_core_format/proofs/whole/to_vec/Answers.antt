@@ -1,5 +1,5 @@
 use Rattle.std.proofs.Common.{rules}
-use Rattle.asn1_core_format.specs.Whole.{rewriting}
+use Rattle.asn1_core_format.specs.laws.Whole.{rewriting}
 use Rattle.asn1_core_format.proofs.whole.to_vec.Goals as goal
 
 pub returns-clause-rewriting : goal.returns-clause-rewriting

@@ -1,7 +1,7 @@
 use Rattle.std.proofs.Common.{arith, rules, inr, refl, ap, ◌++◌}
 use Rattle.asn1_core_oid.specs.OidLaws.{groups_after}
 use Rattle.asn1_core_oid.proofs.Groups.{long_group, groups_read}
-use Rattle.asn1_core_oid.specs.OidTestLaws.{ends_from_oid}
+use Rattle.asn1_core_oid.specs.laws.OidTestLaws.{ends_from_oid}
 use Rattle.asn1_core_oid.proofs.oid_contents.read_groups.Goals as goal
 
 pub loop-octet-init : goal.loop-octet-init

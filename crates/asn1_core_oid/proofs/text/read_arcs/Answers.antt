@@ -3,7 +3,7 @@ use Rattle.std.proofs.lemmas.Iterator.Splits.{YieldsList-from_str_split}
 use Rattle.std.proofs.lemmas.Iterator.Consumers.{YieldsList-turn, YieldsList-end}
 use Rattle.std.proofs.lemmas.List.{length_push}
 use Rattle.std.proofs.lemmas.Result.{err_from_is_err_and}
-use Rattle.asn1_core_oid.specs.OidTextLaws.{pieces}
+use Rattle.asn1_core_oid.specs.laws.OidTextLaws.{pieces}
 use Rattle.asn1_core_oid.proofs.Arcs.{piece_more, fit_more, arcs_all, not_spelled}
 use Rattle.asn1_core_oid.proofs.text.read_arcs.Goals as goal
 

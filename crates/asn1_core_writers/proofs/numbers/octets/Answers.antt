@@ -1,5 +1,5 @@
 use Rattle.std.proofs.Common.{arith, ap, length, ◌<◌, ◌/◌, ◌%◌, ◌∷◌, [], length-append}
-use Rattle.asn1_core_element.specs.NumberLaws.{few_octets}
+use Rattle.asn1_core_element.specs.laws.NumberLaws.{few_octets}
 use Rattle.asn1_core_writers.proofs.IntegerOctets.{octets_start, octets_more, fewer_octets, octets_last, octets_small, octets_step}
 use Rattle.asn1_core_element.specs.Numbers.{integer_octets}
 use Rattle.asn1_core_writers.proofs.numbers.octets.Goals as goal

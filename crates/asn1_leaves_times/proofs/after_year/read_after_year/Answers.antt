@@ -1,5 +1,5 @@
 -- A moment that is written so has each number where it was looked for.
-use Rattle.asn1_leaves_times.specs.CalendarLaws.{month_lt, day_lt, hour_lt, minute_lt, second_lt}
+use Rattle.asn1_leaves_times.specs.laws.CalendarLaws.{month_lt, day_lt, hour_lt, minute_lt, second_lt}
 use Rattle.asn1_leaves_times.proofs.Numbers.{same_rest}
 use Rattle.asn1_leaves_times.proofs.after_year.read_after_year.Goals as goal
 

@@ -1,4 +1,4 @@
-use Rattle.asn1_module_leaves.specs.Enumerations.{spells_none_in, spells_another}
+use Rattle.asn1_module_leaves.specs.laws.Enumerations.{spells_none_in, spells_another}
 use Rattle.asn1_module_leaves.proofs.enumerated.enumerated_from_contents.Goals as goal
 
 -- src/enumerated.rt:38:1

@@ -1,6 +1,6 @@
 use Rattle.std.proofs.Common.{◌≡◌, ◌+◌, suc, true, subst, arith}
 use Rattle.ber_der.specs.Ber.{IsBer}
-use Rattle.ber_der.specs.BerLaws.{deeper}
+use Rattle.ber_der.specs.laws.BerLaws.{deeper}
 use Rattle.ber_der.specs.declared.contexts.Role.TheVariants.{Whole}
 use Rattle.ber_der.proofs.laws.a_larger_limit_converts_alike.Goals as goal
 

@@ -1,5 +1,5 @@
 use Rattle.std.proofs.Common.{true, false}
-use Rattle.ber_der.specs.DerLaws.{der_is_fixed}
+use Rattle.ber_der.specs.laws.DerLaws.{der_is_fixed}
 use Rattle.ber_der.proofs.laws.der_stays.Goals as goal
 
 pub returns : goal.returns

@@ -1,5 +1,5 @@
 use Rattle.std.proofs.Common.{true, [], sym, ◌∙◌, append-nil}
-use Rattle.ber_der.specs.BerLaws.{ber_cut}
+use Rattle.ber_der.specs.laws.BerLaws.{ber_cut}
 use Rattle.ber_der.specs.declared.contexts.Role.TheVariants.{Whole}
 use Rattle.ber_der.proofs.laws.each_encoding_has_one_der.Goals as goal
 

@@ -1,5 +1,5 @@
 use Rattle.std.proofs.Common.{true}
-use Rattle.ber_der.specs.Counts.{few_elements}
+use Rattle.ber_der.specs.laws.Counts.{few_elements}
 use Rattle.ber_der.specs.declared.contexts.Role.TheVariants.{Whole}
 use Rattle.ber_der.proofs.laws.elements_are_few.Goals as goal
 

@@ -1,5 +1,5 @@
 use Rattle.std.proofs.Common.{true}
-use Rattle.ber_der.specs.DerLaws.{string_whole}
+use Rattle.ber_der.specs.laws.DerLaws.{string_whole}
 use Rattle.ber_der.proofs.laws.octets_stay.Goals as goal
 
 pub returns : goal.returns

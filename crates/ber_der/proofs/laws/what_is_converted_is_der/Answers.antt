@@ -1,5 +1,5 @@
 use Rattle.std.proofs.Common.{true}
-use Rattle.ber_der.specs.DerLaws.{converted_is_der}
+use Rattle.ber_der.specs.laws.DerLaws.{converted_is_der}
 use Rattle.ber_der.specs.declared.contexts.Role.TheVariants.{Whole}
 use Rattle.ber_der.proofs.laws.what_is_converted_is_der.Goals as goal
 

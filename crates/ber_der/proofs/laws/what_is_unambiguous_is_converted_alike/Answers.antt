@@ -1,4 +1,4 @@
-use Rattle.ber_der.specs.BerLaws.{unambiguous_is_ber}
+use Rattle.ber_der.specs.laws.BerLaws.{unambiguous_is_ber}
 use Rattle.ber_der.specs.declared.contexts.Role.TheVariants.{Whole}
 use Rattle.ber_der.proofs.laws.what_is_unambiguous_is_converted_alike.Goals as goal
 

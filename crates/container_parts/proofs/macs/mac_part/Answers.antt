@@ -1,7 +1,8 @@
 use Rattle.std.proofs.Common.{refl, sym, subst}
 use Rattle.asn1_core.specs.Der.{raw}
 use Rattle.x509_pkcs12.specs.Pfxs.{pfx}
-use Rattle.container_parts.specs.Inputs.{gives, GivesPart}
+use Rattle.container_parts.specs.Inputs.{GivesPart}
+use Rattle.container_parts.specs.laws.Inputs.{gives}
 use Rattle.container_parts.specs.MacParts.{in_mac, IsMacPart}
 use Rattle.container_parts.proofs.macs.mac_part.Goals as goal
 

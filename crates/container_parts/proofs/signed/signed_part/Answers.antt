@@ -1,6 +1,7 @@
 use Rattle.std.proofs.Common.{sym, subst}
 use Rattle.signer_ranges.specs.Signers.{signed_file}
-use Rattle.container_parts.specs.Inputs.{gives, GivesPart}
+use Rattle.container_parts.specs.Inputs.{GivesPart}
+use Rattle.container_parts.specs.laws.Inputs.{gives}
 use Rattle.container_parts.specs.SignedParts.{in_signed, IsSignedPart}
 use Rattle.container_parts.proofs.signed.signed_part.Goals as goal
 

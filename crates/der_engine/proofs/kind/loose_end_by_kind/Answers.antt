@@ -1,4 +1,4 @@
-use Rattle.der_engine.specs.Verdicts.{located_ends}
+use Rattle.der_engine.specs.laws.Verdicts.{located_ends}
 use Rattle.der_engine.proofs.kind.loose_end_by_kind.Goals as goal
 
 pub returns : goal.returns

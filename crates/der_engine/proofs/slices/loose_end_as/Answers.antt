@@ -1,4 +1,4 @@
-use Rattle.der_engine.specs.Verdicts.{located_ends}
+use Rattle.der_engine.specs.laws.Verdicts.{located_ends}
 use Rattle.der_engine.proofs.slices.loose_end_as.Goals as goal
 
 pub returns : goal.returns

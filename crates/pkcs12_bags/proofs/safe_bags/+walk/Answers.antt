@@ -1,10 +1,10 @@
 use Rattle.std.proofs.Common.{◌≡◌, ◌++◌, [], MatchResult, map, sym, ap, ◌∙◌, subst}
 use Rattle.std.proofs.lemmas.List.{append-nil}
 use Rattle.asn1_core_element.specs.declared.error.Error.TheVariants.{Memory}
-use Rattle.pkcs12_bags.specs.BagLevels.{value_contents}
+use Rattle.pkcs12_bags.specs.laws.BagLevels.{value_contents}
 use Rattle.pkcs12_bags.specs.BagValues.{bag_value, contents_value}
 use Rattle.pkcs12_bags.specs.BagWalks.{walk}
-use Rattle.pkcs12_bags.specs.BagWalkLaws.{walk_holder, walk_plain}
+use Rattle.pkcs12_bags.specs.laws.BagWalkLaws.{walk_holder, walk_plain}
 use Rattle.pkcs12_bags.proofs.Walked.{walked_all, pushed}
 use Rattle.pkcs12_bags.proofs.safe_bags.+walk.Goals as goal
 

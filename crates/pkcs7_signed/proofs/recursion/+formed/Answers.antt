@@ -4,7 +4,7 @@ use Rattle.asn1_core.specs.Der.{octets_of, less, each, IsOid}
 use Rattle.asn1_core_format.proofs.ItemTests.{all_tested, one_failed}
 use Rattle.pkcs7_signed.specs.Components.{kind_of, attribute_components, pkcs7_certificate_components}
 use Rattle.pkcs7_signed.specs.Signers.{signer, attribute, pkcs7_certificate, signer_infos, unsigned_attributes, values}
-use Rattle.pkcs7_signed.specs.SignerLevels.{value_ms_counter_sign, value_counter_sign, value_unknown, value_signers, value_attributes, out_pkcs7_certificate, out_attribute}
+use Rattle.pkcs7_signed.specs.laws.SignerLevels.{value_ms_counter_sign, value_counter_sign, value_unknown, value_signers, value_attributes, out_pkcs7_certificate, out_attribute}
 use Rattle.pkcs7_signed.specs.declared.signers.UnsignedAttribute.{out-UnsignedAttribute}
 use Rattle.pkcs7_signed.specs.SignerValues.{signer_value, attribute_value, pkcs7_certificate_value, values_value}
 use Rattle.pkcs7_signed.proofs.SignerTests.{never, through, signer_unformed, signer_formed, signed_formed, signed_unformed, of_kind, not_of_kind, none_below, some_below, with_first}

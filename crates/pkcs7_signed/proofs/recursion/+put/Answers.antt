@@ -3,7 +3,7 @@ use Rattle.std.proofs.lemmas.Bool.{iff_false}
 use Rattle.asn1_core.specs.Der.{less}
 use Rattle.pkcs7_signed.specs.Components.{attribute_components, pkcs7_certificate_components}
 use Rattle.pkcs7_signed.specs.Signers.{signer, pkcs7_certificate, signer_infos, unsigned_attributes, values}
-use Rattle.pkcs7_signed.specs.SignerLevels.{value_ms_counter_sign, value_counter_sign, value_unknown, value_signers, value_attributes, text_signed, out_pkcs7_certificate, out_attribute, short_text, long_text, none_in, some_in}
+use Rattle.pkcs7_signed.specs.laws.SignerLevels.{value_ms_counter_sign, value_counter_sign, value_unknown, value_signers, value_attributes, text_signed, out_pkcs7_certificate, out_attribute, short_text, long_text, none_in, some_in}
 use Rattle.pkcs7_signed.specs.SignerValues.{values_value}
 use Rattle.pkcs7_signed.proofs.recursion.+put.Goals as goal
 

@@ -1,6 +1,7 @@
 use Rattle.std.proofs.Common.{sym, subst}
 use Rattle.std.proofs.lemmas.List.{take_rest}
-use Rattle.pkcs7_verifier.specs.Hashed.{AreContentsOf, contents_after_header, front_is_there}
+use Rattle.pkcs7_verifier.specs.Hashed.{AreContentsOf}
+use Rattle.pkcs7_verifier.specs.laws.Hashed.{contents_after_header, front_is_there}
 use Rattle.pkcs7_verifier.proofs.hashed.contents_in.Goals as goal
 
 pub unreachable-requires : goal.unreachable-requires

@@ -1,6 +1,6 @@
 use Rattle.asn1_core.specs.Der.{raw, lawful_raw}
-use Rattle.x509_pkcs12.specs.Agree.{mac_octets_rewritten}
-use Rattle.x509_pkcs12.specs.Pfxs.{lawful_pfx}
+use Rattle.x509_pkcs12.specs.laws.Agree.{mac_octets_rewritten}
+use Rattle.x509_pkcs12.specs.laws.Pfxs.{lawful_pfx}
 use Rattle.x509_pkcs12.proofs.laws.mac_octets_survive_where_normal.Goals as goal
 
 pub returns : goal.returns

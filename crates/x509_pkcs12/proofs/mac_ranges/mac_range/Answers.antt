@@ -1,5 +1,5 @@
 use Rattle.std.proofs.Common.{sym}
-use Rattle.x509_pkcs12.specs.MacOctets.{mac_octets_stand_in}
+use Rattle.x509_pkcs12.specs.laws.MacOctets.{mac_octets_stand_in}
 use Rattle.x509_pkcs12.proofs.MacPlaces.{range_found}
 use Rattle.x509_pkcs12.proofs.mac_ranges.mac_range.Goals as goal
 

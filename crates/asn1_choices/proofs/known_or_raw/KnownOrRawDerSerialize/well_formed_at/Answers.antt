@@ -1,5 +1,5 @@
 use Rattle.std.proofs.Common.{rules}
-use Rattle.asn1_choices.specs.ByTag.{other_is}
+use Rattle.asn1_choices.specs.laws.ByTag.{other_is}
 use Rattle.asn1_choices.proofs.known_or_raw.KnownOrRawDerSerialize.well_formed_at.Goals as goal
 
 pub returns-then-not-has_tag_of : goal.returns-then-not-has_tag_of

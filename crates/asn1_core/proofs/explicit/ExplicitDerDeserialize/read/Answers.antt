@@ -1,6 +1,7 @@
 use Rattle.std.proofs.Common.{rules}
 use Rattle.asn1_core_format.specs.Components.{within}
-use Rattle.asn1_core_format.specs.TagNumbers.{explicit_tag, numbered_is_refused}
+use Rattle.asn1_core_format.specs.TagNumbers.{explicit_tag}
+use Rattle.asn1_core_format.specs.laws.TagNumbers.{numbered_is_refused}
 use Rattle.asn1_core.proofs.explicit.ExplicitDerDeserialize.read.Goals as goal
 
 pub returns-in_err-value : goal.returns-in_err-value

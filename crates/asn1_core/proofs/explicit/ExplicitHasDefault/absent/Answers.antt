@@ -1,5 +1,5 @@
 use Rattle.std.proofs.Common.{rules}
-use Rattle.asn1_core_format.specs.TaggedDefaults.{explicit_no_default}
+use Rattle.asn1_core_format.specs.laws.TaggedDefaults.{explicit_no_default}
 use Rattle.asn1_core.proofs.explicit.ExplicitHasDefault.absent.Goals as goal
 
 pub returns-in_err-value : goal.returns-in_err-value

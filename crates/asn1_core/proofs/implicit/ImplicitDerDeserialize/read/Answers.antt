@@ -1,6 +1,6 @@
 use Rattle.std.proofs.Common.{rules, ◌%◌}
 use Rattle.asn1_core_format.specs.Tagged.{implicit, context_tag}
-use Rattle.asn1_core_format.specs.TagNumbers.{numbered_is_refused}
+use Rattle.asn1_core_format.specs.laws.TagNumbers.{numbered_is_refused}
 use Rattle.asn1_core.proofs.implicit.ImplicitDerDeserialize.read.Goals as goal
 
 pub returns-in_err-value : goal.returns-in_err-value

@@ -1,5 +1,5 @@
 use Rattle.std.proofs.Common.{rules, arith}
-use Rattle.asn1_core_format.specs.TaggedDefaults.{implicit_absent_value, implicit_no_default}
+use Rattle.asn1_core_format.specs.laws.TaggedDefaults.{implicit_absent_value, implicit_no_default}
 use Rattle.asn1_core.proofs.implicit.ImplicitHasDefault.absent.Goals as goal
 
 pub returns-in_err-value : goal.returns-in_err-value

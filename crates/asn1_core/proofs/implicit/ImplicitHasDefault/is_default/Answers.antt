@@ -1,5 +1,5 @@
 use Rattle.std.proofs.Common.{◌∙◌}
-use Rattle.asn1_core_format.specs.TaggedDefaults.{implicit_default_same}
+use Rattle.asn1_core_format.specs.laws.TaggedDefaults.{implicit_default_same}
 use Rattle.asn1_core.proofs.implicit.ImplicitHasDefault.is_default.Goals as goal
 
 pub returns : goal.returns

@@ -1,5 +1,5 @@
 use Rattle.std.proofs.Common.{sym, ◌∙◌, arith, ◌<◌, ◌^◌}
-use Rattle.asn1_core.specs.Versions.{one_version}
+use Rattle.asn1_core.specs.laws.Versions.{one_version}
 use Rattle.asn1_core.proofs.versions.FixedVersionLeaf.from_contents.Goals as goal
 
 pub returns-then-number-clause-spelled : goal.returns-then-number-clause-spelled

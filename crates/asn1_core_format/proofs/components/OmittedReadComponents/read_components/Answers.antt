@@ -1,6 +1,6 @@
 use Rattle.std.proofs.Common.{rules}
 use Rattle.std.proofs.lemmas.Bool.{iff_false}
-use Rattle.asn1_core_format.specs.Format.{distinct_both}
+use Rattle.asn1_core_format.specs.laws.Format.{distinct_both}
 use Rattle.asn1_core_format.proofs.ComponentReads.{first_refused, rest_refused, there_refused, omitted_refused, no_default, has_read_default}
 use Rattle.asn1_core_format.specs.Omitted.{is_default_with}
 use Rattle.asn1_core_format.proofs.components.OmittedReadComponents.read_components.Goals as goal

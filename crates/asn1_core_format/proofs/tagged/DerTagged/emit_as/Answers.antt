@@ -1,6 +1,6 @@
 use Rattle.std.proofs.Common.{rules}
-use Rattle.asn1_core_element.specs.ElementLaws.{length_retag}
-use Rattle.asn1_core_writers.specs.Buffers.{emits_buffered}
+use Rattle.asn1_core_element.specs.laws.ElementLaws.{length_retag}
+use Rattle.asn1_core_writers.specs.laws.Buffers.{emits_buffered}
 use Rattle.asn1_core_format.proofs.tagged.DerTagged.emit_as.Goals as goal
 
 pub returns : goal.returns

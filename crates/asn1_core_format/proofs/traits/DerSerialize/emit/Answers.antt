@@ -1,5 +1,5 @@
 use Rattle.std.proofs.Common.{rules}
-use Rattle.asn1_core_writers.specs.Buffers.{emits_buffered}
+use Rattle.asn1_core_writers.specs.laws.Buffers.{emits_buffered}
 use Rattle.asn1_core_format.proofs.traits.DerSerialize.emit.Goals as goal
 
 pub returns : goal.returns

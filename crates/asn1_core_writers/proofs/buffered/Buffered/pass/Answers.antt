@@ -1,4 +1,4 @@
-use Rattle.asn1_core_writers.specs.Buffers.{buffers_through}
+use Rattle.asn1_core_writers.specs.laws.Buffers.{buffers_through}
 use Rattle.asn1_core_writers.proofs.buffered.Buffered.pass.Goals as goal
 
 pub returns-then-bytes-gt-ROOM-clause-taken : goal.returns-then-bytes-gt-ROOM-clause-taken

@@ -1,5 +1,5 @@
 use Rattle.std.proofs.lemmas.Str.{IsUtf8-string_bytes}
-use Rattle.asn1_leaves_strings.specs.StringLaws.{bmp_octets}
+use Rattle.asn1_leaves_strings.specs.laws.StringLaws.{bmp_octets}
 use Rattle.asn1_leaves_strings.proofs.BmpTextReads.{no_text, first_unit, one_more_unit, all_text}
 use Rattle.asn1_leaves_strings.proofs.bmp_string.BmpString.to_text.Goals as goal
 

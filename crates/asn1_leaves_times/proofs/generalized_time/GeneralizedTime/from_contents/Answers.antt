@@ -1,6 +1,6 @@
 use Rattle.std.proofs.Common.{◌≡◌, ◌/◌, ◌%◌, ◌++◌, ap₂, ◌∙◌, arith}
 use Rattle.asn1_leaves_times.specs.TimeContents.{two_digits, IsGeneralized, generalized_contents}
-use Rattle.asn1_leaves_times.specs.TimeContentsLaws.{generalized_contents_same}
+use Rattle.asn1_leaves_times.specs.laws.TimeContentsLaws.{generalized_contents_same}
 use Rattle.asn1_leaves_times.specs.Times.{moment_of_generalized}
 use Rattle.asn1_leaves_times.proofs.Numbers.{same_rest, answer_spelled}
 use Rattle.asn1_leaves_times.proofs.generalized_time.GeneralizedTime.from_contents.Goals as goal

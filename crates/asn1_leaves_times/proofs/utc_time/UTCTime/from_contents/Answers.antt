@@ -1,6 +1,6 @@
 use Rattle.std.proofs.Common.{◌≡◌, ◌%◌, ◌≤◌, ◌++◌, ap₂, ◌∙◌, arith}
 use Rattle.asn1_leaves_times.specs.TimeContents.{two_digits, IsUtc, utc_contents}
-use Rattle.asn1_leaves_times.specs.TimeContentsLaws.{utc_contents_same_years}
+use Rattle.asn1_leaves_times.specs.laws.TimeContentsLaws.{utc_contents_same_years}
 use Rattle.asn1_leaves_times.specs.Times.{moment_of}
 use Rattle.asn1_leaves_times.proofs.Numbers.{answer_spelled}
 use Rattle.asn1_leaves_times.proofs.utc_time.UTCTime.from_contents.Goals as goal

@@ -3,7 +3,7 @@ use Rattle.std.proofs.lemmas.Bool.{iff_false}
 use Rattle.asn1_core.specs.Der.{each}
 use Rattle.asn1_core_format.proofs.ItemTests.{all_tested, one_failed}
 use Rattle.pkcs12_bags.specs.Bags.{safe_bag, nested_choice}
-use Rattle.pkcs12_bags.specs.BagLevels.{row_holder, contents_formed}
+use Rattle.pkcs12_bags.specs.laws.BagLevels.{row_holder, contents_formed}
 use Rattle.pkcs12_bags.specs.BagValues.{bag_value}
 use Rattle.pkcs12_bags.proofs.safe_bags.bags.+formed.Goals as goal
 

@@ -1,7 +1,7 @@
 use Rattle.std.proofs.Common.{inl, sym, subst, rules}
 use Rattle.pkcs12_bags.specs.Attributes.{attributes_value}
 use Rattle.pkcs12_bags.specs.Bags.{nested_choice}
-use Rattle.pkcs12_bags.specs.BagLevels.{row_holder, contents_text}
+use Rattle.pkcs12_bags.specs.laws.BagLevels.{row_holder, contents_text}
 use Rattle.pkcs12_bags.specs.BagValues.{contents_value}
 use Rattle.pkcs12_bags.proofs.safe_bags.bags.+put.Goals as goal
 

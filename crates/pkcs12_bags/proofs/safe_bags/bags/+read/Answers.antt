@@ -4,8 +4,8 @@ use Rattle.asn1_core.specs.Der.{HasRead, less}
 use Rattle.asn1_core_format.proofs.LevelReads.{has_refused}
 use Rattle.asn1_core_format.proofs.ComponentReads.{within_refused, within_has_read}
 use Rattle.pkcs12_bags.specs.Bags.{nested_choice, bag_components, safe_bag, safe_contents}
-use Rattle.pkcs12_bags.specs.BagsLaws.{lawful_safe_bag, lawful_safe_contents}
-use Rattle.pkcs12_bags.specs.BagLevels.{value_rolled}
+use Rattle.pkcs12_bags.specs.laws.BagsLaws.{lawful_safe_bag, lawful_safe_contents}
+use Rattle.pkcs12_bags.specs.laws.BagLevels.{value_rolled}
 use Rattle.pkcs12_bags.specs.BagValues.{bag_value, contents_value}
 use Rattle.pkcs12_bags.proofs.ContentsReads.{bag_refused, bag_has_read, contents_refused, contents_has_read}
 use Rattle.pkcs12_bags.proofs.safe_bags.bags.+read.Goals as goal

@@ -1,7 +1,7 @@
 use Rattle.asn1_core.specs.Asn1.{SEQUENCE}
 use Rattle.std.proofs.Common.{rules, refl}
 use Rattle.asn1_core.specs.Der.{part, nothing, within}
-use Rattle.asn1_choices.specs.DefinedByLaws.{itself}
+use Rattle.asn1_choices.specs.laws.DefinedByLaws.{itself}
 use Rattle.asn1_choices.proofs.DefinedByReads.{alternative_has_read, alternative_refused, has_read_at, refused_at}
 use Rattle.pkcs7_content.specs.Contents.{written_content, octets_components, data_alternative, octets_alternative, content_components}
 use Rattle.pkcs7_content.specs.ContentLaws.{data_is_alternative, octets_is_alternative}

@@ -4,7 +4,7 @@ use Rattle.asn1_core.specs.Der.{lawful_within, HasRead, less}
 use Rattle.asn1_core_format.proofs.LevelReads.{has_refused}
 use Rattle.pkcs7_signed.specs.Components.{pkcs7_certificate_components}
 use Rattle.pkcs7_signed.specs.Signers.{signer, signed_data, pkcs7_certificate}
-use Rattle.pkcs7_signed.specs.SignerLaws.{lawful_signed_data}
+use Rattle.pkcs7_signed.specs.laws.SignerLaws.{lawful_signed_data}
 use Rattle.pkcs7_signed.specs.SignerValues.{pkcs7_certificate_value}
 use Rattle.pkcs7_signed.proofs.SignerReads.{pkcs7_certificate_has_read, pkcs7_certificate_refused, no_memory}
 use Rattle.pkcs7_signed.proofs.recursion.pkcs7_certificate.read_pkcs7_certificate_with.Goals as goal

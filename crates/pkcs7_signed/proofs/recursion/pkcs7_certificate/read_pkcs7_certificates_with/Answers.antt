@@ -4,7 +4,7 @@ use Rattle.asn1_core.specs.Der.{set_of, HasReadComponents}
 use Rattle.asn1_core_format.proofs.LevelReads.{has_refused_components}
 use Rattle.pkcs7_signed.proofs.SignerReads.{no_memory_components}
 use Rattle.pkcs7_signed.specs.Signers.{pkcs7_certificate}
-use Rattle.pkcs7_signed.specs.SignerLaws.{lawful_pkcs7_certificate}
+use Rattle.pkcs7_signed.specs.laws.SignerLaws.{lawful_pkcs7_certificate}
 use Rattle.pkcs7_signed.specs.SignerValues.{pkcs7_certificate_value}
 use Rattle.pkcs7_signed.proofs.recursion.pkcs7_certificate.read_pkcs7_certificates_with.Goals as goal
 

@@ -4,7 +4,7 @@ use Rattle.asn1_core.specs.Der.{within, lawful_within}
 use Rattle.asn1_core_format.proofs.LevelReads.{has_refused_components, alone_has_read, unopened}
 use Rattle.asn1_core_format.proofs.ComponentReads.{within_refused, within_has_read, alone_refused, alone_left}
 use Rattle.pkcs7_signed.specs.Signers.{signed_data}
-use Rattle.pkcs7_signed.specs.SignerLaws.{lawful_signed_data}
+use Rattle.pkcs7_signed.specs.laws.SignerLaws.{lawful_signed_data}
 use Rattle.pkcs7_signed.specs.SignerValues.{signed_value}
 use Rattle.pkcs7_signed.proofs.recursion.pkcs7_certificate.read_tagged_with.Goals as goal
 

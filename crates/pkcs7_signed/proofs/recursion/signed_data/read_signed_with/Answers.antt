@@ -5,7 +5,7 @@ use Rattle.asn1_core_format.proofs.LevelReads.{has_refused}
 use Rattle.asn1_core_format.proofs.NeedsLevelReads.{has_read_needs_level, refused_needs_level}
 use Rattle.pkcs7_signed.specs.Parts.{signed_parts}
 use Rattle.pkcs7_signed.specs.Signers.{signer, signed_data}
-use Rattle.pkcs7_signed.specs.SignerLaws.{lawful_signer}
+use Rattle.pkcs7_signed.specs.laws.SignerLaws.{lawful_signer}
 use Rattle.pkcs7_signed.specs.SignerValues.{signed_value}
 use Rattle.pkcs7_signed.proofs.SignerReads.{no_memory}
 use Rattle.pkcs7_signed.proofs.recursion.signed_data.read_signed_with.Goals as goal

@@ -4,7 +4,7 @@ use Rattle.asn1_core.specs.Der.{less, set_of, HasReadComponents}
 use Rattle.asn1_core_format.proofs.LevelReads.{has_refused_components}
 use Rattle.pkcs7_signed.proofs.SignerReads.{no_memory_components}
 use Rattle.pkcs7_signed.specs.Signers.{signer}
-use Rattle.pkcs7_signed.specs.SignerLaws.{lawful_signer}
+use Rattle.pkcs7_signed.specs.laws.SignerLaws.{lawful_signer}
 use Rattle.pkcs7_signed.specs.SignerValues.{signer_value}
 use Rattle.pkcs7_signed.proofs.recursion.signed_data.read_signers_below.Goals as goal
 

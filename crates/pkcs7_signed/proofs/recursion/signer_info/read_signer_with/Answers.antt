@@ -5,7 +5,7 @@ use Rattle.asn1_core.specs.Der.{HasRead, lawful_set_or_none}
 use Rattle.pkcs7_content.specs.declared.versions.CmsVersion.TheVariants.{V1}
 use Rattle.pkcs7_signed.specs.Components.{signer_components}
 use Rattle.pkcs7_signed.specs.Signers.{signer, attribute}
-use Rattle.pkcs7_signed.specs.SignerLaws.{lawful_attribute}
+use Rattle.pkcs7_signed.specs.laws.SignerLaws.{lawful_attribute}
 use Rattle.pkcs7_signed.specs.SignerValues.{signer_value}
 use Rattle.pkcs7_signed.proofs.SignerReads.{signer_has_read, signer_refused, made_signer}
 use Rattle.pkcs7_signed.proofs.recursion.signer_info.read_signer_with.Goals as goal

@@ -3,10 +3,10 @@ use Rattle.std.proofs.lemmas.Result.{err_from_is_err_and}
 use Rattle.asn1_core.specs.Der.{raw, set_of, less, HasReadComponents}
 use Rattle.asn1_core_format.proofs.LevelReads.{has_refused_components}
 use Rattle.asn1_choices.proofs.DefinedByReads.{alternative_has_read, alternative_refused, has_read_at, refused_at}
-use Rattle.asn1_choices.specs.DefinedByLaws.{itself}
+use Rattle.asn1_choices.specs.laws.DefinedByLaws.{itself}
 use Rattle.pkcs7_signed.specs.Components.{kind_of, values_components}
 use Rattle.pkcs7_signed.specs.Signers.{signer, pkcs7_certificate, values}
-use Rattle.pkcs7_signed.specs.SignerLevels.{value_ms_counter_sign, value_counter_sign, value_unknown}
+use Rattle.pkcs7_signed.specs.laws.SignerLevels.{value_ms_counter_sign, value_counter_sign, value_unknown}
 use Rattle.pkcs7_signed.specs.SignerValues.{values_value}
 use Rattle.pkcs7_signed.proofs.recursion.unsigned_attribute.read_values_with.Goals as goal
 

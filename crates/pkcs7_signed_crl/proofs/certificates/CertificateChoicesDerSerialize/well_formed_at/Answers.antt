@@ -1,5 +1,5 @@
 use Rattle.std.proofs.Common.{rules}
-use Rattle.asn1_choices.specs.ByTag.{tagged_is, other_is}
+use Rattle.asn1_choices.specs.laws.ByTag.{tagged_is, other_is}
 use Rattle.pkcs7_signed_crl.specs.Certificates.{IsSequenceTag}
 use Rattle.pkcs7_signed_crl.proofs.certificates.CertificateChoicesDerSerialize.well_formed_at.Goals as goal
 

@@ -1,7 +1,8 @@
 use Rattle.std.proofs.Common.{rules, arith}
 use Rattle.std.proofs.lemmas.Bool.{iff_false}
 use Rattle.asn1_core_format.proofs.EitherReads.{first_refused, second_refused}
-use Rattle.asn1_leaves.specs.Times.{utc_time, generalized_time, lawful_utc_time, lawful_generalized_time}
+use Rattle.asn1_leaves.specs.Times.{utc_time, generalized_time}
+use Rattle.asn1_leaves.specs.laws.Times.{lawful_utc_time, lawful_generalized_time}
 use Rattle.x509_base.proofs.times.TimeDerDeserialize.read.Goals as goal
 
 pub returns-in_err-time-clause-gives : goal.returns-in_err-time-clause-gives

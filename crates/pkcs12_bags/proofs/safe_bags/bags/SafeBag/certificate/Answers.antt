@@ -1,5 +1,5 @@
 use Rattle.std.proofs.Common.{sym, ap, ◌∙◌}
-use Rattle.pkcs12_bags.specs.SelectionLaws.{certificate_of_kind, certificate_field, no_certificate}
+use Rattle.pkcs12_bags.specs.laws.SelectionLaws.{certificate_of_kind, certificate_field, no_certificate}
 use Rattle.pkcs12_bags.proofs.safe_bags.bags.SafeBag.certificate.Goals as goal
 
 pub returns-in-Certificate : goal.returns-in-Certificate

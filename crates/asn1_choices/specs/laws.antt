@@ -1,0 +1,4 @@
+pub mod ByTag
+pub mod DefinedByLaws
+pub mod KnownOrRaw
+pub mod Tables

@@ -1,0 +1,9 @@
+pub mod Booleans
+pub mod Defaults
+pub mod Nulls
+pub mod Objects
+pub mod Octets
+pub mod Raw
+pub mod Tagged
+pub mod Versions
+pub mod ViewsEqual

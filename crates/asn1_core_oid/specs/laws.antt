@@ -1,0 +1,3 @@
+pub mod OidTestLaws
+pub mod OidTextLaws
+pub mod OidValueLaws

@@ -1,0 +1,2 @@
+pub mod BmpLaws
+pub mod StringLaws

@@ -1,0 +1,4 @@
+pub mod CalendarLaws
+pub mod GrammarLaws
+pub mod TimeContentsLaws
+pub mod TimesLaws

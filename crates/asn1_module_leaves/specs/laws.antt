@@ -1,0 +1,3 @@
+pub mod Differ
+pub mod Enumerations
+pub mod ModuleLeaves

@@ -1,0 +1,3 @@
+pub mod BerLaws
+pub mod Counts
+pub mod DerLaws

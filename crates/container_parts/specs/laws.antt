@@ -1,0 +1,3 @@
+pub mod Contents
+pub mod Copies
+pub mod Inputs

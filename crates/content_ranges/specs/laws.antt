@@ -1,0 +1,2 @@
+pub mod IndirectRoutes
+pub mod TrustRoutes

@@ -1,0 +1,2 @@
+pub mod EnvelopeRoutes
+pub mod Enveloped

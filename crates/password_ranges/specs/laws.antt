@@ -1,0 +1,2 @@
+pub mod PasswordRoutes
+pub mod SaltKinds

@@ -1,0 +1,3 @@
+pub mod Pbes1
+pub mod Pbes2
+pub mod TableLaws

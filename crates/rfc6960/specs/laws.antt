@@ -1,0 +1,1 @@
+pub mod Ocsp201388

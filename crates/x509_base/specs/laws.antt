@@ -1,0 +1,2 @@
+pub mod AlgorithmChoiceLaws
+pub mod AlgorithmLaws
