@@ -87,6 +87,7 @@ impl<A: DerSerialize, R: WriteComponents> WriteComponents for Required<A, R> {
 
     ghost format = { part A.format R.format };
 
+    #[inline(always)]
     fn put_components<W: Writer>(&self, w: &mut W) -> Result<(), WriteError> {
         put_both(&Alone(Ref(&self.0)), &self.1, w)
     }
@@ -140,6 +141,7 @@ impl<A: DerSerialize, R: WriteComponents> WriteComponents for MaybeRef<'_, A, R>
 
     ghost format = { optional A.format R.format };
 
+    #[inline(always)]
     fn put_components<W: Writer>(&self, w: &mut W) -> Result<(), WriteError> {
         match self.0 {
             None => self.1.put_components(w),
@@ -265,6 +267,7 @@ impl<T: DerSerialize> WriteComponents for Alone<T> {
 
     ghost format = { T.format };
 
+    #[inline(always)]
     fn put_components<W: Writer>(&self, w: &mut W) -> Result<(), WriteError> {
         self.0.put(w)
     }
@@ -304,6 +307,7 @@ impl<R: WriteComponents> WriteComponents for &R {
 }
 
 /// Writes one body and then another.
+#[inline(always)]
 pub fn put_both<A: WriteComponents, B: WriteComponents, W: Writer>(
     a: &A,
     b: &B,

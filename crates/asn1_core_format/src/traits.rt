@@ -176,6 +176,7 @@ impl<T: DerSerialize> DerSerialize for Ref<&T> {
 
     ghost format = { T.format };
 
+    #[inline(always)]
     fn put<W: Writer>(&self, w: &mut W) -> Result<(), WriteError> {
         self.0.put(w)
     }

@@ -58,6 +58,7 @@ impl<T: Asn1Type> DerSerialize for T {
 
     ghost format = { T.asn1.format };
 
+    #[inline(always)]
     fn put<W: Writer>(&self, w: &mut W) -> Result<(), WriteError> {
         self.with_encoded(&mut Put { w })
     }
