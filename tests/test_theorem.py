@@ -12,6 +12,7 @@ from loaded import script  # noqa: E402
 theorem = script(built.TOP / "tools/theorem")
 PFXS = "Rattle.x509_pkcs12.specs.Pfxs"
 OCTETS = "Rattle.x509_pkcs12.specs.MacOctets"
+ASN1 = "Rattle.asn1_core_format.specs.Asn1"
 
 
 def text_of(module):
@@ -38,6 +39,10 @@ class Theorem(unittest.TestCase):
     def test_a_name_that_nothing_gives_is_told(self):
         found = self.missing(OCTETS, "mac_octets (n, (inr p, x)) = None", "mac_octets (n, (inr p, x)) = Nothing")
         self.assertIn(f"{OCTETS}.mac_octets: Nothing", found)
+
+    def test_a_name_in_a_case_of_an_operator_that_nothing_gives_is_told(self):
+        had = "a then r = record { Value = a.Value × r.Value; format = part a.format"
+        self.assertIn(f"{ASN1}.◌then◌: parts", self.missing(ASN1, had, had.replace("part a", "parts a")))
 
     def test_a_name_that_no_file_brings_is_told(self):
         self.assertIn(f"{PFXS}.PfxValue: AuthSafeValue", self.missing(PFXS, "{AuthSafeValue, ", "{"))
