@@ -5,7 +5,7 @@ import random
 import unittest
 
 from support import inputs
-from support.containers import long_signers
+from support.containers import long_signers, signers_alike
 from support.elements import within
 from support.parts import certificate_places
 from support.rooms import SIGNER_ROW, InRooms, in_room, marked, octets_of
@@ -67,6 +67,15 @@ class TestSignerRows(InRooms):
                     self.same(row.certificate in places[: len(places) // 2], True, "the first of two", text)
                     found += 1
         self.at_least(found, 15, "signers with their certificate twice")
+
+    def test_parts_of_the_same_octets_are_each_in_its_own_place(self):
+        text = signers_alike(inputs.SAME)
+        rows = self.same_signers(text)
+        self.assertEqual([row.status for row in rows], 4 * [NORMAL])
+        places = [place for row in rows for place in (row.digest, row.signature)] + [rows[0].content]
+        self.assertEqual(len(set(places)), 9)
+        self.assertEqual({text[start : start + size] for start, size in places}, {inputs.SAME})
+        self.assertEqual({row.certificate for row in rows}, {certificate_places(text)[0]})
 
     def test_bad_attributes_are_told(self):
         files = inputs.bad_attributes(answers.is_over_attributes)

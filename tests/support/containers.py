@@ -185,6 +185,30 @@ def x509_certificate(chance, number, key):
     return sequence(tbs, RSA_ENCRYPTION, bits)
 
 
+def signers_alike(same):
+    """Signed data of four signers, twice the same two, one named by a number and one by a key identifier. Their names,
+    signed digests, values of other attributes and signatures, the content, and what names the certificate, which is
+    there twice, are all of the same octets."""
+    number, key = int.from_bytes(same, "big"), element(0x80, same)
+    made = x509_certificate(random.Random(19), number, same)
+    other = attribute("1.2.3.4", octet_string(same))
+    signed = attribute("contentType", oid("data")), attribute("messageDigest", octet_string(same)), other
+    last = RSA_ENCRYPTION, octet_string(same), element(0xA1, other, other)
+    named = (1, sequence(NAME, integer(number))), (3, key)
+    signers = (sequence(integer(version), name, SHA256, explicit(0, *signed), *last) for version, name in 2 * named)
+    return signed_file(content_info("data", octet_string(same)), [made, made], signers, 3)
+
+
+def recipients_alike(same):
+    """Enveloped data of two equal recipients by a key, whose keys, key identifiers and octets are the same, as are the
+    vector and the encrypted content."""
+    key = octet_string(same)
+    recipient = element(0xA2, integer(4), sequence(key), sequence(oid("2.16.840.1.101.3.4.1.5")), key)
+    encryption = sequence(oid("2.16.840.1.101.3.4.1.2"), key)
+    content = sequence(oid("data"), encryption, element(0x80, same))
+    return content_info("enveloped data", sequence(integer(2), set_of(recipient, recipient), content))
+
+
 def long_signers():
     """Signed data with many signers, and what is known of each: whether its attributes are bad, and the index of its
     certificate or None. The first has signers of versions 1 and 3 over a time stamp's content, whose certificates are

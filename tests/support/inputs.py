@@ -5,7 +5,10 @@ import os
 import random
 
 from . import encrypted, oids, rows
-from .containers import NULL, SHA256, attribute, content_info, long_signed, long_stores, mac_data, nested, store
+from .containers import (
+    NULL, SHA256, attribute, content_info, long_signed, long_stores, mac_data, nested, recipients_alike, signers_alike,
+    store,
+)
 from .elements import element, explicit, integer, octet_string, part, parts, sequence, set_of
 from .oids import oid
 from .signed_attributes import wrong_attributes
@@ -17,6 +20,8 @@ INPUTS, CHANGES, LONGEST = 6, 3, 4096
 SIGNED, STORES = ("pkcs7certificate", "rawpkcs7certificate"), ("pfx", "rawpfx", "rawbagspfx")
 # What the attribute of indirect data says was hashed (Authenticode): a program, a cabinet, a script.
 IMAGE, CABINET, SCRIPT = (f"1.3.6.1.4.1.311.2.1.{number}" for number in (15, 25, 30))
+# What all parts of a file have where a place can't be found by its octets.
+SAME = b"A" * 16
 # The type of a trust list, what a list of roots is for, and the attribute with an entry's name (Microsoft); times.
 TRUST_LIST, ROOTS, NAME_OF_ENTRY = (f"1.3.6.1.4.1.311.10.{numbers}" for numbers in ("1", "3.9", "11.11"))
 UTC_TIME, GENERALIZED_TIME = element(0x17, b"261129120000Z"), element(0x18, b"20501129120000Z")
@@ -52,8 +57,9 @@ def with_parts():
 
 @functools.lru_cache(maxsize=None)
 def signed_data():
-    """Signed data of the worked examples, and what isn't quite that."""
-    return [row.octets() for row in rows.examples() if row.type in SIGNED and len(row.spelt) < 9 * LONGEST]
+    """Signed data of the worked examples, what isn't quite that, and signers whose parts have the same octets."""
+    found = [row.octets() for row in rows.examples() if row.type in SIGNED and len(row.spelt) < 9 * LONGEST]
+    return [*found, signers_alike(SAME)]
 
 
 @functools.lru_cache(maxsize=None)
@@ -68,7 +74,8 @@ def certificates():
 
 
 def enveloped_data():
-    """Enveloped data of the worked examples, under their content type."""
+    """Enveloped data of the worked examples, under their content type, and recipients of the same octets throughout."""
+    yield recipients_alike(SAME)
     for row in rows.examples():
         if row.type == "envelopeddata" and row.said.startswith("normal"):
             yield content_info("enveloped data", row.octets())
