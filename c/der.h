@@ -103,7 +103,8 @@ typedef enum der_status {
   DER_MISSING = 4,      /* an element isn't there */
   DER_INVALID = 5,      /* a tag, version, object identifier, character, number or part that can't be there */
   DER_TOO_DEEP = 6,     /* more levels of nesting than the limit */
-  DER_TOO_LONG = 7,     /* its normal encoding, that of the part, or what is built has 2^64 bytes or more */
+  DER_TOO_LONG = 7,     /* its normal encoding, that of the part, or what is built has 2^64 bytes or more; of a part of
+                           a store, no clause says so */
   DER_NO_MEMORY = 8,    /* a request for memory was refused: nothing is said of the input */
   DER_NO_ROOM = 9,      /* out is too short: the number of bytes, or of ranges, that are needed is written */
   DER_NO_RANGE = 10,    /* authSafe isn't data, so no octets are covered by a MAC */

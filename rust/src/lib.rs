@@ -89,7 +89,7 @@ pub enum Error {
         /// Where it is refused.
         place: usize,
     },
-    /// What is to be written has 2^64 bytes or more.
+    /// What is to be written has 2^64 bytes or more. Of a part of a store, no clause says so.
     TooLong,
     /// The library's request for memory was refused, which says nothing of the input.
     NoMemory,
