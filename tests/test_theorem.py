@@ -1,6 +1,7 @@
 """tools/theorem over texts of specs/ in which something is turned: a definition that is gone, a name that nothing gives,
 one that no file brings; and over pages and a table that are out of date. Each has to be told. A page has each definition
 once, and no law but by its type."""
+import re
 import sys
 import unittest
 
@@ -70,6 +71,26 @@ class Theorem(unittest.TestCase):
         for name, lines in laws.items():
             self.assertEqual(1, len(lines), name)
             self.assertTrue(lines[0].startswith(f"-- proved\n{name} : "), name)
+
+    def test_a_type_has_its_asn1_above_it(self):
+        text = theorem.page("mac")[0]
+        asn1 = "-- MacData ::= SEQUENCE { mac Pkcs12DigestInfo, macSalt OCTET STRING, iterations INTEGER OPTIONAL }\n"
+        self.assertIn(asn1, text.partition("abbrev pub mac_data : Contents\n")[0][-300:])
+        self.assertNotIn("-- Version ::=", text)
+
+    def test_names_that_are_left_out_are_listed(self):
+        clauses, made = theorem.made_of("mac")
+        end = theorem.page("mac")[0].partition("## Names that are left out")[2]
+        self.assertEqual(made.std | made.rust, {one for one in re.findall(r"`(\S+?)`", end)} - {""})
+
+    def test_any_public_function_has_a_page(self):
+        name = "mac_ranges.rt:mac_range"
+        text, _, missing = theorem.page(f"x509_pkcs12/src/{name}")
+        self.assertEqual(set(), missing)
+        self.assertIn("pub fn mac_range(", text)
+        self.assertEqual(text.partition("\n")[2], theorem.page("mac_range")[0].partition("\n")[2])
+        with self.assertRaises(SystemExit):
+            theorem.page("no_such_function")
 
     def test_pages_out_of_date_and_growth_are_told(self):
         made = {"mac": ("text", 10, set())}
