@@ -1042,16 +1042,16 @@ DER_CALL
 uint32_t der_name_text(const uint8_t *input, size_t input_len, uint8_t *out, size_t out_len, size_t *written);
 
 /* Writes an object identifier, by its contents octets, as "1.2.840.113549.1.1.11" to the front of out. What it answers
- * is as of der_name_text, and the refusal, by tests alone, always DER_INVALID: where the octets are no object
- * identifier's, or have a number that 64 bits don't hold. */
+ * is as of der_name_text, and the refusal always DER_INVALID: where the octets are no object identifier's, or have a
+ * number that 64 bits don't hold. */
 DER_CALL
 uint32_t der_oid_text(const uint8_t *octets, size_t octets_len, uint8_t *out, size_t out_len, size_t *written);
 
 /* Writes the contents octets of an object identifier, by its text as der_oid_text writes it, to the front of out: of
  * "1.2.840.113549" 2A 86 48 86 F7 0D. The text is numbers in decimal without leading zeros, joined by dots, and
- * text_len counts no zero byte after it. What it answers is as of der_name_text, and the refusal, by tests alone,
- * always DER_INVALID: where the text is anything else, or has fewer than two numbers, a first one above 2, after 0 or
- * 1 a second one above 39, a number of 2^64 or more, or after 2 a second one of 2^64 - 80 or more. */
+ * text_len counts no zero byte after it. What it answers is as of der_name_text, and the refusal is always DER_INVALID:
+ * where the text is anything else, or has fewer than two numbers, a first one above 2, after 0 or 1 a second one above
+ * 39, a number of 2^64 or more, or after 2 a second one of 2^64 - 80 or more. */
 DER_CALL
 uint32_t der_oid_octets(const uint8_t *text, size_t text_len, uint8_t *out, size_t out_len, size_t *written);
 
@@ -1067,23 +1067,22 @@ uint32_t der_oid_name(const uint8_t *octets, size_t octets_len, uint8_t *out, si
 
 /* Writes the number that the contents octets of an INTEGER hold (X.690, 8.3), as a serial number, in decimal, after a
  * minus where it is negative, to the front of out. Octets that DER would leave out are taken too. What it answers is as
- * of der_name_text, and the refusal, by tests alone, always DER_INVALID: where there are no octets or more than 1,024,
- * since the time that a text takes grows by the square of their count. */
+ * of der_name_text, and the refusal is always DER_INVALID: where there are no octets or more than 1,024, since the time
+ * that a text takes grows by the square of their count. */
 DER_CALL
 uint32_t der_integer_text(const uint8_t *octets, size_t octets_len, uint8_t *out, size_t out_len, size_t *written);
 
 /* Writes UTF-16, two octets for each unit, the high one first, as friendly_name of der_bag_parts has it, as UTF-8 to
- * the front of out, without a zero byte after it. What it answers is as of der_name_text, and the refusal, by tests
- * alone, always DER_INVALID: where the octets are no UTF-16: an odd number of them, or a surrogate without its other
- * half. */
+ * the front of out, without a zero byte after it. What it answers is as of der_name_text, and the refusal is always
+ * DER_INVALID: where the octets are no UTF-16: an odd number of them, or a surrogate without its other half. */
 DER_CALL
 uint32_t der_utf16_text(const uint8_t *octets, size_t octets_len, uint8_t *out, size_t out_len, size_t *written);
 
 /* Writes a text in UTF-8 as UTF-16, two octets for each unit, the high one first, as friendly_name of der_bag_given
  * takes it, to the front of out: of "A" 00 41. text_len counts no zero byte after the text, and none is written; one in
- * the text is a character like others. With two zero octets after it, that is a password as RFC 7292, B.1, says.
- * What it answers is as of der_name_text, and the refusal, by tests alone, always DER_INVALID: where the text isn't
- * UTF-8, as with a surrogate in it. */
+ * the text is a character like others. With two zero octets after it, that is a password as RFC 7292, B.1, says. What
+ * it answers is as of der_name_text, and the refusal is always DER_INVALID: where the text isn't UTF-8, as with a
+ * surrogate in it. */
 DER_CALL
 uint32_t der_text_utf16(const uint8_t *text, size_t text_len, uint8_t *out, size_t out_len, size_t *written);
 

@@ -1,7 +1,7 @@
 //! Texts for people.
 
 ghost use Rattle.x509_text.specs.Encodings.{HasNoNameText};
-ghost use Rattle.text_calls.specs.Names.{IsUtf8OfName, WritesText, HasNoOidText, IsUtf8OfUtf16, IsUtf16OfUtf8};
+ghost use Rattle.text_calls.specs.Names.{IsUtf8OfName, WritesText, WritesTextOrInvalid, HasNoOidText, IsUtf8OfUtf16, IsUtf16OfUtf8};
 ghost use Rattle.asn1_core_oid.specs.OidText.{IsTextOf};
 ghost use Rattle.call_values.specs.Given.{HasNone};
 ghost use Rattle.text_calls.specs.ObjectNames.{WritesObjectName};
@@ -34,7 +34,7 @@ pub extern "C" fn der_oid_text(
     out: &mut [u8],
     written: &mut usize,
 ) -> u32
-    ensures { WritesText (λ text. IsTextOf text octets.now) (HasNoOidText octets.now) out.old out.new written.new result }
+    ensures { WritesTextOrInvalid (λ text. IsTextOf text octets.now) (HasNoOidText octets.now) out.old out.new written.new result }
 {
     texts::der_oid_text(alloc, octets, out, written)
 }
@@ -47,7 +47,7 @@ pub extern "C" fn der_oid_octets(
     out: &mut [u8],
     written: &mut usize,
 ) -> u32
-    ensures { WritesText (IsTextOf text.now) (HasNone (IsTextOf text.now)) out.old out.new written.new result }
+    ensures { WritesTextOrInvalid (IsTextOf text.now) (HasNone (IsTextOf text.now)) out.old out.new written.new result }
 {
     texts::der_oid_octets(alloc, text, out, written)
 }
@@ -68,7 +68,7 @@ pub extern "C" fn der_integer_text(
     out: &mut [u8],
     written: &mut usize,
 ) -> u32
-    ensures { WritesText (IsIntegerText octets.now) (HasNoIntegerText octets.now) out.old out.new written.new result }
+    ensures { WritesTextOrInvalid (IsIntegerText octets.now) (HasNoIntegerText octets.now) out.old out.new written.new result }
 {
     texts::der_integer_text(alloc, octets, out, written)
 }
@@ -81,7 +81,7 @@ pub extern "C" fn der_utf16_text(
     out: &mut [u8],
     written: &mut usize,
 ) -> u32
-    ensures { WritesText (IsUtf8OfUtf16 octets.now) (¬ (IsUtf16 octets.now)) out.old out.new written.new result }
+    ensures { WritesTextOrInvalid (IsUtf8OfUtf16 octets.now) (¬ (IsUtf16 octets.now)) out.old out.new written.new result }
 {
     texts::der_utf16_text(alloc, octets, out, written)
 }
@@ -94,7 +94,7 @@ pub extern "C" fn der_text_utf16(
     out: &mut [u8],
     written: &mut usize,
 ) -> u32
-    ensures { WritesText (IsUtf16OfUtf8 text.now) (¬ (IsUtf8 text.now)) out.old out.new written.new result }
+    ensures { WritesTextOrInvalid (IsUtf16OfUtf8 text.now) (¬ (IsUtf8 text.now)) out.old out.new written.new result }
 {
     texts::der_text_utf16(alloc, text, out, written)
 }

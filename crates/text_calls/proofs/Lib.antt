@@ -1,2 +1,3 @@
 pub mod OidTexts
+pub mod Refusals
 pub mod Utf16Made

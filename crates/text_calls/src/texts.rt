@@ -12,7 +12,7 @@ ghost use Rattle.x509_text.specs.Integers.{IsIntegerText};
 ghost use Rattle.x509_pkcs12.specs.Utf16.{IsUtf16};
 ghost use Rattle.call_values.specs.Given.{HasNone};
 ghost use Rattle.text_calls.specs.Integers.{HasNoIntegerText};
-ghost use Rattle.text_calls.specs.Names.{HasNoOidText, IsUtf16OfUtf8, IsUtf16Refusal, IsUtf8OfName, IsUtf8OfUtf16, WritesText};
+ghost use Rattle.text_calls.specs.Names.{HasNoOidText, IsStatusWithoutText, IsUtf16OfUtf8, IsUtf16Refusal, IsUtf8OfName, IsUtf8OfUtf16, WritesText, WritesTextOrInvalid};
 ghost use Rattle.text_calls.specs.ObjectNames.{WritesObjectName};
 
 use asn1_core::Error;
@@ -40,15 +40,26 @@ pub fn der_name_text(alloc: Global, input: &[u8], out: &mut [u8], written: &mut 
     }
 }
 
+/// The status where there is no text: `INVALID`, but `NO_MEMORY` where memory was refused.
+fn without_text(error: Error) -> u32
+    ensures { IsStatusWithoutText error result }
+{
+    match error {
+        Error::Memory => status::NO_MEMORY,
+        _ => status::INVALID,
+    }
+}
+
 /// Writes an object identifier, by its contents octets, in decimal numbers and dots. What it answers is as of
 /// `der_name_text`: at `INVALID` the octets are no object identifier's, or have a number above 2^64.
+#[tactic(auto, using(crate::proofs::Refusals::text_put, crate::proofs::Refusals::no_text, crate::proofs::Refusals::no_text_for))]
 pub fn der_oid_text(alloc: Global, octets: &[u8], out: &mut [u8], written: &mut usize) -> u32
-    ensures { WritesText (λ text. IsTextOf text octets.now) (HasNoOidText octets.now) out.old out.new written.new result }
+    ensures { WritesTextOrInvalid (λ text. IsTextOf text octets.now) (HasNoOidText octets.now) out.old out.new written.new result }
 {
     *written = 0;
     match oid_text(alloc, octets) {
         Ok(text) => put_octets(text.as_bytes(), out, written),
-        Err(error) => status_of(error),
+        Err(error) => without_text(error),
     }
 }
 
@@ -64,13 +75,14 @@ fn spelled_oid(alloc: Global, text: &[u8]) -> Result<ObjectIdentifier, Error>
 
 /// Writes the contents octets of the object identifier that a text spells, in decimal numbers and dots. What it answers is as
 /// of `der_oid_text`: at `INVALID` the text spells none, or one of which a number has 2^64 or more.
+#[tactic(auto, using(crate::proofs::Refusals::text_put, crate::proofs::Refusals::no_text, crate::proofs::Refusals::no_text_for))]
 pub fn der_oid_octets(alloc: Global, text: &[u8], out: &mut [u8], written: &mut usize) -> u32
-    ensures { WritesText (IsTextOf text.now) (HasNone (IsTextOf text.now)) out.old out.new written.new result }
+    ensures { WritesTextOrInvalid (IsTextOf text.now) (HasNone (IsTextOf text.now)) out.old out.new written.new result }
 {
     *written = 0;
     match spelled_oid(alloc, text) {
         Ok(oid) => put_octets(oid.octets(), out, written),
-        Err(error) => status_of(error),
+        Err(error) => without_text(error),
     }
 }
 
@@ -89,13 +101,14 @@ pub fn der_oid_name(octets: &[u8], out: &mut [u8], written: &mut usize) -> u32
 
 /// Writes the number that the contents octets of an INTEGER hold, in decimal, after a minus where it is negative. What
 /// it answers is as of `der_name_text`: at `INVALID` there are no octets, or more than 1,024.
+#[tactic(auto, using(crate::proofs::Refusals::text_put, crate::proofs::Refusals::no_text, crate::proofs::Refusals::no_text_for))]
 pub fn der_integer_text(alloc: Global, octets: &[u8], out: &mut [u8], written: &mut usize) -> u32
-    ensures { WritesText (IsIntegerText octets.now) (HasNoIntegerText octets.now) out.old out.new written.new result }
+    ensures { WritesTextOrInvalid (IsIntegerText octets.now) (HasNoIntegerText octets.now) out.old out.new written.new result }
 {
     *written = 0;
     match integer_text(alloc, octets) {
         Ok(text) => put_octets(&text, out, written),
-        Err(error) => status_of(error),
+        Err(error) => without_text(error),
     }
 }
 
@@ -108,13 +121,14 @@ fn utf16_text(alloc: Global, octets: &[u8]) -> Result<String, Error>
 
 /// Writes UTF-16, two octets for each unit, the high one first, as UTF-8. What it answers is as of `der_name_text`: at
 /// `INVALID` the octets are no UTF-16.
+#[tactic(auto, using(crate::proofs::Refusals::text_put, crate::proofs::Refusals::no_text, crate::proofs::Refusals::no_text_for))]
 pub fn der_utf16_text(alloc: Global, octets: &[u8], out: &mut [u8], written: &mut usize) -> u32
-    ensures { WritesText (IsUtf8OfUtf16 octets.now) (¬ (IsUtf16 octets.now)) out.old out.new written.new result }
+    ensures { WritesTextOrInvalid (IsUtf8OfUtf16 octets.now) (¬ (IsUtf16 octets.now)) out.old out.new written.new result }
 {
     *written = 0;
     match utf16_text(alloc, octets) {
         Ok(text) => put_octets(text.as_bytes(), out, written),
-        Err(error) => status_of(error),
+        Err(error) => without_text(error),
     }
 }
 
@@ -141,12 +155,13 @@ fn text_utf16(alloc: Global, text: &[u8]) -> Result<Vec<u8>, Error>
 
 /// Writes a text in UTF-8 as UTF-16, two octets for each unit, the high one first. What it answers is as of `der_name_text`:
 /// at `INVALID` the text is no UTF-8.
+#[tactic(auto, using(crate::proofs::Refusals::text_put, crate::proofs::Refusals::no_text, crate::proofs::Refusals::no_text_for))]
 pub fn der_text_utf16(alloc: Global, text: &[u8], out: &mut [u8], written: &mut usize) -> u32
-    ensures { WritesText (IsUtf16OfUtf8 text.now) (¬ (IsUtf8 text.now)) out.old out.new written.new result }
+    ensures { WritesTextOrInvalid (IsUtf16OfUtf8 text.now) (¬ (IsUtf8 text.now)) out.old out.new written.new result }
 {
     *written = 0;
     match text_utf16(alloc, text) {
         Ok(octets) => put_octets(&octets, out, written),
-        Err(error) => status_of(error),
+        Err(error) => without_text(error),
     }
 }
