@@ -985,17 +985,19 @@ uint32_t der_mac(const uint8_t *input, size_t input_len, size_t *start, size_t *
 /* Writes the DER of an input in BER (X.690, 8) to the front of out, as far as lengths and the form of OCTET STRINGs go
  * (X.690, 10.1 and 10.2), with at most DER_MAX_NESTING levels of nesting. Lengths become definite, in the fewest octets,
  * and an OCTET STRING in segments becomes one piece of the same octets, which is proved of an OCTET STRING by itself: so
- * the octets of content that is one, which a digest or a MAC covers, stay. All else stays as it is: contents of
- * primitive elements and the order of sets aren't looked at. DER that is not refused comes out as it went in.
+ * the octets of content that is one, which a digest or a MAC covers, stay. All else stays as it is: of the contents of
+ * primitive elements only the lengths of BOOLEANs and NULLs are looked at, and the order of sets isn't. DER that is not
+ * refused comes out as it went in.
  *  - DER_NORMAL: *written bytes were written, and the rest of out is as it was.
  *  - DER_NO_ROOM: *written bytes are needed, and out_len is less. Where contents are long, that may be some bytes more
  *    than the input has.
  *  - DER_MALFORMED to DER_TOO_DEEP: the input has no DER, and *place says where, as an offset from its first byte.
  *    Refused are also tags of several bytes, lengths of more than eight octets, and other strings in segments than
- *    OCTET STRINGs.
+ *    OCTET STRINGs; and of the universal types, what has a form that its type doesn't have, as a primitive SEQUENCE
+ *    (8.9.1) or a constructed NULL (8.8.1), a BOOLEAN of other than one octet (8.2.1), and a NULL with contents (8.8.2).
  *    - DER_MALFORMED: where an element should begin and none does, or where bytes begin that are left over.
  *    - DER_MISSING: the end of the contents, or of the input, in which an element or the end of contents is missing.
- *    - DER_INVALID: where the element begins whose tag is refused.
+ *    - DER_INVALID: where the element begins whose tag, form or length is refused.
  *    - DER_TOO_DEEP: where the element begins that is nested too deep.
  *  - DER_NO_MEMORY: *place is an offset without use.
  * DER_TOO_LONG isn't answered, which isn't proved. Unless at DER_NORMAL out is as it was, and unless at DER_NORMAL and

@@ -1793,7 +1793,8 @@ class Library:
     def from_ber(self, data: Bytes) -> bytes:
         """The DER of an input in BER, with at most 64 levels of nesting. DER that isn't refused comes back as it is.
 
-        Raises Refused where there is none. der.h says what is refused, and which element has two readings.
+        Raises Refused where there is none. der.h says what is refused, and which element of indefinite length, of two
+        readings, is joined. Of a definite length it keeps its segments.
         """
         data = _octets(data)
         place = ctypes.c_size_t()

@@ -2,6 +2,12 @@
 where. It shares nothing with tests/support."""
 
 
+# Types of class universal whose encodings are constructed: EXTERNAL (8.18), EMBEDDED PDV (8.17), SEQUENCE (8.9.1), SET
+# (8.11.1), CHARACTER STRING (8.24); and how many contents octets a BOOLEAN (8.2.1) and a NULL (8.8.2) have.
+CONSTRUCTED = {0x08, 0x0B, 0x10, 0x11, 0x1D}
+SIZES = {0x01: 1, 0x05: 0}
+
+
 class Refused(Exception):
     """Why an input is refused, by the word of a status, and where."""
 
@@ -59,6 +65,8 @@ def convert(octets, at, end, role, depth, joins):
     if tag & 0x20 == 0:
         if stop is None:
             raise Refused("malformed", at)
+        if tag in CONSTRUCTED or stop - start != SIZES.get(tag, stop - start):
+            raise Refused("invalid", at)
         if role == "implicit" or role == "segment" and tag != 0x04:
             raise Refused("invalid", at)
         contents = octets[start:stop]

@@ -23,11 +23,21 @@ def some_string(dice, depth):
     return wrapped(dice, 0x24, b"".join(some_string(dice, depth - 1) for _ in range(dice.randint(0, 3))))
 
 
+def some_primitive(dice):
+    """A primitive encoding, now and then of a type that is constructed, or a BOOLEAN or a NULL of any length."""
+    tag = dice.choice((0x01, 0x02, 0x03, 0x05, 0x06, 0x0C, 0x13, 0x17, 0x80, 0x81, 0x42))
+    size, how = dice.choice((0, 1, 2, 5, 20)), dice.random()
+    if how < 0.02:
+        tag = dice.choice((0x08, 0x0B, 0x10, 0x11, 0x1D, 0x90))
+    elif how < 0.95:
+        size = {0x01: 1, 0x05: 0}.get(tag, size)
+    return wrapped(dice, tag, dice.randbytes(size))
+
+
 def some_encoding(dice, depth):
     kind = dice.random()
     if depth == 0 or kind < 0.3:
-        tag = dice.choice((0x01, 0x02, 0x03, 0x05, 0x06, 0x0C, 0x13, 0x17, 0x80, 0x81, 0x42))
-        return wrapped(dice, tag, dice.randbytes(dice.choice((0, 1, 2, 5, 20))))
+        return some_primitive(dice)
     if kind < 0.45:
         return some_string(dice, depth - 1)
     if kind < 0.65:

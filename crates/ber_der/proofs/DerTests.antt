@@ -3,7 +3,7 @@ use Rattle.std.proofs.Common.{◌≡◌, ◌↔◌, ℕ, true, zero, suc, ◌-�
 use Rattle.std.specs.List.{AllByRecursion}
 use Rattle.asn1_core_element.specs.Element.{head, element, IsFront, HasNoFront}
 use Rattle.asn1_core_element.specs.laws.ElementLaws.{element_cut, element_same, element_long}
-use Rattle.ber_der.specs.Contexts.{may_be_constructed}
+use Rattle.ber_der.specs.Contexts.{may_be_constructed, may_be_primitive}
 use Rattle.ber_der.specs.Ber.{IsTag, joined}
 use Rattle.ber_der.specs.Der.{AreDer, IsDerPrimitive, IsDerConstructed, IsDer, BeginsDer, BeginsNoDer}
 use Rattle.ber_der.specs.laws.DerLaws.{some_element}
@@ -48,11 +48,13 @@ no_front k bytes none der rest p e =
 
 -- an element at the front, and what follows it
 module _ (k : ℕ) (bytes body contents rest : List ℕ) (tag n size : ℕ) (f : IsFront bytes tag n size) (is_body : body ≡ drop size bytes) (front : contents ≡ take n body) (back : rest ≡ drop n body) where
+  len_is : length contents ≡ n
+  len_is = front_long n body contents front (omega (arith, f.fits, ap length is_body, length-drop size bytes))
+
   begins : bytes ≡ element tag contents ++ rest
   begins =
-      let l : n ≤ length body = omega (arith, f.fits, ap length is_body, length-drop size bytes) in
       f.header ∙ ap (λ w. head tag n ++ w) (sym is_body ∙ split_is n body contents rest front back) ∙ sym (append_assoc (head tag n) contents rest)
-      ∙ ap (λ m. (head tag m ++ contents) ++ rest) (sym (front_long n body contents front l))
+      ∙ ap (λ m. (head tag m ++ contents) ++ rest) (sym len_is)
 
   pub one : IsDer k (element tag contents) → BeginsDer k bytes rest
   one p = record { der = element tag contents; is = p; split = begins }
@@ -71,8 +73,20 @@ module _ (k : ℕ) (bytes body contents rest : List ℕ) (tag n size : ℕ) (f :
   is_tag : (tag ≡ 0 → ⊥) → IsTag tag
   is_tag z = (f.is_tag, omega arith)
 
-  pub primitive : (tag ≡ 0 → ⊥) → tag / 32 % 2 ≡ 0 → BeginsDer k bytes rest
-  primitive z form = one (primitive_der k (element tag contents) (record { tag = tag; contents = contents; is_tag = is_tag z; form = form; is = refl }))
+  pub primitive : (tag ≡ 0 → ⊥) → tag / 32 % 2 ≡ 0 → may_be_primitive tag n ≡ true → BeginsDer k bytes rest
+  primitive z form may = one (primitive_der k (element tag contents) (record { tag = tag; contents = contents; is_tag = is_tag z; form = form; primitive = ap (may_be_primitive tag) len_is ∙ may; is = refl }))
+
+  pub not_primitive : tag / 32 % 2 ≡ 0 → (may_be_primitive tag n ≡ true → ⊥) → BeginsNoDer k bytes
+  not_primitive form fails =
+      none (λ p. ⊎_elim
+      (λ (h : IsDerPrimitive (element tag contents)).
+      let r = element_same tag h.tag contents h.contents h.is in
+      fails (ap (λ t. may_be_primitive t n) r.0 ∙ ap (may_be_primitive h.tag) (sym len_is ∙ ap length r.1) ∙ h.primitive))
+      (λ (h : (k ≡ 0 → ⊥) × IsDerConstructed (IsDer (k - 1)) (element tag contents)).
+      let q = h.1 in
+      let e : q.tag / 32 % 2 ≡ 0 = ap (λ t. t / 32 % 2) (sym (element_same tag q.tag contents q.contents q.is).0) ∙ form in
+      omega (arith, e, q.form))
+      (der_shape k (element tag contents) p))
 
   pub constructed : (tag ≡ 0 → ⊥) → (tag / 32 % 2 ≡ 0 → ⊥) → (k ≡ 0 → ⊥) → (tag ≡ 36 → ⊥) → may_be_constructed tag ≡ true → AreDer (IsDer (k - 1)) contents → BeginsDer k bytes rest
   constructed z form some no_string may holds =

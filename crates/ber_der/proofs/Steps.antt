@@ -2,7 +2,7 @@
 use Rattle.std.proofs.Common.{◌≡◌, ℕ, Bool, true, zero, suc, ◌-◌, ◌/◌, ◌%◌, ◌<◌, ◌≤◌, List, [], ◌∷◌, ◌++◌, length, take, drop, get_or, refl, sym, ap, subst, ◌∙◌, inl, inr, ◌⊎◌, ⊎_elim, Option, Some, None, IfSome, arith, append_assoc, append-nil, length-append}
 use Rattle.std.proofs.Math.Seq.{take-append_seam, drop-append_seam}
 use Rattle.std.proofs.lemmas.List.{take-append-drop, take_rest, length-take-le, flat_map_more}
-use Rattle.ber_der.specs.Contexts.{role_in, context_after, context_inside, der_tag, may_be_constructed}
+use Rattle.ber_der.specs.Contexts.{role_in, context_after, context_inside, der_tag, may_be_constructed, may_be_primitive}
 use Rattle.ber_der.specs.Ber.{IsLength, IsTag, Allows, IsDefinite, IsIndefinite, IsPrimitive, IsConstructed, IsBerWith, Holds, joined, der_of, Converted, ConvertedContents, ConvertedToEnd, ConvertedBody, BeginsNone, HoldsNone, EndsNone, BodyNone}
 use Rattle.ber_der.specs.Lengths.{BeginsDefinite, BeginsWithLength, HasNoLength}
 use Rattle.ber_der.proofs.Octets.{uncons}
@@ -113,11 +113,11 @@ module _ (joins : Bool) where
     definite_split = uncons bytes some ∙ ap (λ x. get_or bytes 0 0 ∷ x) ((h).split ∙ ap (λ x. (h).length_octets ++ x) (split_is n rest contents back front end) ∙ sym (append_assoc (h).length_octets contents back))
 
     module _ (k : ℕ) (role : Role) (old new : List ℕ) (not_end : get_or bytes 0 0 ≡ 0 → ⊥) (low : get_or bytes 0 0 % 32 ≡ 31 → ⊥) where
-      pub primitive_converted : get_or bytes 0 0 / 32 % 2 ≡ 0 → Allows joins role (get_or bytes 0 0) 4 → new ≡ old ++ der_of role (get_or bytes 0 0) contents → Converted (IsBerWith joins k role) bytes back old new
-      primitive_converted f a out = record {
+      pub primitive_converted : get_or bytes 0 0 / 32 % 2 ≡ 0 → may_be_primitive (get_or bytes 0 0) n ≡ true → Allows joins role (get_or bytes 0 0) 4 → new ≡ old ++ der_of role (get_or bytes 0 0) contents → Converted (IsBerWith joins k role) bytes back old new
+      primitive_converted f m a out = record {
         encoding = get_or bytes 0 0 ∷ (h).length_octets ++ contents;
         der = der_of role (get_or bytes 0 0) contents;
-        is = primitive_ber k role (get_or bytes 0 0 ∷ (h).length_octets ++ contents) (der_of role (get_or bytes 0 0) contents) (record { tag = get_or bytes 0 0; contents = contents; is_tag = a_tag (get_or bytes 0 0) not_end low; form = f; allowed = a; is = definite; der = refl });
+        is = primitive_ber k role (get_or bytes 0 0 ∷ (h).length_octets ++ contents) (der_of role (get_or bytes 0 0) contents) (record { tag = get_or bytes 0 0; contents = contents; is_tag = a_tag (get_or bytes 0 0) not_end low; form = f; primitive = ap (may_be_primitive (get_or bytes 0 0)) (front_long n rest contents front (h).fits) ∙ m; allowed = a; is = definite; der = refl });
         split = definite_split;
         out = out;
       }
@@ -303,6 +303,17 @@ module _ (joins : Bool) where
 
     pub none_primitive_role : get_or bytes 0 0 / 32 % 2 ≡ 0 → (Allows joins role (get_or bytes 0 0) 4 → ⊥) → BeginsNone (IsBerWith joins k role) bytes
     none_primitive_role f n = from_shape (λ a d y p e. n (subst (λ t. Allows joins role t 4) (sym (primitive_tag a d y p e)) p.allowed)) (λ a d y m q e. form_differs a d y f q e)
+
+    -- nor where a primitive encoding has that tag and length
+    pub none_not_primitive : (rest : List ℕ) (o : Option ℕ) (n : ℕ) → get_or bytes 0 0 / 32 % 2 ≡ 0 → BeginsWithLength (after_tag bytes) o rest → o ≡ Some n → (may_be_primitive (get_or bytes 0 0) n ≡ true → ⊥) → BeginsNone (IsBerWith joins k role) bytes
+    none_not_primitive rest o n f b is_some not_primitive =
+        let h : BeginsDefinite (after_tag bytes) n rest = subst (λ p. BeginsWithLength (after_tag bytes) p rest) is_some b in
+        from_shape
+        (λ a d y p e.
+        let u = after_tag_definite bytes a y p.tag p.contents e p.is in
+        let r = length_cut h.length_octets p.is.length_octets n (length p.contents) rest (p.contents ++ y) h.length_is p.is.length_is (sym h.split ∙ u.1) in
+        not_primitive (ap (λ t. may_be_primitive t n) u.0 ∙ ap (may_be_primitive p.tag) r.1 ∙ p.primitive))
+        (λ a d y m q e. form_differs a d y f q e)
 
     pub none_deep : k ≡ 0 → (get_or bytes 0 0 / 32 % 2 ≡ 0 → ⊥) → BeginsNone (IsBerWith joins k role) bytes
     none_deep z f = from_shape (λ a d y p e. form_same a d y f p e) (λ a d y m q e. m z)

@@ -1,11 +1,11 @@
--- Encodings of BER (ITU-T X.690, 8.1), and what each is in DER.
+-- Encodings of BER (ITU-T X.690, 8.1), and what each is in DER as far as lengths (10.1) and OCTET STRINGs (10.2) go.
 use Rattle.std.specs.Prelude.{◌≡◌, ◌≢◌, ℕ, Bool, IsTrue, true, false, zero, suc, ◌+◌, ◌/◌, ◌%◌, ◌<◌, ◌≤◌, List, [], ◌∷◌, ◌++◌, length, take, drop, get_or, ◌⊎◌, Option, Some, None}
 use Rattle.std.specs.List.{flat_map}
 use Rattle.std.specs.Int.Digits.{number_from_digits}
 use Rattle.asn1_core_element.specs.Element.{element, IsTagByte}
 use Rattle.asn1_core_element.specs.declared.error.Error.{Error}
 use Rattle.asn1_core_element.specs.declared.error.Error.TheVariants.{Memory}
-use Rattle.ber_der.specs.Contexts.{role_in, context_after, context_inside, der_tag, may_be_constructed}
+use Rattle.ber_der.specs.Contexts.{role_in, context_after, context_inside, der_tag, may_be_constructed, may_be_primitive}
 use Rattle.ber_der.specs.declared.contexts.Role.{Role}
 use Rattle.ber_der.specs.declared.contexts.Role.TheVariants.{Whole, Segment, Implicit}
 use Rattle.ber_der.specs.declared.contexts.Context.{Context}
@@ -57,12 +57,13 @@ Holds R context c (d ∷ ds) = (a : List ℕ) × (b : List ℕ) × (c ≡ a ++ b
 abbrev pub joined : List (List ℕ) → List ℕ
 joined ds = flat_map (λ d. d) ds
 
--- 8.1.2.5: the contents of a primitive encoding are kept
+-- 8.1.2.5: the contents of a primitive encoding are kept, of which only their number is asked, and that of few types
 pub record IsPrimitive (joins : Bool) (role : Role) (b d : List ℕ) : Type 0 where
   pub tag : ℕ
   pub contents : List ℕ
   pub is_tag : IsTag tag
   pub form : tag / 32 % 2 ≡ 0
+  pub primitive : may_be_primitive tag (length contents) ≡ true
   pub allowed : Allows joins role tag 4
   pub is : IsDefinite b tag contents
   pub der : d ≡ der_of role tag contents

@@ -1,5 +1,5 @@
 -- What an encoding is converted to, by where it is in the contents of another.
-use Rattle.std.specs.Prelude.{ℕ, Bool, List, get_or, nat_eq, nat_lt, ◌&&◌, ◌||◌, if◌then◌else◌}
+use Rattle.std.specs.Prelude.{ℕ, Bool, not, List, get_or, nat_eq, nat_lt, ◌&&◌, ◌||◌, if◌then◌else◌}
 use Rattle.ber_der.specs.declared.contexts.Role.{Role}
 use Rattle.ber_der.specs.declared.contexts.Role.TheVariants.{Whole, Segment, Implicit}
 use Rattle.ber_der.specs.declared.contexts.Context.{Context}
@@ -39,3 +39,9 @@ der_tag Segment tag = if nat_eq tag 36 then 4 else tag
 -- and those of the other classes (X.680, table 1). Other strings in segments (8.6.4, 8.23) are left out.
 abbrev pub may_be_constructed : ℕ → Bool
 may_be_constructed tag = nat_lt 63 tag || (nat_eq tag 36 || (nat_eq tag 40 || (nat_eq tag 43 || (nat_eq tag 48 || (nat_eq tag 49 || nat_eq tag 61)))))
+
+-- Whether a primitive encoding may have the tag and so many contents octets. The contents of a BOOLEAN are one octet
+-- (8.2.1), and those of a NULL none (8.8.2). The encodings of EXTERNAL (8.18), EMBEDDED PDV (8.17), SEQUENCE (8.9.1), SET
+-- (8.11.1) and CHARACTER STRING (8.24) are constructed.
+abbrev pub may_be_primitive : ℕ → ℕ → Bool
+may_be_primitive tag len = if nat_eq tag 1 then nat_eq len 1 else if nat_eq tag 5 then nat_eq len 0 else not (nat_eq tag 8 || (nat_eq tag 11 || (nat_eq tag 16 || (nat_eq tag 17 || nat_eq tag 29))))

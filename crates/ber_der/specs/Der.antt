@@ -1,8 +1,9 @@
--- Encodings of DER (ITU-T X.690, 10): definite lengths in the fewest octets, OCTET STRINGs in one piece.
-use Rattle.std.specs.Prelude.{◌≡◌, ℕ, true, zero, suc, ◌/◌, ◌%◌, List, ◌++◌, ◌⊎◌}
+-- Encodings of BER that are DER in two things: definite lengths in the fewest octets (ITU-T X.690, 10.1), and OCTET
+-- STRINGs in one piece (10.2). Nothing else of X.690's sections 10 and 11 is asked.
+use Rattle.std.specs.Prelude.{◌≡◌, ℕ, true, zero, suc, ◌/◌, ◌%◌, List, ◌++◌, length, ◌⊎◌}
 use Rattle.std.specs.List.{AllByRecursion}
 use Rattle.asn1_core_element.specs.Element.{element}
-use Rattle.ber_der.specs.Contexts.{may_be_constructed}
+use Rattle.ber_der.specs.Contexts.{may_be_constructed, may_be_primitive}
 use Rattle.ber_der.specs.Ber.{IsTag, joined}
 
 -- contents of elements, one after another
@@ -17,6 +18,7 @@ pub record IsDerPrimitive (b : List ℕ) : Type 0 where
   pub contents : List ℕ
   pub is_tag : IsTag tag
   pub form : tag / 32 % 2 ≡ 0
+  pub primitive : may_be_primitive tag (length contents) ≡ true
   pub is : b ≡ element tag contents
 
 pub record IsDerConstructed (D : List ℕ → Type 0) (b : List ℕ) : Type 0 where

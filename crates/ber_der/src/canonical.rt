@@ -1,9 +1,9 @@
-//! Whether an input is DER, without memory.
+//! Whether an input is DER in lengths and OCTET STRINGs, without memory.
 
 ghost use Rattle.std.specs.Prelude.{◌↔◌, IsTrue, MatchOption};
 ghost use Rattle.ber_der.specs.Der.{IsDer, AreDer, BeginsDer, BeginsNoDer};
 
-use crate::contexts::may_be_constructed;
+use crate::contexts::{may_be_constructed, may_be_primitive};
 use crate::convert::MAX_NESTING;
 use asn1_core_element::front::front;
 
@@ -35,6 +35,9 @@ fn after_element(bytes: &[u8], nest: u8) -> Option<&[u8]>
         return None;
     }
     if tag / 32 % 2 == 0 {
+        if !may_be_primitive(tag, len) {
+            return None;
+        }
         return Some(rest);
     }
     if nest == 0 {
@@ -49,8 +52,10 @@ fn after_element(bytes: &[u8], nest: u8) -> Option<&[u8]>
     Some(rest)
 }
 
-/// Whether the input is one element of DER, with at most `MAX_NESTING` levels of nesting: one that `to_der` leaves as it
-/// is. It refuses the tags that `to_der` refuses.
+/// Whether the input is one encoding of BER, with at most `MAX_NESTING` levels of nesting, whose lengths are definite and
+/// in the fewest octets (X.690, 10.1), and whose OCTET STRINGs are in one piece (10.2): one that `to_der` leaves as it is.
+/// It refuses the tags, forms and lengths that `to_der` refuses. Nothing else of DER is asked, as of the order of a SET
+/// (10.3) or of the octet of a BOOLEAN (11.1).
 pub fn is_der(bytes: &[u8]) -> bool
     ensures { IsTrue result ↔ IsDer 64 bytes.now }
 {

@@ -1,7 +1,7 @@
 //! What an encoding is converted to, by where it is.
 
 ghost use Rattle.std.specs.Prelude.{◌≡◌};
-ghost use Rattle.ber_der.specs.Contexts.{role_in, context_after, context_inside, der_tag, may_be_constructed};
+ghost use Rattle.ber_der.specs.Contexts.{role_in, context_after, context_inside, der_tag, may_be_constructed, may_be_primitive};
 
 /// What an encoding is converted to.
 #[derive(Clone, Copy, Debug, PartialEq, Eq)]
@@ -88,4 +88,16 @@ pub fn may_be_constructed(tag: u8) -> bool
         || tag == 0x30
         || tag == 0x31
         || tag == 0x3D
+}
+
+/// Whether a primitive encoding may have the tag and so many contents octets.
+pub fn may_be_primitive(tag: u8, len: usize) -> bool
+    ensures { result ≡ may_be_primitive tag len }
+{
+    match tag {
+        0x01 => len == 1,
+        0x05 => len == 0,
+        0x08 | 0x0B | 0x10 | 0x11 | 0x1D => false,
+        _ => true,
+    }
 }

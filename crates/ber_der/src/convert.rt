@@ -6,7 +6,7 @@ ghost use Rattle.ber_der.specs.declared.contexts.Role.TheVariants.{Whole};
 ghost use Rattle.asn1_core_element.specs.Element.{head};
 ghost use Rattle.asn1_core_element.specs.declared.error.Error.TheVariants.{Memory};
 
-use crate::contexts::{Context, Role, der_tag, may_be_constructed};
+use crate::contexts::{Context, Role, der_tag, may_be_constructed, may_be_primitive};
 use crate::lengths::length;
 use asn1_core_element::Error;
 use asn1_core_writers::{Forward, put_head};
@@ -195,7 +195,7 @@ fn convert<'a>(
         let Some(len) = len else {
             return Err((Error::Malformed, bytes.len()));
         };
-        if !allows(rule, role, tag, 0x04) {
+        if !may_be_primitive(tag, len) || !allows(rule, role, tag, 0x04) {
             return Err((Error::Invalid, bytes.len()));
         }
         let (contents, rest) = after.split_at(len);
@@ -241,11 +241,16 @@ fn to_der_with(rule: Rule, limit: u8, bytes: &[u8]) -> Result<Vec<u8>, (Error, u
 /// primitive ones.
 ///
 /// Refused are tags of several bytes, lengths of more than eight octets, and constructed encodings of other strings than
-/// OCTET STRING, in every constructed element: also in one that a type would keep as it is.
+/// OCTET STRING, in every constructed element: also in one that a type would keep as it is. So is what is no BER by its
+/// form or length: of class universal a constructed encoding of a type that is primitive, a primitive one of EXTERNAL,
+/// EMBEDDED PDV, SEQUENCE, SET or CHARACTER STRING (X.690, 8.17, 8.18, 8.9.1, 8.11.1 and 8.24), a BOOLEAN of other than
+/// one octet (8.2.1), and a NULL with contents (8.8.2). No other contents of primitive elements are looked at.
 ///
-/// One element has two readings: in a SEQUENCE that begins with an OBJECT IDENTIFIER and a SEQUENCE, a third element
-/// `[0]` of indefinite length. It is taken as an OCTET STRING under an implicit tag, which it is in `EncryptedContentInfo`
-/// of CMS (RFC 5652, 6.1), though it could be an explicit tag around an OCTET STRING. `to_der_unambiguous` refuses it.
+/// Of the elements that have two readings one kind is joined: in a SEQUENCE that begins with an OBJECT IDENTIFIER and a
+/// SEQUENCE, a third element `[0]` of indefinite length. It is taken as an OCTET STRING under an implicit tag, which it is
+/// in `EncryptedContentInfo` of CMS (RFC 5652, 6.1), though it could be an explicit tag around an OCTET STRING;
+/// `to_der_unambiguous` refuses it. All others, also such a `[0]` of definite length, are taken as explicit tags: OCTET
+/// STRINGs right in them stay elements of their own, and aren't joined.
 pub fn to_der(alloc: Global, bytes: &[u8]) -> Result<Vec<u8>, Error>
     ensures { MatchResult result (λ der. IsBer 64 Whole bytes.now der.items) (λ e. HasNoDer true 64 bytes.now e) }
 {
@@ -264,7 +269,8 @@ pub fn to_der_limited(alloc: Global, limit: u8, bytes: &[u8]) -> Result<Vec<u8>,
     }
 }
 
-/// As `to_der`, but refuses by `Invalid` the element that has two readings.
+/// As `to_der`, but refuses by `Invalid` the element of indefinite length that `to_der` joins. Of a definite length it is
+/// taken as an explicit tag here too.
 pub fn to_der_unambiguous(alloc: Global, bytes: &[u8]) -> Result<Vec<u8>, Error>
     ensures { MatchResult result (λ der. IsUnambiguousBer 64 Whole bytes.now der.items) (λ e. HasNoDer false 64 bytes.now e) }
 {
@@ -285,7 +291,7 @@ pub fn to_der_unambiguous(alloc: Global, bytes: &[u8]) -> Result<Vec<u8>, Error>
 ///
 /// - `Malformed`: where an element should begin and none does, or where the bytes begin that are left over.
 /// - `Missing`: the end of the contents, or of the input, in which an element or the end of contents is missing.
-/// - `Invalid`: where the element begins whose tag is refused.
+/// - `Invalid`: where the element begins whose tag, form or length is refused.
 /// - `TooDeep`: where the element begins that is nested too deep.
 /// - `Memory`: how far the input was read.
 ///

@@ -1,4 +1,4 @@
-//! What holds of BER and its DER, for callers to cite.
+//! What holds of BER and its DER, for callers to cite. DER is what `is_der` calls so: X.690, 10.1 and 10.2.
 
 ghost use Rattle.std.specs.Prelude.{◌≡◌, ◌<◌, ◌≤◌, ◌+◌, ◌*◌, ◌^◌, ◌++◌, true, ℕ, List, length};
 ghost use Rattle.asn1_core_element.specs.Element.{element};
@@ -12,17 +12,18 @@ pub fn each_encoding_has_one_der()
     ensures { (k : ℕ) (a b d e x : List ℕ) → IsBer k Whole a d → IsBer k Whole b e → a ++ x ≡ b → (a ≡ b) × (d ≡ e) }
 {}
 
-/// What an encoding is converted to is DER.
+/// What an encoding is converted to is DER, that is by X.690, 10.1 and 10.2.
 pub fn what_is_converted_is_der()
     ensures { (k : ℕ) (b d : List ℕ) → IsBer k Whole b d → IsDer k d }
 {}
 
-/// DER stays as it is, and none of its elements has two readings.
+/// DER of less than 2^64 octets stays as it is, also where the element that `to_der` joins is refused: DER has none, since
+/// that has an indefinite length. An element `[0]` of definite length is kept by both.
 pub fn der_stays()
     ensures { (k : ℕ) (b : List ℕ) → length b < 2 ^ 64 → IsDer k b → IsBer k Whole b b × IsUnambiguousBer k Whole b b }
 {}
 
-/// A second conversion changes nothing.
+/// A second conversion changes nothing, of DER of less than 2^64 octets.
 pub fn converting_reaches_an_end()
     ensures { (k : ℕ) (b d : List ℕ) → length d < 2 ^ 64 → IsBer k Whole b d → IsBer k Whole d d }
 {}
@@ -32,7 +33,8 @@ pub fn octets_stay()
     ensures { (k : ℕ) (b octets : List ℕ) → IsBer k Segment b octets → IsBer k Whole b (element 4 octets) }
 {}
 
-/// An input without an element of two readings has the same DER, whether such are joined or refused.
+/// An input without elements of the kind that `to_der` joins, which have two readings and an indefinite length, has the
+/// same DER, whether such are joined or refused.
 pub fn what_is_unambiguous_is_converted_alike()
     ensures { (k : ℕ) (b d : List ℕ) → IsUnambiguousBer k Whole b d → IsBer k Whole b d }
 {}

@@ -203,6 +203,7 @@ module _ (i j : Bool) (more : (role : Role) (tag own : ℕ) → Allows i role ta
     contents = p.contents;
     is_tag = p.is_tag;
     form = p.form;
+    primitive = p.primitive;
     allowed = more role p.tag 4 p.allowed;
     is = p.is;
     der = p.der;

@@ -91,8 +91,8 @@ some_element (suc k) b p = ⊎_elim (λ (h : IsDerPrimitive b). (h.tag, h.conten
 module _ (joins : Bool) where
   der_of_primitive : (role : Role) (b d : List ℕ) → (role ≡ Segment → ⊥) → IsPrimitive joins role b d → IsDerPrimitive d
   der_of_primitive Segment b d n p = absurd (n refl)
-  der_of_primitive Whole b d n p = record { tag = p.tag; contents = p.contents; is_tag = p.is_tag; form = p.form; is = p.der }
-  der_of_primitive Implicit b d n p = record { tag = p.tag; contents = p.contents; is_tag = p.is_tag; form = p.form; is = p.der }
+  der_of_primitive Whole b d n p = record { tag = p.tag; contents = p.contents; is_tag = p.is_tag; form = p.form; primitive = p.primitive; is = p.der }
+  der_of_primitive Implicit b d n p = record { tag = p.tag; contents = p.contents; is_tag = p.is_tag; form = p.form; primitive = p.primitive; is = p.der }
 
   module _ (k : ℕ) (each : (role : Role) (b d : List ℕ) → (role ≡ Segment → ⊥) → IsBerWith joins k role b d → IsDer k d) where
     all_der : (context : Context) (c : List ℕ) (ds : List (List ℕ)) → (context ≡ InString → ⊥) → Holds (IsBerWith joins k) context c ds → AllByRecursion (IsDer k) ds
@@ -101,10 +101,10 @@ module _ (joins : Bool) where
 
     der_of_constructed : (role : Role) (b d : List ℕ) → (role ≡ Segment → ⊥) → IsConstructed joins (IsBerWith joins k) role b d → IsDerPrimitive d ⊎ IsDerConstructed (IsDer k) d
     der_of_constructed Segment b d n q = absurd (n refl)
-    der_of_constructed Implicit b d n q = inl (record { tag = 128; contents = joined q.ders; is_tag = (omega arith, omega arith); form = refl; is = q.der })
+    der_of_constructed Implicit b d n q = inl (record { tag = 128; contents = joined q.ders; is_tag = (omega arith, omega arith); form = refl; primitive = refl; is = q.der })
     der_of_constructed Whole b d n q =
         ⊎_elim
-        (λ (s : q.tag ≡ 36). inl (record { tag = 4; contents = joined q.ders; is_tag = (omega arith, omega arith); form = refl; is = q.der ∙ ap (λ t. element (der_tag Whole t) (joined q.ders)) s }))
+        (λ (s : q.tag ≡ 36). inl (record { tag = 4; contents = joined q.ders; is_tag = (omega arith, omega arith); form = refl; primitive = refl; is = q.der ∙ ap (λ t. element (der_tag Whole t) (joined q.ders)) s }))
         (λ (s : q.tag ≡ 36 → ⊥). inr (record {
           tag = q.tag;
           contents = joined q.ders;
@@ -126,7 +126,7 @@ module _ (joins : Bool) where
   primitive_fixed : (b : List ℕ) → length b < 2 ^ 64 → IsDerPrimitive b → IsPrimitive joins Whole b b
   primitive_fixed b l p =
       let m : length p.contents < 2 ^ 64 = element_longer p.tag p.contents (2 ^ 64) (omega (arith, l, ap length p.is)) in
-      record { tag = p.tag; contents = p.contents; is_tag = p.is_tag; form = p.form; allowed = tt; is = subst (λ x. IsDefinite x p.tag p.contents) (sym p.is) (definite_element p.tag p.contents m); der = p.is }
+      record { tag = p.tag; contents = p.contents; is_tag = p.is_tag; form = p.form; primitive = p.primitive; allowed = tt; is = subst (λ x. IsDefinite x p.tag p.contents) (sym p.is) (definite_element p.tag p.contents m); der = p.is }
 
   module _ (k : ℕ) (each : (b : List ℕ) → length b < 2 ^ 64 → IsDer k b → IsBerWith joins k Whole b b) where
     all_fixed : (context : Context) (ds : List (List ℕ)) → length (joined ds) < 2 ^ 64 → (context ≡ InString → ⊥) → AllByRecursion (IsDer k) ds → Holds (IsBerWith joins k) context (joined ds) ds
@@ -167,6 +167,7 @@ module _ (joins : Bool) where
     contents = p.contents;
     is_tag = p.is_tag;
     form = p.form;
+    primitive = p.primitive;
     allowed = tt;
     is = p.is;
     der = ap (element 4) p.der ∙ ap (λ t. element t p.contents) (sym p.allowed);

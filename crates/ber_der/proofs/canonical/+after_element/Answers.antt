@@ -1,7 +1,7 @@
 use Rattle.std.proofs.Common.{◌∙◌, sym, rules, arith}
 use Rattle.std.proofs.lemmas.List.{take_rest}
 use Rattle.std.proofs.lemmas.Bool.Decides.{nat_tests}
-use Rattle.ber_der.proofs.DerTests.{no_front, no_tag, primitive, constructed, too_deep, not_constructed, not_held, inside_after, nothing_inside, shorter}
+use Rattle.ber_der.proofs.DerTests.{no_front, no_tag, primitive, not_primitive, constructed, too_deep, not_constructed, not_held, inside_after, nothing_inside, shorter}
 use Rattle.ber_der.proofs.canonical.+after_element.Goals as goal
 use Rattle.ber_der.proofs.canonical.+after_element.Goals.{after_element-then-tag-eq36-via-then-tag-eq36, after_element-then-tag-eq36-via-else-tag-eq36+then-not-may_be_constructed}
 
@@ -11,8 +11,11 @@ after_element-returns-in_default t c = no_front c.args.nest c.args.bytes.now c.i
 pub after_element-returns-then-tag-eq0 : goal.after_element-returns-then-tag-eq0
 after_element-returns-then-tag-eq0 t c = no_tag c.args.nest c.args.bytes.now _ c.split_at.result.0.now c.split_at.result.1.now c.in-Some.tag c.in-Some.len c.in-Some.size c.in-Some.ensures.found (take_rest c.args.bytes.now c.in-Some.size) c.split_at.ensures.front c.split_at.ensures.back c.if-tag-eq0.true
 
+pub after_element-returns-then-not-may_be_primitive : goal.after_element-returns-then-not-may_be_primitive
+after_element-returns-then-not-may_be_primitive t c = not_primitive c.args.nest c.args.bytes.now _ c.split_at.result.0.now c.split_at.result.1.now c.in-Some.tag c.in-Some.len c.in-Some.size c.in-Some.ensures.found (take_rest c.args.bytes.now c.in-Some.size) c.split_at.ensures.front c.split_at.ensures.back c.if-tag-eq0-2.true (λ e. let f = c.may_be_primitive.ensures ∙ e in search rules)
+
 pub after_element-returns-then-tag-eq0-2 : goal.after_element-returns-then-tag-eq0-2
-after_element-returns-then-tag-eq0-2 t c = primitive c.args.nest c.args.bytes.now _ c.split_at.result.0.now c.split_at.result.1.now c.in-Some.tag c.in-Some.len c.in-Some.size c.in-Some.ensures.found (take_rest c.args.bytes.now c.in-Some.size) c.split_at.ensures.front c.split_at.ensures.back c.if-tag-eq0.false c.if-tag-eq0-2.true
+after_element-returns-then-tag-eq0-2 t c = primitive c.args.nest c.args.bytes.now _ c.split_at.result.0.now c.split_at.result.1.now c.in-Some.tag c.in-Some.len c.in-Some.size c.in-Some.ensures.found (take_rest c.args.bytes.now c.in-Some.size) c.split_at.ensures.front c.split_at.ensures.back c.if-tag-eq0.false c.if-tag-eq0-2.true (sym c.may_be_primitive.ensures ∙ c.if-not-may_be_primitive.false)
 
 pub after_element-returns-then-nest-eq0 : goal.after_element-returns-then-nest-eq0
 after_element-returns-then-nest-eq0 t c = too_deep c.args.nest c.args.bytes.now _ c.split_at.result.0.now c.split_at.result.1.now c.in-Some.tag c.in-Some.len c.in-Some.size c.in-Some.ensures.found (take_rest c.args.bytes.now c.in-Some.size) c.split_at.ensures.front c.split_at.ensures.back c.if-tag-eq0-2.false c.if-nest-eq0.true

@@ -2,9 +2,9 @@ use Rattle.std.proofs.Common.{◌≡◌, ◌-◌, ◌++◌, [], length, drop, ta
 use Rattle.std.proofs.lemmas.List.{nil_from_length}
 use Rattle.ber_der.specs.Ber.{IsBerWith, der_of, Converted, BeginsNone, HoldsNone, EndsNone}
 use Rattle.asn1_core_element.specs.declared.error.Error.TheVariants.{Memory}
-use Rattle.ber_der.proofs.Steps.{none_body, body_added, body_converted, refused_all, refused_to_end, no_end, none_empty, none_tag, none_length, none_primitive_indefinite, none_primitive_role, none_deep, none_constructed_role, none_holder, SoFar, none_yet, one_more, all_converted, converted_to_end, shortens, two_zeros, primitive_converted}
+use Rattle.ber_der.proofs.Steps.{none_body, body_added, body_converted, refused_all, refused_to_end, no_end, none_empty, none_tag, none_length, none_primitive_indefinite, none_primitive_role, none_not_primitive, none_deep, none_constructed_role, none_holder, SoFar, none_yet, one_more, all_converted, converted_to_end, shortens, two_zeros, primitive_converted}
 use Rattle.ber_der.proofs.convert.+convert.Goals as goal
-use Rattle.ber_der.proofs.convert.+convert.Goals.{convert-then-not-may_be_constructed-via-then-not-may_be_constructed, convert-then-not-may_be_constructed-via-else-not-may_be_constructed+then-not-allows-2, convert_to_end-else-tag-eq0-via-then-tag-eq0+else-more-eq0, convert_to_end-else-tag-eq0-via-else-tag-eq0, convert-then-tag-eq0-via-then-tag-eq0, convert-then-tag-eq0-via-else-tag-eq0+then-tag-eq31}
+use Rattle.ber_der.proofs.convert.+convert.Goals.{convert-then-not-may_be_primitive-via-then-not-may_be_primitive, convert-then-not-may_be_primitive-via-else-not-may_be_primitive+then-not-allows, convert-then-not-may_be_constructed-via-then-not-may_be_constructed, convert-then-not-may_be_constructed-via-else-not-may_be_constructed+then-not-allows-2, convert_to_end-else-tag-eq0-via-then-tag-eq0+else-more-eq0, convert_to_end-else-tag-eq0-via-else-tag-eq0, convert-then-tag-eq0-via-then-tag-eq0, convert-then-tag-eq0-via-else-tag-eq0+then-tag-eq31}
 
 pub convert_contents-parts-init : goal.convert_contents-parts-init
 convert_contents-parts-init t c = none_yet c.args.rule.joins (IsBerWith c.args.rule.joins c.args.nest) c.args.start c.args.contents.now c.args.out.now.items
@@ -23,7 +23,7 @@ convert_contents-returns t c = all_converted c.args.rule.joins c.args.nest c.arg
 pub convert-returns-in-Ok : goal.convert-returns-in-Ok
 convert-returns-in-Ok t c =
     primitive_converted c.args.rule.joins c.args.bytes.now c.in-Some.after.now c.split_at.result.0.now c.split_at.result.1.now c.in-Some.len c.in-Some-len.len c.in-len1-up.len_at_least c.in-Some.ensures c.in-Some-len.is c.split_at.ensures.front c.split_at.ensures.back
-    c.args.nest c.args.role c.args.out.now.items c.push_kept.new.out.items c.if-tag-eq0.false c.if-tag-eq31.false c.if-tag-eq0-2.true (c.allows.ensures.0 c.if-not-allows.false) c.in-Ok.ensures
+    c.args.nest c.args.role c.args.out.now.items c.push_kept.new.out.items c.if-tag-eq0.false c.if-tag-eq31.false c.if-tag-eq0-2.true (sym c.may_be_primitive.ensures ∙ c.if-not-may_be_primitive.false) (c.allows.ensures.0 c.if-not-allows.false) c.in-Ok.ensures
 
 pub convert_to_end-parts-init : goal.convert_to_end-parts-init
 convert_to_end-parts-init t c = none_yet c.args.rule.joins (IsBerWith c.args.rule.joins c.args.nest) c.args.start c.args.bytes.now c.args.out.now.items
@@ -71,8 +71,11 @@ convert-returns-in_default-length t c m = none_length c.args.rule.joins c.args.n
 pub convert-returns-in_default-len : goal.convert-returns-in_default-len
 convert-returns-in_default-len t c m = none_primitive_indefinite c.args.rule.joins c.args.nest c.args.role c.args.bytes.now c.in-Some.len c.in-Some.after.now c.if-tag-eq0-2.true c.in-Some.ensures c.in_default-len.is
 
-pub convert-returns-then-not-allows : goal.convert-returns-then-not-allows
-convert-returns-then-not-allows t c m = none_primitive_role c.args.rule.joins c.args.nest c.args.role c.args.bytes.now c.if-tag-eq0-2.true (λ a. let h = c.allows.ensures.1 a in search rules)
+pub convert-returns-then-not-may_be_primitive : goal.convert-returns-then-not-may_be_primitive
+convert-returns-then-not-may_be_primitive t c m = elim c.then-not-may_be_primitive.branch [
+  | convert-then-not-may_be_primitive-via-then-not-may_be_primitive w ↦ none_not_primitive c.args.rule.joins c.args.nest c.args.role c.args.bytes.now c.in-Some.after.now c.in-Some.len c.in-Some-len.len c.if-tag-eq0-2.true c.in-Some.ensures c.in-Some-len.is (λ e. let f = c.may_be_primitive.ensures ∙ e in search rules)
+  | convert-then-not-may_be_primitive-via-else-not-may_be_primitive+then-not-allows w ↦ none_primitive_role c.args.rule.joins c.args.nest c.args.role c.args.bytes.now c.if-tag-eq0-2.true (λ a. let h = w.allows.ensures.1 a in search rules)
+]
 
 pub convert-returns-then-nest-eq0 : goal.convert-returns-then-nest-eq0
 convert-returns-then-nest-eq0 t c m = none_deep c.args.rule.joins c.args.nest c.args.role c.args.bytes.now c.if-nest-eq0.true c.if-tag-eq0-2.false
