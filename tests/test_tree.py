@@ -87,6 +87,25 @@ signerinfo 301F02010130053000020101300506032A0304A000300506032A0304040100A100
 spcpeimagedata 3005A003800161
   0, 0: absent flags, which are written as 03 02 05 80
 """
+# Lines of octets as a kind, without the names: the offset, the depth, and what is there. An octet string is opened where
+# the element is in it that is refused or isn't canonical, or where one is missing at its end, and not where it ends before
+# that element.
+LEADING = """
+signerinfo 301E02010130053000020105300306012A300306012A0406630241426A09A100
+  22 1 OCTET STRING 6: 63 02 41 42 6A 09
+  30 1 [1] constructed 0
+signerinfo 301E02010130053000020105300306012A300306012A0406630241426A090500
+  22 1 OCTET STRING 6: 63 02 41 42 6A 09
+  30 1 NULL 0
+pfx 3018020103301306092A864886F70D010701A006040430023000
+  20 3 OCTET STRING 4
+  22 4 SEQUENCE 2
+  24 5 SEQUENCE 0
+pfx 3018020103301306092A864886F70D010701A006040430000500
+  20 3 OCTET STRING 4
+  22 4 SEQUENCE 0
+  24 4 NULL 0
+"""
 # What makes the files of NAMED, in order.
 MAKING = """
 openssl req -x509 -newkey ec -pkeyopt ec_paramgen_curve:P-256 -nodes -set_serial 4711 -subj /CN=one -days 30 \
@@ -366,6 +385,13 @@ class Opened(Comparing):
                 shown = [line for line in lines if line.endswith(f" -- {name}")]
                 self.same(any(f": {value}" in line for line in shown), True, file, "as", kind, name, value, *shown)
         self.at_least(self.compared, 34, "fields")
+
+    def test_octet_strings_on_the_way_to_a_mark_are_open(self):
+        for (kind, octets), shown in blocks(LEADING):
+            tree = tree_of(bytes.fromhex(octets), kind)[0]
+            lines = [" ".join(line.split(" -- ")[0].split()) for line in tree.splitlines()]
+            self.same([line for line in lines if line in shown], shown, kind, octets, *lines)
+        self.at_least(self.compared, 4, "files")
 
     def test_what_is_not_canonical_has_its_place_and_cause(self):
         for (kind, octets), places in blocks(LOOSE, digest="11" * 20):

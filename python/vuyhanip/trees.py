@@ -36,14 +36,14 @@ def program() -> Optional[str]:
     return path_of("dertree") or (built if os.access(built, os.X_OK) else None)
 
 
-def lines(data: bytes, kind: Optional[str], place: Optional[int]) -> List[Line]:
+def lines(data: bytes, kind: Optional[str], octet: Optional[int]) -> List[Line]:
     """The lines of a file that is of a kind, or of any.
 
-    OCTET STRINGs that are one element are open, and those that lead to the place of a refusal.
+    OCTET STRINGs that are one element are open, and those on the way to an octet.
     """
     said = of_dertree(data, kind)
     if said is None:
-        return list(own_lines(data, place))
+        return list(own_lines(data, octet))
     matches = map(LINE.fullmatch, said)
     return [Line(int(it[1]), int(it[2]), it[3]) for it in matches if it]
 
@@ -99,16 +99,16 @@ def _first(data: bytes, at: int, around: _Open) -> Tuple[Optional[Element], str]
     return None, f"{count} {words} no element: {octets_text(data[at : around.end])}"
 
 
-def _opens(element: Element, is_indefinite: bool, place: Optional[int]) -> bool:
+def _opens(element: Element, is_indefinite: bool, octet: Optional[int]) -> bool:
     """Whether the contents of an element have lines of their own."""
     if is_indefinite or element.tag != OCTET_STRING:
         return is_indefinite or element.is_constructed and element.start < element.end
     inside = header(element.data, element.start, element.end)
-    leads = place is not None and element.start <= place <= element.end
+    leads = octet is not None and element.start <= octet < element.end
     return inside is not None and (inside.end == element.end or leads)
 
 
-def own_lines(data: bytes, place: Optional[int]) -> Iterator[Line]:
+def own_lines(data: bytes, octet: Optional[int]) -> Iterator[Line]:
     """The lines as this reader finds them."""
     at, opened = 0, [_Open(len(data), False, False)]
     while at < len(data):
@@ -126,7 +126,7 @@ def own_lines(data: bytes, place: Optional[int]) -> Iterator[Line]:
             continue
         is_indefinite = text == ", indefinite length"
         text = tag_word(element.tag) + text + (", segment" if around.is_segmented else "")
-        if _opens(element, is_indefinite, place):
+        if _opens(element, is_indefinite, octet):
             yield Line(at, depth, text)
             at = element.start
             opened.append(_Open(element.end, is_indefinite, element.tag == OCTET_STRING | 0x20))

@@ -113,12 +113,12 @@ pub record HoldsIndefinite (bytes : List ℕ) : Type 0 where
   pub constructed : tag / 32 % 2 ≡ 1
   pub is : IsIndefinite bytes tag contents
 
--- the place is in contents that begin at start, or at their end
+-- the place is that of an octet of contents that begin at start
 abbrev pub LeadsInto : Opening → List ℕ → ℕ → Type 0
-LeadsInto opening contents start = IsSomeAnd opening.place (λ p. (start ≤ p) × (p ≤ start + length contents))
+LeadsInto opening contents start = IsSomeAnd opening.place (λ p. (start ≤ p) × (p < start + length contents))
 
 -- the contents of an octet string, which begin at start, have lines of their own: where they are one whole element, if
--- each such is opened, and where they begin with an element, on the way to a place in them or at their end
+-- each such is opened, and where they begin with an element, on the way to an octet of them
 abbrev pub OpensOctets : Opening → List ℕ → ℕ → Type 0
 OpensOctets opening contents start =
     (IsTrue opening.opens_all × IsElement (λ _. Unit {0}) contents) ⊎ ((LeadsInto opening contents start × ¬ HasNoFront contents) ⊎ (IsTrue opening.reads_ber × (IsTrue opening.opens_all ⊎ LeadsInto opening contents start) × HoldsIndefinite contents))

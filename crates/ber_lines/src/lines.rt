@@ -153,7 +153,7 @@ pub struct Opening {
     pub reads_ber: bool,
     /// Whether octet strings that are one whole element are shown as such.
     pub opens_all: bool,
-    /// Those octet strings that begin with an element, on the way to this place, are too.
+    /// Those octet strings that begin with an element, on the way to the octet at this place, are too.
     pub place: Option<usize>,
 }
 
@@ -211,12 +211,12 @@ impl Opening {
         self.reads_ber && opens && is_indefinite(contents)
     }
 
-    /// Whether the place is in contents that begin at `start`, or at their end.
+    /// Whether the octet at the place is in contents that begin at `start`. One that follows them isn't.
     fn leads_into(self, contents: &[u8], start: usize) -> bool
         ensures { IsTrue result ↔ LeadsInto self contents.now start }
     {
         match self.place {
-            Some(place) => start <= place && place - start <= contents.len(),
+            Some(place) => start <= place && place - start < contents.len(),
             None => false,
         }
     }

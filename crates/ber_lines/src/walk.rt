@@ -83,7 +83,7 @@ impl<'a> Walk<'a> {
         self.at
     }
 
-    /// From here on, opens the octet strings on the way to a place.
+    /// From here on, opens the octet strings on the way to the octet at a place.
     pub fn lead_to(&mut self, place: Option<usize>)
         ensures input { self.new.input.now ≡ self.old.input.now }
         ensures at { self.new.at ≡ self.old.at }

@@ -97,8 +97,8 @@ pub struct Notes<'a> {
 }
 
 impl<'a> Notes<'a> {
-    /// Where the octet strings have to be open that hold what follows: at the next of the places from an index on that
-    /// begins later, or else at the mark.
+    /// The octet that the octet strings hold which have to be open: at the next of the places from an index on that
+    /// begins later, or else the one that the mark is about.
     fn next_place(&self, index: usize, at: usize) -> Option<usize> {
         for place in self.places.iter().skip(index) {
             if place.offset > at {
@@ -106,7 +106,7 @@ impl<'a> Notes<'a> {
             }
         }
         match &self.mark {
-            Some(mark) => Some(mark.place),
+            Some(mark) => Some(mark.verdict.octet(mark.place)),
             None => None,
         }
     }
