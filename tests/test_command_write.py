@@ -276,7 +276,7 @@ class Tree(Command):
 
     def test_trees_are_those_of_dertree(self):
         files = "store.p12 attributes.p7s stream.p7s list.crl broken.p7s enveloped.p7m stamp.tst".split()
-        for name in [*files, self.put("segments.ber", SEGMENTS)]:
+        for name in [*files, self.put("segments.ber", SEGMENTS), self.put("cut.ber", SEGMENTS[:-3])]:
             ended, own, _ = self.command("tree", name, more={"VUYHANIP_DERTREE": ""})
             of_dertree = self.command("tree", name)
             self.assertEqual(ended, of_dertree[0])

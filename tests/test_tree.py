@@ -3,7 +3,8 @@ they are and with lengths and octet strings in other forms of BER: the same offs
 same order, the same lengths in more octets than DER takes, and the same ends of contents. With the kind that outside
 reads a file as, the last line and the exit status have to be those of `derbox check`, and what isn't canonical is said
 of loose files alone, each with one of the five causes of docs/FORMATS.md. What derbox says of the files is compared
-too, and what other tools say of the files that it writes, as outside does.
+too, and what other tools say of the files that it writes, as outside does. Made-up and changed inputs in BER are shown
+as the reader of tests/oracle/trees.py has their lines.
 
 Of files that openssl makes here, the fields that NAMED lists have the values that openssl says; of files made by hand,
 LOOSE lists what isn't canonical. Files of tools that aren't there are skipped."""
@@ -14,8 +15,10 @@ import re
 import unittest
 from pathlib import Path
 
+from oracle import trees
 from support import elements, making
 from support.asking import Asked
+from support.ber_inputs import made_up
 from support.built import program, room
 from support.cases import Comparing
 from support.elements import element
@@ -106,6 +109,51 @@ pfx 3018020103301306092A864886F70D010701A006040430000500
   22 4 SEQUENCE 0
   24 4 NULL 0
 """
+# What is shown of octets without a kind: the offset, the depth, and what is there.
+PLAIN = """
+3080020105
+  0 0 SEQUENCE, indefinite length
+  2 1 INTEGER 1: 5
+  5 1 missing end of contents
+3080
+  0 0 SEQUENCE, indefinite length
+  2 1 missing end of contents
+2403020105
+  0 0 OCTET STRING constructed 3
+  2 1 INTEGER 1, segment: 5
+30053080020105
+  0 0 SEQUENCE 5
+  2 1 SEQUENCE, indefinite length
+  4 2 INTEGER 1: 5
+  7 2 missing end of contents
+300530800201050500
+  0 0 SEQUENCE 5
+  2 1 SEQUENCE, indefinite length
+  4 2 INTEGER 1: 5
+  7 2 missing end of contents
+  7 0 NULL 0
+308030800500
+  0 0 SEQUENCE, indefinite length
+  2 1 SEQUENCE, indefinite length
+  4 2 NULL 0
+  6 2 missing end of contents
+  6 1 missing end of contents
+308030020500
+  0 0 SEQUENCE, indefinite length
+  2 1 SEQUENCE 2
+  4 2 NULL 0
+  6 1 missing end of contents
+308000
+  0 0 SEQUENCE, indefinite length
+  2 1 1 byte that is no element: 00
+  3 1 missing end of contents
+30800000
+  0 0 SEQUENCE, indefinite length
+  2 1 end of contents
+"""
+# How many made-up inputs are shown, and how many of their lines at least have to be of each word.
+MADE = 600
+FEWEST = {"missing end of contents": 20, "end of contents": 300, "inf": 300, "that are no element": 60}
 # What makes the files of NAMED, in order.
 MAKING = """
 openssl req -x509 -newkey ec -pkeyopt ec_paramgen_curve:P-256 -nodes -set_serial 4711 -subj /CN=one -days 30 \
@@ -139,6 +187,7 @@ CONSTRUCTED = {"SEQUENCE", "SET", "EXTERNAL", "EMBEDDED PDV", "CHARACTER STRING"
 PARSED = re.compile(r" *(\d+):d=(\d+) +hl=(\d+) +l= *(\d+|inf) +(cons|prim): (.{1,18})")
 SHOWN = re.compile(r" *(\d+) +(\d+) +(?:(.*), indefinite length|(.*) (\d+)(?:, length in (\d+) octets)?)")
 END = re.compile(r" *(\d+) +(\d+) +end of contents")
+BARE = re.compile(r" *(\d+) +(\d+) +(missing end of contents|\d+(?= bytes? that))")
 
 
 # ---- other forms
@@ -235,6 +284,40 @@ def tree_of(octets, *words):
     """What dertree shows, and its status."""
     ran = ended(program("dertree"), *words, text=octets)
     return ran.stdout.decode(), ran.returncode
+
+
+# ---- what another reader shows
+
+
+def bare(line):
+    """What a line shows: the offset, the depth, and the length, or a word, as tests/oracle/trees.py has them."""
+    header, = by_dertree(line)
+    if isinstance(header, str):
+        offset, depth, word = BARE.match(header).groups()
+        return int(offset), int(depth), f"{word} that are no element" if word.isdigit() else word
+    is_end = header[3:] == ("[UNIVERSAL 0]", None) and line.endswith("end of contents")
+    return int(header[0]), int(header[1]), "end of contents" if is_end else header[2]
+
+
+class Plain(Comparing):
+    def test_what_bare_octets_are_is_shown(self):
+        for (octets,), shown in blocks(PLAIN):
+            tree, status = tree_of(bytes.fromhex(octets))
+            self.same((status, [" ".join(line.split()) for line in tree.splitlines()]), (0, shown), octets)
+
+    def test_made_up_inputs_are_shown_as_another_reader_has_them(self):
+        words = []
+        for octets in made_up(MADE):
+            self.shown_alike(octets, False)
+            words += [word for _, _, word in trees.lines(octets, False)]
+        for word, fewest in FEWEST.items():
+            self.at_least(sum(it.endswith(word) for it in words), fewest, f"lines of {word}")
+
+    def shown_alike(self, octets, opens):
+        """Compares the lines of octets."""
+        tree, status = tree_of(octets, *["--open"][:opens])
+        self.same(status, 0, octets.hex()[:100], "status")
+        self.same([bare(line) for line in tree.splitlines()], trees.lines(octets, opens), octets.hex()[:100], opens)
 
 
 # ---- files of tests/vectors/outside

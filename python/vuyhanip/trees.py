@@ -111,9 +111,13 @@ def _opens(element: Element, is_indefinite: bool, octet: Optional[int]) -> bool:
 def own_lines(data: bytes, octet: Optional[int]) -> Iterator[Line]:
     """The lines as this reader finds them."""
     at, opened = 0, [_Open(len(data), False, False)]
-    while at < len(data):
+    while True:
         while len(opened) > 1 and opened[-1].end <= at:
+            if opened[-1].is_indefinite:
+                yield Line(at, len(opened) - 1, "missing end of contents")
             opened.pop()
+        if at == len(data):
+            return
         depth, around = len(opened) - 1, opened[-1]
         element, text = _first(data, at, around)
         if element is None:

@@ -4,7 +4,7 @@ ghost use Rattle.std.specs.Prelude.{◌≡◌, ◌<◌, ◌≤◌, ◌+◌, ◌�
 ghost use Rattle.std.specs.Option.{IsSomeAnd};
 ghost use Rattle.asn1_core_element.specs.Element.{HasNoFront};
 ghost use Rattle.ber_lines.specs.declared.lines.Front.TheVariants.{Nothing};
-ghost use Rattle.ber_lines.specs.Lines.{IsItem, IsElementItem, IsBerItem, BeginsWithEnd, HoldsIndefinite, is_end, tag_of, is_indefinite};
+ghost use Rattle.ber_lines.specs.Lines.{IsItem, IsElementItem, IsBerItem, BeginsWithEnd, HoldsIndefinite, is_end, is_missing_end, is_last, tag_of, is_indefinite};
 
 use crate::tags::Tag;
 use asn1_core_element::front::front;
@@ -26,6 +26,8 @@ pub enum Front {
     Indefinite(u8),
     /// The end of the contents of such an element (X.690, 8.1.5).
     EndOfContents,
+    /// Nothing, where such contents can't go on: their end is missing.
+    MissingEnd,
 }
 
 impl Front {
@@ -34,7 +36,7 @@ impl Front {
         ensures { result ≡ tag_of self }
     {
         match self {
-            Front::Nothing | Front::EndOfContents => None,
+            Front::Nothing | Front::EndOfContents | Front::MissingEnd => None,
             Front::Element(tag) | Front::Longer(tag) | Front::Indefinite(tag) => Some(tag),
         }
     }
@@ -49,6 +51,19 @@ impl Front {
         ensures { result ≡ is_end self }
     {
         matches!(self, Front::EndOfContents)
+    }
+
+    pub fn is_missing_end(self) -> bool
+        ensures { result ≡ is_missing_end self }
+    {
+        matches!(self, Front::MissingEnd)
+    }
+
+    /// Whether the contents around end with it.
+    pub fn is_last(self) -> bool
+        ensures { result ≡ is_last self }
+    {
+        matches!(self, Front::EndOfContents | Front::MissingEnd)
     }
 }
 
@@ -129,6 +144,9 @@ pub fn first_item(bytes: &[u8], reads_ber: bool, may_end: bool) -> (Front, usize
     ensures some { 0 < length bytes.now → 0 < result.1 + length result.2.now }
     ensures header { IsSome (tag_of result.0) → 0 < result.1 }
 {
+    if may_end && bytes.is_empty() {
+        return (Front::MissingEnd, 0, &[]);
+    }
     if may_end && begins_with_end(bytes) {
         return (Front::EndOfContents, 2, &[]);
     }
@@ -173,7 +191,7 @@ impl Opening {
         ensures opens { IsTrue result ↔ Opens self front contents.now start }
     {
         match front {
-            Front::Nothing | Front::EndOfContents => false,
+            Front::Nothing | Front::EndOfContents | Front::MissingEnd => false,
             Front::Indefinite(_) => true,
             Front::Element(tag) | Front::Longer(tag) => self.opens_tagged(tag, contents, start),
         }
