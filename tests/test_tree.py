@@ -151,8 +151,47 @@ PLAIN = """
   0 0 SEQUENCE, indefinite length
   2 1 end of contents
 """
+# What is shown of octets without a kind where each octet string is open that is one whole element.
+WHOLE = """
+04053081020500
+  0 0 OCTET STRING 5
+  2 1 SEQUENCE 2, length in 2 octets
+  5 2 NULL 0
+04083084000000020500
+  0 0 OCTET STRING 8
+  2 1 SEQUENCE 2, length in 5 octets
+  8 2 NULL 0
+040430800000
+  0 0 OCTET STRING 4
+  2 1 SEQUENCE, indefinite length
+  4 2 end of contents
+04053080000000
+  0 0 OCTET STRING 5: 30 80 00 00 00
+040730803080000000
+  0 0 OCTET STRING 7: 30 80 30 80 00 00 00
+04083080308000000000
+  0 0 OCTET STRING 8
+  2 1 SEQUENCE, indefinite length
+  4 2 SEQUENCE, indefinite length
+  6 3 end of contents
+  8 2 end of contents
+040630800402FFFF
+  0 0 OCTET STRING 6: 30 80 04 02 FF FF
+040830800402FFFF0000
+  0 0 OCTET STRING 8
+  2 1 SEQUENCE, indefinite length
+  4 2 OCTET STRING 2: FF FF
+  8 2 end of contents
+04033002FF
+  0 0 OCTET STRING 3: 30 02 FF
+04043002FFFF
+  0 0 OCTET STRING 4
+  2 1 SEQUENCE 2
+  4 2 2 bytes that are no element: FF FF
+"""
 # How many made-up inputs are shown, and how many of their lines at least have to be of each word.
 MADE = 600
+OPEN = 20
 FEWEST = {"missing end of contents": 20, "end of contents": 300, "inf": 300, "that are no element": 60}
 # What makes the files of NAMED, in order.
 MAKING = """
@@ -312,6 +351,20 @@ class Plain(Comparing):
             words += [word for _, _, word in trees.lines(octets, False)]
         for word, fewest in FEWEST.items():
             self.at_least(sum(it.endswith(word) for it in words), fewest, f"lines of {word}")
+
+    def test_octet_strings_that_are_one_whole_element_are_open(self):
+        for octets, shown in blocks(WHOLE):
+            tree = tree_of(bytes.fromhex("".join(octets)), "--open")[0]
+            self.same([" ".join(line.split()) for line in tree.splitlines()], shown, *octets)
+
+    def test_made_up_octet_strings_are_open_where_another_reader_opens_them(self):
+        dice, found = random.Random(8), 0
+        for octets in made_up(MADE):
+            contents = dice.choice((octets, octets, octets[:-1], octets + b"\0", octets + b"\0\0"))
+            text = element(0x04, contents)
+            self.shown_alike(text, True)
+            found += len(trees.lines(text, True)) > 1 and trees.header(contents, 0, len(contents))[2] is None
+        self.at_least(found, OPEN, "open octet strings of indefinite length")
 
     def shown_alike(self, octets, opens):
         """Compares the lines of octets."""

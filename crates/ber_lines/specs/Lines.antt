@@ -1,9 +1,9 @@
 -- What lines show of an input.
-use Rattle.std.specs.Prelude.{◌≡◌, ◌≢◌, ◌⊎◌, ◌↔◌, ℕ, ◌+◌, ◌*◌, ◌-◌, ◌/◌, ◌%◌, ◌<◌, ◌≤◌, List, [], ◌∷◌, ◌++◌, length, drop, take, slice_get, slice_range, Option, Some, None, unwrap_or, if◌then◌else◌, Bool, true, false, IsTrue}
+use Rattle.std.specs.Prelude.{◌≡◌, ◌≢◌, ◌⊎◌, ◌↔◌, ℕ, zero, suc, ◌+◌, ◌*◌, ◌-◌, ◌/◌, ◌%◌, ◌<◌, ◌≤◌, List, [], ◌∷◌, ◌++◌, length, drop, take, slice_get, slice_range, Option, Some, None, unwrap_or, if◌then◌else◌, Bool, true, false, IsTrue}
 use Rattle.std.specs.List.{All}
 use Rattle.std.specs.Option.{IsSomeAnd}
 use Rattle.asn1_core_element.specs.Element.{head, element, IsTagByte, IsElement, HasNoFront}
-use Rattle.ber_der.specs.Ber.{IsLength, IsDefinite, IsIndefinite}
+use Rattle.ber_der.specs.Ber.{IsLength, IsDefinite}
 use Rattle.ber_lines.specs.declared.lines.Front.{Front}
 use Rattle.ber_lines.specs.declared.lines.Front.TheVariants.{Nothing, Element, Longer, Indefinite, EndOfContents, MissingEnd}
 use Rattle.ber_lines.specs.declared.lines.Line.{Line}
@@ -133,24 +133,49 @@ is_last (Indefinite tag) = false
 is_last EndOfContents = true
 is_last MissingEnd = true
 
--- the bytes are an element of indefinite length, as far as their first two octets and their last two tell
-pub record HoldsIndefinite (bytes : List ℕ) : Type 0 where
+-- The bytes are what is left from somewhere inside n contents of indefinite length, one in the other, up to the end of the
+-- outermost, with which they end: elements, and the ends of these contents. What an element of definite length holds may be
+-- any octets.
+pub data EndsAll : ℕ → List ℕ → Type 0 where
+  ends_over : (bytes : List ℕ) → bytes ≡ [] → EndsAll zero bytes
+  ends_ended : (n : ℕ) (bytes rest : List ℕ) → bytes ≡ 0 ∷ 0 ∷ rest → EndsAll n rest → EndsAll (suc n) bytes
+  ends_held : (n tag : ℕ) (encoding contents bytes rest : List ℕ) → IsTagByte tag → IsDefinite encoding tag contents → bytes ≡ encoding ++ rest → ¬ BeginsWithEnd bytes → EndsAll (suc n) rest → EndsAll (suc n) bytes
+  ends_opened : (n tag : ℕ) (bytes rest : List ℕ) → IsTagByte tag → tag / 32 % 2 ≡ 1 → bytes ≡ tag ∷ 128 ∷ rest → EndsAll (suc (suc n)) rest → EndsAll (suc n) bytes
+
+-- the bytes are one whole element whose length is in more octets than DER takes
+pub record IsWholeLonger (bytes : List ℕ) : Type 0 where
+  pub tag : ℕ
+  pub header_len : ℕ
+  pub contents : List ℕ
+  pub begins : BeginsLonger bytes tag header_len contents
+  pub whole : header_len + length contents ≡ length bytes
+
+-- the bytes are one whole element of indefinite length, which its end of contents ends
+pub record IsWholeIndefinite (bytes : List ℕ) : Type 0 where
   pub none : HasNoFront bytes
   pub tag : ℕ
   pub contents : List ℕ
-  pub is_tag : IsTagByte tag
-  pub constructed : tag / 32 % 2 ≡ 1
-  pub is : IsIndefinite bytes tag contents
+  pub begins : BeginsIndefinite bytes tag 2 contents
+  pub ends : EndsAll 1 contents
+
+-- the bytes are one whole element of BER, and no element of DER begins them
+abbrev pub IsWholeBer : List ℕ → Type 0
+IsWholeBer bytes = IsWholeLonger bytes ⊎ IsWholeIndefinite bytes
 
 -- the place is that of an octet of contents that begin at start
 abbrev pub LeadsInto : Opening → List ℕ → ℕ → Type 0
 LeadsInto opening contents start = IsSomeAnd opening.place (λ p. (start ≤ p) × (p < start + length contents))
 
+-- contents that no element of DER begins have lines of their own, as those of an octet string below
+abbrev pub OpensBer : Opening → List ℕ → ℕ → Type 0
+OpensBer opening contents start =
+    IsTrue opening.reads_ber × ((IsTrue opening.opens_all × IsWholeBer contents) ⊎ (LeadsInto opening contents start × ¬ HasNoBer contents))
+
 -- the contents of an octet string, which begin at start, have lines of their own: where they are one whole element, if
 -- each such is opened, and where they begin with an element, on the way to an octet of them
 abbrev pub OpensOctets : Opening → List ℕ → ℕ → Type 0
 OpensOctets opening contents start =
-    (IsTrue opening.opens_all × IsElement (λ _. Unit {0}) contents) ⊎ ((LeadsInto opening contents start × ¬ HasNoFront contents) ⊎ (IsTrue opening.reads_ber × (IsTrue opening.opens_all ⊎ LeadsInto opening contents start) × HoldsIndefinite contents))
+    (IsTrue opening.opens_all × IsElement (λ _. Unit {0}) contents) ⊎ ((LeadsInto opening contents start × ¬ HasNoFront contents) ⊎ (HasNoFront contents × OpensBer opening contents start))
 
 -- contents under a tag that begin at start have lines of their own: of an octet string as above, and of a constructed tag,
 -- if there are any

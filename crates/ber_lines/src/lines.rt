@@ -1,10 +1,10 @@
 //! One line of a tree: what begins some bytes, and whether what it holds has lines of its own.
 
-ghost use Rattle.std.specs.Prelude.{◌≡◌, ◌<◌, ◌≤◌, ◌+◌, ◌↔◌, ◌≢◌, ◌⊎◌, length, IsSome, IsTrue};
+ghost use Rattle.std.specs.Prelude.{◌≡◌, ◌<◌, ◌≤◌, ◌+◌, ◌^◌, ◌↔◌, ◌≢◌, ◌⊎◌, length, IfNone, IfSome, IsSome, IsTrue, MatchOption};
 ghost use Rattle.std.specs.Option.{IsSomeAnd};
 ghost use Rattle.asn1_core_element.specs.Element.{HasNoFront};
 ghost use Rattle.ber_lines.specs.declared.lines.Front.TheVariants.{Nothing};
-ghost use Rattle.ber_lines.specs.Lines.{IsItem, IsElementItem, IsBerItem, BeginsWithEnd, HoldsIndefinite, is_end, is_missing_end, is_last, tag_of, is_indefinite};
+ghost use Rattle.ber_lines.specs.Lines.{IsItem, IsElementItem, IsBerItem, BeginsWithEnd, HasNoBer, EndsAll, IsWholeBer, is_end, is_missing_end, is_last, tag_of, is_indefinite};
 
 use crate::tags::Tag;
 use asn1_core_element::front::front;
@@ -153,14 +153,64 @@ pub fn first_item(bytes: &[u8], reads_ber: bool, may_end: bool) -> (Front, usize
     first_element(bytes, reads_ber)
 }
 
-/// Whether the bytes are one element of indefinite length, by their first two octets and their last two.
-fn is_indefinite(bytes: &[u8]) -> bool
-    requires { HasNoFront bytes.now }
-    ensures { IsTrue result ↔ HoldsIndefinite bytes.now }
+/// What follows the first item of bytes that are in so many contents of indefinite length, and in how many it is; nothing
+/// where no item begins.
+fn after_item(levels: usize, rest: &[u8]) -> Option<(usize, &[u8])>
+    requires some { 0 < levels }
+    requires fits { levels + length rest.now ≤ 2 ^ 64 }
+    ensures none { IfNone result (¬ EndsAll levels rest.now) }
+    ensures alike { IfSome result (λ r. EndsAll levels rest.now ↔ EndsAll r.0 r.1.now) }
+    ensures fits { IfSome result (λ r. r.0 + length r.1.now ≤ levels + length rest.now) }
+    ensures less { IfSome result (λ r. length r.1.now < length rest.now) }
 {
-    match bytes {
-        [tag, 0x80, .., 0, 0] => Tag(*tag).is_one_octet() && Tag(*tag).is_constructed(),
-        _ => false,
+    if begins_with_end(rest) {
+        return Some((levels - 1, &rest[2..]));
+    }
+    let [tag, after @ ..] = rest else {
+        return None;
+    };
+    let tag = Tag(*tag);
+    if !tag.is_one_octet() {
+        return None;
+    }
+    let Some((len, contents)) = length(after) else {
+        return None;
+    };
+    if let Some(len) = len {
+        return Some((levels, &contents[len..]));
+    }
+    if !tag.is_constructed() {
+        return None;
+    }
+    Some((levels + 1, contents))
+}
+
+/// Whether contents of indefinite length, which begin the bytes, end where these do.
+fn ends_whole(bytes: &[u8]) -> bool
+    ensures { IsTrue result ↔ EndsAll 1 bytes.now }
+{
+    let mut levels = 1;
+    let mut rest = bytes;
+    while levels > 0 {
+        let Some((now, after)) = after_item(levels, rest) else {
+            return false;
+        };
+        levels = now;
+        rest = after;
+    }
+    rest.is_empty()
+}
+
+/// Whether the bytes, which no element of DER begins, are one whole element of BER; nothing where none begins them.
+fn whole_ber(bytes: &[u8]) -> Option<bool>
+    requires { HasNoFront bytes.now }
+    ensures { MatchOption result (HasNoBer bytes.now) (λ whole. ¬ HasNoBer bytes.now × (IsTrue whole ↔ IsWholeBer bytes.now)) }
+{
+    let (front, header_len, contents) = first_of_ber(bytes);
+    match front {
+        Front::Longer(_) => Some(header_len + contents.len() == bytes.len()),
+        Front::Indefinite(_) => Some(ends_whole(contents)),
+        Front::Nothing | Front::Element(_) | Front::EndOfContents | Front::MissingEnd => None,
     }
 }
 
@@ -176,7 +226,7 @@ pub struct Opening {
 }
 
 impl Opening {
-    ghost use Rattle.ber_lines.specs.Lines.{Opens, OpensTagged, OpensOctets, LeadsInto};
+    ghost use Rattle.ber_lines.specs.Lines.{Opens, OpensTagged, OpensOctets, OpensBer, LeadsInto};
 
     /// DER, with each octet string open that is one whole element.
     pub const EACH_WHOLE: Opening = Opening {
@@ -223,10 +273,15 @@ impl Opening {
     /// Whether contents of an octet string have that no element of DER begins.
     fn opens_ber(self, contents: &[u8], start: usize) -> bool
         requires { HasNoFront contents.now }
-        ensures { IsTrue result ↔ IsTrue self.reads_ber × (IsTrue self.opens_all ⊎ LeadsInto self contents.now start) × HoldsIndefinite contents.now }
+        ensures { IsTrue result ↔ OpensBer self contents.now start }
     {
-        let opens = self.opens_all || self.leads_into(contents, start);
-        self.reads_ber && opens && is_indefinite(contents)
+        match whole_ber(contents) {
+            Some(is_whole) => {
+                let opens = self.opens_all && is_whole || self.leads_into(contents, start);
+                self.reads_ber && opens
+            }
+            None => false,
+        }
     }
 
     /// Whether the octet at the place is in contents that begin at `start`. One that follows them isn't.
