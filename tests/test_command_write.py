@@ -274,9 +274,14 @@ class Tree(Command):
             tools.ended(sys.executable, "-m", "vuyhanip", *words, cwd=self.room, env=environment)
             self.assertFalse((self.room / "ran").exists(), words)
 
+    def octets(self):
+        """OCTET STRINGs that are one whole element of BER, and that aren't."""
+        for number, octets in enumerate(("04053081020500", "040430800000", "04053080000000", "040730803080000000")):
+            yield self.put(f"octets{number}.ber", bytes.fromhex(octets))
+
     def test_trees_are_those_of_dertree(self):
         files = "store.p12 attributes.p7s stream.p7s list.crl broken.p7s enveloped.p7m stamp.tst".split()
-        for name in [*files, self.put("segments.ber", SEGMENTS)]:
+        for name in [*files, self.put("segments.ber", SEGMENTS), self.put("cut.ber", SEGMENTS[:-3]), *self.octets()]:
             ended, own, _ = self.command("tree", name, more={"VUYHANIP_DERTREE": ""})
             of_dertree = self.command("tree", name)
             self.assertEqual(ended, of_dertree[0])

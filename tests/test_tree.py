@@ -3,7 +3,8 @@ they are and with lengths and octet strings in other forms of BER: the same offs
 same order, the same lengths in more octets than DER takes, and the same ends of contents. With the kind that outside
 reads a file as, the last line and the exit status have to be those of `derbox check`, and what isn't canonical is said
 of loose files alone, each with one of the five causes of docs/FORMATS.md. What derbox says of the files is compared
-too, and what other tools say of the files that it writes, as outside does.
+too, and what other tools say of the files that it writes, as outside does. Made-up and changed inputs in BER are shown
+as the reader of tests/oracle/trees.py has their lines.
 
 Of files that openssl makes here, the fields that NAMED lists have the values that openssl says; of files made by hand,
 LOOSE lists what isn't canonical. Files of tools that aren't there are skipped."""
@@ -14,8 +15,10 @@ import re
 import unittest
 from pathlib import Path
 
+from oracle import trees
 from support import elements, making
 from support.asking import Asked
+from support.ber_inputs import made_up
 from support.built import program, room
 from support.cases import Comparing
 from support.elements import element
@@ -87,6 +90,109 @@ signerinfo 301F02010130053000020101300506032A0304A000300506032A0304040100A100
 spcpeimagedata 3005A003800161
   0, 0: absent flags, which are written as 03 02 05 80
 """
+# Lines of octets as a kind, without the names: the offset, the depth, and what is there. An octet string is opened where
+# the element is in it that is refused or isn't canonical, or where one is missing at its end, and not where it ends before
+# that element.
+LEADING = """
+signerinfo 301E02010130053000020105300306012A300306012A0406630241426A09A100
+  22 1 OCTET STRING 6: 63 02 41 42 6A 09
+  30 1 [1] constructed 0
+signerinfo 301E02010130053000020105300306012A300306012A0406630241426A090500
+  22 1 OCTET STRING 6: 63 02 41 42 6A 09
+  30 1 NULL 0
+pfx 3018020103301306092A864886F70D010701A006040430023000
+  20 3 OCTET STRING 4
+  22 4 SEQUENCE 2
+  24 5 SEQUENCE 0
+pfx 3018020103301306092A864886F70D010701A006040430000500
+  20 3 OCTET STRING 4
+  22 4 SEQUENCE 0
+  24 4 NULL 0
+"""
+# What is shown of octets without a kind: the offset, the depth, and what is there.
+PLAIN = """
+3080020105
+  0 0 SEQUENCE, indefinite length
+  2 1 INTEGER 1: 5
+  5 1 missing end of contents
+3080
+  0 0 SEQUENCE, indefinite length
+  2 1 missing end of contents
+2403020105
+  0 0 OCTET STRING constructed 3
+  2 1 INTEGER 1, segment: 5
+30053080020105
+  0 0 SEQUENCE 5
+  2 1 SEQUENCE, indefinite length
+  4 2 INTEGER 1: 5
+  7 2 missing end of contents
+300530800201050500
+  0 0 SEQUENCE 5
+  2 1 SEQUENCE, indefinite length
+  4 2 INTEGER 1: 5
+  7 2 missing end of contents
+  7 0 NULL 0
+308030800500
+  0 0 SEQUENCE, indefinite length
+  2 1 SEQUENCE, indefinite length
+  4 2 NULL 0
+  6 2 missing end of contents
+  6 1 missing end of contents
+308030020500
+  0 0 SEQUENCE, indefinite length
+  2 1 SEQUENCE 2
+  4 2 NULL 0
+  6 1 missing end of contents
+308000
+  0 0 SEQUENCE, indefinite length
+  2 1 1 byte that is no element: 00
+  3 1 missing end of contents
+30800000
+  0 0 SEQUENCE, indefinite length
+  2 1 end of contents
+"""
+# What is shown of octets without a kind where each octet string is open that is one whole element.
+WHOLE = """
+04053081020500
+  0 0 OCTET STRING 5
+  2 1 SEQUENCE 2, length in 2 octets
+  5 2 NULL 0
+04083084000000020500
+  0 0 OCTET STRING 8
+  2 1 SEQUENCE 2, length in 5 octets
+  8 2 NULL 0
+040430800000
+  0 0 OCTET STRING 4
+  2 1 SEQUENCE, indefinite length
+  4 2 end of contents
+04053080000000
+  0 0 OCTET STRING 5: 30 80 00 00 00
+040730803080000000
+  0 0 OCTET STRING 7: 30 80 30 80 00 00 00
+04083080308000000000
+  0 0 OCTET STRING 8
+  2 1 SEQUENCE, indefinite length
+  4 2 SEQUENCE, indefinite length
+  6 3 end of contents
+  8 2 end of contents
+040630800402FFFF
+  0 0 OCTET STRING 6: 30 80 04 02 FF FF
+040830800402FFFF0000
+  0 0 OCTET STRING 8
+  2 1 SEQUENCE, indefinite length
+  4 2 OCTET STRING 2: FF FF
+  8 2 end of contents
+04033002FF
+  0 0 OCTET STRING 3: 30 02 FF
+04043002FFFF
+  0 0 OCTET STRING 4
+  2 1 SEQUENCE 2
+  4 2 2 bytes that are no element: FF FF
+"""
+# How many made-up inputs are shown, and how many of their lines at least have to be of each word.
+MADE = 600
+OPEN = 20
+FEWEST = {"missing end of contents": 20, "end of contents": 300, "inf": 300, "that are no element": 60}
 # What makes the files of NAMED, in order.
 MAKING = """
 openssl req -x509 -newkey ec -pkeyopt ec_paramgen_curve:P-256 -nodes -set_serial 4711 -subj /CN=one -days 30 \
@@ -120,6 +226,7 @@ CONSTRUCTED = {"SEQUENCE", "SET", "EXTERNAL", "EMBEDDED PDV", "CHARACTER STRING"
 PARSED = re.compile(r" *(\d+):d=(\d+) +hl=(\d+) +l= *(\d+|inf) +(cons|prim): (.{1,18})")
 SHOWN = re.compile(r" *(\d+) +(\d+) +(?:(.*), indefinite length|(.*) (\d+)(?:, length in (\d+) octets)?)")
 END = re.compile(r" *(\d+) +(\d+) +end of contents")
+BARE = re.compile(r" *(\d+) +(\d+) +(missing end of contents|\d+(?= bytes? that))")
 
 
 # ---- other forms
@@ -216,6 +323,54 @@ def tree_of(octets, *words):
     """What dertree shows, and its status."""
     ran = ended(program("dertree"), *words, text=octets)
     return ran.stdout.decode(), ran.returncode
+
+
+# ---- what another reader shows
+
+
+def bare(line):
+    """What a line shows: the offset, the depth, and the length, or a word, as tests/oracle/trees.py has them."""
+    header, = by_dertree(line)
+    if isinstance(header, str):
+        offset, depth, word = BARE.match(header).groups()
+        return int(offset), int(depth), f"{word} that are no element" if word.isdigit() else word
+    is_end = header[3:] == ("[UNIVERSAL 0]", None) and line.endswith("end of contents")
+    return int(header[0]), int(header[1]), "end of contents" if is_end else header[2]
+
+
+class Plain(Comparing):
+    def test_what_bare_octets_are_is_shown(self):
+        for (octets,), shown in blocks(PLAIN):
+            tree, status = tree_of(bytes.fromhex(octets))
+            self.same((status, [" ".join(line.split()) for line in tree.splitlines()]), (0, shown), octets)
+
+    def test_made_up_inputs_are_shown_as_another_reader_has_them(self):
+        words = []
+        for octets in made_up(MADE):
+            self.shown_alike(octets, False)
+            words += [word for _, _, word in trees.lines(octets, False)]
+        for word, fewest in FEWEST.items():
+            self.at_least(sum(it.endswith(word) for it in words), fewest, f"lines of {word}")
+
+    def test_octet_strings_that_are_one_whole_element_are_open(self):
+        for octets, shown in blocks(WHOLE):
+            tree = tree_of(bytes.fromhex("".join(octets)), "--open")[0]
+            self.same([" ".join(line.split()) for line in tree.splitlines()], shown, *octets)
+
+    def test_made_up_octet_strings_are_open_where_another_reader_opens_them(self):
+        dice, found = random.Random(8), 0
+        for octets in made_up(MADE):
+            contents = dice.choice((octets, octets, octets[:-1], octets + b"\0", octets + b"\0\0"))
+            text = element(0x04, contents)
+            self.shown_alike(text, True)
+            found += len(trees.lines(text, True)) > 1 and trees.header(contents, 0, len(contents))[2] is None
+        self.at_least(found, OPEN, "open octet strings of indefinite length")
+
+    def shown_alike(self, octets, opens):
+        """Compares the lines of octets."""
+        tree, status = tree_of(octets, *["--open"][:opens])
+        self.same(status, 0, octets.hex()[:100], "status")
+        self.same([bare(line) for line in tree.splitlines()], trees.lines(octets, opens), octets.hex()[:100], opens)
 
 
 # ---- files of tests/vectors/outside
@@ -366,6 +521,13 @@ class Opened(Comparing):
                 shown = [line for line in lines if line.endswith(f" -- {name}")]
                 self.same(any(f": {value}" in line for line in shown), True, file, "as", kind, name, value, *shown)
         self.at_least(self.compared, 34, "fields")
+
+    def test_octet_strings_on_the_way_to_a_mark_are_open(self):
+        for (kind, octets), shown in blocks(LEADING):
+            tree = tree_of(bytes.fromhex(octets), kind)[0]
+            lines = [" ".join(line.split(" -- ")[0].split()) for line in tree.splitlines()]
+            self.same([line for line in lines if line in shown], shown, kind, octets, *lines)
+        self.at_least(self.compared, 4, "files")
 
     def test_what_is_not_canonical_has_its_place_and_cause(self):
         for (kind, octets), places in blocks(LOOSE, digest="11" * 20):

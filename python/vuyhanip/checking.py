@@ -96,6 +96,15 @@ class NoKind(NamedTuple):
         return f"{self.furthest}{self.given.said}"
 
 
+def octet_of(said: Union[Accepted, NoKind]) -> Optional[int]:
+    """The octet that what is said is about: the one at the place of a refusal, or the last one before that of a missing
+    element, or before what is canonical."""
+    if isinstance(said, Accepted):
+        return None if said.verdict.loose_end is None else said.verdict.loose_end - 1
+    last = said.furthest
+    return last.place - 1 if last.reason == "missing" else last.place
+
+
 def _unread(octets: bytes, as_certificate: Optional[Refusal]) -> Optional[Refusal]:
     """Why the type of signed data refuses content that isn't read, by its refusal; none where something else in them is
     what it refuses. Raises der.Refused where the content isn't the OCTET STRING that data are (RFC 5652, 4)."""

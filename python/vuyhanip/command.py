@@ -11,7 +11,7 @@ import time
 from typing import Callable, Dict, List, Mapping, NamedTuple, Optional, Sequence
 
 from . import __version__, der, library, passwords, tool
-from .checking import NORMAL, REFUSED, Answer, NoKind, check, judge, unreadable, worst
+from .checking import NORMAL, REFUSED, Answer, NoKind, check, judge, octet_of, unreadable, worst
 from .extracting import Nothing, extract
 from .files import LIMITS, STANDARD_INPUT, Limits, NoPem, TooMany, all_of, converted, given, read
 from .findings import lines
@@ -209,9 +209,8 @@ def tree(asked: argparse.Namespace) -> int:
     data = given(read(asked.file), asked.strict).octets
     said = judge(data, asked.kind, True)
     kind = said.furthest.kind if isinstance(said, NoKind) else said.kind
-    place = said.furthest.place if isinstance(said, NoKind) else said.verdict.loose_end
     made = of_dertree(data, kind)
-    for line in made if made is not None else map(str, own_lines(data, place)):
+    for line in made if made is not None else map(str, own_lines(data, octet_of(said))):
         print(seen(line))
     if made is None:
         print(said)

@@ -6,7 +6,7 @@ import json
 import re
 from typing import List, NamedTuple, Optional, Tuple, Union
 
-from .checking import Accepted, NoKind, judge
+from .checking import Accepted, NoKind, judge, octet_of
 from .files import NoPem, given
 from .names import NAMES
 from .template import TEMPLATE
@@ -21,20 +21,22 @@ OBJECT_IDENTIFIER = re.compile(r"OBJECT IDENTIFIER \d+: ([\d.]+)")
 
 
 class Judged(NamedTuple):
-    """What the page says of the file, and the place that it is about."""
+    """What the page says of the file, and the place and the octet that it is about."""
 
     said: str
     kind: Optional[str]
     place: Optional[int]
+    octet: Optional[int]
 
 
 def judged(said: Union[Accepted, NoKind]) -> Judged:
     """What is said of a file. What was converted from BER is shown as it was, so it has no place."""
-    is_ber = "BER" in said.given.forms
+    line = f"{said.kind} {said}" if isinstance(said, Accepted) else said.line
+    if "BER" in said.given.forms:
+        return Judged(line, None, None, None)
     if isinstance(said, Accepted):
-        return Judged(f"{said.kind} {said}", None if is_ber else said.kind, None if is_ber else said.verdict.loose_end)
-    last = said.furthest
-    return Judged(said.line, None if is_ber else last.kind, None if is_ber else last.place)
+        return Judged(line, said.kind, said.verdict.loose_end, octet_of(said))
+    return Judged(line, said.furthest.kind, said.furthest.place, octet_of(said))
 
 
 def named(text: str) -> str:
@@ -81,8 +83,8 @@ def page(name: str, data: bytes, kind: Optional[str] = None, strict: bool = Fals
         found = judge(data, kind, strict)
         octets, said = given(data, strict).octets, judged(found)
     except NoPem as fault:
-        octets, said = data, Judged(f"refused: {fault}", None, None)
-    offsets, depths, texts = packed(lines(octets, said.kind, said.place))
+        octets, said = data, Judged(f"refused: {fault}", None, None, None)
+    offsets, depths, texts = packed(lines(octets, said.kind, said.octet))
     told = {
         "octets": base64.b64encode(octets).decode(),
         "offsets": offsets,

@@ -13,6 +13,7 @@ from .values import octets_text, value
 DERTREE = "VUYHANIP_DERTREE"
 # Lines of deeper elements aren't indented further.
 DEEPEST_INDENT = 32
+INDEFINITE = ", indefinite length"
 LINE = re.compile(r" *(\d+) +(\d+) +(.*)")
 
 
@@ -36,14 +37,14 @@ def program() -> Optional[str]:
     return path_of("dertree") or (built if os.access(built, os.X_OK) else None)
 
 
-def lines(data: bytes, kind: Optional[str], place: Optional[int]) -> List[Line]:
+def lines(data: bytes, kind: Optional[str], octet: Optional[int]) -> List[Line]:
     """The lines of a file that is of a kind, or of any.
 
-    OCTET STRINGs that are one element are open, and those that lead to the place of a refusal.
+    OCTET STRINGs that are one element are open, and those on the way to an octet.
     """
     said = of_dertree(data, kind)
     if said is None:
-        return list(own_lines(data, place))
+        return list(own_lines(data, octet))
     matches = map(LINE.fullmatch, said)
     return [Line(int(it[1]), int(it[2]), it[3]) for it in matches if it]
 
@@ -73,7 +74,7 @@ def _ber(data: bytes, at: int, end: int) -> Optional[Tuple[Element, str]]:
     if end - at < 2 or data[at] & 0x1F == 0x1F:
         return None
     if data[at + 1] == 0x80 and data[at] & 0x20:
-        return Element(data, at, data[at], at + 2, end), ", indefinite length"
+        return Element(data, at, data[at], at + 2, end), INDEFINITE
     count = data[at + 1] & 0x7F
     start = at + 2 + count
     if data[at + 1] <= 0x80 or start > end:
@@ -84,36 +85,58 @@ def _ber(data: bytes, at: int, end: int) -> Optional[Tuple[Element, str]]:
     return Element(data, at, data[at], start, start + length), f" {length}, length in {count + 1} octets"
 
 
+def _element(data: bytes, at: int, end: int) -> Optional[Tuple[Element, str]]:
+    """The element that begins there, and the text of its line after the tag."""
+    found = header(data, at, end)
+    return _ber(data, at, end) if found is None else (found, f" {found.end - found.start}")
+
+
+def _is_whole(data: bytes, at: int, end: int) -> bool:
+    """Whether one element begins there that ends at the end."""
+    levels, start = 0, at
+    while levels or at == start:
+        if levels and data[at : min(at + 2, end)] == b"\0\0":
+            levels, at = levels - 1, at + 2
+            continue
+        found = _element(data, at, end)
+        if found is None:
+            return False
+        is_indefinite = found[1] == INDEFINITE
+        levels, at = levels + is_indefinite, found[0].start if is_indefinite else found[0].end
+    return at == end
+
+
 def _first(data: bytes, at: int, around: _Open) -> Tuple[Optional[Element], str]:
     """What begins there, and the text of its line after the tag; no element where none begins."""
     if around.is_indefinite and data[at : at + 2] == b"\0\0":
         return None, "end of contents"
-    found = header(data, at, around.end)
+    found = _element(data, at, around.end)
     if found is not None:
-        return found, f" {found.end - found.start}"
-    ber = _ber(data, at, around.end)
-    if ber is not None:
-        return ber
+        return found
     count = around.end - at
     words = "byte that is" if count == 1 else "bytes that are"
     return None, f"{count} {words} no element: {octets_text(data[at : around.end])}"
 
 
-def _opens(element: Element, is_indefinite: bool, place: Optional[int]) -> bool:
+def _opens(element: Element, is_indefinite: bool, octet: Optional[int]) -> bool:
     """Whether the contents of an element have lines of their own."""
     if is_indefinite or element.tag != OCTET_STRING:
         return is_indefinite or element.is_constructed and element.start < element.end
-    inside = header(element.data, element.start, element.end)
-    leads = place is not None and element.start <= place <= element.end
-    return inside is not None and (inside.end == element.end or leads)
+    if octet is not None and element.start <= octet < element.end:
+        return _element(element.data, element.start, element.end) is not None
+    return _is_whole(element.data, element.start, element.end)
 
 
-def own_lines(data: bytes, place: Optional[int]) -> Iterator[Line]:
+def own_lines(data: bytes, octet: Optional[int]) -> Iterator[Line]:
     """The lines as this reader finds them."""
     at, opened = 0, [_Open(len(data), False, False)]
-    while at < len(data):
+    while True:
         while len(opened) > 1 and opened[-1].end <= at:
+            if opened[-1].is_indefinite:
+                yield Line(at, len(opened) - 1, "missing end of contents")
             opened.pop()
+        if at == len(data):
+            return
         depth, around = len(opened) - 1, opened[-1]
         element, text = _first(data, at, around)
         if element is None:
@@ -124,9 +147,9 @@ def own_lines(data: bytes, place: Optional[int]) -> Iterator[Line]:
             at += 2
             opened.pop()
             continue
-        is_indefinite = text == ", indefinite length"
+        is_indefinite = text == INDEFINITE
         text = tag_word(element.tag) + text + (", segment" if around.is_segmented else "")
-        if _opens(element, is_indefinite, place):
+        if _opens(element, is_indefinite, octet):
             yield Line(at, depth, text)
             at = element.start
             opened.append(_Open(element.end, is_indefinite, element.tag == OCTET_STRING | 0x20))

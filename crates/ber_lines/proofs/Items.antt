@@ -1,10 +1,10 @@
 -- The element at the front of some bytes.
-use Rattle.std.proofs.Common.{◌≡◌, ◌≢◌, ◌↔◌, inl, inr, ◌⊎◌, IsTrue, Bool, ℕ, ◌+◌, ◌-◌, ◌<◌, ◌≤◌, List, [], ◌∷◌, ◌++◌, Option, Some, length, take, drop, get_or, sym, ap, subst, ◌∙◌, arith, append_assoc, append-nil, length-append, length-drop}
+use Rattle.std.proofs.Common.{◌≡◌, ◌≢◌, ◌↔◌, inl, inr, IsTrue, Bool, ℕ, ◌+◌, ◌-◌, ◌<◌, ◌≤◌, List, [], ◌∷◌, ◌++◌, Option, Some, length, take, drop, get_or, sym, ap, subst, ◌∙◌, arith, append_assoc, append-nil, length-append, length-drop}
 use Rattle.std.proofs.Math.Seq.{drop-append_seam}
 use Rattle.std.proofs.lemmas.List.{take-append-drop, take_rest, drop-drop, length-take-le}
 use Rattle.asn1_core_element.specs.Element.{head, element, IsTagByte, IsElement, IsFront, HasNoFront}
 use Rattle.asn1_core_element.specs.laws.ElementLaws.{element_cut, element_long}
-use Rattle.ber_lines.specs.Lines.{Begins, BeginsLonger, HoldsIndefinite, LeadsInto, OpensOctets}
+use Rattle.ber_lines.specs.Lines.{Begins, BeginsLonger, LeadsInto, OpensBer, OpensOctets}
 use Rattle.ber_der.specs.Lengths.{BeginsWithLength}
 use Rattle.ber_lines.specs.declared.lines.Opening.{Opening}
 
@@ -42,17 +42,17 @@ module _ (bytes : List ℕ) (tag n size : ℕ) (f : IsFront bytes tag n size) wh
   -- contents of an octet string that begin with an element, and aren't one that is opened
   pub opens_there : (o : Opening) (start : ℕ) (leads : Bool) → (IsTrue o.opens_all → size + n ≢ length bytes) → IsTrue leads ↔ LeadsInto o bytes start → IsTrue leads ↔ OpensOctets o bytes start
   opens_there o start leads differs h =
-      let back : OpensOctets o bytes start → IsTrue leads = λ d. elim d [ inl w ↦ absurd (differs w.0 (whole w.1)) | inr e ↦ elim e [ inl p ↦ h.1 p.0 | inr b ↦ absurd (there b.2.none) ] ] in
+      let back : OpensOctets o bytes start → IsTrue leads = λ d. elim d [ inl w ↦ absurd (differs w.0 (whole w.1)) | inr e ↦ elim e [ inl p ↦ h.1 p.0 | inr b ↦ absurd (there b.0) ] ] in
       (λ l. inr (inl (h.0 l, there)), back)
 
 -- contents that no element of DER begins
-pub opens_nowhere : (o : Opening) (bytes : List ℕ) (start : ℕ) (opens : Bool) → HasNoFront bytes → IsTrue opens ↔ (IsTrue o.reads_ber × (IsTrue o.opens_all ⊎ LeadsInto o bytes start) × HoldsIndefinite bytes) → IsTrue opens ↔ OpensOctets o bytes start
+pub opens_nowhere : (o : Opening) (bytes : List ℕ) (start : ℕ) (opens : Bool) → HasNoFront bytes → IsTrue opens ↔ OpensBer o bytes start → IsTrue opens ↔ OpensOctets o bytes start
 opens_nowhere o bytes start opens none h =
-    let back : OpensOctets o bytes start → IsTrue opens = λ d. elim d [ inl w ↦ absurd (none w.1.tag w.1.contents [] w.1.is_tag (w.1.is ∙ sym (append-nil _))) | inr e ↦ elim e [ inl p ↦ absurd (p.1 none) | inr b ↦ h.1 b ] ] in
-    (λ l. inr (inr (h.0 l)), back)
+    let back : OpensOctets o bytes start → IsTrue opens = λ d. elim d [ inl w ↦ absurd (none w.1.tag w.1.contents [] w.1.is_tag (w.1.is ∙ sym (append-nil _))) | inr e ↦ elim e [ inl p ↦ absurd (p.1 none) | inr b ↦ h.1 b.1 ] ] in
+    (λ l. inr (inr (none, h.0 l)), back)
 
 -- the first byte and the others
-uncons : (b : List ℕ) → 1 ≤ length b → b ≡ get_or b 0 0 ∷ take (length b - 1) (drop 1 b)
+pub uncons : (b : List ℕ) → 1 ≤ length b → b ≡ get_or b 0 0 ∷ take (length b - 1) (drop 1 b)
 uncons [] l = absurd (omega (arith, l))
 uncons (x ∷ b) l = ap (λ t. x ∷ t) (sym (take_rest (x ∷ b) 1))
 

@@ -1,10 +1,10 @@
 //! One line of a tree: what begins some bytes, and whether what it holds has lines of its own.
 
-ghost use Rattle.std.specs.Prelude.{◌≡◌, ◌<◌, ◌≤◌, ◌+◌, ◌↔◌, ◌≢◌, ◌⊎◌, length, IsSome, IsTrue};
+ghost use Rattle.std.specs.Prelude.{◌≡◌, ◌<◌, ◌≤◌, ◌+◌, ◌^◌, ◌↔◌, ◌≢◌, ◌⊎◌, length, IfNone, IfSome, IsSome, IsTrue, MatchOption};
 ghost use Rattle.std.specs.Option.{IsSomeAnd};
 ghost use Rattle.asn1_core_element.specs.Element.{HasNoFront};
 ghost use Rattle.ber_lines.specs.declared.lines.Front.TheVariants.{Nothing};
-ghost use Rattle.ber_lines.specs.Lines.{IsItem, IsElementItem, IsBerItem, BeginsWithEnd, HoldsIndefinite, is_end, tag_of, is_indefinite};
+ghost use Rattle.ber_lines.specs.Lines.{IsItem, IsElementItem, IsBerItem, BeginsWithEnd, HasNoBer, EndsAll, IsWholeBer, is_end, is_missing_end, is_last, tag_of, is_indefinite};
 
 use crate::tags::Tag;
 use asn1_core_element::front::front;
@@ -26,6 +26,8 @@ pub enum Front {
     Indefinite(u8),
     /// The end of the contents of such an element (X.690, 8.1.5).
     EndOfContents,
+    /// Nothing, where such contents can't go on: their end is missing.
+    MissingEnd,
 }
 
 impl Front {
@@ -34,7 +36,7 @@ impl Front {
         ensures { result ≡ tag_of self }
     {
         match self {
-            Front::Nothing | Front::EndOfContents => None,
+            Front::Nothing | Front::EndOfContents | Front::MissingEnd => None,
             Front::Element(tag) | Front::Longer(tag) | Front::Indefinite(tag) => Some(tag),
         }
     }
@@ -49,6 +51,19 @@ impl Front {
         ensures { result ≡ is_end self }
     {
         matches!(self, Front::EndOfContents)
+    }
+
+    pub fn is_missing_end(self) -> bool
+        ensures { result ≡ is_missing_end self }
+    {
+        matches!(self, Front::MissingEnd)
+    }
+
+    /// Whether the contents around end with it.
+    pub fn is_last(self) -> bool
+        ensures { result ≡ is_last self }
+    {
+        matches!(self, Front::EndOfContents | Front::MissingEnd)
     }
 }
 
@@ -129,20 +144,73 @@ pub fn first_item(bytes: &[u8], reads_ber: bool, may_end: bool) -> (Front, usize
     ensures some { 0 < length bytes.now → 0 < result.1 + length result.2.now }
     ensures header { IsSome (tag_of result.0) → 0 < result.1 }
 {
+    if may_end && bytes.is_empty() {
+        return (Front::MissingEnd, 0, &[]);
+    }
     if may_end && begins_with_end(bytes) {
         return (Front::EndOfContents, 2, &[]);
     }
     first_element(bytes, reads_ber)
 }
 
-/// Whether the bytes are one element of indefinite length, by their first two octets and their last two.
-fn is_indefinite(bytes: &[u8]) -> bool
-    requires { HasNoFront bytes.now }
-    ensures { IsTrue result ↔ HoldsIndefinite bytes.now }
+/// What follows the first item of bytes that are in so many contents of indefinite length, and in how many it is; nothing
+/// where no item begins.
+fn after_item(levels: usize, rest: &[u8]) -> Option<(usize, &[u8])>
+    requires some { 0 < levels }
+    requires fits { levels + length rest.now ≤ 2 ^ 64 }
+    ensures none { IfNone result (¬ EndsAll levels rest.now) }
+    ensures alike { IfSome result (λ r. EndsAll levels rest.now ↔ EndsAll r.0 r.1.now) }
+    ensures fits { IfSome result (λ r. r.0 + length r.1.now ≤ levels + length rest.now) }
+    ensures less { IfSome result (λ r. length r.1.now < length rest.now) }
 {
-    match bytes {
-        [tag, 0x80, .., 0, 0] => Tag(*tag).is_one_octet() && Tag(*tag).is_constructed(),
-        _ => false,
+    if begins_with_end(rest) {
+        return Some((levels - 1, &rest[2..]));
+    }
+    let [tag, after @ ..] = rest else {
+        return None;
+    };
+    let tag = Tag(*tag);
+    if !tag.is_one_octet() {
+        return None;
+    }
+    let Some((len, contents)) = length(after) else {
+        return None;
+    };
+    if let Some(len) = len {
+        return Some((levels, &contents[len..]));
+    }
+    if !tag.is_constructed() {
+        return None;
+    }
+    Some((levels + 1, contents))
+}
+
+/// Whether contents of indefinite length, which begin the bytes, end where these do.
+fn ends_whole(bytes: &[u8]) -> bool
+    ensures { IsTrue result ↔ EndsAll 1 bytes.now }
+{
+    let mut levels = 1;
+    let mut rest = bytes;
+    while levels > 0 {
+        let Some((now, after)) = after_item(levels, rest) else {
+            return false;
+        };
+        levels = now;
+        rest = after;
+    }
+    rest.is_empty()
+}
+
+/// Whether the bytes, which no element of DER begins, are one whole element of BER; nothing where none begins them.
+fn whole_ber(bytes: &[u8]) -> Option<bool>
+    requires { HasNoFront bytes.now }
+    ensures { MatchOption result (HasNoBer bytes.now) (λ whole. ¬ HasNoBer bytes.now × (IsTrue whole ↔ IsWholeBer bytes.now)) }
+{
+    let (front, header_len, contents) = first_of_ber(bytes);
+    match front {
+        Front::Longer(_) => Some(header_len + contents.len() == bytes.len()),
+        Front::Indefinite(_) => Some(ends_whole(contents)),
+        Front::Nothing | Front::Element(_) | Front::EndOfContents | Front::MissingEnd => None,
     }
 }
 
@@ -153,12 +221,12 @@ pub struct Opening {
     pub reads_ber: bool,
     /// Whether octet strings that are one whole element are shown as such.
     pub opens_all: bool,
-    /// Those octet strings that begin with an element, on the way to this place, are too.
+    /// Those octet strings that begin with an element, on the way to the octet at this place, are too.
     pub place: Option<usize>,
 }
 
 impl Opening {
-    ghost use Rattle.ber_lines.specs.Lines.{Opens, OpensTagged, OpensOctets, LeadsInto};
+    ghost use Rattle.ber_lines.specs.Lines.{Opens, OpensTagged, OpensOctets, OpensBer, LeadsInto};
 
     /// DER, with each octet string open that is one whole element.
     pub const EACH_WHOLE: Opening = Opening {
@@ -173,7 +241,7 @@ impl Opening {
         ensures opens { IsTrue result ↔ Opens self front contents.now start }
     {
         match front {
-            Front::Nothing | Front::EndOfContents => false,
+            Front::Nothing | Front::EndOfContents | Front::MissingEnd => false,
             Front::Indefinite(_) => true,
             Front::Element(tag) | Front::Longer(tag) => self.opens_tagged(tag, contents, start),
         }
@@ -205,18 +273,23 @@ impl Opening {
     /// Whether contents of an octet string have that no element of DER begins.
     fn opens_ber(self, contents: &[u8], start: usize) -> bool
         requires { HasNoFront contents.now }
-        ensures { IsTrue result ↔ IsTrue self.reads_ber × (IsTrue self.opens_all ⊎ LeadsInto self contents.now start) × HoldsIndefinite contents.now }
+        ensures { IsTrue result ↔ OpensBer self contents.now start }
     {
-        let opens = self.opens_all || self.leads_into(contents, start);
-        self.reads_ber && opens && is_indefinite(contents)
+        match whole_ber(contents) {
+            Some(is_whole) => {
+                let opens = self.opens_all && is_whole || self.leads_into(contents, start);
+                self.reads_ber && opens
+            }
+            None => false,
+        }
     }
 
-    /// Whether the place is in contents that begin at `start`, or at their end.
+    /// Whether the octet at the place is in contents that begin at `start`. One that follows them isn't.
     fn leads_into(self, contents: &[u8], start: usize) -> bool
         ensures { IsTrue result ↔ LeadsInto self contents.now start }
     {
         match self.place {
-            Some(place) => start <= place && place - start <= contents.len(),
+            Some(place) => start <= place && place - start < contents.len(),
             None => false,
         }
     }

@@ -1,6 +1,6 @@
 //! From an input to the lines of its tree, by a list of the contents that are open.
 
-ghost use Rattle.std.specs.Prelude.{◌≡◌, ◌<◌, ◌≤◌, [], length, IfOk, MatchOption};
+ghost use Rattle.std.specs.Prelude.{◌≡◌, ◌<◌, ◌≤◌, ◌-◌, [], length, slice_range, false, IfOk, IfSome, IfNone, MatchOption};
 ghost use Rattle.ber_lines.specs.Within.{IsWithin};
 
 use crate::lines::{Front, Line, Opening, first_item};
@@ -60,7 +60,7 @@ pub struct Walk<'a> {
 }
 
 impl<'a> Walk<'a> {
-    ghost use Rattle.ber_lines.specs.Lines.{IsLine, Shows, IsOpenedAfter, LeavesEnded, innermost};
+    ghost use Rattle.ber_lines.specs.Lines.{IsLine, IsOver, Shows, IsOpenedAfter, LeavesEnded, innermost, is_missing_end, left_over};
 
     pub fn new(alloc: Global, input: &'a [u8], opening: Opening) -> Self
         ensures input { result.input.now ≡ input.now }
@@ -83,7 +83,7 @@ impl<'a> Walk<'a> {
         self.at
     }
 
-    /// From here on, opens the octet strings on the way to a place.
+    /// From here on, opens the octet strings on the way to the octet at a place.
     pub fn lead_to(&mut self, place: Option<usize>)
         ensures input { self.new.input.now ≡ self.old.input.now }
         ensures at { self.new.at ≡ self.old.at }
@@ -98,27 +98,31 @@ impl<'a> Walk<'a> {
         self.path.as_slice()
     }
 
-    /// Goes out of all contents that end here, and answers which are the innermost then: the whole input, if none are open.
-    fn innermost(&mut self) -> Open
+    /// Goes out of all contents of definite length that end here, and answers which are the innermost then: the whole
+    /// input, if none are open, and nothing at its end.
+    fn innermost(&mut self) -> Option<Open>
         ensures input { self.new.input.now ≡ self.old.input.now }
         ensures opening { self.new.opening ≡ self.old.opening }
         ensures at { self.new.at ≡ self.old.at }
-        ensures leaves { LeavesEnded self.old.opened.items self.old.at self.new.opened.items }
-        ensures end { result ≡ innermost self.old.input.now self.new.opened.items }
-        ensures fits { result.end ≤ length self.old.input.now }
-        ensures later { self.old.at < length self.old.input.now → self.old.at < result.end }
+        ensures over { IfNone result (IsOver self.old.input.now self.old.opened.items self.old.at) }
+        ensures leaves { IfSome result (λ _. LeavesEnded self.old.opened.items self.old.at self.new.opened.items) }
+        ensures end { IfSome result (λ o. o ≡ innermost self.old.input.now self.new.opened.items) }
+        ensures fits { IfSome result (λ o. o.end ≤ length self.old.input.now) }
+        ensures later { IfSome result (λ o. o.is_indefinite ≡ false → self.old.at < o.end) }
     {
         loop {
             match self.opened.last() {
-                Some(contents) if contents.end > self.at => return *contents,
+                Some(contents) if contents.is_indefinite => return Some(*contents),
+                Some(contents) if contents.end > self.at => return Some(*contents),
                 Some(_) => {
                     let _ = self.opened.pop();
                 }
+                None if self.at == self.input.len() => return None,
                 None => {
-                    return Open {
+                    return Some(Open {
                         end: self.input.len(),
                         is_indefinite: false,
-                    };
+                    });
                 }
             }
         }
@@ -134,14 +138,27 @@ impl<'a> Walk<'a> {
         }
     }
 
+    /// The bytes that are left of the contents around the next line.
+    fn bytes(&self, around: Open) -> &'a [u8]
+        requires { around.end ≤ length self.now.input.now }
+        ensures octets { result.now ≡ slice_range self.now.input.now self.now.at around.end }
+        ensures len { length result.now ≡ around.end - self.now.at }
+    {
+        if self.at < around.end {
+            &self.input[self.at..around.end]
+        } else {
+            &[]
+        }
+    }
+
     /// The line that is next, of the contents around it.
     fn line(&self, around: Open) -> Line<'a>
         requires around { around ≡ innermost self.now.input.now self.now.opened.items }
-        requires later { self.now.at < around.end }
+        requires later { around.is_indefinite ≡ false → self.now.at < around.end }
         requires fits { around.end ≤ length self.now.input.now }
         ensures { Shows self.now.input.now self.now.opening self.now.opened.items self.now.at result }
     {
-        let bytes = &self.input[self.at..around.end];
+        let bytes = self.bytes(around);
         let reads_ber = self.opening.reads_ber;
         let (front, header_len, contents) = first_item(bytes, reads_ber, around.is_indefinite);
         let start = self.at + header_len;
@@ -167,20 +184,23 @@ impl<'a> Walk<'a> {
         Step::new(index, line.front, self.context(), line.role)
     }
 
-    /// Has the path end in a step, after as many others.
-    fn set_path(&mut self, depth: usize, step: Step) -> Result<(), AllocError>
-        requires { step.index < self.old.at }
+    /// Has the path end in the step of a line, if it shows anything.
+    fn set_path(&mut self, line: &Line<'_>, step: Step) -> Result<(), AllocError>
+        requires { is_missing_end line.now.front ≡ false → step.index < self.old.at }
         ensures input { self.new.input.now ≡ self.old.input.now }
         ensures opening { self.new.opening ≡ self.old.opening }
         ensures at { self.new.at ≡ self.old.at }
         ensures opened { self.new.opened.items ≡ self.old.opened.items }
     {
-        self.path.truncate(depth);
+        if line.front.is_missing_end() {
+            return Ok(());
+        }
+        self.path.truncate(line.depth);
         self.path.push(step)?;
         Ok(())
     }
 
-    /// Goes into the contents of a line, if they have lines, and out of those that it is the end of.
+    /// Goes into the contents of a line, if they have lines, and out of those that it is the last of.
     fn set_opened(&mut self, line: &Line<'_>, end: usize) -> Result<(), AllocError>
         requires { end ≤ length self.old.input.now }
         ensures input { self.new.input.now ≡ self.old.input.now }
@@ -188,7 +208,7 @@ impl<'a> Walk<'a> {
         ensures at { self.new.at ≡ self.old.at }
         ensures opened { IfOk result (λ _. IsOpenedAfter self.old.opened.items line.now end self.new.opened.items) }
     {
-        if line.front.is_end() {
+        if line.front.is_last() {
             let depth = self.opened.len();
             self.opened.truncate(depth.saturating_sub(1));
         } else if line.is_open {
@@ -200,24 +220,25 @@ impl<'a> Walk<'a> {
         Ok(())
     }
 
-    /// The next line. `None` at the end of the input.
+    /// The next line. `None` at the end of the input, once it was said of all contents of indefinite length that their end
+    /// is missing.
     pub fn next(&mut self) -> Result<Option<Line<'a>>, AllocError>
         ensures input { self.new.input.now ≡ self.old.input.now }
         ensures opening { self.new.opening ≡ self.old.opening }
-        ensures line { IfOk result (λ o. MatchOption o (self.old.at ≡ length self.old.input.now)
+        ensures line { IfOk result (λ o. MatchOption o (IsOver self.old.input.now self.old.opened.items self.old.at)
             (λ line. IsLine self.old.input.now self.old.opening
             self.old.opened.items self.old.at self.new.opened.items self.new.at line)) }
+        ensures less { IfOk result (λ o. IfSome o (λ _. left_over self.old.input.now self.new.opened.items self.new.at < left_over self.old.input.now self.old.opened.items self.old.at)) }
     {
-        if self.at == self.input.len() {
+        let Some(around) = self.innermost() else {
             return Ok(None);
-        }
-        let around = self.innermost();
+        };
         let line = self.line(around);
         let step = self.step(&line);
         let start = line.offset + line.header_len;
         let end = start + line.contents.len();
         self.at = if line.is_open { start } else { end };
-        self.set_path(line.depth, step)?;
+        self.set_path(&line, step)?;
         self.set_opened(&line, end)?;
         Ok(Some(line))
     }

@@ -49,6 +49,9 @@ fn write_line<W: Write>(alloc: Global, w: &mut W, line: &Line<'_>) -> io::Result
         if line.front.is_end() {
             return w.write_all(b"end of contents");
         }
+        if line.front.is_missing_end() {
+            return w.write_all(b"missing end of contents");
+        }
         let octets = octets_text(alloc, line.contents)?;
         let bytes = if len == 1 {
             "byte that is"
@@ -97,8 +100,8 @@ pub struct Notes<'a> {
 }
 
 impl<'a> Notes<'a> {
-    /// Where the octet strings have to be open that hold what follows: at the next of the places from an index on that
-    /// begins later, or else at the mark.
+    /// The octet that the octet strings hold which have to be open: at the next of the places from an index on that
+    /// begins later, or else the one that the mark is about.
     fn next_place(&self, index: usize, at: usize) -> Option<usize> {
         for place in self.places.iter().skip(index) {
             if place.offset > at {
@@ -106,7 +109,7 @@ impl<'a> Notes<'a> {
             }
         }
         match &self.mark {
-            Some(mark) => Some(mark.place),
+            Some(mark) => Some(mark.verdict.octet(mark.place)),
             None => None,
         }
     }
@@ -140,6 +143,23 @@ impl<'a> Notes<'a> {
             Some(mark) if mark.place == line.offset => write_mark(w, mark, ", ", path),
             _ => Ok(()),
         }
+    }
+
+    /// Writes what is said before a line, and answers how many places were written so far. A missing end has nothing
+    /// before it: what begins at its offset follows.
+    fn write_before<W: Write>(
+        &self,
+        w: &mut W,
+        written: usize,
+        line: &Line<'_>,
+        path: &[Step],
+    ) -> io::Result<usize> {
+        if line.front.is_missing_end() {
+            return Ok(written);
+        }
+        let written = self.write_places(w, written, line, path)?;
+        self.write_mark_at(w, line, path)?;
+        Ok(written)
     }
 
     /// Writes the name of the element of a line, and ends the line; and then the mark, if it is in what the line shows,
@@ -180,8 +200,7 @@ pub fn write_tree<'a, W: Write>(
     let mut written = 0;
     walk.lead_to(notes.next_place(written, walk.at()));
     while let Some(line) = walk.next()? {
-        written = notes.write_places(w, written, &line, walk.path())?;
-        notes.write_mark_at(w, &line, walk.path())?;
+        written = notes.write_before(w, written, &line, walk.path())?;
         write_line(alloc, w, &line)?;
         notes.write_end(w, &line, walk.at(), walk.path())?;
         walk.lead_to(notes.next_place(written, walk.at()));

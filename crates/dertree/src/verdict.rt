@@ -1,9 +1,9 @@
 //! What is said of an input of a kind.
 
-ghost use Rattle.std.specs.Prelude.{◌≡◌, ◌≢◌, ◌↔◌, IfSome, IsSome};
+ghost use Rattle.std.specs.Prelude.{◌≡◌, ◌≢◌, ◌↔◌, IfSome, IsSome, IsTrue};
 ghost use Rattle.asn1_core_element.specs.declared.error.Error.TheVariants.{Memory, TooLong};
 ghost use Rattle.x509_containers.specs.Kinds.{rewriting_as};
-ghost use Rattle.dertree.specs.Verdicts.{Says};
+ghost use Rattle.dertree.specs.Verdicts.{Says, IsOfEnd, IsOctetOf};
 
 use std::alloc::Global;
 use std::fmt;
@@ -32,6 +32,28 @@ impl Verdict {
         match self {
             Verdict::Loose { .. } => "before",
             _ => "at",
+        }
+    }
+
+    /// Whether it is about what ends at its place.
+    fn is_of_end(self) -> bool
+        ensures { IsTrue result ↔ IsOfEnd self }
+    {
+        match self {
+            Verdict::Normal { .. } => false,
+            Verdict::Loose { .. } => true,
+            Verdict::Refused(error) => matches!(error, Error::Missing),
+        }
+    }
+
+    /// The octet of the input that it is about, if that is its place.
+    pub fn octet(self, place: usize) -> usize
+        ensures { IsOctetOf self place result }
+    {
+        if self.is_of_end() {
+            place.saturating_sub(1)
+        } else {
+            place
         }
     }
 }
